@@ -1,0 +1,11 @@
+use Rattle.std.proofs.Common.{◌∙◌}
+use Rattle.elf_base.proofs.Numbers.{number-little, number-big}
+use Rattle.elf_base.proofs.bytes.read_u64.Goals as goal
+
+pub returns-in-Little : goal.returns-in-Little
+returns-in-Little c =
+    rw c.in-Little.is (c.read_u64.ensures ∙ number-little 8 c.args.place c.args.bytes.now)
+
+pub returns-in-Big : goal.returns-in-Big
+returns-in-Big c =
+    rw c.in-Big.is (c.read_u64-in-Big.ensures ∙ number-big 8 c.args.place c.args.bytes.now)

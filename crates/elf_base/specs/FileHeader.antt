@@ -1,0 +1,36 @@
+-- Which bytes are accepted as a file, and what its header is (gABI, "ELF Header").
+use Rattle.std.specs.Prelude.{◌≡◌, ℕ, ◌≤◌, ◌==◌, ◌||◌, ◌⊎◌, not, nat_eq, nat_lt, List, [], ◌∷◌, length, slice_range, Result, if◌then◌else◌}
+use lib.Pointwise.{pointwise}
+use Rattle.elf_base.specs.Number.{byte_at}
+use Rattle.elf_base.specs.Refusal.{unless}
+use Rattle.elf_base.specs.HeaderNumbers.{order_of}
+use Rattle.elf_base.specs.HeaderLayout.{header_pt1, header_pt2_32, header_pt2_64}
+use Rattle.elf_base.specs.declared.error.ElfError.{ElfError}
+use Rattle.elf_base.specs.declared.error.ElfError.TheVariants as error
+use Rattle.elf_base.specs.declared.header.Header.{Header}
+use Rattle.elf_base.specs.declared.header.HeaderPt2.{HeaderPt2}
+use Rattle.elf_base.specs.declared.header.HeaderPt2.TheVariants.{Header32, Header64}
+
+-- what every file begins with (EI_MAG0 to EI_MAG3): 0x7f and `ELF`
+abbrev pub magic_number : List ℕ
+magic_number = 0x7f ∷ 0x45 ∷ 0x4c ∷ 0x46 ∷ []
+
+-- the bytes begin with the magic number, and have a class and the length of its headers
+pub record IsAccepted (bytes : List ℕ) : Type 0 where
+  pub magic : slice_range bytes 0 4 ≡ magic_number
+  pub class : ((byte_at 4 bytes ≡ 1) × (52 ≤ length bytes)) ⊎ ((byte_at 4 bytes ≡ 2) × (64 ≤ length bytes))
+
+-- part 2, its width by the class and its order by the data byte
+abbrev pub header_pt2 : List ℕ → HeaderPt2
+header_pt2 bytes = if byte_at 4 bytes == 1
+    then Header32 (header_pt2_32 (order_of (byte_at 5 bytes)) 16 bytes)
+    else Header64 (header_pt2_64 (order_of (byte_at 5 bytes)) 16 bytes)
+
+-- the header of a file, or why there is none
+abbrev pub header_of : List ℕ → Result Header ElfError
+header_of bytes = unless (
+    (nat_lt (length bytes) 16, error.ShortPart1)
+    ∷ (not (pointwise nat_eq (slice_range bytes 0 4) magic_number), error.NoMagic)
+    ∷ (not (byte_at 4 bytes == 1 || byte_at 4 bytes == 2), error.InvalidClass)
+    ∷ (nat_lt (length bytes) (if byte_at 4 bytes == 1 then 52 else 64), error.ShortHeaders)
+    ∷ []) (record { pt1 = header_pt1 bytes; pt2 = header_pt2 bytes })

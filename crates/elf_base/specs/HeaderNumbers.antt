@@ -1,0 +1,53 @@
+-- What the numbers of an ELF header mean (gABI, "ELF Header": e_ident, e_type, e_machine).
+use Rattle.std.specs.Prelude.{ℕ, ◌==◌, [], ◌∷◌, if◌then◌else◌}
+use Rattle.elf_base.specs.Named.{named_or}
+use Rattle.elf_base.specs.declared.bytes.Order.{Order}
+use Rattle.elf_base.specs.declared.bytes.Order.TheVariants.{Little, Big}
+use Rattle.elf_base.specs.declared.header.kinds.Class.{Class}
+use Rattle.elf_base.specs.declared.header.kinds.Class.TheVariants as class
+use Rattle.elf_base.specs.declared.header.kinds.Data.{Data}
+use Rattle.elf_base.specs.declared.header.kinds.Data.TheVariants as encoding
+use Rattle.elf_base.specs.declared.header.kinds.Version.{Version}
+use Rattle.elf_base.specs.declared.header.kinds.Version.TheVariants as version
+use Rattle.elf_base.specs.declared.header.kinds.OsAbi.{OsAbi}
+use Rattle.elf_base.specs.declared.header.kinds.OsAbi.TheVariants as os_abi
+use Rattle.elf_base.specs.declared.header.kinds.Type as the_type
+use Rattle.elf_base.specs.declared.header.kinds.Type.TheVariants as kind
+use Rattle.elf_base.specs.declared.header.kinds.Machine.{Machine}
+use Rattle.elf_base.specs.declared.header.kinds.Machine.TheVariants as machine
+
+-- EI_CLASS
+abbrev pub class_of : ℕ → Class
+class_of n = named_or class.Other ((0, class.None) ∷ (1, class.ThirtyTwo) ∷ (2, class.SixtyFour) ∷ []) n
+
+-- EI_DATA
+abbrev pub data_of : ℕ → Data
+data_of n = named_or encoding.Other (
+    (0, encoding.None) ∷ (1, encoding.LittleEndian) ∷ (2, encoding.BigEndian) ∷ []) n
+
+-- the order of a file's numbers, by EI_DATA: all numbers but 2 mean little-endian (this project's own)
+abbrev pub order_of : ℕ → Order
+order_of n = if n == 2 then Big else Little
+
+-- EI_VERSION
+abbrev pub version_of : ℕ → Version
+version_of n = named_or version.Other ((0, version.None) ∷ (1, version.Current) ∷ []) n
+
+-- EI_OSABI
+abbrev pub os_abi_of : ℕ → OsAbi
+os_abi_of n = named_or os_abi.Other (
+    (0, os_abi.SystemV) ∷ (1, os_abi.HpUx) ∷ (2, os_abi.NetBSD) ∷ (3, os_abi.Linux)
+    ∷ (6, os_abi.Solaris) ∷ (7, os_abi.Aix) ∷ (8, os_abi.Irix) ∷ (9, os_abi.FreeBSD)
+    ∷ (12, os_abi.OpenBSD) ∷ (13, os_abi.OpenVMS) ∷ []) n
+
+-- e_type
+abbrev pub type_of : ℕ → the_type.Type
+type_of n = named_or kind.ProcessorSpecific (
+    (0, kind.None) ∷ (1, kind.Relocatable) ∷ (2, kind.Executable) ∷ (3, kind.SharedObject) ∷ (4, kind.Core) ∷ []) n
+
+-- e_machine
+abbrev pub machine_of : ℕ → Machine
+machine_of n = named_or machine.Other (
+    (0, machine.None) ∷ (2, machine.Sparc) ∷ (3, machine.X86) ∷ (8, machine.Mips)
+    ∷ (0x14, machine.PowerPC) ∷ (0x28, machine.Arm) ∷ (0x2a, machine.SuperH) ∷ (0x32, machine.Ia64)
+    ∷ (0x3e, machine.X86_64) ∷ (0xb7, machine.AArch64) ∷ (0xf3, machine.RISC_V) ∷ (0xf7, machine.BPF) ∷ []) n

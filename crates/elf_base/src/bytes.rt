@@ -1,0 +1,51 @@
+//! Numbers and records in bytes, in a chosen order.
+
+ghost use Rattle.std.specs.Prelude.{◌≡◌, ◌+◌, ◌≤◌, length, slice_index};
+ghost use Rattle.elf_base.specs.Number.{number};
+
+mod record;
+
+pub use crate::bytes::record::Record;
+use byteorder::{BigEndian, ByteOrder, LittleEndian};
+
+/// The order of a number's bytes (gABI, "ELF Header", EI_DATA).
+#[derive(Clone, Copy, Debug, PartialEq, Eq)]
+pub enum Order {
+    /// The least significant byte comes first.
+    Little,
+    /// The most significant byte comes first.
+    Big,
+}
+
+/// The number of the two bytes from `place` on.
+pub fn read_u16(bytes: &[u8], place: usize, order: Order) -> u16
+    requires { place + 2 ≤ length bytes.now }
+    ensures { result ≡ number order 2 place bytes.now }
+{
+    match order {
+        Order::Little => LittleEndian::read_u16(&bytes[place..]),
+        Order::Big => BigEndian::read_u16(&bytes[place..]),
+    }
+}
+
+/// The number of the four bytes from `place` on.
+pub fn read_u32(bytes: &[u8], place: usize, order: Order) -> u32
+    requires { place + 4 ≤ length bytes.now }
+    ensures { result ≡ number order 4 place bytes.now }
+{
+    match order {
+        Order::Little => LittleEndian::read_u32(&bytes[place..]),
+        Order::Big => BigEndian::read_u32(&bytes[place..]),
+    }
+}
+
+/// The number of the eight bytes from `place` on.
+pub fn read_u64(bytes: &[u8], place: usize, order: Order) -> u64
+    requires { place + 8 ≤ length bytes.now }
+    ensures { result ≡ number order 8 place bytes.now }
+{
+    match order {
+        Order::Little => LittleEndian::read_u64(&bytes[place..]),
+        Order::Big => BigEndian::read_u64(&bytes[place..]),
+    }
+}

@@ -1,0 +1,427 @@
+//! The numbers of an ELF header that have names, and those names.
+//!
+//! A type whose name ends in `_` is the number as it stands in the file, and every number is one.
+//! The enum of the same name is what the number means.
+
+ghost use Rattle.std.specs.Prelude.{◌≡◌, ◌↔◌, ℕ, IsTrue};
+ghost use Rattle.elf_base.specs.HeaderNumbers.{class_of, data_of, machine_of, os_abi_of, type_of, version_of};
+
+use std::marker::Model;
+
+/// How wide the addresses and offsets of a file are, as a number (gABI, "ELF Header", EI_CLASS).
+#[derive(Clone, Copy, Debug, PartialEq, Eq)]
+pub struct Class_(u8);
+
+impl Model for Class_ {
+    ghost Value = { ℕ };
+
+    ghost view = { λ class. class.0 };
+
+    ghost inverse = { λ n. record { 0 = n } };
+}
+
+impl Class_ {
+    /// The value of this number, which may be any.
+    pub fn from_raw(number: u8) -> Class_
+        ensures { result ≡ number }
+    {
+        Class_(number)
+    }
+
+    /// The number as it stands in the file.
+    pub fn raw(self) -> u8
+        ensures { result ≡ self }
+    {
+        self.0
+    }
+
+    /// What the number means.
+    pub fn as_class(self) -> Class
+        ensures { result ≡ class_of self }
+    {
+        match self.0 {
+            0 => Class::None,
+            1 => Class::ThirtyTwo,
+            2 => Class::SixtyFour,
+            other => Class::Other(other),
+        }
+    }
+
+    /// Whether the number is 0.
+    pub fn is_none(self) -> bool
+        ensures { IsTrue result ↔ (self ≡ 0) }
+    {
+        self.0 == 0
+    }
+}
+
+/// How wide the addresses and offsets of a file are (gABI, "ELF Header", EI_CLASS).
+#[derive(Clone, Copy, Debug, PartialEq, Eq)]
+pub enum Class {
+    /// Invalid.
+    None,
+    /// 32 bits.
+    ThirtyTwo,
+    /// 64 bits.
+    SixtyFour,
+    /// Any other number.
+    Other(u8),
+}
+
+impl Class {
+    /// Whether it is `None`, the meaning of 0.
+    pub fn is_none(&self) -> bool
+        ensures { IsTrue result ↔ (self.now ≡ Class.None) }
+    {
+        matches!(*self, Class::None)
+    }
+}
+
+/// The encoding of the numbers of a file, as a number (gABI, "ELF Header", EI_DATA).
+#[derive(Clone, Copy, Debug)]
+pub struct Data_(u8);
+
+impl Model for Data_ {
+    ghost Value = { ℕ };
+
+    ghost view = { λ number. number.0 };
+
+    ghost inverse = { λ n. record { 0 = n } };
+}
+
+impl Data_ {
+    /// The value of this number, which may be any.
+    pub fn from_raw(number: u8) -> Data_
+        ensures { result ≡ number }
+    {
+        Data_(number)
+    }
+
+    /// The number as it stands in the file.
+    pub fn raw(self) -> u8
+        ensures { result ≡ self }
+    {
+        self.0
+    }
+
+    /// What the number means.
+    pub fn as_data(self) -> Data
+        ensures { result ≡ data_of self }
+    {
+        match self.0 {
+            0 => Data::None,
+            1 => Data::LittleEndian,
+            2 => Data::BigEndian,
+            other => Data::Other(other),
+        }
+    }
+
+    /// Whether the number is 0.
+    pub fn is_none(self) -> bool
+        ensures { IsTrue result ↔ (self ≡ 0) }
+    {
+        self.0 == 0
+    }
+}
+
+/// The encoding of the numbers of a file (gABI, "ELF Header", EI_DATA).
+#[derive(Clone, Copy, Debug, PartialEq, Eq)]
+pub enum Data {
+    /// Invalid.
+    None,
+    /// The least significant byte comes first.
+    LittleEndian,
+    /// The most significant byte comes first.
+    BigEndian,
+    /// Any other number.
+    Other(u8),
+}
+
+impl Data {
+    /// Whether it is `None`, the meaning of 0.
+    pub fn is_none(&self) -> bool
+        ensures { IsTrue result ↔ (self.now ≡ Data.None) }
+    {
+        matches!(*self, Data::None)
+    }
+}
+
+/// The version of the header, as a number (gABI, "ELF Header", EI_VERSION).
+#[derive(Clone, Copy, Debug)]
+pub struct Version_(u8);
+
+impl Model for Version_ {
+    ghost Value = { ℕ };
+
+    ghost view = { λ version. version.0 };
+
+    ghost inverse = { λ n. record { 0 = n } };
+}
+
+impl Version_ {
+    /// The value of this number, which may be any.
+    pub fn from_raw(number: u8) -> Version_
+        ensures { result ≡ number }
+    {
+        Version_(number)
+    }
+
+    /// The number as it stands in the file.
+    pub fn raw(self) -> u8
+        ensures { result ≡ self }
+    {
+        self.0
+    }
+
+    /// What the number means.
+    pub fn as_version(self) -> Version
+        ensures { result ≡ version_of self }
+    {
+        match self.0 {
+            0 => Version::None,
+            1 => Version::Current,
+            other => Version::Other(other),
+        }
+    }
+
+    /// Whether the number is 0.
+    pub fn is_none(self) -> bool
+        ensures { IsTrue result ↔ (self ≡ 0) }
+    {
+        self.0 == 0
+    }
+}
+
+/// The version of the header (gABI, "ELF Header", EI_VERSION).
+#[derive(Clone, Copy, Debug, PartialEq, Eq)]
+pub enum Version {
+    /// Invalid.
+    None,
+    /// The one version that there is.
+    Current,
+    /// Any other number.
+    Other(u8),
+}
+
+impl Version {
+    /// Whether it is `None`, the meaning of 0.
+    pub fn is_none(&self) -> bool
+        ensures { IsTrue result ↔ (self.now ≡ Version.None) }
+    {
+        matches!(*self, Version::None)
+    }
+}
+
+/// The operating system whose extensions a file uses, as a number (gABI, "ELF Header", EI_OSABI).
+#[derive(Clone, Copy, Debug)]
+pub struct OsAbi_(u8);
+
+impl Model for OsAbi_ {
+    ghost Value = { ℕ };
+
+    ghost view = { λ os_abi. os_abi.0 };
+
+    ghost inverse = { λ n. record { 0 = n } };
+}
+
+impl OsAbi_ {
+    /// The value of this number, which may be any.
+    pub fn from_raw(number: u8) -> OsAbi_
+        ensures { result ≡ number }
+    {
+        OsAbi_(number)
+    }
+
+    /// The number as it stands in the file.
+    pub fn raw(self) -> u8
+        ensures { result ≡ self }
+    {
+        self.0
+    }
+
+    /// What the number means.
+    pub fn as_os_abi(self) -> OsAbi
+        ensures { result ≡ os_abi_of self }
+    {
+        match self.0 {
+            0 => OsAbi::SystemV,
+            1 => OsAbi::HpUx,
+            2 => OsAbi::NetBSD,
+            3 => OsAbi::Linux,
+            6 => OsAbi::Solaris,
+            7 => OsAbi::Aix,
+            8 => OsAbi::Irix,
+            9 => OsAbi::FreeBSD,
+            12 => OsAbi::OpenBSD,
+            13 => OsAbi::OpenVMS,
+            other => OsAbi::Other(other),
+        }
+    }
+}
+
+/// The operating system whose extensions a file uses (gABI, "ELF Header", EI_OSABI).
+#[derive(Clone, Copy, Debug, PartialEq, Eq)]
+pub enum OsAbi {
+    /// No extensions, or none that are told.
+    SystemV,
+    /// Hewlett-Packard HP-UX.
+    HpUx,
+    /// NetBSD.
+    NetBSD,
+    /// GNU and Linux.
+    Linux,
+    /// Sun Solaris.
+    Solaris,
+    /// IBM AIX.
+    Aix,
+    /// SGI IRIX.
+    Irix,
+    /// FreeBSD.
+    FreeBSD,
+    /// OpenBSD.
+    OpenBSD,
+    /// OpenVMS.
+    OpenVMS,
+    /// Any other number.
+    Other(u8),
+}
+
+/// What a file is for, as a number (gABI, "ELF Header", e_type).
+#[derive(Clone, Copy, Debug)]
+pub struct Type_(pub u16);
+
+impl Model for Type_ {
+    ghost Value = { ℕ };
+
+    ghost view = { λ number. number.0 };
+
+    ghost inverse = { λ n. record { 0 = n } };
+}
+
+impl Type_ {
+    /// The value of this number, which may be any.
+    pub fn from_raw(number: u16) -> Type_
+        ensures { result ≡ number }
+    {
+        Type_(number)
+    }
+
+    /// The number as it stands in the file.
+    pub fn raw(self) -> u16
+        ensures { result ≡ self }
+    {
+        self.0
+    }
+
+    /// What the number means.
+    pub fn as_type(self) -> Type
+        ensures { result ≡ type_of self }
+    {
+        match self.0 {
+            0 => Type::None,
+            1 => Type::Relocatable,
+            2 => Type::Executable,
+            3 => Type::SharedObject,
+            4 => Type::Core,
+            other => Type::ProcessorSpecific(other),
+        }
+    }
+}
+
+/// What a file is for (gABI, "ELF Header", e_type).
+#[derive(Clone, Copy, Debug, PartialEq, Eq)]
+pub enum Type {
+    /// No type.
+    None,
+    /// An object file.
+    Relocatable,
+    /// A program.
+    Executable,
+    /// A shared object.
+    SharedObject,
+    /// A core dump.
+    Core,
+    /// Any other number.
+    ProcessorSpecific(u16),
+}
+
+/// The processor that a file is for, as a number (gABI, "ELF Header", e_machine).
+#[derive(Clone, Copy, Debug)]
+pub struct Machine_(u16);
+
+impl Model for Machine_ {
+    ghost Value = { ℕ };
+
+    ghost view = { λ machine. machine.0 };
+
+    ghost inverse = { λ n. record { 0 = n } };
+}
+
+impl Machine_ {
+    /// The value of this number, which may be any.
+    pub fn from_raw(number: u16) -> Machine_
+        ensures { result ≡ number }
+    {
+        Machine_(number)
+    }
+
+    /// The number as it stands in the file.
+    pub fn raw(self) -> u16
+        ensures { result ≡ self }
+    {
+        self.0
+    }
+
+    /// What the number means.
+    pub fn as_machine(self) -> Machine
+        ensures { result ≡ machine_of self }
+    {
+        match self.0 {
+            0 => Machine::None,
+            2 => Machine::Sparc,
+            3 => Machine::X86,
+            8 => Machine::Mips,
+            0x14 => Machine::PowerPC,
+            0x28 => Machine::Arm,
+            0x2a => Machine::SuperH,
+            0x32 => Machine::Ia64,
+            0x3e => Machine::X86_64,
+            0xb7 => Machine::AArch64,
+            0xf3 => Machine::RISC_V,
+            0xf7 => Machine::BPF,
+            other => Machine::Other(other),
+        }
+    }
+}
+
+/// The processor that a file is for (gABI, "ELF Header", e_machine).
+#[allow(non_camel_case_types)]
+#[derive(Clone, Copy, Debug, PartialEq, Eq)]
+pub enum Machine {
+    /// No machine.
+    None,
+    /// SPARC.
+    Sparc,
+    /// Intel 80386.
+    X86,
+    /// MIPS.
+    Mips,
+    /// PowerPC.
+    PowerPC,
+    /// Arm of 32 bits.
+    Arm,
+    /// Hitachi SuperH.
+    SuperH,
+    /// Intel Itanium.
+    Ia64,
+    /// AMD x86-64.
+    X86_64,
+    /// Arm of 64 bits.
+    AArch64,
+    /// RISC-V.
+    RISC_V,
+    /// Linux BPF.
+    BPF,
+    /// Any other number.
+    Other(u16),
+}

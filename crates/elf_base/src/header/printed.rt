@@ -1,0 +1,199 @@
+//! How the ELF header is printed: a line for each field.
+
+ghost use Rattle.std.specs.Prelude.{◌≡◌, Some};
+ghost use Rattle.elf_base.specs.HeaderLayout.{fields};
+ghost use Rattle.elf_base.specs.HeaderText.{class_text, data_text, first_part_text, header_text, machine_text, os_abi_text, second_part_text, type_text, version_text};
+
+use crate::header::kinds::{Class, Data, Machine, OsAbi, Type, Version};
+use crate::header::{Header, HeaderPt1, HeaderPt2, HeaderPt2_};
+use crate::print::{Bytes, Field};
+use crate::{P32, P64};
+use std::fmt;
+use std::fmt::Display;
+
+impl Display for Class {
+    ghost output = { λ class. Some (class_text class) };
+
+    fn fmt<W: fmt::Write>(&self, f: &mut fmt::Formatter<W>) -> fmt::Result {
+        f.write_str(match *self {
+            Class::None => "None",
+            Class::ThirtyTwo => "ThirtyTwo",
+            Class::SixtyFour => "SixtyFour",
+            Class::Other(number) => return write!(f, "Other({number})"),
+        })
+    }
+}
+
+impl Display for Data {
+    ghost output = { λ encoding. Some (data_text encoding) };
+
+    fn fmt<W: fmt::Write>(&self, f: &mut fmt::Formatter<W>) -> fmt::Result {
+        f.write_str(match *self {
+            Data::None => "None",
+            Data::LittleEndian => "LittleEndian",
+            Data::BigEndian => "BigEndian",
+            Data::Other(number) => return write!(f, "Other({number})"),
+        })
+    }
+}
+
+impl Display for Version {
+    ghost output = { λ version. Some (version_text version) };
+
+    fn fmt<W: fmt::Write>(&self, f: &mut fmt::Formatter<W>) -> fmt::Result {
+        f.write_str(match *self {
+            Version::None => "None",
+            Version::Current => "Current",
+            Version::Other(number) => return write!(f, "Other({number})"),
+        })
+    }
+}
+
+impl Display for OsAbi {
+    ghost output = { λ os_abi. Some (os_abi_text os_abi) };
+
+    fn fmt<W: fmt::Write>(&self, f: &mut fmt::Formatter<W>) -> fmt::Result {
+        f.write_str(match *self {
+            OsAbi::SystemV => "SystemV",
+            OsAbi::HpUx => "HpUx",
+            OsAbi::NetBSD => "NetBSD",
+            OsAbi::Linux => "Linux",
+            OsAbi::Solaris => "Solaris",
+            OsAbi::Aix => "Aix",
+            OsAbi::Irix => "Irix",
+            OsAbi::FreeBSD => "FreeBSD",
+            OsAbi::OpenBSD => "OpenBSD",
+            OsAbi::OpenVMS => "OpenVMS",
+            OsAbi::Other(number) => return write!(f, "Other({number})"),
+        })
+    }
+}
+
+impl Display for Type {
+    ghost output = { λ kind. Some (type_text kind) };
+
+    fn fmt<W: fmt::Write>(&self, f: &mut fmt::Formatter<W>) -> fmt::Result {
+        f.write_str(match *self {
+            Type::None => "None",
+            Type::Relocatable => "Relocatable",
+            Type::Executable => "Executable",
+            Type::SharedObject => "SharedObject",
+            Type::Core => "Core",
+            Type::ProcessorSpecific(number) => return write!(f, "ProcessorSpecific({number})"),
+        })
+    }
+}
+
+impl Display for Machine {
+    ghost output = { λ machine. Some (machine_text machine) };
+
+    fn fmt<W: fmt::Write>(&self, f: &mut fmt::Formatter<W>) -> fmt::Result {
+        f.write_str(match *self {
+            Machine::None => "None",
+            Machine::Sparc => "Sparc",
+            Machine::X86 => "X86",
+            Machine::Mips => "Mips",
+            Machine::PowerPC => "PowerPC",
+            Machine::Arm => "Arm",
+            Machine::SuperH => "SuperH",
+            Machine::Ia64 => "Ia64",
+            Machine::X86_64 => "X86_64",
+            Machine::AArch64 => "AArch64",
+            Machine::RISC_V => "RISC_V",
+            Machine::BPF => "BPF",
+            Machine::Other(number) => return write!(f, "Other({number})"),
+        })
+    }
+}
+
+impl Display for HeaderPt1 {
+    ghost output = { λ part. Some (first_part_text part) };
+
+    fn fmt<W: fmt::Write>(&self, f: &mut fmt::Formatter<W>) -> fmt::Result {
+        write!(
+            f,
+            "{}{}{}{}{}{}{}",
+            Field("magic:            ", Bytes(&self.magic)),
+            Field("class:            ", self.class()),
+            Field("data:             ", self.data()),
+            Field("version:          ", self.version()),
+            Field("os abi:           ", self.os_abi()),
+            Field("abi version:      ", self.abi_version),
+            Field("padding:          ", Bytes(&self.padding))
+        )
+    }
+}
+
+impl HeaderPt2_<P32> {
+    // The same numbers, in the types of class 64, so that one text serves both.
+    fn widened(&self) -> HeaderPt2_<P64>
+        ensures { result ≡ self.now }
+    {
+        HeaderPt2_ {
+            type_: self.type_,
+            machine: self.machine,
+            version: self.version,
+            entry_point: u64::from(self.entry_point),
+            ph_offset: u64::from(self.ph_offset),
+            sh_offset: u64::from(self.sh_offset),
+            flags: self.flags,
+            header_size: self.header_size,
+            ph_entry_size: self.ph_entry_size,
+            ph_count: self.ph_count,
+            sh_entry_size: self.sh_entry_size,
+            sh_count: self.sh_count,
+            sh_str_index: self.sh_str_index,
+        }
+    }
+}
+
+impl Display for HeaderPt2_<P32> {
+    ghost output = { λ part. Some (second_part_text part) };
+
+    fn fmt<W: fmt::Write>(&self, f: &mut fmt::Formatter<W>) -> fmt::Result {
+        self.widened().fmt(f)
+    }
+}
+
+impl Display for HeaderPt2_<P64> {
+    ghost output = { λ part. Some (second_part_text part) };
+
+    fn fmt<W: fmt::Write>(&self, f: &mut fmt::Formatter<W>) -> fmt::Result {
+        write!(
+            f,
+            "{}{}{}{}{}{}{}{}{}{}{}{}{}",
+            Field("type:             ", self.type_.as_type()),
+            Field("machine:          ", self.machine.as_machine()),
+            Field("version:          ", self.version),
+            Field("entry_point:      ", self.entry_point),
+            Field("ph_offset:        ", self.ph_offset),
+            Field("sh_offset:        ", self.sh_offset),
+            Field("flags:            ", self.flags),
+            Field("header_size:      ", self.header_size),
+            Field("ph_entry_size:    ", self.ph_entry_size),
+            Field("ph_count:         ", self.ph_count),
+            Field("sh_entry_size:    ", self.sh_entry_size),
+            Field("sh_count:         ", self.sh_count),
+            Field("sh_str_index:     ", self.sh_str_index)
+        )
+    }
+}
+
+impl Display for HeaderPt2 {
+    ghost output = { λ part. Some (second_part_text (fields part)) };
+
+    fn fmt<W: fmt::Write>(&self, f: &mut fmt::Formatter<W>) -> fmt::Result {
+        match self {
+            HeaderPt2::Header32(part) => fmt::Display::fmt(part, f),
+            HeaderPt2::Header64(part) => fmt::Display::fmt(part, f),
+        }
+    }
+}
+
+impl Display for Header {
+    ghost output = { λ header. Some (header_text header) };
+
+    fn fmt<W: fmt::Write>(&self, f: &mut fmt::Formatter<W>) -> fmt::Result {
+        write!(f, "ELF header:\n{}{}", self.pt1, self.pt2)
+    }
+}

@@ -1,0 +1,47 @@
+//! Printed forms that the items of several crates share.
+
+ghost use Rattle.std.specs.Prelude.{◌≡◌, Some, option_map};
+ghost use Rattle.elf_base.specs.Printed.{bytes_text, filled_line, printed_result};
+
+use crate::ElfError;
+use std::fmt;
+use std::fmt::Display;
+
+/// A line of a printed header: four spaces, the label with its colon and its fill, the value.
+#[derive(Clone, Copy)]
+pub struct Field<'a, T>(pub &'a str, pub T);
+
+impl<T: Display> Display for Field<'_, T> {
+    ghost output = { λ field. option_map (filled_line field.0.now) (T.output field.1) };
+
+    fn fmt<W: fmt::Write>(&self, f: &mut fmt::Formatter<W>) -> fmt::Result {
+        writeln!(f, "    {}{}", self.0, self.1)
+    }
+}
+
+/// Bytes, printed in decimal as `[127, 69]`.
+#[derive(Clone, Copy)]
+pub struct Bytes<'a>(pub &'a [u8]);
+
+impl Display for Bytes<'_> {
+    ghost output = { λ bytes. Some (bytes_text bytes.0.now) };
+
+    fn fmt<W: fmt::Write>(&self, f: &mut fmt::Formatter<W>) -> fmt::Result {
+        fmt::Debug::fmt(&self.0, f)
+    }
+}
+
+/// A result, printed as `Ok(StrTab)` or `Err("Invalid sh type")`.
+#[derive(Clone, Copy)]
+pub struct PrintedResult<T>(pub Result<T, ElfError>);
+
+impl<T: Display> Display for PrintedResult<T> {
+    ghost output = { λ printed. printed_result T.output printed.0 };
+
+    fn fmt<W: fmt::Write>(&self, f: &mut fmt::Formatter<W>) -> fmt::Result {
+        match &self.0 {
+            Ok(value) => write!(f, "Ok({value})"),
+            Err(error) => write!(f, "Err(\"{error}\")"),
+        }
+    }
+}

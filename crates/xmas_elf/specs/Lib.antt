@@ -1,0 +1,10 @@
+pub use Rattle.elf_base.specs.Number
+pub use Rattle.elf_base.specs.Refusal
+pub use Rattle.elf_base.specs.Message
+pub use Rattle.elf_base.specs.Named
+pub use Rattle.elf_base.specs.HeaderNumbers
+pub use Rattle.elf_base.specs.HeaderLayout
+pub use Rattle.elf_base.specs.FileHeader
+pub use Rattle.elf_base.specs.Printed
+pub use Rattle.elf_base.specs.HeaderText
+pub mod Report
