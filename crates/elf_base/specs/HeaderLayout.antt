@@ -11,10 +11,10 @@ use Rattle.elf_base.specs.declared.header.HeaderPt2.TheVariants.{Header32, Heade
 abbrev pub header_pt1 : List ℕ → HeaderPt1
 header_pt1 bytes = record {
   magic = slice_range bytes 0 4;
-  class = byte_at 4 bytes;
-  encoding = byte_at 5 bytes;
-  version = byte_at 6 bytes;
-  os_abi = byte_at 7 bytes;
+  class = record { 0 = byte_at 4 bytes };
+  encoding = record { 0 = byte_at 5 bytes };
+  version = record { 0 = byte_at 6 bytes };
+  os_abi = record { 0 = byte_at 7 bytes };
   abi_version = byte_at 8 bytes;
   padding = slice_range bytes 9 16;
 }
@@ -22,8 +22,8 @@ header_pt1 bytes = record {
 -- the 36 bytes that follow in class 32; `place` is 16 in a file
 abbrev pub header_pt2_32 : Order → ℕ → List ℕ → HeaderPt2_ ℕ
 header_pt2_32 order place bytes = record {
-  type_ = number order 2 place bytes;
-  machine = number order 2 (place + 2) bytes;
+  type_ = record { 0 = number order 2 place bytes };
+  machine = record { 0 = number order 2 (place + 2) bytes };
   version = number order 4 (place + 4) bytes;
   entry_point = number order 4 (place + 8) bytes;
   ph_offset = number order 4 (place + 12) bytes;
@@ -40,8 +40,8 @@ header_pt2_32 order place bytes = record {
 -- the 48 bytes that follow in class 64; `place` is 16 in a file
 abbrev pub header_pt2_64 : Order → ℕ → List ℕ → HeaderPt2_ ℕ
 header_pt2_64 order place bytes = record {
-  type_ = number order 2 place bytes;
-  machine = number order 2 (place + 2) bytes;
+  type_ = record { 0 = number order 2 place bytes };
+  machine = record { 0 = number order 2 (place + 2) bytes };
   version = number order 4 (place + 4) bytes;
   entry_point = number order 8 (place + 8) bytes;
   ph_offset = number order 8 (place + 16) bytes;

@@ -76,10 +76,10 @@ machine_text (machine.Other n) = numbered (codes "Other") n
 abbrev pub first_part_text : HeaderPt1 → List ℕ
 first_part_text part = joined (
     field_line (codes "magic") (bytes_text part.magic)
-    ∷ field_line (codes "class") (class_text (class_of part.class))
-    ∷ field_line (codes "data") (data_text (data_of part.encoding))
-    ∷ field_line (codes "version") (version_text (version_of part.version))
-    ∷ field_line (codes "os abi") (os_abi_text (os_abi_of part.os_abi))
+    ∷ field_line (codes "class") (class_text (class_of part.class.0))
+    ∷ field_line (codes "data") (data_text (data_of part.encoding.0))
+    ∷ field_line (codes "version") (version_text (version_of part.version.0))
+    ∷ field_line (codes "os abi") (os_abi_text (os_abi_of part.os_abi.0))
     ∷ field_line (codes "abi version") (decimal part.abi_version)
     ∷ field_line (codes "padding") (bytes_text part.padding)
     ∷ [])
@@ -87,8 +87,8 @@ first_part_text part = joined (
 -- part 2, of either width
 abbrev pub second_part_text : HeaderPt2_ ℕ → List ℕ
 second_part_text part = joined (
-    field_line (codes "type") (type_text (type_of part.type_))
-    ∷ field_line (codes "machine") (machine_text (machine_of part.machine))
+    field_line (codes "type") (type_text (type_of part.type_.0))
+    ∷ field_line (codes "machine") (machine_text (machine_of part.machine.0))
     ∷ field_line (codes "version") (decimal part.version)
     ∷ field_line (codes "entry_point") (decimal part.entry_point)
     ∷ field_line (codes "ph_offset") (decimal part.ph_offset)

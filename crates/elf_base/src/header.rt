@@ -89,28 +89,28 @@ pub struct HeaderPt2_<P> {
 impl HeaderPt1 {
     /// How wide the addresses and offsets of the file are.
     pub fn class(&self) -> Class
-        ensures { result ≡ class_of self.now.class }
+        ensures { result ≡ class_of self.now.class.0 }
     {
         self.class.as_class()
     }
 
     /// The encoding of the numbers of the file.
     pub fn data(&self) -> Data
-        ensures { result ≡ data_of self.now.encoding }
+        ensures { result ≡ data_of self.now.encoding.0 }
     {
         self.encoding.as_data()
     }
 
     /// The version of the header.
     pub fn version(&self) -> Version
-        ensures { result ≡ version_of self.now.version }
+        ensures { result ≡ version_of self.now.version.0 }
     {
         self.version.as_version()
     }
 
     /// The operating system whose extensions the file uses.
     pub fn os_abi(&self) -> OsAbi
-        ensures { result ≡ os_abi_of self.now.os_abi }
+        ensures { result ≡ os_abi_of self.now.os_abi.0 }
     {
         self.os_abi.as_os_abi()
     }
@@ -250,7 +250,7 @@ impl HeaderPt2 {
 
 /// The order of a file's numbers, by its data byte: big-endian for 2, else little-endian.
 pub fn byte_order(encoding: Data_) -> Order
-    ensures { result ≡ order_of encoding }
+    ensures { result ≡ order_of encoding.0 }
 {
     match encoding.as_data() {
         Data::BigEndian => Order::Big,

@@ -3,41 +3,31 @@
 //! A type whose name ends in `_` is the number as it stands in the file, and every number is one.
 //! The enum of the same name is what the number means.
 
-ghost use Rattle.std.specs.Prelude.{◌≡◌, ◌↔◌, ℕ, IsTrue};
+ghost use Rattle.std.specs.Prelude.{◌≡◌, ◌↔◌, IsTrue};
 ghost use Rattle.elf_base.specs.HeaderNumbers.{class_of, data_of, machine_of, os_abi_of, type_of, version_of};
-
-use std::marker::Model;
 
 /// How wide the addresses and offsets of a file are, as a number (gABI, "ELF Header", EI_CLASS).
 #[derive(Clone, Copy, Debug, PartialEq, Eq)]
 pub struct Class_(u8);
 
-impl Model for Class_ {
-    ghost Value = { ℕ };
-
-    ghost view = { λ class. class.0 };
-
-    ghost inverse = { λ n. record { 0 = n } };
-}
-
 impl Class_ {
     /// The value of this number, which may be any.
     pub fn from_raw(number: u8) -> Class_
-        ensures { result ≡ number }
+        ensures { result ≡ record { 0 = number } }
     {
         Class_(number)
     }
 
     /// The number as it stands in the file.
     pub fn raw(self) -> u8
-        ensures { result ≡ self }
+        ensures { result ≡ self.0 }
     {
         self.0
     }
 
     /// What the number means.
     pub fn as_class(self) -> Class
-        ensures { result ≡ class_of self }
+        ensures { result ≡ class_of self.0 }
     {
         match self.0 {
             0 => Class::None,
@@ -49,7 +39,7 @@ impl Class_ {
 
     /// Whether the number is 0.
     pub fn is_none(self) -> bool
-        ensures { IsTrue result ↔ (self ≡ 0) }
+        ensures { IsTrue result ↔ (self.0 ≡ 0) }
     {
         self.0 == 0
     }
@@ -81,32 +71,24 @@ impl Class {
 #[derive(Clone, Copy, Debug)]
 pub struct Data_(u8);
 
-impl Model for Data_ {
-    ghost Value = { ℕ };
-
-    ghost view = { λ number. number.0 };
-
-    ghost inverse = { λ n. record { 0 = n } };
-}
-
 impl Data_ {
     /// The value of this number, which may be any.
     pub fn from_raw(number: u8) -> Data_
-        ensures { result ≡ number }
+        ensures { result ≡ record { 0 = number } }
     {
         Data_(number)
     }
 
     /// The number as it stands in the file.
     pub fn raw(self) -> u8
-        ensures { result ≡ self }
+        ensures { result ≡ self.0 }
     {
         self.0
     }
 
     /// What the number means.
     pub fn as_data(self) -> Data
-        ensures { result ≡ data_of self }
+        ensures { result ≡ data_of self.0 }
     {
         match self.0 {
             0 => Data::None,
@@ -118,7 +100,7 @@ impl Data_ {
 
     /// Whether the number is 0.
     pub fn is_none(self) -> bool
-        ensures { IsTrue result ↔ (self ≡ 0) }
+        ensures { IsTrue result ↔ (self.0 ≡ 0) }
     {
         self.0 == 0
     }
@@ -150,32 +132,24 @@ impl Data {
 #[derive(Clone, Copy, Debug)]
 pub struct Version_(u8);
 
-impl Model for Version_ {
-    ghost Value = { ℕ };
-
-    ghost view = { λ version. version.0 };
-
-    ghost inverse = { λ n. record { 0 = n } };
-}
-
 impl Version_ {
     /// The value of this number, which may be any.
     pub fn from_raw(number: u8) -> Version_
-        ensures { result ≡ number }
+        ensures { result ≡ record { 0 = number } }
     {
         Version_(number)
     }
 
     /// The number as it stands in the file.
     pub fn raw(self) -> u8
-        ensures { result ≡ self }
+        ensures { result ≡ self.0 }
     {
         self.0
     }
 
     /// What the number means.
     pub fn as_version(self) -> Version
-        ensures { result ≡ version_of self }
+        ensures { result ≡ version_of self.0 }
     {
         match self.0 {
             0 => Version::None,
@@ -186,7 +160,7 @@ impl Version_ {
 
     /// Whether the number is 0.
     pub fn is_none(self) -> bool
-        ensures { IsTrue result ↔ (self ≡ 0) }
+        ensures { IsTrue result ↔ (self.0 ≡ 0) }
     {
         self.0 == 0
     }
@@ -216,32 +190,24 @@ impl Version {
 #[derive(Clone, Copy, Debug)]
 pub struct OsAbi_(u8);
 
-impl Model for OsAbi_ {
-    ghost Value = { ℕ };
-
-    ghost view = { λ os_abi. os_abi.0 };
-
-    ghost inverse = { λ n. record { 0 = n } };
-}
-
 impl OsAbi_ {
     /// The value of this number, which may be any.
     pub fn from_raw(number: u8) -> OsAbi_
-        ensures { result ≡ number }
+        ensures { result ≡ record { 0 = number } }
     {
         OsAbi_(number)
     }
 
     /// The number as it stands in the file.
     pub fn raw(self) -> u8
-        ensures { result ≡ self }
+        ensures { result ≡ self.0 }
     {
         self.0
     }
 
     /// What the number means.
     pub fn as_os_abi(self) -> OsAbi
-        ensures { result ≡ os_abi_of self }
+        ensures { result ≡ os_abi_of self.0 }
     {
         match self.0 {
             0 => OsAbi::SystemV,
@@ -290,32 +256,24 @@ pub enum OsAbi {
 #[derive(Clone, Copy, Debug)]
 pub struct Type_(pub u16);
 
-impl Model for Type_ {
-    ghost Value = { ℕ };
-
-    ghost view = { λ number. number.0 };
-
-    ghost inverse = { λ n. record { 0 = n } };
-}
-
 impl Type_ {
     /// The value of this number, which may be any.
     pub fn from_raw(number: u16) -> Type_
-        ensures { result ≡ number }
+        ensures { result ≡ record { 0 = number } }
     {
         Type_(number)
     }
 
     /// The number as it stands in the file.
     pub fn raw(self) -> u16
-        ensures { result ≡ self }
+        ensures { result ≡ self.0 }
     {
         self.0
     }
 
     /// What the number means.
     pub fn as_type(self) -> Type
-        ensures { result ≡ type_of self }
+        ensures { result ≡ type_of self.0 }
     {
         match self.0 {
             0 => Type::None,
@@ -349,32 +307,24 @@ pub enum Type {
 #[derive(Clone, Copy, Debug)]
 pub struct Machine_(u16);
 
-impl Model for Machine_ {
-    ghost Value = { ℕ };
-
-    ghost view = { λ machine. machine.0 };
-
-    ghost inverse = { λ n. record { 0 = n } };
-}
-
 impl Machine_ {
     /// The value of this number, which may be any.
     pub fn from_raw(number: u16) -> Machine_
-        ensures { result ≡ number }
+        ensures { result ≡ record { 0 = number } }
     {
         Machine_(number)
     }
 
     /// The number as it stands in the file.
     pub fn raw(self) -> u16
-        ensures { result ≡ self }
+        ensures { result ≡ self.0 }
     {
         self.0
     }
 
     /// What the number means.
     pub fn as_machine(self) -> Machine
-        ensures { result ≡ machine_of self }
+        ensures { result ≡ machine_of self.0 }
     {
         match self.0 {
             0 => Machine::None,

@@ -1,0 +1,80 @@
+//! Small files, field by field.
+
+ghost use Rattle.std.specs.Prelude.{◌≤◌};
+
+use crate::tests::places::{header_32, header_64, put, section_32, section_64, set};
+use xmas_elf::bytes::Order;
+
+const LITTLE: Order = Order::Little;
+
+/// The first seven bytes of a header of this class, and zeros, in room for the longest header.
+pub fn plain_header(class: u8) -> [u8; 64] {
+    let mut header = [0; 64];
+    put(&mut header, 0, &[0x7f, b'E', b'L', b'F', class, 1, 1]);
+    header
+}
+
+/// How many bytes of `plain_header` a file of this class has: 52, 64, or 16 for all others.
+pub fn plain_header_len(class: u8) -> usize
+    ensures { result ≤ 64 }
+{
+    match class {
+        1 => 52,
+        2 => 64,
+        _ => 16,
+    }
+}
+
+/// Class 32, in either order: section 1, `.strtab`, names itself and holds `ab`.
+pub fn strtab_file(order: Order) -> [u8; 144] {
+    let mut file = [0; 144];
+    let data_byte = match order {
+        Order::Little => 1,
+        Order::Big => 2,
+    };
+    put(&mut file, 0, &[0x7f, b'E', b'L', b'F', 1, data_byte, 1]);
+    set(&mut file, 0, header_32::SH_OFFSET, 52, order);
+    set(&mut file, 0, header_32::HEADER_SIZE, 52, order);
+    set(&mut file, 0, header_32::SH_ENTRY_SIZE, 40, order);
+    set(&mut file, 0, header_32::SH_COUNT, 2, order);
+    set(&mut file, 0, header_32::SH_STR_INDEX, 1, order);
+    set(&mut file, 92, section_32::NAME, 1, order);
+    set(&mut file, 92, section_32::TYPE, 3, order);
+    set(&mut file, 92, section_32::OFFSET, 132, order);
+    set(&mut file, 92, section_32::SIZE, 12, order);
+    set(&mut file, 92, section_32::ALIGN, 1, order);
+    put(&mut file, 132, b"\0.strtab\0ab\0");
+    file
+}
+
+/// Class 64: the names, a link to debug information and a build id.
+pub fn debug_link_file() -> [u8; 397] {
+    let mut file = [0; 397];
+    put(&mut file, 0, &[0x7f, b'E', b'L', b'F', 2, 1, 1]);
+    set(&mut file, 0, header_64::SH_OFFSET, 64, LITTLE);
+    set(&mut file, 0, header_64::HEADER_SIZE, 64, LITTLE);
+    set(&mut file, 0, header_64::SH_ENTRY_SIZE, 64, LITTLE);
+    set(&mut file, 0, header_64::SH_COUNT, 4, LITTLE);
+    set(&mut file, 0, header_64::SH_STR_INDEX, 1, LITTLE);
+    let sections = [(1, 3, 320, 45), (11, 1, 365, 12), (26, 7, 377, 20)];
+    let mut start = 128;
+    for (name, kind, offset, size) in sections {
+        set(&mut file, start, section_64::NAME, name, LITTLE);
+        set(&mut file, start, section_64::TYPE, kind, LITTLE);
+        set(&mut file, start, section_64::OFFSET, offset, LITTLE);
+        set(&mut file, start, section_64::SIZE, size, LITTLE);
+        start = start.wrapping_add(64);
+    }
+    put(
+        &mut file,
+        320,
+        b"\0.shstrtab\0.gnu_debuglink\0.note.gnu.build-id\0",
+    );
+    put(&mut file, 365, b"a.debug\0\x78\x56\x34\x12");
+    put(
+        &mut file,
+        377,
+        b"\x04\0\0\0\x04\0\0\0\x03\0\0\0GNU\0\xde\xad\xbe\xef",
+    );
+    file
+}

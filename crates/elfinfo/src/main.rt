@@ -1,0 +1,110 @@
+//! Prints what an ELF file holds: `elfinfo <path>` writes the report of the file to standard output.
+#![tactic(auto)]
+
+ghost use Rattle.std.specs.Prelude.{◌≡◌, [], OnOk};
+ghost use Rattle.std.specs.Io.Buffered.{writer_buffer, writer_inner};
+ghost use Rattle.xmas_elf.specs.Report.{WritesReport};
+
+use std::alloc::Global;
+use std::fs::File;
+use std::io::{BufWriter, Read, Write};
+use std::process::ExitCode;
+use std::{env, io};
+use thiserror::Error;
+use xmas_elf::ElfError;
+use xmas_elf::report::{ReportFault, report};
+
+#[cfg(test)]
+mod tests;
+
+/// Why the program ends with status 1, and what it says then.
+#[derive(Debug, Drop, Error)]
+enum Fault<'a> {
+    #[error("usage: elfinfo <binary_path>")]
+    Usage,
+    #[error("elfinfo: cannot read {path}")]
+    Read { path: &'a str },
+    #[error("elfinfo: {0}")]
+    Refused(ElfError),
+    #[error("elfinfo: cannot write")]
+    Write,
+}
+
+/// Writes the report of the file to `out`, or says on `err` why it can't, and answers the exit status.
+///
+/// `file` is `None` where the file at `path` could not be opened. A fault of `err` is passed over. The
+/// status is 0 where the whole report was written and flushed, and else 1.
+pub fn run<R: Read + Drop, W: Write, E: Write>(
+    alloc: Global,
+    path: Option<&str>,
+    file: Option<R>,
+    out: &mut W,
+    err: &mut E,
+) -> u8 {
+    match print_report(alloc, path, file, out) {
+        Ok(()) => 0,
+        Err(Fault::Usage) => {
+            let _ = writeln!(out, "{}", Fault::Usage);
+            1
+        }
+        Err(fault) => {
+            let _ = writeln!(err, "{fault}");
+            1
+        }
+    }
+}
+
+fn print_report<'a, R: Read + Drop, W: Write>(
+    alloc: Global,
+    path: Option<&'a str>,
+    file: Option<R>,
+    out: &mut W,
+) -> Result<(), Fault<'a>> {
+    let path = path.ok_or(Fault::Usage)?;
+    let mut file = file.ok_or(Fault::Read { path })?;
+    let mut input = Vec::new(alloc);
+    if file.read_to_end(&mut input).is_err() {
+        return Err(Fault::Read { path });
+    }
+    write_buffered(alloc, &input, out).map_err(|fault| match fault {
+        ReportFault::Elf(error) => Fault::Refused(error),
+        ReportFault::Write => Fault::Write,
+    })
+}
+
+// Writes the report through a buffer, which is thrown away after a fault.
+fn write_buffered<W: Write>(alloc: Global, input: &[u8], out: &mut W) -> Result<(), ReportFault> {
+    let mut buffered = BufWriter::new(alloc, out).map_err(|_| ReportFault::Write)?;
+    let written = write_flushed(input, &mut buffered);
+    // Unlike a drop, this writes nothing more after a fault.
+    let _ = buffered.into_parts();
+    written
+}
+
+fn write_flushed<W: Write + Drop>(
+    input: &[u8],
+    buffered: &mut BufWriter<W>,
+) -> Result<(), ReportFault>
+    requires { writer_buffer buffered.old ≡ [] }
+    ensures { OnOk result (WritesReport input.now
+        (W.contents (writer_inner buffered.old)) (W.contents (writer_inner buffered.new))) }
+{
+    report(input, buffered)?;
+    buffered.flush().map_err(|_| ReportFault::Write)
+}
+
+fn main(rt: HostRuntime) -> ExitCode {
+    match run_on_arguments(&rt) {
+        Ok(status) => ExitCode::from(status),
+        Err(_) => ExitCode::FAILURE,
+    }
+}
+
+fn run_on_arguments(rt: &HostRuntime) -> io::Result<u8> {
+    let mut arguments = env::args(rt)?;
+    let _program = arguments.next();
+    let path = arguments.next();
+    let path = path.as_ref().map(|path| path.as_str());
+    let file = path.and_then(|path| File::open(rt, path).ok());
+    Ok(run(rt.alloc(), path, file, &mut rt.stdout(), &mut rt.stderr()))
+}
