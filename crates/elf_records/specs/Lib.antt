@@ -1,0 +1,2 @@
+pub mod SectionNumbers
+pub mod ProgramNumbers

@@ -1,0 +1,51 @@
+-- What the numbers of segments mean (gABI, "Program Header", p_type and p_flags).
+use Rattle.std.specs.Prelude.{ℕ, ◌==◌, ◌^◌, nat_le, ◌&&◌, Bool, List, [], ◌∷◌, ◌++◌, Result, Ok, Err, codes, bit_and, if◌then◌else◌}
+use Rattle.elf_base.specs.Named.{named_or}
+use Rattle.elf_base.specs.Printed.{numbered}
+use Rattle.elf_base.specs.declared.error.ElfError.{ElfError}
+use Rattle.elf_base.specs.declared.error.ElfError.TheVariants.{InvalidPhType}
+use Rattle.elf_records.specs.declared.program.Type as the_type
+use Rattle.elf_records.specs.declared.program.Type.TheVariants as ph_type
+
+-- the types that are ranges: of the operating system, of the processor
+abbrev pub ph_type_in_range : ℕ → Result the_type.Type ElfError
+ph_type_in_range n =
+    if nat_le 0x60000000 n && nat_le n 0x6fffffff then Ok (ph_type.OsSpecific n)
+    else (if nat_le 0x70000000 n && nat_le n 0x7fffffff then Ok (ph_type.ProcessorSpecific n)
+    else Err InvalidPhType)
+
+-- p_type
+abbrev pub ph_type_of : ℕ → Result the_type.Type ElfError
+ph_type_of n = named_or ph_type_in_range (
+    (0, Ok ph_type.Null)
+    ∷ (1, Ok ph_type.Load)
+    ∷ (2, Ok ph_type.Dynamic)
+    ∷ (3, Ok ph_type.Interp)
+    ∷ (4, Ok ph_type.Note)
+    ∷ (5, Ok ph_type.ShLib)
+    ∷ (6, Ok ph_type.Phdr)
+    ∷ (7, Ok ph_type.Tls)
+    ∷ (0x6474e552, Ok ph_type.GnuRelro)
+    ∷ []) n
+
+-- how a type is printed
+abbrev pub ph_type_text : the_type.Type → List ℕ
+ph_type_text ph_type.Null = codes "Null"
+ph_type_text ph_type.Load = codes "Load"
+ph_type_text ph_type.Dynamic = codes "Dynamic"
+ph_type_text ph_type.Interp = codes "Interp"
+ph_type_text ph_type.Note = codes "Note"
+ph_type_text ph_type.ShLib = codes "ShLib"
+ph_type_text ph_type.Phdr = codes "Phdr"
+ph_type_text ph_type.Tls = codes "Tls"
+ph_type_text ph_type.GnuRelro = codes "GnuRelro"
+ph_type_text (ph_type.OsSpecific n) = numbered (codes "OsSpecific") n
+ph_type_text (ph_type.ProcessorSpecific n) = numbered (codes "ProcessorSpecific") n
+
+-- a letter where bit k is set, else a space
+abbrev pub flag_text : ℕ → ℕ → List ℕ → List ℕ
+flag_text n k letter = if bit_and n (2 ^ k) == 0 then codes " " else letter
+
+-- p_flags, as `X R`: bits 0, 1 and 2
+abbrev pub flags_text : ℕ → List ℕ
+flags_text n = flag_text n 0 (codes "X") ++ (flag_text n 1 (codes "W") ++ flag_text n 2 (codes "R"))

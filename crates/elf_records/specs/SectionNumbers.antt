@@ -1,0 +1,61 @@
+-- What the numbers of sections mean (gABI, "Section Header", sh_type).
+use Rattle.std.specs.Prelude.{ℕ, nat_le, ◌&&◌, List, [], ◌∷◌, Result, Ok, Err, codes, if◌then◌else◌}
+use Rattle.elf_base.specs.Named.{named_or}
+use Rattle.elf_base.specs.Printed.{numbered}
+use Rattle.elf_base.specs.declared.error.ElfError.{ElfError}
+use Rattle.elf_base.specs.declared.error.ElfError.TheVariants.{InvalidShType}
+use Rattle.elf_records.specs.declared.sections.ShType.{ShType}
+use Rattle.elf_records.specs.declared.sections.ShType.TheVariants as sh_type
+
+-- the types that are ranges: of the operating system, of the processor, of programs
+abbrev pub sh_type_in_range : ℕ → Result ShType ElfError
+sh_type_in_range n =
+    if nat_le 0x60000000 n && nat_le n 0x6fffffff then Ok (sh_type.OsSpecific n)
+    else (if nat_le 0x70000000 n && nat_le n 0x7fffffff then Ok (sh_type.ProcessorSpecific n)
+    else (if nat_le 0x80000000 n then Ok (sh_type.User n)
+    else Err InvalidShType))
+
+-- sh_type
+abbrev pub sh_type_of : ℕ → Result ShType ElfError
+sh_type_of n = named_or sh_type_in_range (
+    (0, Ok sh_type.Null)
+    ∷ (1, Ok sh_type.ProgBits)
+    ∷ (2, Ok sh_type.SymTab)
+    ∷ (3, Ok sh_type.StrTab)
+    ∷ (4, Ok sh_type.Rela)
+    ∷ (5, Ok sh_type.Hash)
+    ∷ (6, Ok sh_type.Dynamic)
+    ∷ (7, Ok sh_type.Note)
+    ∷ (8, Ok sh_type.NoBits)
+    ∷ (9, Ok sh_type.Rel)
+    ∷ (10, Ok sh_type.ShLib)
+    ∷ (11, Ok sh_type.DynSym)
+    ∷ (14, Ok sh_type.InitArray)
+    ∷ (15, Ok sh_type.FiniArray)
+    ∷ (16, Ok sh_type.PreInitArray)
+    ∷ (17, Ok sh_type.Group)
+    ∷ (18, Ok sh_type.SymTabShIndex)
+    ∷ []) n
+
+-- how a type is printed
+abbrev pub sh_type_text : ShType → List ℕ
+sh_type_text sh_type.Null = codes "Null"
+sh_type_text sh_type.ProgBits = codes "ProgBits"
+sh_type_text sh_type.SymTab = codes "SymTab"
+sh_type_text sh_type.StrTab = codes "StrTab"
+sh_type_text sh_type.Rela = codes "Rela"
+sh_type_text sh_type.Hash = codes "Hash"
+sh_type_text sh_type.Dynamic = codes "Dynamic"
+sh_type_text sh_type.Note = codes "Note"
+sh_type_text sh_type.NoBits = codes "NoBits"
+sh_type_text sh_type.Rel = codes "Rel"
+sh_type_text sh_type.ShLib = codes "ShLib"
+sh_type_text sh_type.DynSym = codes "DynSym"
+sh_type_text sh_type.InitArray = codes "InitArray"
+sh_type_text sh_type.FiniArray = codes "FiniArray"
+sh_type_text sh_type.PreInitArray = codes "PreInitArray"
+sh_type_text sh_type.Group = codes "Group"
+sh_type_text sh_type.SymTabShIndex = codes "SymTabShIndex"
+sh_type_text (sh_type.OsSpecific n) = numbered (codes "OsSpecific") n
+sh_type_text (sh_type.ProcessorSpecific n) = numbered (codes "ProcessorSpecific") n
+sh_type_text (sh_type.User n) = numbered (codes "User") n

@@ -1,0 +1,193 @@
+//! The numbers of segments that have names (gABI, "Program Header").
+
+ghost use Rattle.std.specs.Prelude.{◌≡◌, ◌↔◌, IsTrue, Some};
+ghost use Rattle.std.specs.Int.{IsBitSet};
+ghost use Rattle.elf_records.specs.ProgramNumbers.{flags_text, ph_type_of, ph_type_text};
+
+use elf_base::ElfError;
+use std::fmt;
+use std::fmt::Display;
+
+/// The first type of the operating system.
+pub const TYPE_LOOS: u32 = 0x6000_0000;
+
+/// The last type of the operating system.
+pub const TYPE_HIOS: u32 = 0x6fff_ffff;
+
+/// The first type of the processor.
+pub const TYPE_LOPROC: u32 = 0x7000_0000;
+
+/// The last type of the processor.
+pub const TYPE_HIPROC: u32 = 0x7fff_ffff;
+
+/// What is read-only once relocations are applied (GNU).
+pub const TYPE_GNU_RELRO: u32 = 0x6474_e552;
+
+/// The segment can be executed.
+pub const FLAG_X: u32 = 1;
+
+/// The segment can be written.
+pub const FLAG_W: u32 = 2;
+
+/// The segment can be read.
+pub const FLAG_R: u32 = 4;
+
+/// The flags of the operating system.
+pub const FLAG_MASKOS: u32 = 0x0ff0_0000;
+
+/// The flags of the processor.
+pub const FLAG_MASKPROC: u32 = 0xf000_0000;
+
+/// What a segment is, as a number (gABI, "Program Header", p_type).
+#[derive(Clone, Copy, Debug, Default)]
+pub struct Type_(u32);
+
+impl Type_ {
+    /// The value of this number, which may be any.
+    pub fn from_raw(number: u32) -> Type_
+        ensures { result ≡ record { 0 = number } }
+    {
+        Type_(number)
+    }
+
+    /// The number as it stands in the file.
+    pub fn raw(self) -> u32
+        ensures { result ≡ self.0 }
+    {
+        self.0
+    }
+
+    /// What the number means; `InvalidPhType` for 8 to 0x5fffffff and from 0x80000000 on.
+    pub fn as_type(self) -> Result<Type, ElfError>
+        ensures { result ≡ ph_type_of self.0 }
+    {
+        Ok(match self.0 {
+            0 => Type::Null,
+            1 => Type::Load,
+            2 => Type::Dynamic,
+            3 => Type::Interp,
+            4 => Type::Note,
+            5 => Type::ShLib,
+            6 => Type::Phdr,
+            7 => Type::Tls,
+            TYPE_GNU_RELRO => Type::GnuRelro,
+            TYPE_LOOS..=TYPE_HIOS => Type::OsSpecific(self.0),
+            TYPE_LOPROC..=TYPE_HIPROC => Type::ProcessorSpecific(self.0),
+            _ => return Err(ElfError::InvalidPhType),
+        })
+    }
+}
+
+/// What a segment is (gABI, "Program Header", p_type).
+#[derive(Clone, Copy, Debug, PartialEq, Eq)]
+pub enum Type {
+    /// No segment: the other fields have no meaning.
+    Null,
+    /// Bytes to be loaded into memory.
+    Load,
+    /// What a dynamic linker needs.
+    Dynamic,
+    /// The path of the program interpreter.
+    Interp,
+    /// Notes.
+    Note,
+    /// Reserved, without a meaning.
+    ShLib,
+    /// The program header table itself.
+    Phdr,
+    /// The template of thread-local storage.
+    Tls,
+    /// What is read-only once relocations are applied (GNU).
+    GnuRelro,
+    /// A type of the operating system.
+    OsSpecific(u32),
+    /// A type of the processor.
+    ProcessorSpecific(u32),
+}
+
+impl Display for Type {
+    ghost output = { λ kind. Some (ph_type_text kind) };
+
+    fn fmt<W: fmt::Write>(&self, f: &mut fmt::Formatter<W>) -> fmt::Result {
+        f.write_str(match *self {
+            Type::Null => "Null",
+            Type::Load => "Load",
+            Type::Dynamic => "Dynamic",
+            Type::Interp => "Interp",
+            Type::Note => "Note",
+            Type::ShLib => "ShLib",
+            Type::Phdr => "Phdr",
+            Type::Tls => "Tls",
+            Type::GnuRelro => "GnuRelro",
+            Type::OsSpecific(number) => return write!(f, "OsSpecific({number})"),
+            Type::ProcessorSpecific(number) => return write!(f, "ProcessorSpecific({number})"),
+        })
+    }
+}
+
+/// What may be done with the memory of a segment (gABI, "Program Header", p_flags).
+#[derive(Clone, Copy, Debug, Default, PartialEq, Eq)]
+pub struct Flags(pub u32);
+
+impl Flags {
+    /// The flags of this number, which may be any.
+    pub fn from_raw(number: u32) -> Flags
+        ensures { result ≡ record { 0 = number } }
+    {
+        Flags(number)
+    }
+
+    /// The number as it stands in the file.
+    pub fn raw(self) -> u32
+        ensures { result ≡ self.0 }
+    {
+        self.0
+    }
+
+    /// Whether the segment can be executed: bit 0.
+    pub fn is_execute(&self) -> bool
+        ensures { IsTrue result ↔ IsBitSet self.now.0 0 }
+    {
+        self.0 & FLAG_X != 0
+    }
+
+    /// Whether the segment can be written: bit 1.
+    pub fn is_write(&self) -> bool
+        ensures { IsTrue result ↔ IsBitSet self.now.0 1 }
+    {
+        self.0 & FLAG_W != 0
+    }
+
+    /// Whether the segment can be read: bit 2.
+    pub fn is_read(&self) -> bool
+        ensures { IsTrue result ↔ IsBitSet self.now.0 2 }
+    {
+        self.0 & FLAG_R != 0
+    }
+}
+
+impl Display for Flags {
+    ghost output = { λ flags. Some (flags_text flags.0) };
+
+    fn fmt<W: fmt::Write>(&self, f: &mut fmt::Formatter<W>) -> fmt::Result {
+        write!(
+            f,
+            "{}{}{}",
+            if self.is_execute() { 'X' } else { ' ' },
+            if self.is_write() { 'W' } else { ' ' },
+            if self.is_read() { 'R' } else { ' ' }
+        )
+    }
+}
+
+impl fmt::LowerHex for Flags {
+    fn fmt<W: fmt::Write>(&self, f: &mut fmt::Formatter<W>) -> fmt::Result {
+        write!(f, "{:#x}", self.0)
+    }
+}
+
+impl fmt::UpperHex for Flags {
+    fn fmt<W: fmt::Write>(&self, f: &mut fmt::Formatter<W>) -> fmt::Result {
+        write!(f, "{:#X}", self.0)
+    }
+}

@@ -1,0 +1,227 @@
+//! The numbers of sections that have names (gABI, "Sections").
+
+ghost use Rattle.std.specs.Prelude.{◌≡◌, Some};
+ghost use Rattle.elf_records.specs.SectionNumbers.{sh_type_of, sh_type_text};
+
+use elf_base::ElfError;
+use std::fmt;
+use std::fmt::Display;
+
+/// No section.
+pub const SHN_UNDEF: u16 = 0;
+
+/// The first reserved index.
+pub const SHN_LORESERVE: u16 = 0xff00;
+
+/// The first index of the processor.
+pub const SHN_LOPROC: u16 = 0xff00;
+
+/// The last index of the processor.
+pub const SHN_HIPROC: u16 = 0xff1f;
+
+/// The first index of the operating system.
+pub const SHN_LOOS: u16 = 0xff20;
+
+/// The last index of the operating system.
+pub const SHN_HIOS: u16 = 0xff3f;
+
+/// The value of a symbol is absolute.
+pub const SHN_ABS: u16 = 0xfff1;
+
+/// The symbol is a common block.
+pub const SHN_COMMON: u16 = 0xfff2;
+
+/// The index stands elsewhere, since it needs more than 16 bits.
+pub const SHN_XINDEX: u16 = 0xffff;
+
+/// The last reserved index.
+pub const SHN_HIRESERVE: u16 = 0xffff;
+
+/// The first type of the operating system.
+pub const SHT_LOOS: u32 = 0x6000_0000;
+
+/// The last type of the operating system.
+pub const SHT_HIOS: u32 = 0x6fff_ffff;
+
+/// The first type of the processor.
+pub const SHT_LOPROC: u32 = 0x7000_0000;
+
+/// The last type of the processor.
+pub const SHT_HIPROC: u32 = 0x7fff_ffff;
+
+/// The first type of programs.
+pub const SHT_LOUSER: u32 = 0x8000_0000;
+
+/// The last type of programs.
+pub const SHT_HIUSER: u32 = 0xffff_ffff;
+
+/// The section can be written while the program runs.
+pub const SHF_WRITE: u64 = 1;
+
+/// The section takes memory while the program runs.
+pub const SHF_ALLOC: u64 = 2;
+
+/// The section holds instructions.
+pub const SHF_EXECINSTR: u64 = 4;
+
+/// Equal items of the section may be merged.
+pub const SHF_MERGE: u64 = 0x10;
+
+/// The section holds texts that zero bytes end.
+pub const SHF_STRINGS: u64 = 0x20;
+
+/// `info` holds a section index.
+pub const SHF_INFO_LINK: u64 = 0x40;
+
+/// The section keeps the order of the one that it is linked to.
+pub const SHF_LINK_ORDER: u64 = 0x80;
+
+/// The section needs the operating system to handle it.
+pub const SHF_OS_NONCONFORMING: u64 = 0x100;
+
+/// The section is a member of a group.
+pub const SHF_GROUP: u64 = 0x200;
+
+/// The section holds thread-local storage.
+pub const SHF_TLS: u64 = 0x400;
+
+/// The data of the section is compressed.
+pub const SHF_COMPRESSED: u64 = 0x800;
+
+/// The flags of the operating system.
+pub const SHF_MASKOS: u64 = 0x0ff0_0000;
+
+/// The flags of the processor.
+pub const SHF_MASKPROC: u64 = 0xf000_0000;
+
+/// The group is one of equal groups, of which one is kept.
+pub const GRP_COMDAT: u64 = 1;
+
+/// The flags of a group of the operating system.
+pub const GRP_MASKOS: u64 = 0x0ff0_0000;
+
+/// The flags of a group of the processor.
+pub const GRP_MASKPROC: u64 = 0xf000_0000;
+
+/// What a section holds, as a number (gABI, "Section Header", sh_type).
+#[derive(Clone, Copy, Debug)]
+pub struct ShType_(u32);
+
+impl ShType_ {
+    /// The value of this number, which may be any.
+    pub fn from_raw(number: u32) -> ShType_
+        ensures { result ≡ record { 0 = number } }
+    {
+        ShType_(number)
+    }
+
+    /// The number as it stands in the file.
+    pub fn raw(self) -> u32
+        ensures { result ≡ self.0 }
+    {
+        self.0
+    }
+
+    /// What the number means; `InvalidShType` for 12, 13 and 19 to 0x5fffffff.
+    pub fn as_sh_type(self) -> Result<ShType, ElfError>
+        ensures { result ≡ sh_type_of self.0 }
+    {
+        Ok(match self.0 {
+            0 => ShType::Null,
+            1 => ShType::ProgBits,
+            2 => ShType::SymTab,
+            3 => ShType::StrTab,
+            4 => ShType::Rela,
+            5 => ShType::Hash,
+            6 => ShType::Dynamic,
+            7 => ShType::Note,
+            8 => ShType::NoBits,
+            9 => ShType::Rel,
+            10 => ShType::ShLib,
+            11 => ShType::DynSym,
+            14 => ShType::InitArray,
+            15 => ShType::FiniArray,
+            16 => ShType::PreInitArray,
+            17 => ShType::Group,
+            18 => ShType::SymTabShIndex,
+            SHT_LOOS..=SHT_HIOS => ShType::OsSpecific(self.0),
+            SHT_LOPROC..=SHT_HIPROC => ShType::ProcessorSpecific(self.0),
+            SHT_LOUSER..=SHT_HIUSER => ShType::User(self.0),
+            _ => return Err(ElfError::InvalidShType),
+        })
+    }
+}
+
+/// What a section holds (gABI, "Section Header", sh_type).
+#[derive(Clone, Copy, Debug, PartialEq, Eq)]
+pub enum ShType {
+    /// No section: the other fields have no meaning.
+    Null,
+    /// What the program itself defines.
+    ProgBits,
+    /// The symbol table.
+    SymTab,
+    /// A string table.
+    StrTab,
+    /// Relocations with addends.
+    Rela,
+    /// A hash table of symbols.
+    Hash,
+    /// What a dynamic linker needs.
+    Dynamic,
+    /// Notes.
+    Note,
+    /// Like ProgBits, but without bytes in the file.
+    NoBits,
+    /// Relocations without addends.
+    Rel,
+    /// Reserved, without a meaning.
+    ShLib,
+    /// The symbols of the dynamic linker.
+    DynSym,
+    /// Pointers to functions that begin the run.
+    InitArray,
+    /// Pointers to functions that end the run.
+    FiniArray,
+    /// Pointers to functions that run before those of InitArray.
+    PreInitArray,
+    /// A group of sections.
+    Group,
+    /// Section indices of symbols that need more than 16 bits.
+    SymTabShIndex,
+    /// A type of the operating system.
+    OsSpecific(u32),
+    /// A type of the processor.
+    ProcessorSpecific(u32),
+    /// A type of programs.
+    User(u32),
+}
+
+impl Display for ShType {
+    ghost output = { λ kind. Some (sh_type_text kind) };
+
+    fn fmt<W: fmt::Write>(&self, f: &mut fmt::Formatter<W>) -> fmt::Result {
+        f.write_str(match *self {
+            ShType::Null => "Null",
+            ShType::ProgBits => "ProgBits",
+            ShType::SymTab => "SymTab",
+            ShType::StrTab => "StrTab",
+            ShType::Rela => "Rela",
+            ShType::Hash => "Hash",
+            ShType::Dynamic => "Dynamic",
+            ShType::Note => "Note",
+            ShType::NoBits => "NoBits",
+            ShType::Rel => "Rel",
+            ShType::ShLib => "ShLib",
+            ShType::DynSym => "DynSym",
+            ShType::InitArray => "InitArray",
+            ShType::FiniArray => "FiniArray",
+            ShType::PreInitArray => "PreInitArray",
+            ShType::Group => "Group",
+            ShType::SymTabShIndex => "SymTabShIndex",
+            ShType::OsSpecific(number) => return write!(f, "OsSpecific({number})"),
+            ShType::ProcessorSpecific(number) => return write!(f, "ProcessorSpecific({number})"),
+            ShType::User(number) => return write!(f, "User({number})"),
+        })
+    }
+}
