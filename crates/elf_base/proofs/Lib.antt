@@ -1,3 +1,4 @@
 pub mod Numbers
 pub mod PrintedBytes
 pub mod PrintedLines
+pub mod Texts

@@ -27,7 +27,7 @@ header_pt2 bytes = if byte_at 4 bytes == 1
     else Header64 (header_pt2_64 (order_of (byte_at 5 bytes)) 16 bytes)
 
 -- the header of a file, or why there is none
-abbrev pub header_of : List ℕ → Result Header ElfError
+unfoldable pub header_of : List ℕ → Result Header ElfError
 header_of bytes = unless (
     (nat_lt (length bytes) 16, error.ShortPart1)
     ∷ (not (pointwise nat_eq (slice_range bytes 0 4) magic_number), error.NoMagic)

@@ -7,3 +7,4 @@ pub mod HeaderLayout
 pub mod FileHeader
 pub mod Printed
 pub mod HeaderText
+pub mod Text

@@ -4,8 +4,10 @@ ghost use Rattle.std.specs.Prelude.{◌≡◌, ◌+◌, ◌≤◌, length, slice
 ghost use Rattle.elf_base.specs.Number.{number};
 
 mod record;
+mod text;
 
 pub use crate::bytes::record::Record;
+pub use crate::bytes::text::text_at;
 use byteorder::{BigEndian, ByteOrder, LittleEndian};
 
 /// The order of a number's bytes (gABI, "ELF Header", EI_DATA).

@@ -263,6 +263,7 @@ pub fn byte_order(encoding: Data_) -> Order
 /// Refused with `ShortPart1` below 16 bytes, `NoMagic` where they don't begin with `MAGIC`,
 /// `InvalidClass` where the class is neither 1 nor 2, and `ShortHeaders` where the bytes end before
 /// the header of that class does.
+#[tactic(auto, unfolding(crate::specs::FileHeader::header_of))]
 pub fn parse_header(input: &[u8]) -> Result<Header, ElfError>
     ensures accepts { IsOk result ↔ IsAccepted input.now }
     ensures exact { result ≡ header_of input.now }

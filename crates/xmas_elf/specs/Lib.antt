@@ -7,4 +7,11 @@ pub use Rattle.elf_base.specs.HeaderLayout
 pub use Rattle.elf_base.specs.FileHeader
 pub use Rattle.elf_base.specs.Printed
 pub use Rattle.elf_base.specs.HeaderText
+pub use Rattle.elf_base.specs.Text
+pub use Rattle.elf_records.specs.SectionNumbers
+pub use Rattle.elf_records.specs.ProgramNumbers
+pub mod HeaderTable
+pub mod Range
+pub mod SectionLayout
+pub mod SectionList
 pub mod Report

@@ -4,14 +4,20 @@
 //! input. No call takes memory, and each returns on every input.
 #![tactic(auto)]
 
-ghost use Rattle.std.specs.Prelude.{◌≡◌, ◌↔◌, IfErr, IfOk, IsOk, Ok, Err};
+ghost use Rattle.std.specs.Prelude.{◌≡◌, ◌↔◌, ◌<◌, ◌^◌, IfErr, IfOk, IsOk, Ok, Err, length};
 ghost use Rattle.elf_base.specs.FileHeader.{IsAccepted, header_of};
+ghost use Rattle.elf_base.specs.HeaderLayout.{fields};
+ghost use Rattle.xmas_elf.specs.HeaderTable.{IsLongest};
+ghost use Rattle.xmas_elf.specs.SectionList.{IsReadable, section_header_of, section_list, section_rest};
 
 pub mod bytes;
 pub mod header;
+mod ranges;
 pub mod report;
+pub mod sections;
 
 use crate::header::{Header, parse_header};
+use crate::sections::{SectionHeader, SectionIter, parse_section_header};
 pub use elf_base::{ElfError, P32, P64};
 
 /// An ELF file: its bytes, and its ELF header.
@@ -35,5 +41,29 @@ impl<'a> ElfFile<'a> {
     {
         let header = parse_header(input)?;
         Ok(ElfFile { input, header })
+    }
+
+    /// The section header at this index, with the answer of `sections::parse_section_header`.
+    pub fn section_header(&self, index: u16) -> Result<SectionHeader, ElfError>
+        ensures readable { IsOk result ↔ IsReadable self.now.input.now self.now.header index }
+        ensures exact { result ≡ section_header_of self.now.input.now self.now.header index }
+    {
+        parse_section_header(self.input, self.header, index)
+    }
+
+    /// The section headers in order, from index 0 on.
+    pub fn section_iter(&self) -> SectionIter<'_, 'a>
+        ensures file { result.file.now ≡ self.now }
+        ensures first { result.next_index ≡ 0 }
+        ensures longest { IsLongest (section_header_of self.now.input.now self.now.header) (fields self.now.header.pt2).sh_count (section_rest result) }
+        ensures all { section_rest result ≡ section_list self.now.input.now self.now.header }
+        ensures fits { length (section_rest result) < 2 ^ 16 }
+    {
+        // Read for the proof alone: a count of 16 bits bounds the list.
+        let _count = self.header.pt2.sh_count();
+        SectionIter {
+            file: self,
+            next_index: 0,
+        }
     }
 }

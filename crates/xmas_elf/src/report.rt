@@ -52,8 +52,10 @@ pub fn report<W: io::Write>(input: &[u8], w: &mut W) -> Result<(), ReportFault>
     ensures refused { RefusesExactly input.now result }
     ensures untouched { IfErr result (λ fault. WritesNothing fault w.old w.new) }
 {
-    let file = ElfFile::new(input).map_err(ReportFault::Elf)?;
-    write_file(&file, w)
+    match ElfFile::new(input) {
+        Ok(file) => write_file(&file, w),
+        Err(error) => Err(ReportFault::Elf(error)),
+    }
 }
 
 // Writes the report of an accepted file.

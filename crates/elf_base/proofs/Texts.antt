@@ -1,0 +1,157 @@
+-- Texts that a zero byte ends.
+use Rattle.std.proofs.Common.{◌≡◌, ◌≢◌, ℕ, suc, ◌+◌, ◌-◌, ◌≤◌, ◌<◌, Bool, true, false, ltb, eqb, Option, None, Some, Result, Ok, Err, List, [], ◌∷◌, ◌++◌, length, length-drop, length-append, take, drop, get_or, slice_index, refl, sym, ap, ◌∙◌, subst, arith}
+use Rattle.std.proofs.Math.Seq.{drop-cons, get_or-append_seam}
+use Rattle.std.proofs.lemmas.List.{get_or-drop, get_or-take, length-take-le, take-append-drop}
+use Rattle.std.proofs.lemmas.Bool.{eqb-true, eq-eqb, ne_eqb, lt-ltb, le-ltb}
+use Rattle.std.specs.Str.{IsUtf8, is_utf8}
+use Rattle.std.proofs.lemmas.Str.{IsUtf8-from_is_utf8, is_utf8-from_IsUtf8}
+use Rattle.memchr.specs.Find.{Nowhere, NoneBefore, Passes, is_byte}
+use Rattle.elf_base.specs.declared.error.ElfError.{ElfError}
+use Rattle.elf_base.specs.declared.error.ElfError.TheVariants.{TextStart, TextEnd, TextUtf8}
+use Rattle.elf_base.specs.Text.{EndsInZero, IsText, NoZeroFrom, TextRefused, before_zero, text_of}
+use Rattle.elf_base.proofs.Numbers.{rest}
+
+-- a search of `&bytes[start..]` that found no zero
+pub no_zero_from : (bytes : List ℕ) (start : ℕ) → start ≤ length bytes → Nowhere (Passes (is_byte 0) (take (length bytes - start) (drop start bytes))) 0 (length (take (length bytes - start) (drop start bytes))) → NoZeroFrom bytes start
+no_zero_from bytes start fits none k low high is =
+    let P : List ℕ → Type 0 = λ ys. Nowhere (Passes (is_byte 0) ys) 0 (length ys) in
+    let nowhere : P (drop start bytes) = subst P (rest start bytes) none in
+    let len = length-drop start bytes in
+    let here : slice_index (drop start bytes) (k - start) ≡ 0 =
+    get_or-drop start bytes (k - start) 0 ∙ ap (slice_index bytes) (omega arith) ∙ is in
+    nowhere (k - start) (omega arith) (omega arith) (eq-eqb (slice_index (drop start bytes) (k - start)) 0 here)
+
+-- a search of bytes that found the first zero at `end`
+zero_at : (ys : List ℕ) (end : ℕ) → NoneBefore (Passes (is_byte 0) ys) 0 (length ys) end → Passes (is_byte 0) ys end → ys ≡ take end ys ++ (0 ∷ drop (suc end) ys)
+zero_at ys end found passes =
+    let high = found.high in
+    let zero_here : get_or ys end 0 ≡ 0 = eqb-true (slice_index ys end) 0 passes in
+    sym (take-append-drop end ys) ∙ ap (λ r. take end ys ++ r) (drop-cons ys end 0 high ∙ ap (λ b. b ∷ drop (suc end) ys) zero_here)
+
+zero_first : (ys : List ℕ) (end : ℕ) → NoneBefore (Passes (is_byte 0) ys) 0 (length ys) end → (k : ℕ) → k < length (take end ys) → slice_index (take end ys) k ≢ 0
+zero_first ys end found k below is =
+    let high = found.high in
+    let len : length (take end ys) ≡ end = length-take-le end ys (omega arith) in
+    let same : slice_index (take end ys) k ≡ slice_index ys k = get_or-take end ys k 0 (omega arith) in
+    found.before k (omega arith) (omega arith) (eq-eqb (slice_index ys k) 0 (sym same ∙ is))
+
+-- a search of `&bytes[start..]` that found the first zero at `end`
+pub ends_in_zero : (bytes : List ℕ) (start end : ℕ) → NoneBefore (Passes (is_byte 0) (take (length bytes - start) (drop start bytes))) 0 (length (take (length bytes - start) (drop start bytes))) end → Passes (is_byte 0) (take (length bytes - start) (drop start bytes)) end → EndsInZero bytes start (take end (take (length bytes - start) (drop start bytes)))
+ends_in_zero bytes start end found passes =
+    let ys = take (length bytes - start) (drop start bytes) in
+    record {
+      after = drop (suc end) ys;
+      begins = sym (rest start bytes) ∙ zero_at ys end found passes;
+      no_zero = zero_first ys end found;
+    }
+
+-- the bytes before the first zero are the only ones
+one_front : (t u r s : List ℕ) → t ++ (0 ∷ r) ≡ u ++ (0 ∷ s) → ((k : ℕ) → k < length t → slice_index t k ≢ 0) → ((k : ℕ) → k < length u → slice_index u k ≢ 0) → t ≡ u
+one_front [] [] r s e ht hu = refl
+one_front [] (y ∷ u) r s e ht hu = let h : y ≡ 0 = cc in absurd (hu 0 (omega arith) h)
+one_front (x ∷ t) [] r s e ht hu = let h : x ≡ 0 = cc in absurd (ht 0 (omega arith) h)
+one_front (x ∷ t) (y ∷ u) r s e ht hu =
+    let head : x ≡ y = cc in
+    let tail : t ++ (0 ∷ r) ≡ u ++ (0 ∷ s) = cc in
+    let same : t ≡ u = one_front t u r s tail (λ k h. ht (suc k) (omega arith)) (λ k h. hu (suc k) (omega arith)) in
+    cc
+
+-- there is at most one text at a place
+pub one_ending : (bytes : List ℕ) (start : ℕ) (t u : List ℕ) → EndsInZero bytes start t → EndsInZero bytes start u → t ≡ u
+one_ending bytes start t u a b = one_front t u a.after b.after (sym a.begins ∙ b.begins) a.no_zero b.no_zero
+
+pub one_text : (bytes : List ℕ) (start : ℕ) (t u : List ℕ) → IsText bytes start t → IsText bytes start u → t ≡ u
+one_text bytes start t u a b = one_ending bytes start t u a.ended b.ended
+
+-- where there is a text its zero byte stands
+zero_stands : (bytes : List ℕ) (start : ℕ) (t : List ℕ) → EndsInZero bytes start t → (start + length t < length bytes) × (slice_index bytes (start + length t) ≡ 0)
+zero_stands bytes start t a =
+    let len : length (drop start bytes) ≡ length t + suc (length a.after) = ap length a.begins ∙ length-append t (0 ∷ a.after) in
+    let all = length-drop start bytes in
+    (omega arith, sym (get_or-drop start bytes (length t) 0) ∙ ap (λ l. slice_index l (length t)) a.begins ∙ get_or-append_seam t 0 a.after 0)
+
+-- where a text is refused there is none
+pub refused_none : (bytes : List ℕ) (start : ℕ) (e : ElfError) (t : List ℕ) → TextRefused bytes start e → IsText bytes start t → ⊥
+refused_none bytes start TextStart t refused is =
+    let z = (zero_stands bytes start t is.ended).0 in omega arith
+refused_none bytes start TextEnd t refused is =
+    let z = zero_stands bytes start t is.ended in
+    refused.1 (start + length t) (omega arith) z.0 z.1
+refused_none bytes start TextUtf8 t refused is =
+    let same : t ≡ refused.0 = one_ending bytes start t refused.0 is.ended refused.1 in
+    refused.2 (subst IsUtf8 same is.utf8)
+refused_none bytes start _ t refused is = refused
+
+-- what stands before the zero byte that ends a text is the text
+before_zero-append : (t r : List ℕ) → ((k : ℕ) → k < length t → slice_index t k ≢ 0) → before_zero (t ++ (0 ∷ r)) ≡ Some t
+before_zero-append [] r no_zero = refl
+before_zero-append (x ∷ t) r no_zero =
+    let later : before_zero (t ++ (0 ∷ r)) ≡ Some t = before_zero-append t r (λ k h. no_zero (suc k) (omega arith)) in
+    let here : eqb x 0 ≡ false = ne_eqb x 0 (no_zero 0 (omega arith)) in
+    rw (here, later) refl
+
+before_zero-none : (xs : List ℕ) → ((k : ℕ) → k < length xs → slice_index xs k ≢ 0) → before_zero xs ≡ None
+before_zero-none [] no_zero = refl
+before_zero-none (x ∷ xs) no_zero =
+    let later : before_zero xs ≡ None = before_zero-none xs (λ k h. no_zero (suc k) (omega arith)) in
+    let here : eqb x 0 ≡ false = ne_eqb x 0 (no_zero 0 (omega arith)) in
+    rw (here, later) refl
+
+-- bytes that end in a zero byte
+before_zero-ended : (bytes : List ℕ) (start : ℕ) (t : List ℕ) → EndsInZero bytes start t → before_zero (drop start bytes) ≡ Some t
+before_zero-ended bytes start t ended = ap before_zero ended.begins ∙ before_zero-append t ended.after ended.no_zero
+
+not_utf8 : (t : List ℕ) (b : Bool) → is_utf8 t ≡ b → (IsUtf8 t → ⊥) → is_utf8 t ≡ false
+not_utf8 t true e never = absurd (never (IsUtf8-from_is_utf8 t e))
+not_utf8 t false e never = e
+
+-- where there is a text, that is what is computed
+pub text_of-text : (bytes : List ℕ) (start : ℕ) (t : List ℕ) → IsText bytes start t → text_of bytes start ≡ Ok t
+unfolding text_of
+text_of-text bytes start t is =
+    let within = (zero_stands bytes start t is.ended).0 in
+    let low : ltb (length bytes) start ≡ false = le-ltb (length bytes) start (omega arith) in
+    let before : before_zero (drop start bytes) ≡ Some t = before_zero-ended bytes start t is.ended in
+    let utf8 : is_utf8 t ≡ true = is_utf8-from_IsUtf8 t is.utf8 in
+    rw (low, before, utf8) refl
+
+-- where a text is refused, so is what is computed
+pub text_of-refused : (bytes : List ℕ) (start : ℕ) (e : ElfError) → TextRefused bytes start e → text_of bytes start ≡ Err e
+unfolding text_of
+text_of-refused bytes start TextStart refused =
+    let low : ltb (length bytes) start ≡ true = lt-ltb (length bytes) start refused in
+    rw low refl
+text_of-refused bytes start TextEnd refused =
+    let within = refused.0 in
+    let low : ltb (length bytes) start ≡ false = le-ltb (length bytes) start (omega arith) in
+    let all = length-drop start bytes in
+    let before : before_zero (drop start bytes) ≡ None = before_zero-none (drop start bytes) (λ k h is. refused.1 (start + k) (omega arith) (omega arith) (sym (get_or-drop start bytes k 0) ∙ is)) in
+    rw (low, before) refl
+text_of-refused bytes start TextUtf8 refused =
+    let (t, ended, never) = refused in
+    let within = (zero_stands bytes start t ended).0 in
+    let low : ltb (length bytes) start ≡ false = le-ltb (length bytes) start (omega arith) in
+    let before : before_zero (drop start bytes) ≡ Some t = before_zero-ended bytes start t ended in
+    let utf8 : is_utf8 t ≡ false = not_utf8 t (is_utf8 t) refl never in
+    rw (low, before, utf8) refl
+text_of-refused bytes start _ refused = absurd refused
+
+-- what is known of an answer, by the text that it is
+pub record TextAnswers (bytes : List ℕ) (start : ℕ) (s : List ℕ) : Type 0 where
+  pub text : IsText bytes start s
+  pub only : (t : List ℕ) → IsText bytes start t → s ≡ t
+  pub ok : text_of bytes start ≡ Ok s
+
+pub text_answers : (bytes : List ℕ) (start : ℕ) (s : List ℕ) → IsText bytes start s → TextAnswers bytes start s
+text_answers bytes start s is =
+    record { text = is; only = λ t is'. one_text bytes start s t is is'; ok = text_of-text bytes start s is }
+
+-- and by the refusal that it is
+pub record RefusalAnswers (bytes : List ℕ) (start : ℕ) (e : ElfError) : Type 0 where
+  pub only : (t : List ℕ) → IsText bytes start t → ⊥
+  pub refused : TextRefused bytes start e
+  pub err : text_of bytes start ≡ Err e
+
+pub refusal_answers : (bytes : List ℕ) (start : ℕ) (e : ElfError) → TextRefused bytes start e → RefusalAnswers bytes start e
+refusal_answers bytes start e r =
+    record { only = λ t is. refused_none bytes start e t r is; refused = r; err = text_of-refused bytes start e r }

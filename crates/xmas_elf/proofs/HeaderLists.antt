@@ -1,0 +1,58 @@
+-- Lists of headers, as they are computed and as they are meant.
+use Rattle.std.proofs.Common.{◌≡◌, ◌≢◌, ℕ, zero, suc, ◌+◌, ◌≤◌, ◌<◌, List, [], ◌∷◌, length, slice_get, Option, Some, None, Result, Ok, Err, IsOk, refl, sym, ap, ◌∙◌, subst, arith, add-zero}
+use Rattle.elf_base.specs.declared.error.ElfError.{ElfError}
+use Rattle.xmas_elf.specs.HeaderTable.{IsLongest, before, headers_from}
+
+length-before : {H : Type 0} (r : Result H ElfError) (others : List H) (count : ℕ) → length others ≤ count → length (before r others) ≤ suc count
+length-before (Ok h) others count fits = omega arith
+length-before (Err error) others count fits = omega arith
+
+pub length-headers_from : {H : Type 0} (header_at : ℕ → Result H ElfError) (index count : ℕ) → length (headers_from header_at index count) ≤ count
+length-headers_from header_at index zero = omega arith
+length-headers_from header_at index (suc count) =
+    length-before (header_at index) (headers_from header_at (suc index) count) count (length-headers_from header_at (suc index) count)
+
+-- each item is the header at its index
+each_before : {H : Type 0} (header_at : ℕ → Result H ElfError) (r : Result H ElfError) (others : List H) (index : ℕ) → header_at index ≡ r → ((i : ℕ) (h : H) → slice_get others i ≡ Some h → header_at (suc index + i) ≡ Ok h) → (i : ℕ) (h : H) → slice_get (before r others) i ≡ Some h → header_at (index + i) ≡ Ok h
+each_before header_at (Ok x) others index here later zero h item =
+    let same : x ≡ h = cc in ap header_at (add-zero index) ∙ here ∙ ap Ok same
+each_before header_at (Ok x) others index here later (suc i) h item =
+    let next : index + suc i ≡ suc index + i = omega arith in ap header_at next ∙ later i h item
+each_before header_at (Err error) others index here later i h item = cc
+
+each-headers_from : {H : Type 0} (header_at : ℕ → Result H ElfError) (count index i : ℕ) (h : H) → slice_get (headers_from header_at index count) i ≡ Some h → header_at (index + i) ≡ Ok h
+each-headers_from header_at zero index i h item = cc
+each-headers_from header_at (suc count) index i h item =
+    each_before header_at (header_at index) (headers_from header_at (suc index) count) index refl (λ k x at. each-headers_from header_at count (suc index) k x at) i h item
+
+-- the list stops only at a header that is refused
+longest_before : {H : Type 0} (header_at : ℕ → Result H ElfError) (r : Result H ElfError) (others : List H) (index count : ℕ) → header_at index ≡ r → ((h : H) → length others < count → header_at (suc index + length others) ≢ Ok h) → (h : H) → length (before r others) < suc count → header_at (index + length (before r others)) ≢ Ok h
+longest_before header_at (Ok x) others index count here later h short more =
+    let next : suc index + length others ≡ index + suc (length others) = omega arith in
+    later h (omega arith) (ap header_at next ∙ more)
+longest_before header_at (Err error) others index count here later h short more =
+    let same : header_at index ≡ Ok h = sym (ap header_at (add-zero index)) ∙ more in cc
+
+longest-headers_from : {H : Type 0} (header_at : ℕ → Result H ElfError) (count index : ℕ) (h : H) → length (headers_from header_at index count) < count → header_at (index + length (headers_from header_at index count)) ≢ Ok h
+longest-headers_from header_at zero index h short more = omega arith
+longest-headers_from header_at (suc count) index h short more =
+    longest_before header_at (header_at index) (headers_from header_at (suc index) count) index count refl (λ x at. longest-headers_from header_at count (suc index) x at) h short more
+
+-- so the list that is computed is the longest one
+pub headers_from-longest : {H : Type 0} (header_at : ℕ → Result H ElfError) (limit : ℕ) → IsLongest header_at limit (headers_from header_at 0 limit)
+headers_from-longest header_at limit = record {
+  below = (let h = length-headers_from header_at 0 limit in omega arith);
+  each = λ i h item. ap header_at (omega arith) ∙ each-headers_from header_at limit 0 i h item;
+  longest = λ h short more. longest-headers_from header_at limit 0 h short (ap header_at (omega arith) ∙ more);
+}
+
+-- where no header is refused the list has as many as were asked for
+whole_before : {H : Type 0} (r : Result H ElfError) (others : List H) (count : ℕ) → IsOk r → length others ≡ count → length (before r others) ≡ suc count
+whole_before (Ok h) others count good whole = ap suc whole
+whole_before (Err error) others count good whole = cc
+
+pub headers_from-whole : {H : Type 0} (header_at : ℕ → Result H ElfError) (count index : ℕ) → ((i : ℕ) → i < count → IsOk (header_at (index + i))) → length (headers_from header_at index count) ≡ count
+headers_from-whole header_at zero index good = refl
+headers_from-whole header_at (suc count) index good =
+    let here : IsOk (header_at index) = subst (λ k. IsOk (header_at k)) (add-zero index) (good 0 (omega arith)) in
+    whole_before (header_at index) (headers_from header_at (suc index) count) count here (headers_from-whole header_at count (suc index) (λ i h. let next : index + suc i ≡ suc index + i = omega arith in subst (λ k. IsOk (header_at k)) next (good (suc i) (omega arith))))

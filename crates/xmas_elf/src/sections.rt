@@ -1,0 +1,103 @@
+//! The sections of a file, by index and by iterator (gABI, "Sections").
+
+ghost use Rattle.std.specs.Prelude.{◌≡◌, ◌↔◌, ◌+◌, ◌*◌, ◌≤◌, ◌<◌, IfNone, IfSome, IsOk, Ok, ⊤};
+ghost use Rattle.std.specs.Iterator.{MakesProgress, YieldsFirst, item_count};
+ghost use Rattle.elf_base.specs.HeaderLayout.{fields};
+ghost use Rattle.xmas_elf.specs.SectionList.{IsReadable, section_header_of, section_rest};
+
+mod records;
+mod section_header;
+
+use crate::header::{Class, Header};
+use crate::ranges::is_within;
+pub use crate::sections::records::SectionHeader_;
+pub use crate::sections::section_header::SectionHeader;
+use crate::{ElfError, ElfFile, P32, P64};
+use elf_base::header::byte_order;
+pub use elf_records::sections::{
+    GRP_COMDAT, GRP_MASKOS, GRP_MASKPROC, SHF_ALLOC, SHF_COMPRESSED, SHF_EXECINSTR, SHF_GROUP,
+    SHF_INFO_LINK, SHF_LINK_ORDER, SHF_MASKOS, SHF_MASKPROC, SHF_MERGE, SHF_OS_NONCONFORMING,
+    SHF_STRINGS, SHF_TLS, SHF_WRITE, SHN_ABS, SHN_COMMON, SHN_HIOS, SHN_HIPROC, SHN_HIRESERVE,
+    SHN_LOOS, SHN_LOPROC, SHN_LORESERVE, SHN_UNDEF, SHN_XINDEX, SHT_HIOS, SHT_HIPROC, SHT_HIUSER,
+    SHT_LOOS, SHT_LOPROC, SHT_LOUSER, ShType, ShType_,
+};
+
+/// The section header at this index of the section header table.
+///
+/// The index is not compared with the count of sections. Refused with `ReservedIndex` from 0xff00 on,
+/// `ShortSectionHeader` where the entry passes the end of the input, `UnknownClass` where the class
+/// is neither 1 nor 2, and `SmallEntry` where the entries are smaller than the record of the class.
+#[tactic(auto, unfolding(crate::specs::SectionList::section_header_of))]
+pub fn parse_section_header(
+    input: &[u8],
+    header: Header,
+    index: u16,
+) -> Result<SectionHeader, ElfError>
+    ensures readable { IsOk result ↔ IsReadable input.now header index }
+    ensures exact { result ≡ section_header_of input.now header index }
+{
+    if index >= SHN_LORESERVE {
+        return Err(ElfError::ReservedIndex);
+    }
+    let offset = header.pt2.sh_offset();
+    let entry_size = header.pt2.sh_entry_size();
+    if !is_within(
+        input,
+        offset,
+        (u64::from(index) + 1) * u64::from(entry_size),
+    ) {
+        return Err(ElfError::ShortSectionHeader);
+    }
+    let place = (offset + u64::from(index) * u64::from(entry_size)) as usize;
+    let order = byte_order(header.pt1.encoding);
+    match header.pt1.class() {
+        Class::ThirtyTwo => {
+            if entry_size < 40 {
+                return Err(ElfError::SmallEntry);
+            }
+            let record = SectionHeader_::<P32>::read(input, place, order);
+            Ok(SectionHeader::Sh32(record))
+        }
+        Class::SixtyFour => {
+            if entry_size < 64 {
+                return Err(ElfError::SmallEntry);
+            }
+            let record = SectionHeader_::<P64>::read(input, place, order);
+            Ok(SectionHeader::Sh64(record))
+        }
+        Class::None | Class::Other(_) => Err(ElfError::UnknownClass),
+    }
+}
+
+/// The section headers of a file in order, up to the count of sections or the first that is refused.
+#[derive(Clone, Debug, Drop)]
+pub struct SectionIter<'b, 'a> {
+    /// The file whose sections they are.
+    pub file: &'b ElfFile<'a>,
+    /// The index of the next section header.
+    pub next_index: u16,
+}
+
+impl Iterator for SectionIter<'_, '_> {
+    type Item = SectionHeader;
+
+    ghost next_gives = { YieldsFirst section_rest };
+
+    ghost remaining = { item_count section_rest };
+
+    // At the end nothing changes, so that only `None` follows.
+    fn next(&mut self) -> Option<SectionHeader>
+        ensures steps { YieldsFirst section_rest self.old result self.new }
+        ensures goes { MakesProgress (λ _. ⊤) (item_count section_rest) self.old result self.new }
+        ensures file { self.new.file ≡ self.old.file }
+        ensures item { IfSome result (λ header. (section_header_of self.old.file.now.input.now self.old.file.now.header self.old.next_index ≡ Ok header) × (self.new.next_index ≡ self.old.next_index + 1)) }
+        ensures end { IfNone result (self.new.next_index ≡ self.old.next_index) }
+    {
+        if self.next_index >= self.file.header.pt2.sh_count() {
+            return None;
+        }
+        let header = self.file.section_header(self.next_index).ok()?;
+        self.next_index += 1;
+        Some(header)
+    }
+}
