@@ -11,8 +11,11 @@ magic number is passed over silently.
 
 Each difference is a line `FILE: field: elfinfo says X, readelf says Y`, and
 the last line holds the counts. What elfinfo refuses by design is counted as
-an expected refusal. The exit status is 0 if there is no difference, 1 if
-there is one, and 2 if the comparison couldn't be run.
+an expected refusal. The results of elfinfo's own checks aren't compared: the
+check line, what follows the type of a segment, and the hash line. A file with
+extended numbering is compared without its sections or segments, and a line
+says so. The exit status is 0 if there is no difference, 1 if there is one,
+and 2 if the comparison couldn't be run.
 """
 
 import argparse
@@ -138,10 +141,12 @@ SECTION_TYPES: NameTable = {
 }
 
 # Section types of operating systems and processors. readelf has a name for
-# the number on some machines, and prints LOOS+0x.. or LOPROC+0x.. on others.
+# the number on some systems or machines, and prints LOOS+0x.. or LOPROC+0x..
+# on others. A name that is missing here shows as a difference.
 NUMBERED_SECTION_TYPES: Dict[int, Texts] = {
     0x6FFF4700: ("GNU_INCREMENTAL_INPUTS",),
-    0x6FFF4C00: ("LLVM_ODRTAB",),  # LLVM's types have a name in some versions alone
+    # LLVM's types have a name in some versions alone.
+    0x6FFF4C00: ("LLVM_ODRTAB",),
     0x6FFF4C01: ("LLVM_LINKER_OPTIONS",),
     0x6FFF4C03: ("LLVM_ADDRSIG",),
     0x6FFF4C04: ("LLVM_DEPENDENT_LIBRARIES",),
@@ -153,34 +158,97 @@ NUMBERED_SECTION_TYPES: Dict[int, Texts] = {
     0x6FFF4C0A: ("LLVM_BB_ADDR_MAP",),
     0x6FFF4C0B: ("LLVM_OFFLOADING",),
     0x6FFF4C0C: ("LLVM_LTO",),
+    # GNU and Solaris
+    0x6FFFFFEE: ("SUNW_ancillary",),
+    0x6FFFFFEF: ("SUNW_capchain",),
     0x6FFFFFF0: ("VERSYM",),
-    0x6FFFFFF5: ("GNU_ATTRIBUTES",),
+    0x6FFFFFF1: ("SUNW_symsort",),
+    0x6FFFFFF2: ("SUNW_tlssort",),
+    0x6FFFFFF3: ("SUNW_LDYNSYM",),
+    0x6FFFFFF4: ("SUNW_dof",),
+    0x6FFFFFF5: ("GNU_ATTRIBUTES", "SUNW_cap"),
     0x6FFFFFF6: ("GNU_HASH",),
     0x6FFFFFF7: ("GNU_LIBLIST",),
+    0x6FFFFFF8: ("SUNW_DEBUGSTR",),
+    0x6FFFFFF9: ("SUNW_DEBUG",),
+    0x6FFFFFFA: ("SUNW_move",),
+    0x6FFFFFFB: ("SUNW_COMDAT",),
     0x6FFFFFFC: ("VERDEF",),
     0x6FFFFFFD: ("VERDEF",),
     0x6FFFFFFE: ("VERNEED",),
     0x6FFFFFFF: ("VERSYM",),
-    0x70000000: ("MIPS_LIBLIST", "IA_64_EXT"),
-    0x70000001: ("X86_64_UNWIND", "ARM_EXIDX", "IA_64_UNWIND", "MIPS_MSYM"),
-    0x70000002: ("ARM_PREEMPTMAP", "MIPS_CONFLICT"),
-    0x70000003: (
-        "ARM_ATTRIBUTES",
-        "AARCH64_ATTRIBUTES",
-        "RISCV_ATTRIBUTES",
-        "MIPS_GPTAB",
+    # processors
+    0x70000000: ("IA_64_EXT", "MIPS_LIBLIST", "PARISC_EXT", "V850 Small Common"),
+    0x70000001: (
+        "ARC_ATTRIBUTES",
+        "ARM_EXIDX",
+        "C6000_UNWIND",
+        "CSKY_ATTRIBUTES",
+        "IA_64_UNWIND",
+        "MIPS_MSYM",
+        "NFP_MECONFIG",
+        "PARISC_UNWIND",
+        "V850 Tiny Common",
+        "X86_64_UNWIND",
     ),
-    0x70000004: ("ARM_DEBUGOVERLAY", "MIPS_UCODE"),
+    0x70000002: (
+        "ARM_PREEMPTMAP",
+        "C6000_PREEMPTMAP",
+        "MIPS_CONFLICT",
+        "NFP_INITREG",
+        "PARISC_DOC",
+        "V850 Zero Common",
+    ),
+    0x70000003: (
+        "AARCH64_ATTRIBUTES",
+        "ARM_ATTRIBUTES",
+        "C6000_ATTRIBUTES",
+        "MIPS_GPTAB",
+        "MSP430_ATTRIBUTES",
+        "PARISC_ANNOT",
+        "RISCV_ATTRIBUTES",
+    ),
+    0x70000004: ("ARM_DEBUGOVERLAY", "MIPS_UCODE", "PARISC_DLKM"),
     0x70000005: ("ARM_OVERLAYSECTION", "MIPS_DEBUG"),
     0x70000006: ("MIPS_REGINFO",),
+    0x70000007: ("MIPS_PACKAGE",),
+    0x70000008: ("MIPS_PACKSYM", "PARISC_SYMEXTN"),
+    0x70000009: ("MIPS_RELD", "PARISC_STUBS"),
+    0x7000000B: ("MIPS_IFACE",),
+    0x7000000C: ("MIPS_CONTENT",),
     0x7000000D: ("MIPS_OPTIONS",),
+    0x70000010: ("MIPS_SHDR",),
+    0x70000011: ("MIPS_FDESC",),
+    0x70000012: ("MIPS_EXTSYM",),
+    0x70000013: ("MIPS_DENSE",),
+    0x70000014: ("MIPS_PDESC",),
+    0x70000015: ("MIPS_LOCSYM",),
+    0x70000016: ("MIPS_AUXSYM",),
+    0x70000017: ("MIPS_OPTSYM",),
+    0x70000018: ("MIPS_LOCSTR",),
+    0x70000019: ("MIPS_LINE",),
+    0x7000001A: ("MIPS_RFDESC",),
+    0x7000001B: ("MIPS_DELTASYM",),
+    0x7000001C: ("MIPS_DELTAINST",),
+    0x7000001D: ("MIPS_DELTACLASS",),
     0x7000001E: ("MIPS_DWARF",),
+    0x7000001F: ("MIPS_DELTADECL",),
     0x70000020: ("MIPS_SYMBOL_LIB",),
     0x70000021: ("MIPS_EVENTS",),
+    0x70000022: ("MIPS_TRANSLATE",),
+    0x70000023: ("MIPS_PIXIE",),
+    0x70000024: ("MIPS_XLATE",),
+    0x70000025: ("MIPS_XLATE_DEBUG",),
+    0x70000026: ("MIPS_WHIRL",),
+    0x70000027: ("MIPS_EH_REGION",),
+    0x70000028: ("MIPS_XLATE_OLD",),
+    0x70000029: ("MIPS_PDR_EXCEPTION",),
     0x7000002A: ("MIPS_ABIFLAGS",),
     0x7000002B: ("MIPS_XHASH",),
     0x7FFFFFFD: ("AUXILIARY",),
     0x7FFFFFFF: ("FILTER",),
+    0x80000000: ("RENESAS IOP",),
+    0xA0000000: ("RENESAS INFO",),
 }
 
 SEGMENT_TYPES: NameTable = {
@@ -197,6 +265,7 @@ SEGMENT_TYPES: NameTable = {
 
 # Segment types of operating systems and processors, as for sections.
 NUMBERED_SEGMENT_TYPES: Dict[int, Texts] = {
+    0x6464E550: ("PT_SUNW_UNWIND",),
     0x6474E550: ("GNU_EH_FRAME",),
     0x6474E551: ("GNU_STACK",),
     0x6474E553: ("GNU_PROPERTY",),
@@ -205,10 +274,22 @@ NUMBERED_SEGMENT_TYPES: Dict[int, Texts] = {
     0x65A3DBE6: ("OPENBSD_RANDOMIZE",),
     0x65A3DBE7: ("OPENBSD_WXNEEDED",),
     0x65A41BE6: ("OPENBSD_BOOTDATA",),
-    0x70000000: ("AARCH64_ARCHEXT", "IA_64_ARCHEXT", "REGINFO", "S390_PGSTE"),
-    0x70000001: ("EXIDX", "IA_64_UNWIND", "RTPROC"),
-    0x70000002: ("AARCH64_MEMTAG_MTE", "OPTIONS"),
-    0x70000003: ("RISCV_ATTRIBUTES", "ABIFLAGS"),
+    0x6FFFFFFA: ("PT_SUNWBSS",),
+    0x6FFFFFFB: ("PT_SUNWSTACK",),
+    0x6FFFFFFC: ("PT_SUNWDTRACE",),
+    0x6FFFFFFD: ("PT_SUNWCAP",),
+    0x6FFFFFFF: ("PT_HISUNW",),
+    0x70000000: (
+        "AARCH64_ARCHEXT",
+        "C6000_PHATTR",
+        "IA_64_ARCHEXT",
+        "PARISC_ARCHEXT",
+        "REGINFO",
+        "S390_PGSTE",
+    ),
+    0x70000001: ("EXIDX", "IA_64_UNWIND", "PARISC_UNWIND", "RTPROC"),
+    0x70000002: ("AARCH64_MEMTAG_MTE", "OPTIONS", "PARISC_WEAKORD"),
+    0x70000003: ("ABIFLAGS", "RISCV_ATTRIBUTES"),
 }
 
 # For elfinfo's names that hold a number: readelf's text, and the number that
@@ -256,9 +337,10 @@ READELF_SECTION = re.compile(
     r"  \[ *(\d+)\] (.*\S) +(?:[0-9a-f]{8}|[0-9a-f]{16})"
     r" [0-9a-f]{6,16} [0-9a-f]{6,16} [0-9a-f]{2,16} .*$"
 )
-# Two of readelf's texts for section types hold blanks.
+# A few of readelf's texts for section types hold blanks too.
 READELF_SECTION_TYPE = re.compile(
-    r"(?:^| )(SYMTAB SECTION INDICES|[0-9a-f]{8}: <unknown>|\S+)$"
+    r"(?:^| )(SYMTAB SECTION INDICES|V850 \w+ Common|RENESAS \w+"
+    r"|[0-9a-f]{8}: <unknown>|\S+)$"
 )
 READELF_SEGMENT = re.compile(
     r"  (\S.{%d}) 0x[0-9a-f]{6,16} 0x[0-9a-f]{8,16} 0x[0-9a-f]{8,16} 0x"
@@ -544,26 +626,25 @@ def compare_count(path: str, what: str, says: int, reads: int, tally: Tally) -> 
         tally.differ(path, f"{what} count", str(says), str(reads))
 
 
-def skip_reason(
-    reads: Report, listed: Dict, labels: Texts, errors: str
-) -> Optional[str]:
-    """Why a list of readelf's can't be compared, or None where it can.
+def skip_reason(extended: bool, what: str, errors: str) -> Optional[str]:
+    """Why the headers of sections or of segments aren't compared, if so.
 
-    elfinfo reads the 16-bit numbers of the ELF header alone, and lists each
-    header that lies whole in the file; readelf lists none where the last one
-    doesn't.
+    elfinfo reads the 16-bit numbers of the ELF header alone, where readelf
+    takes larger ones from section 0. elfinfo lists each header that lies
+    whole in the file, where readelf lists none if one of them doesn't.
     """
-    if is_extended(reads.header, labels):
+    if extended:
         return "the file uses extended numbering"
-    if "readelf: Error:" in errors and not listed:
-        return "readelf could not read them"
+    if re.search(rf"readelf: Error: .* {what} headers", errors):
+        return "readelf could not read their headers"
     return None
 
 
 def compare_sections(
     path: str, says: Report, reads: Report, errors: str, tally: Tally
 ) -> None:
-    reason = skip_reason(reads, reads.sections, SECTION_NUMBERS, errors)
+    extended = is_extended(reads.header, SECTION_NUMBERS)
+    reason = skip_reason(extended, "section", errors)
     if reason is not None:
         print(f"{path}: sections not compared: {reason}")
         return
@@ -577,7 +658,8 @@ def compare_sections(
 def compare_segments(
     path: str, says: Report, reads: Report, errors: str, tally: Tally
 ) -> None:
-    reason = skip_reason(reads, reads.segments, SEGMENT_NUMBERS, errors)
+    extended = is_extended(reads.header, SEGMENT_NUMBERS)
+    reason = skip_reason(extended, "program", errors)
     if reason is not None:
         print(f"{path}: segments not compared: {reason}")
         return

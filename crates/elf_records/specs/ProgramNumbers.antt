@@ -15,7 +15,7 @@ ph_type_in_range n =
     else Err InvalidPhType)
 
 -- p_type
-abbrev pub ph_type_of : ℕ → Result the_type.Type ElfError
+unfoldable pub ph_type_of : ℕ → Result the_type.Type ElfError
 ph_type_of n = named_or ph_type_in_range (
     (0, Ok ph_type.Null)
     ∷ (1, Ok ph_type.Load)

@@ -16,7 +16,7 @@ sh_type_in_range n =
     else Err InvalidShType))
 
 -- sh_type
-abbrev pub sh_type_of : ℕ → Result ShType ElfError
+unfoldable pub sh_type_of : ℕ → Result ShType ElfError
 sh_type_of n = named_or sh_type_in_range (
     (0, Ok sh_type.Null)
     ∷ (1, Ok sh_type.ProgBits)

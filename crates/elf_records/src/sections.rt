@@ -123,6 +123,7 @@ impl ShType_ {
     }
 
     /// What the number means; `InvalidShType` for 12, 13 and 19 to 0x5fffffff.
+    #[tactic(auto, unfolding(crate::specs::SectionNumbers::sh_type_of))]
     pub fn as_sh_type(self) -> Result<ShType, ElfError>
         ensures { result ≡ sh_type_of self.0 }
     {

@@ -1,1 +1,2 @@
 pub mod HeaderLists
+pub mod SectionLists

@@ -14,4 +14,7 @@ pub mod HeaderTable
 pub mod Range
 pub mod SectionLayout
 pub mod SectionList
+pub mod HeaderCheck
+pub mod NameTable
+pub mod SectionText
 pub mod Report

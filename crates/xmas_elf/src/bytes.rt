@@ -1,3 +1,3 @@
-//! Numbers and records in bytes, in a chosen order.
+//! Numbers, records and texts in bytes.
 
-pub use elf_base::bytes::{Order, Record};
+pub use elf_base::bytes::{Order, Record, text_at};

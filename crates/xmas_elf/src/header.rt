@@ -1,6 +1,71 @@
 //! The ELF header, with which every file begins (gABI, "ELF Header").
 
+ghost use Rattle.std.specs.Prelude.{◌≡◌, ◌≤◌, OnOk, length};
+ghost use Rattle.elf_base.specs.HeaderLayout.{fields};
+ghost use Rattle.xmas_elf.specs.HeaderCheck.{header_check, part_class};
+ghost use Rattle.xmas_elf.specs.SectionList.{section_header_size, section_list};
+
+use crate::ranges::is_within;
+use crate::{ElfError, ElfFile};
 pub use elf_base::header::{
     Class, Class_, Data, Data_, Header, HeaderPt1, HeaderPt2, HeaderPt2_, MAGIC, Machine, Machine_,
     OsAbi, OsAbi_, Type, Type_, Version, Version_, parse_header,
 };
+
+/// Whether the ELF header of a file makes sense over its input.
+///
+/// Refused with the first that holds of `BadMagic`; `HeaderSize` where the header says another size
+/// than that of its two parts; `NoClass` for class 0; `ClassMismatch` where the class is not that of
+/// part 2; `NoVersion` and `NoDataFormat` for a 0 there; `PhTableRange` and `ShTableRange` where a
+/// header table passes the end of the input.
+#[tactic(auto, unfolding(crate::specs::HeaderCheck::header_check))]
+pub fn sanity_check(file: &ElfFile<'_>) -> Result<(), ElfError>
+    ensures exact { result ≡ header_check file.now.input.now file.now.header }
+
+    // Where all is well, no section is missing from the list.
+    ensures sections { OnOk result (
+        section_header_size file.now.header.pt1.class.0 ≤ (fields file.now.header.pt2).sh_entry_size
+        → (fields file.now.header.pt2).sh_count ≤ 0xff00
+        → length (section_list file.now.input.now file.now.header) ≡ (fields file.now.header.pt2).sh_count) }
+{
+    let pt1 = &file.header.pt1;
+    let pt2 = &file.header.pt2;
+    if pt1.magic != MAGIC {
+        return Err(ElfError::BadMagic);
+    }
+    if 16 + pt2.size() != usize::from(pt2.header_size()) {
+        return Err(ElfError::HeaderSize);
+    }
+    if pt1.class.is_none() {
+        return Err(ElfError::NoClass);
+    }
+    let class = class_number(pt2);
+    if pt1.class.raw() != class {
+        return Err(ElfError::ClassMismatch);
+    }
+    if pt1.version.is_none() {
+        return Err(ElfError::NoVersion);
+    }
+    if pt1.encoding.is_none() {
+        return Err(ElfError::NoDataFormat);
+    }
+    let ph_size = u64::from(pt2.ph_count()) * u64::from(pt2.ph_entry_size());
+    if !is_within(file.input, pt2.ph_offset(), ph_size) {
+        return Err(ElfError::PhTableRange);
+    }
+    let sh_size = u64::from(pt2.sh_count()) * u64::from(pt2.sh_entry_size());
+    if !is_within(file.input, pt2.sh_offset(), sh_size) {
+        return Err(ElfError::ShTableRange);
+    }
+    Ok(())
+}
+
+// The number of the class whose part 2 this is.
+fn class_number(part: &HeaderPt2) -> u8
+    ensures { result ≡ part_class part.now }
+{
+    match part {
+        HeaderPt2::Header32(_) => 1,
+        HeaderPt2::Header64(_) => 2,
+    }
+}

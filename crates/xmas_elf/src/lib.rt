@@ -4,10 +4,11 @@
 //! input. No call takes memory, and each returns on every input.
 #![tactic(auto)]
 
-ghost use Rattle.std.specs.Prelude.{◌≡◌, ◌↔◌, ◌<◌, ◌^◌, IfErr, IfOk, IsOk, Ok, Err, length};
+ghost use Rattle.std.specs.Prelude.{◌≡◌, ◌↔◌, ◌<◌, ◌^◌, Err, IfErr, IfOk, IsOk, IsOkAnd, List, MatchOption, Ok, length, ℕ};
 ghost use Rattle.elf_base.specs.FileHeader.{IsAccepted, header_of};
 ghost use Rattle.elf_base.specs.HeaderLayout.{fields};
 ghost use Rattle.xmas_elf.specs.HeaderTable.{IsLongest};
+ghost use Rattle.xmas_elf.specs.NameTable.{IsFirstNamed, IsShstr, NoneBears, name_table, shstr_of};
 ghost use Rattle.xmas_elf.specs.SectionList.{IsReadable, section_header_of, section_list, section_rest};
 
 pub mod bytes;
@@ -16,6 +17,7 @@ mod ranges;
 pub mod report;
 pub mod sections;
 
+use crate::bytes::text_at;
 use crate::header::{Header, parse_header};
 use crate::sections::{SectionHeader, SectionIter, parse_section_header};
 pub use elf_base::{ElfError, P32, P64};
@@ -65,5 +67,50 @@ impl<'a> ElfFile<'a> {
             file: self,
             next_index: 0,
         }
+    }
+
+    /// The text at an index of the name table, in bytes: up to the next zero byte of the input, also
+    /// where the section ends before it. It lives as long as the input.
+    ///
+    /// Refused as the section header at `sh_str_index` is, with `ShortSectionOffset` where that
+    /// section begins past the end of the input, and as `bytes::text_at` is.
+    #[tactic(auto, unfolding(crate::specs::NameTable::shstr_of))]
+    pub fn get_shstr(&self, index: u32) -> Result<&'a str, ElfError>
+        ensures text { IfOk result (λ t. IsShstr self.now.input.now self.now.header index t.now) }
+        ensures only { (t : List ℕ) → IsShstr self.now.input.now self.now.header index t → IsOkAnd result (λ s. s.now ≡ t) }
+        ensures ok { IfOk result (λ t. shstr_of self.now.input.now self.now.header index ≡ Ok t.now) }
+        ensures err { IfErr result (λ error. shstr_of self.now.input.now self.now.header index ≡ Err error) }
+    {
+        match self.name_table() {
+            Ok(names) => text_at(names, index as usize),
+            Err(error) => Err(error),
+        }
+    }
+
+    // The input from the offset of the section that holds the names, whatever its type and size.
+    #[tactic(auto, unfolding(crate::specs::NameTable::name_table))]
+    fn name_table(&self) -> Result<&'a [u8], ElfError>
+        ensures ok { IfOk result (λ names. name_table self.now.input.now self.now.header ≡ Ok names.now) }
+        ensures err { IfErr result (λ error. name_table self.now.input.now self.now.header ≡ Err error) }
+    {
+        match self.section_header(self.header.pt2.sh_str_index()) {
+            Err(error) => Err(error),
+            Ok(section) => {
+                if section.offset() > self.input.len() as u64 {
+                    return Err(ElfError::ShortSectionOffset);
+                }
+                Ok(&self.input[section.offset() as usize..])
+            }
+        }
+    }
+
+    /// The first section that bears this name, in the order of `section_iter`.
+    pub fn find_section_by_name(&self, name: &str) -> Option<SectionHeader>
+        ensures { let sections = section_list self.now.input.now self.now.header in MatchOption result
+            (NoneBears self.now.input.now self.now.header name.now sections (length sections))
+            (λ section. IsFirstNamed self.now.input.now self.now.header name.now sections section) }
+    {
+        self.section_iter()
+            .find(|section| section.bears(self, name))
     }
 }

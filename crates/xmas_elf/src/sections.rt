@@ -3,8 +3,12 @@
 ghost use Rattle.std.specs.Prelude.{◌≡◌, ◌↔◌, ◌+◌, ◌*◌, ◌≤◌, ◌<◌, IfNone, IfSome, IsOk, Ok, ⊤};
 ghost use Rattle.std.specs.Iterator.{MakesProgress, YieldsFirst, item_count};
 ghost use Rattle.elf_base.specs.HeaderLayout.{fields};
+ghost use Rattle.elf_records.specs.SectionNumbers.{sh_type_of};
+ghost use Rattle.xmas_elf.specs.Range.{and_then};
+ghost use Rattle.xmas_elf.specs.SectionLayout.{section_fields};
 ghost use Rattle.xmas_elf.specs.SectionList.{IsReadable, section_header_of, section_rest};
 
+mod printed;
 mod records;
 mod section_header;
 
@@ -100,4 +104,12 @@ impl Iterator for SectionIter<'_, '_> {
         self.next_index += 1;
         Some(header)
     }
+}
+
+/// Whether a section header makes sense: `InvalidShType` is its one fault.
+pub fn sanity_check(header: SectionHeader, _file: &ElfFile<'_>) -> Result<(), ElfError>
+    ensures { result ≡ and_then (sh_type_of (section_fields header).type_.0) (λ kind. Ok tt) }
+{
+    let _kind = header.get_type()?;
+    Ok(())
 }

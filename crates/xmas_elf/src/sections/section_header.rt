@@ -1,12 +1,14 @@
 //! A section header of either width (gABI, "Section Header").
 
-ghost use Rattle.std.specs.Prelude.{◌≡◌};
+ghost use Rattle.std.specs.Prelude.{◌≡◌, ◌↔◌, Err, IfErr, IfOk, IsOkAnd, IsTrue, List, Ok, ℕ};
 ghost use Rattle.elf_records.specs.SectionNumbers.{sh_type_of};
+ghost use Rattle.xmas_elf.specs.NameTable.{Bears, data_of, name_of};
 ghost use Rattle.xmas_elf.specs.SectionLayout.{section_fields};
 
+use crate::ranges::range_at;
 use crate::sections::records::SectionHeader_;
 use crate::sections::{ShType, ShType_};
-use crate::{ElfError, P32, P64};
+use crate::{ElfError, ElfFile, P32, P64};
 
 /// A section header of either width.
 #[derive(Clone, Copy, Debug)]
@@ -123,5 +125,48 @@ impl SectionHeader {
         ensures { result ≡ sh_type_of (section_fields self.now).type_.0 }
     {
         self.type_().as_sh_type()
+    }
+
+    /// The name of the section, which lives as long as the input.
+    ///
+    /// Refused with `InvalidShType`, with `NullName` for type Null, and as `ElfFile::get_shstr` is.
+    #[tactic(auto, unfolding(crate::specs::NameTable::name_of))]
+    pub fn get_name<'a>(&self, file: &ElfFile<'a>) -> Result<&'a str, ElfError>
+        ensures name { IfOk result (λ t. Bears file.now.input.now file.now.header self.now t.now) }
+        ensures only { (t : List ℕ) → Bears file.now.input.now file.now.header self.now t → IsOkAnd result (λ s. s.now ≡ t) }
+        ensures ok { IfOk result (λ t. name_of file.now.input.now file.now.header self.now ≡ Ok t.now) }
+        ensures err { IfErr result (λ error. name_of file.now.input.now file.now.header self.now ≡ Err error) }
+    {
+        match self.get_type() {
+            Err(error) => Err(error),
+            Ok(ShType::Null) => Err(ElfError::NullName),
+            Ok(_) => file.get_shstr(self.name()),
+        }
+    }
+
+    // Whether the section's name is readable and is this one.
+    pub(crate) fn bears(&self, file: &ElfFile<'_>, name: &str) -> bool
+        ensures { IsTrue result ↔ Bears file.now.input.now file.now.header self.now name.now }
+    {
+        match self.get_name(file) {
+            Ok(text) => text == name,
+            Err(_) => false,
+        }
+    }
+
+    /// The data of the section as it stands in the input, where it lives as long.
+    ///
+    /// Refused with `InvalidShType`, with `NullData` for type Null, and with `DataRange` where it
+    /// passes the end of the input; type NoBits and size 0 are no exceptions.
+    #[tactic(auto, unfolding(crate::specs::NameTable::data_of))]
+    pub fn raw_data<'a>(&self, file: &ElfFile<'a>) -> Result<&'a [u8], ElfError>
+        ensures ok { IfOk result (λ range. data_of file.now.input.now self.now ≡ Ok range.now) }
+        ensures err { IfErr result (λ error. data_of file.now.input.now self.now ≡ Err error) }
+    {
+        match self.get_type() {
+            Err(error) => Err(error),
+            Ok(ShType::Null) => Err(ElfError::NullData),
+            Ok(_) => range_at(file.input, self.offset(), self.size()),
+        }
     }
 }

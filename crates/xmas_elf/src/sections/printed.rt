@@ -1,0 +1,78 @@
+//! How a section header is printed: a line for each field but `info`.
+
+ghost use Rattle.std.specs.Prelude.{◌≡◌, Some};
+ghost use Rattle.xmas_elf.specs.SectionLayout.{section_fields};
+ghost use Rattle.xmas_elf.specs.SectionText.{section_lines, section_text, section_type_text};
+
+use crate::P64;
+use crate::sections::{SectionHeader, SectionHeader_, ShType_};
+use elf_base::print::{Field, PrintedResult};
+use std::fmt;
+use std::fmt::Display;
+
+// What the number of a type means, or why it means nothing.
+#[derive(Clone, Copy)]
+pub(crate) struct SectionType(pub(crate) ShType_);
+
+impl Display for SectionType {
+    ghost output = { λ kind. Some (section_type_text kind.0.0) };
+
+    fn fmt<W: fmt::Write>(&self, f: &mut fmt::Formatter<W>) -> fmt::Result {
+        write!(f, "{}", PrintedResult(self.0.as_sh_type()))
+    }
+}
+
+// The fields, each on a line.
+#[derive(Clone, Copy)]
+struct SectionFields(SectionHeader_<P64>);
+
+impl Display for SectionFields {
+    ghost output = { λ fields. Some (section_lines fields.0) };
+
+    fn fmt<W: fmt::Write>(&self, f: &mut fmt::Formatter<W>) -> fmt::Result {
+        write!(
+            f,
+            "{}{}{}{}{}{}{}{}{}",
+            Field("name:             ", self.0.name),
+            Field("type:             ", SectionType(self.0.type_)),
+            Field("flags:            ", self.0.flags),
+            Field("address:          ", self.0.address),
+            Field("offset:           ", self.0.offset),
+            Field("size:             ", self.0.size),
+            Field("link:             ", self.0.link),
+            Field("align:            ", self.0.align),
+            Field("entry size:       ", self.0.entry_size)
+        )
+    }
+}
+
+impl SectionHeader {
+    // The same numbers, in the types of class 64, so that one text serves both.
+    fn widened(&self) -> SectionHeader_<P64>
+        ensures { result ≡ section_fields self.now }
+    {
+        match self {
+            SectionHeader::Sh32(header) => SectionHeader_ {
+                name: header.name,
+                type_: header.type_,
+                flags: u64::from(header.flags),
+                address: u64::from(header.address),
+                offset: u64::from(header.offset),
+                size: u64::from(header.size),
+                link: header.link,
+                info: header.info,
+                align: u64::from(header.align),
+                entry_size: u64::from(header.entry_size),
+            },
+            SectionHeader::Sh64(header) => *header,
+        }
+    }
+}
+
+impl Display for SectionHeader {
+    ghost output = { λ section. Some (section_text (section_fields section)) };
+
+    fn fmt<W: fmt::Write>(&self, f: &mut fmt::Formatter<W>) -> fmt::Result {
+        write!(f, "Section header:\n{}", SectionFields(self.widened()))
+    }
+}
