@@ -24,7 +24,7 @@ import re
 import subprocess
 import sys
 from pathlib import Path
-from typing import Dict, Iterable, List, NamedTuple, Optional, Tuple
+from typing import Dict, Iterable, List, Match, NamedTuple, Optional, Tuple
 
 ROOT = Path(__file__).resolve().parent.parent
 MAGIC = b"\x7fELF"
@@ -351,6 +351,7 @@ READELF_UNKNOWN_TYPE = re.compile(r"([0-9a-f]{8}): <unknown>$")
 READELF_UNKNOWN_NUMBER = re.compile(
     r"(?:<unknown|Specific)\S* \(?(?:0x)?([0-9a-f]+)[)>]?$"
 )
+READELF_UNKNOWN_VERSION = re.compile(r"(\d+) <unknown>$")
 EXTENDED_NUMBER = re.compile(r"\d+ \(\d+\)")
 
 
@@ -389,6 +390,7 @@ class Tally:
         self.differences = 0
 
     def differ(self, path: str, field: str, says: str, reads: str) -> None:
+        """Counts a difference and prints its line."""
         self.differences += 1
         print(f"{path}: {field}: elfinfo says {says}, readelf says {reads}")
 
@@ -401,14 +403,18 @@ class Tally:
 
 
 def run(command: List[str]) -> Finished:
-    """Runs a command whose texts are in the C locale."""
-    done = subprocess.run(
-        command,
-        stdin=subprocess.DEVNULL,
-        stdout=subprocess.PIPE,
-        stderr=subprocess.PIPE,
-        env=dict(os.environ, LC_ALL="C"),
-    )
+    """Runs a command in the C locale; ends the script where it can't be run."""
+    try:
+        done = subprocess.run(
+            command,
+            stdin=subprocess.DEVNULL,
+            stdout=subprocess.PIPE,
+            stderr=subprocess.PIPE,
+            env=dict(os.environ, LC_ALL="C"),
+        )
+    except OSError as error:
+        print(f"cannot run {command[0]}: {error.strerror}", file=sys.stderr)
+        sys.exit(2)
     output = done.stdout.decode("utf-8", "surrogateescape")
     errors = done.stderr.decode("utf-8", "surrogateescape").strip()
     return Finished(done.returncode, output, errors)
@@ -419,8 +425,24 @@ def add_field(header: Dict[str, str], label: str, value: str) -> None:
     header[label if label not in header else f"{label} (2)"] = value.rstrip()
 
 
+def add_at(listed: Dict, first: int, line: str, index: str, value: object) -> None:
+    """Adds what a line says, if its index is the next one."""
+    if int(index) != first + len(listed):
+        raise ValueError(line)
+    listed[int(index)] = value
+
+
+def elfinfo_section(found: Match[str]) -> Section:
+    """The section that a line of elfinfo's shows."""
+    _, kind, sign, text = found.groups()
+    return Section(kind, text, "") if sign == "=" else Section(kind, "", text)
+
+
 def read_elfinfo(output: str) -> Report:
-    """Takes elfinfo's report apart; raises ValueError at a strange line."""
+    """Takes elfinfo's report apart; raises ValueError at a strange line.
+
+    The indices of sections have to go up from 1, those of segments from 0.
+    """
     report = Report({}, {}, {})
     place = "header"
     for line in output.split("\n"):
@@ -434,11 +456,9 @@ def read_elfinfo(output: str) -> Report:
         elif place == "header" and field:
             add_field(report.header, field[1], field[2])
         elif place == "sections" and section:
-            index, kind, sign, text = section.groups()
-            named = Section(kind, text, "") if sign == "=" else Section(kind, "", text)
-            report.sections[int(index)] = named
+            add_at(report.sections, 1, line, section[1], elfinfo_section(section))
         elif place == "program headers" and segment:
-            report.segments[int(segment[1])] = segment[2]
+            add_at(report.segments, 0, line, segment[1], segment[2])
         elif line and line != "ELF header:" and not line.startswith("check: "):
             raise ValueError(line)
     return report
@@ -509,6 +529,15 @@ def same_number(says: str, reads: str) -> bool:
     return says.isdigit() and found is not None and int(says) == int(found[0], 0)
 
 
+def unknown_number(reads: str) -> Optional[int]:
+    """The number that readelf prints for want of a name, or None."""
+    version = READELF_UNKNOWN_VERSION.match(reads)
+    if version:
+        return int(version[1])
+    found = READELF_UNKNOWN_NUMBER.search(reads)
+    return int(found[1], 16) if found else None
+
+
 def same_name(says: str, reads: str, table: NameTable) -> bool:
     """Whether readelf's text stands for the name that elfinfo prints.
 
@@ -519,9 +548,9 @@ def same_name(says: str, reads: str, table: NameTable) -> bool:
     if says in table:
         return reads in table[says]
     _, number = parse_type(says)
-    unknown = READELF_UNKNOWN_NUMBER.search(reads)
-    if number is not None and unknown:
-        return number == int(unknown[1], 16)
+    unknown = unknown_number(reads)
+    if unknown is not None:
+        return number == unknown
     known = [text for texts in table.values() for text in texts]
     return number is not None and reads not in known
 
@@ -550,12 +579,14 @@ def is_refused_section_type(reads: str) -> bool:
 
 
 def same_section_type(says: str, reads: str) -> bool:
+    """Whether both print the same type, or elfinfo refuses it by design."""
     if says == SECTION_TYPE_REFUSAL:
         return is_refused_section_type(reads)
     return reads in type_texts(says, SECTION_TYPES, NUMBERED_SECTION_TYPES)
 
 
 def same_segment_type(says: str, reads: str) -> bool:
+    """Whether both print the same type, or elfinfo refuses it by design."""
     if says == SEGMENT_TYPE_REFUSAL:
         return reads.startswith(REFUSED_SEGMENT_PREFIXES)
     texts = type_texts(says, SEGMENT_TYPES, NUMBERED_SEGMENT_TYPES)
@@ -572,14 +603,15 @@ def expected_name_refusal(says: Section, reads: Section) -> str:
 
 
 def same_section_name(says: Section, reads: Section) -> bool:
+    """Whether both print the same name, or elfinfo refuses it by design."""
     refusal = expected_name_refusal(says, reads)
-    if refusal or says.refusal:
-        return says.refusal == refusal or (
-            not refusal and reads.name.rstrip() in NAMELESS
-        )
+    if refusal:
+        return says.refusal == refusal
     # readelf fills short names with blanks, so blanks at the end don't count.
     name = reads.name.rstrip(" ")
-    return name in NAMELESS or caret(says.name).rstrip(" ") == name
+    if name in NAMELESS:
+        return True
+    return not says.refusal and caret(says.name).rstrip(" ") == name
 
 
 def name_text(section: Section) -> str:
@@ -588,6 +620,7 @@ def name_text(section: Section) -> str:
 
 
 def compare_header(path: str, says: Report, reads: Report, tally: Tally) -> None:
+    """Compares the fields of the ELF header."""
     for label, readelf_label, table in HEADER_FIELDS:
         one = says.header.get(label, "nothing")
         other = reads.header.get(readelf_label, "nothing")
@@ -599,6 +632,7 @@ def compare_header(path: str, says: Report, reads: Report, tally: Tally) -> None
 def compare_section(
     path: str, index: int, says: Section, reads: Section, tally: Tally
 ) -> None:
+    """Compares the type and the name of a section."""
     tally.sections += 1
     type_agrees = same_section_type(says.kind, reads.kind)
     name_agrees = same_section_name(says, reads)
@@ -614,6 +648,7 @@ def compare_section(
 def compare_segment(
     path: str, index: int, says: str, reads: str, tally: Tally
 ) -> None:
+    """Compares the type of a segment."""
     tally.segments += 1
     if not same_segment_type(says, reads):
         tally.differ(path, f"segment {index} type", says, reads)
@@ -622,6 +657,7 @@ def compare_segment(
 
 
 def compare_count(path: str, what: str, says: int, reads: int, tally: Tally) -> None:
+    """Compares the lengths of two lists."""
     if says != reads:
         tally.differ(path, f"{what} count", str(says), str(reads))
 
@@ -643,6 +679,7 @@ def skip_reason(extended: bool, what: str, errors: str) -> Optional[str]:
 def compare_sections(
     path: str, says: Report, reads: Report, errors: str, tally: Tally
 ) -> None:
+    """Compares the sections, section 0 left out."""
     extended = is_extended(reads.header, SECTION_NUMBERS)
     reason = skip_reason(extended, "section", errors)
     if reason is not None:
@@ -658,6 +695,7 @@ def compare_sections(
 def compare_segments(
     path: str, says: Report, reads: Report, errors: str, tally: Tally
 ) -> None:
+    """Compares the segments."""
     extended = is_extended(reads.header, SEGMENT_NUMBERS)
     reason = skip_reason(extended, "program", errors)
     if reason is not None:
@@ -682,6 +720,7 @@ def compare_refused(
 
 
 def compare_file(path: str, elfinfo_path: str, tally: Tally) -> None:
+    """Runs both programs on a file and compares what they print."""
     tally.files += 1
     elfinfo = run([elfinfo_path, path])
     readelf = run(["readelf", "-hSlW", "--", path])
@@ -712,6 +751,7 @@ def is_elf(path: str) -> bool:
 
 
 def parse_arguments() -> argparse.Namespace:
+    """The words of the command line."""
     parser = argparse.ArgumentParser(
         description="Compare the reports of elfinfo with what readelf says."
     )
@@ -726,16 +766,13 @@ def parse_arguments() -> argparse.Namespace:
 
 
 def main() -> int:
+    """Compares all files, and answers the exit status."""
     arguments = parse_arguments()
     # Names that aren't UTF-8 go out as they came in.
     sys.stdout.reconfigure(encoding="utf-8", errors="surrogateescape")
     tally = Tally()
-    try:
-        for path in filter(is_elf, arguments.files):
-            compare_file(path, os.path.abspath(arguments.elfinfo), tally)
-    except OSError as error:
-        print(f"cannot run {error.filename}: {error.strerror}", file=sys.stderr)
-        return 2
+    for path in filter(is_elf, arguments.files):
+        compare_file(path, os.path.abspath(arguments.elfinfo), tally)
     print(tally)
     return 1 if tally.differences else 0
 

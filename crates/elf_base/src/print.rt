@@ -1,7 +1,7 @@
 //! Printed forms that the items of several crates share.
 
 ghost use Rattle.std.specs.Prelude.{◌≡◌, Some, option_map};
-ghost use Rattle.elf_base.specs.Printed.{bytes_text, filled_line, printed_result};
+ghost use Rattle.elf_base.specs.Printed.{bytes_text, filled_line, hex_text, printed_result};
 
 use crate::ElfError;
 use std::fmt;
@@ -43,5 +43,17 @@ impl<T: Display> Display for PrintedResult<T> {
             Ok(value) => write!(f, "Ok({value})"),
             Err(error) => write!(f, "Err(\"{error}\")"),
         }
+    }
+}
+
+/// A number in hexadecimal, as `0x7f`.
+#[derive(Clone, Copy)]
+pub struct Hex(pub u64);
+
+impl Display for Hex {
+    ghost output = { λ number. Some (hex_text number.0) };
+
+    fn fmt<W: fmt::Write>(&self, f: &mut fmt::Formatter<W>) -> fmt::Result {
+        write!(f, "0x{:x}", self.0)
     }
 }

@@ -9,16 +9,16 @@ use Rattle.elf_base.specs.declared.header.HeaderPt2.TheVariants.{Header32, Heade
 use Rattle.elf_base.specs.declared.header.Header.{Header}
 use Rattle.xmas_elf.specs.HeaderCheck.{part_class}
 use Rattle.xmas_elf.specs.HeaderTable.{entry_place, is_known_class}
-use Rattle.xmas_elf.specs.SectionList.{IsReadable, section_header_of, section_header_size, section_list}
+use Rattle.xmas_elf.specs.SectionList.{HasSectionHeader, section_header_of, section_header_size, section_list}
 use Rattle.xmas_elf.proofs.HeaderLists.{headers_from-whole}
 
 known_class : (class : ℕ) → (class ≡ 1) ⊎ (class ≡ 2) → is_known_class class ≡ true
 known_class class (inl one) = rw one refl
 known_class class (inr two) = rw two refl
 
-pub section_header_of-readable : (input : List ℕ) (header : Header) (index : ℕ) → IsReadable input header index → IsOk (section_header_of input header index)
+pub section_header_of-has : (input : List ℕ) (header : Header) (index : ℕ) → HasSectionHeader input header index → IsOk (section_header_of input header index)
 unfolding section_header_of
-section_header_of-readable input header index can =
+section_header_of-has input header index can =
     let unreserved = can.unreserved in
     let within = can.within in
     let large = can.large in
@@ -38,7 +38,7 @@ length-section_list input header class within large few =
     headers_from-whole (section_header_of input header) part.sh_count 0 (λ i below.
     let more : (i + 1) * part.sh_entry_size ≤ part.sh_count * part.sh_entry_size = grind (arith, below) in
     let here : 0 + i ≡ i = omega arith in
-    subst (λ k. IsOk (section_header_of input header k)) (sym here) (section_header_of-readable input header i (record {
+    subst (λ k. IsOk (section_header_of input header k)) (sym here) (section_header_of-has input header i (record {
       unreserved = omega arith;
       within = omega (arith, more, within);
       class = class;

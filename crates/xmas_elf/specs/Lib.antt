@@ -17,4 +17,8 @@ pub mod SectionList
 pub mod HeaderCheck
 pub mod NameTable
 pub mod SectionText
+pub mod ProgramLayout
+pub mod ProgramList
+pub mod Segment
+pub mod ProgramText
 pub mod Report

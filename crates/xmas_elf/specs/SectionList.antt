@@ -23,7 +23,7 @@ section_header_at header place input = if header.pt1.class.0 == 1
     else Sh64 (section_header_64 (order_of header.pt1.encoding.0) place input)
 
 -- section header `index` can be read: its entry lies in the input and is large enough for its class
-pub record IsReadable (input : List ℕ) (header : Header) (index : ℕ) : Type 0 where
+pub record HasSectionHeader (input : List ℕ) (header : Header) (index : ℕ) : Type 0 where
   pub unreserved : index < 0xff00
   pub within : entry_place (fields header.pt2).sh_offset (fields header.pt2).sh_entry_size (index + 1) ≤ length input
   pub class : (header.pt1.class.0 ≡ 1) ⊎ (header.pt1.class.0 ≡ 2)

@@ -9,16 +9,19 @@ ghost use Rattle.elf_base.specs.FileHeader.{IsAccepted, header_of};
 ghost use Rattle.elf_base.specs.HeaderLayout.{fields};
 ghost use Rattle.xmas_elf.specs.HeaderTable.{IsLongest};
 ghost use Rattle.xmas_elf.specs.NameTable.{IsFirstNamed, IsShstr, NoneBears, name_table, shstr_of};
-ghost use Rattle.xmas_elf.specs.SectionList.{IsReadable, section_header_of, section_list, section_rest};
+ghost use Rattle.xmas_elf.specs.ProgramList.{HasProgramHeader, program_header_of, program_list, program_rest};
+ghost use Rattle.xmas_elf.specs.SectionList.{HasSectionHeader, section_header_of, section_list, section_rest};
 
 pub mod bytes;
 pub mod header;
+pub mod program;
 mod ranges;
 pub mod report;
 pub mod sections;
 
 use crate::bytes::text_at;
 use crate::header::{Header, parse_header};
+use crate::program::{ProgramHeader, ProgramIter, parse_program_header};
 use crate::sections::{SectionHeader, SectionIter, parse_section_header};
 pub use elf_base::{ElfError, P32, P64};
 
@@ -47,7 +50,7 @@ impl<'a> ElfFile<'a> {
 
     /// The section header at this index, with the answer of `sections::parse_section_header`.
     pub fn section_header(&self, index: u16) -> Result<SectionHeader, ElfError>
-        ensures readable { IsOk result ↔ IsReadable self.now.input.now self.now.header index }
+        ensures readable { IsOk result ↔ HasSectionHeader self.now.input.now self.now.header index }
         ensures exact { result ≡ section_header_of self.now.input.now self.now.header index }
     {
         parse_section_header(self.input, self.header, index)
@@ -64,6 +67,30 @@ impl<'a> ElfFile<'a> {
         // Read for the proof alone: a count of 16 bits bounds the list.
         let _count = self.header.pt2.sh_count();
         SectionIter {
+            file: self,
+            next_index: 0,
+        }
+    }
+
+    /// The program header at this index, with the answer of `program::parse_program_header`.
+    pub fn program_header(&self, index: u16) -> Result<ProgramHeader, ElfError>
+        ensures readable { IsOk result ↔ HasProgramHeader self.now.input.now self.now.header index }
+        ensures exact { result ≡ program_header_of self.now.input.now self.now.header index }
+    {
+        parse_program_header(self.input, self.header, index)
+    }
+
+    /// The program headers in order, from index 0 on.
+    pub fn program_iter(&self) -> ProgramIter<'_, 'a>
+        ensures file { result.file.now ≡ self.now }
+        ensures first { result.next_index ≡ 0 }
+        ensures longest { IsLongest (program_header_of self.now.input.now self.now.header) (fields self.now.header.pt2).ph_count (program_rest result) }
+        ensures all { program_rest result ≡ program_list self.now.input.now self.now.header }
+        ensures fits { length (program_rest result) < 2 ^ 16 }
+    {
+        // Read for the proof alone: a count of 16 bits bounds the list.
+        let _count = self.header.pt2.ph_count();
+        ProgramIter {
             file: self,
             next_index: 0,
         }

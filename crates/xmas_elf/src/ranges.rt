@@ -1,6 +1,6 @@
 //! Ranges of the input, whose ends are whole numbers and never wrap.
 
-ghost use Rattle.std.specs.Prelude.{◌≡◌, ◌↔◌, ◌+◌, ◌≤◌, Err, IfErr, IfOk, IsTrue, Ok, length};
+ghost use Rattle.std.specs.Prelude.{◌≡◌, ◌↔◌, ◌+◌, ◌≤◌, ◌<◌, Err, IfErr, IfOk, IsTrue, Ok, length};
 ghost use Rattle.xmas_elf.specs.Range.{range_of};
 
 use crate::ElfError;
@@ -11,6 +11,14 @@ pub(crate) fn is_within(input: &[u8], start: u64, count: u64) -> bool
 {
     let len = input.len() as u64;
     count <= len && start <= len - count
+}
+
+/// Whether the `count` bytes from `start` on end before the input does.
+pub(crate) fn ends_inside(input: &[u8], start: u64, count: u64) -> bool
+    ensures { IsTrue result ↔ (start + count < length input.now) }
+{
+    let len = input.len() as u64;
+    count < len && start < len - count
 }
 
 /// The `count` bytes of the input from `start` on, or `DataRange`.

@@ -6,7 +6,7 @@ ghost use Rattle.elf_base.specs.HeaderLayout.{fields};
 ghost use Rattle.elf_records.specs.SectionNumbers.{sh_type_of};
 ghost use Rattle.xmas_elf.specs.Range.{and_then};
 ghost use Rattle.xmas_elf.specs.SectionLayout.{section_fields};
-ghost use Rattle.xmas_elf.specs.SectionList.{IsReadable, section_header_of, section_rest};
+ghost use Rattle.xmas_elf.specs.SectionList.{HasSectionHeader, section_header_of, section_rest};
 
 mod printed;
 mod records;
@@ -37,7 +37,7 @@ pub fn parse_section_header(
     header: Header,
     index: u16,
 ) -> Result<SectionHeader, ElfError>
-    ensures readable { IsOk result ↔ IsReadable input.now header index }
+    ensures readable { IsOk result ↔ HasSectionHeader input.now header index }
     ensures exact { result ≡ section_header_of input.now header index }
 {
     if index >= SHN_LORESERVE {

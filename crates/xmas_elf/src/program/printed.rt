@@ -1,0 +1,69 @@
+//! How a program header is printed: a line for each field.
+
+ghost use Rattle.std.specs.Prelude.{◌≡◌, Some};
+ghost use Rattle.xmas_elf.specs.ProgramLayout.{program_fields, widened};
+ghost use Rattle.xmas_elf.specs.ProgramText.{segment_lines, segment_text, segment_type_text};
+
+use crate::program::{ProgramHeader, ProgramHeader32, ProgramHeader64, Type_};
+use elf_base::print::{Field, Hex, PrintedResult};
+use std::fmt;
+use std::fmt::Display;
+
+// What the number of a type means, or why it means nothing.
+#[derive(Clone, Copy)]
+pub(crate) struct SegmentType(pub(crate) Type_);
+
+impl Display for SegmentType {
+    ghost output = { λ kind. Some (segment_type_text kind.0.0) };
+
+    fn fmt<W: fmt::Write>(&self, f: &mut fmt::Formatter<W>) -> fmt::Result {
+        write!(f, "{}", PrintedResult(self.0.as_type()))
+    }
+}
+
+// The fields, each on a line.
+#[derive(Clone, Copy)]
+struct SegmentFields<'a>(&'a ProgramHeader64);
+
+impl Display for SegmentFields<'_> {
+    ghost output = { λ fields. Some (segment_lines fields.0.now) };
+
+    fn fmt<W: fmt::Write>(&self, f: &mut fmt::Formatter<W>) -> fmt::Result {
+        write!(
+            f,
+            "{}{}{}{}{}{}{}{}",
+            Field("type:             ", SegmentType(self.0.type_)),
+            Field("flags:            ", self.0.flags),
+            Field("offset:           ", Hex(self.0.offset)),
+            Field("virtual address:  ", Hex(self.0.virtual_addr)),
+            Field("physical address: ", Hex(self.0.physical_addr)),
+            Field("file size:        ", Hex(self.0.file_size)),
+            Field("memory size:      ", Hex(self.0.mem_size)),
+            Field("align:            ", Hex(self.0.align))
+        )
+    }
+}
+
+impl Display for ProgramHeader64 {
+    ghost output = { λ header. Some (segment_text header) };
+
+    fn fmt<W: fmt::Write>(&self, f: &mut fmt::Formatter<W>) -> fmt::Result {
+        write!(f, "Program header:\n{}", SegmentFields(self))
+    }
+}
+
+impl Display for ProgramHeader32 {
+    ghost output = { λ header. Some (segment_text (widened header)) };
+
+    fn fmt<W: fmt::Write>(&self, f: &mut fmt::Formatter<W>) -> fmt::Result {
+        self.widened().fmt(f)
+    }
+}
+
+impl Display for ProgramHeader {
+    ghost output = { λ header. Some (segment_text (program_fields header)) };
+
+    fn fmt<W: fmt::Write>(&self, f: &mut fmt::Formatter<W>) -> fmt::Result {
+        self.widened().fmt(f)
+    }
+}

@@ -1,0 +1,120 @@
+//! A program header of either width (gABI, "Program Header").
+
+ghost use Rattle.std.specs.Prelude.{◌≡◌};
+ghost use Rattle.elf_records.specs.ProgramNumbers.{ph_type_of};
+ghost use Rattle.xmas_elf.specs.ProgramLayout.{program_fields, program_record_size};
+
+use crate::ElfError;
+use crate::program::records::{ProgramHeader32, ProgramHeader64};
+use crate::program::{Flags, Type};
+
+/// A program header of either width.
+#[derive(Clone, Copy, Debug)]
+pub enum ProgramHeader {
+    /// The 32 bytes of class 32.
+    Ph32(ProgramHeader32),
+    /// The 56 bytes of class 64.
+    Ph64(ProgramHeader64),
+}
+
+impl ProgramHeader {
+    /// The alignment of the segment in memory and in the file, in bytes; 0 and 1 mean none.
+    pub fn align(&self) -> u64
+        ensures { result ≡ (program_fields self.now).align }
+    {
+        match self {
+            ProgramHeader::Ph32(header) => u64::from(header.align),
+            ProgramHeader::Ph64(header) => header.align,
+        }
+    }
+
+    /// How many bytes the segment has in the file.
+    pub fn file_size(&self) -> u64
+        ensures { result ≡ (program_fields self.now).file_size }
+    {
+        match self {
+            ProgramHeader::Ph32(header) => u64::from(header.file_size),
+            ProgramHeader::Ph64(header) => header.file_size,
+        }
+    }
+
+    /// How many bytes the segment has in memory.
+    pub fn mem_size(&self) -> u64
+        ensures { result ≡ (program_fields self.now).mem_size }
+    {
+        match self {
+            ProgramHeader::Ph32(header) => u64::from(header.mem_size),
+            ProgramHeader::Ph64(header) => header.mem_size,
+        }
+    }
+
+    /// Where the segment's data lies, in bytes from the start of the file.
+    pub fn offset(&self) -> u64
+        ensures { result ≡ (program_fields self.now).offset }
+    {
+        match self {
+            ProgramHeader::Ph32(header) => u64::from(header.offset),
+            ProgramHeader::Ph64(header) => header.offset,
+        }
+    }
+
+    /// The physical address of the segment, where that matters.
+    pub fn physical_addr(&self) -> u64
+        ensures { result ≡ (program_fields self.now).physical_addr }
+    {
+        match self {
+            ProgramHeader::Ph32(header) => u64::from(header.physical_addr),
+            ProgramHeader::Ph64(header) => header.physical_addr,
+        }
+    }
+
+    /// The address of the segment in memory.
+    pub fn virtual_addr(&self) -> u64
+        ensures { result ≡ (program_fields self.now).virtual_addr }
+    {
+        match self {
+            ProgramHeader::Ph32(header) => u64::from(header.virtual_addr),
+            ProgramHeader::Ph64(header) => header.virtual_addr,
+        }
+    }
+
+    /// What may be done with the segment's memory.
+    pub fn flags(&self) -> Flags
+        ensures { result ≡ (program_fields self.now).flags }
+    {
+        match self {
+            ProgramHeader::Ph32(header) => header.flags,
+            ProgramHeader::Ph64(header) => header.flags,
+        }
+    }
+
+    /// What the segment is, or `InvalidPhType`.
+    pub fn get_type(&self) -> Result<Type, ElfError>
+        ensures { result ≡ ph_type_of (program_fields self.now).type_.0 }
+    {
+        match self {
+            ProgramHeader::Ph32(header) => header.get_type(),
+            ProgramHeader::Ph64(header) => header.get_type(),
+        }
+    }
+
+    // How many bytes the record has: 32 or 56.
+    pub(crate) fn record_size(&self) -> u16
+        ensures { result ≡ program_record_size self.now }
+    {
+        match self {
+            ProgramHeader::Ph32(_) => 32,
+            ProgramHeader::Ph64(_) => 56,
+        }
+    }
+
+    // The same numbers in the record of class 64.
+    pub(crate) fn widened(&self) -> ProgramHeader64
+        ensures { result ≡ program_fields self.now }
+    {
+        match self {
+            ProgramHeader::Ph32(header) => header.widened(),
+            ProgramHeader::Ph64(header) => *header,
+        }
+    }
+}
