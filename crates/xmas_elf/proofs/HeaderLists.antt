@@ -1,7 +1,10 @@
 -- Lists of headers, as they are computed and as they are meant.
-use Rattle.std.proofs.Common.{◌≡◌, ◌≢◌, ℕ, zero, suc, ◌+◌, ◌≤◌, ◌<◌, List, [], ◌∷◌, length, slice_get, Option, Some, None, Result, Ok, Err, IsOk, refl, sym, ap, ◌∙◌, subst, arith, add-zero}
+use Rattle.std.proofs.Common.{◌≡◌, ◌≢◌, ℕ, zero, suc, ◌+◌, ◌*◌, ◌≤◌, ◌<◌, List, [], ◌∷◌, ◌⊎◌, inl, inr, true, length, slice_get, Option, Some, None, Result, Ok, Err, IsOk, refl, sym, ap, ◌∙◌, subst, arith, add-zero}
 use Rattle.elf_base.specs.declared.error.ElfError.{ElfError}
-use Rattle.xmas_elf.specs.HeaderTable.{IsLongest, before, headers_from}
+use Rattle.elf_base.specs.declared.header.HeaderPt2.{HeaderPt2}
+use Rattle.elf_base.specs.declared.header.HeaderPt2.TheVariants.{Header32, Header64}
+use Rattle.xmas_elf.specs.HeaderCheck.{part_class}
+use Rattle.xmas_elf.specs.HeaderTable.{IsLongest, before, entry_place, headers_from, is_known_class}
 
 length-before : {H : Type 0} (r : Result H ElfError) (others : List H) (count : ℕ) → length others ≤ count → length (before r others) ≤ suc count
 length-before (Ok h) others count fits = omega arith
@@ -56,3 +59,18 @@ headers_from-whole header_at zero index good = refl
 headers_from-whole header_at (suc count) index good =
     let here : IsOk (header_at index) = subst (λ k. IsOk (header_at k)) (add-zero index) (good 0 (omega arith)) in
     whole_before (header_at index) (headers_from header_at (suc index) count) count here (headers_from-whole header_at count (suc index) (λ i h. let next : index + suc i ≡ suc index + i = omega arith in subst (λ k. IsOk (header_at k)) next (good (suc i) (omega arith))))
+
+-- an entry of a table that lies in the input lies there too
+pub entry_place-within : (offset size count len i : ℕ) → entry_place offset size count ≤ len → i < count → entry_place offset size (i + 1) ≤ len
+entry_place-within offset size count len i within below =
+    let more : (i + 1) * size ≤ count * size = grind (arith, below) in omega (arith, more, within)
+
+-- a class whose records are known
+pub is_known_class-known : (class : ℕ) → (class ≡ 1) ⊎ (class ≡ 2) → is_known_class class ≡ true
+is_known_class-known class (inl one) = rw one refl
+is_known_class-known class (inr two) = rw two refl
+
+-- part 2 is of one of the two classes
+pub part_class-known : (class : ℕ) (part : HeaderPt2) → class ≡ part_class part → (class ≡ 1) ⊎ (class ≡ 2)
+part_class-known class (Header32 part) is = inl is
+part_class-known class (Header64 part) is = inr is

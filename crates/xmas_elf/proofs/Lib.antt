@@ -1,2 +1,4 @@
 pub mod HeaderLists
 pub mod SectionLists
+pub mod ProgramLists
+pub mod ReportLines

@@ -1,8 +1,9 @@
 //! The ELF header, with which every file begins (gABI, "ELF Header").
 
-ghost use Rattle.std.specs.Prelude.{◌≡◌, ◌≤◌, OnOk, length};
+ghost use Rattle.std.specs.Prelude.{◌≡◌, ◌≢◌, ◌≤◌, OnOk, length};
 ghost use Rattle.elf_base.specs.HeaderLayout.{fields};
 ghost use Rattle.xmas_elf.specs.HeaderCheck.{header_check, part_class};
+ghost use Rattle.xmas_elf.specs.ProgramList.{program_header_size, program_list};
 ghost use Rattle.xmas_elf.specs.SectionList.{section_header_size, section_list};
 
 use crate::ranges::is_within;
@@ -22,11 +23,15 @@ pub use elf_base::header::{
 pub fn sanity_check(file: &ElfFile<'_>) -> Result<(), ElfError>
     ensures exact { result ≡ header_check file.now.input.now file.now.header }
 
-    // Where all is well, no section is missing from the list.
+    // Where all is well, no section and no segment is missing from its list.
     ensures sections { OnOk result (
         section_header_size file.now.header.pt1.class.0 ≤ (fields file.now.header.pt2).sh_entry_size
         → (fields file.now.header.pt2).sh_count ≤ 0xff00
         → length (section_list file.now.input.now file.now.header) ≡ (fields file.now.header.pt2).sh_count) }
+    ensures segments { OnOk result (
+        (fields file.now.header.pt2).ph_offset ≢ 0
+        → program_header_size file.now.header.pt1.class.0 ≤ (fields file.now.header.pt2).ph_entry_size
+        → length (program_list file.now.input.now file.now.header) ≡ (fields file.now.header.pt2).ph_count) }
 {
     let pt1 = &file.header.pt1;
     let pt2 = &file.header.pt2;

@@ -2,9 +2,12 @@
 
 ghost use Rattle.std.specs.Prelude.{◌≡◌, Some, OnOk, IfErr};
 ghost use Rattle.std.specs.Io.KnownBytes.{Appends};
-ghost use Rattle.xmas_elf.specs.Report.{RefusesExactly, WritesNothing, WritesReport, fault_text, report_text};
+ghost use Rattle.xmas_elf.specs.NameTable.{name_of};
+ghost use Rattle.xmas_elf.specs.Report.{RefusesExactly, WritesNothing, WritesReport, check_line, fault_text, name_text, report_text, section_line, section_lines, segment_line, segment_lines, verdict_text};
 
-use crate::{ElfError, ElfFile};
+use crate::program::{ProgramHeader, SegmentType};
+use crate::sections::{SectionHeader, SectionType};
+use crate::{ElfError, ElfFile, header, program};
 use std::error::Error;
 use std::fmt::Display;
 use std::{fmt, io};
@@ -31,6 +34,139 @@ impl Display for ReportFault {
 
 impl Error for ReportFault {}
 
+// What a check found.
+#[derive(Clone, Copy)]
+struct Verdict(Result<(), ElfError>);
+
+impl Display for Verdict {
+    ghost output = { λ verdict. Some (verdict_text verdict.0) };
+
+    fn fmt<W: fmt::Write>(&self, f: &mut fmt::Formatter<W>) -> fmt::Result {
+        match self.0 {
+            Ok(()) => f.write_str(" ok"),
+            Err(error) => write!(f, " ! {error}"),
+        }
+    }
+}
+
+// The line of the check of the ELF header.
+#[derive(Clone, Copy)]
+struct CheckLine<'b, 'a>(&'b ElfFile<'a>);
+
+impl Display for CheckLine<'_, '_> {
+    ghost output = { λ line. Some (check_line line.0.now.input.now line.0.now.header) };
+
+    fn fmt<W: fmt::Write>(&self, f: &mut fmt::Formatter<W>) -> fmt::Result {
+        writeln!(f, "check:{}", Verdict(header::sanity_check(self.0)))
+    }
+}
+
+// The name of a section, or why it has none.
+#[derive(Clone, Copy)]
+struct Name<'b, 'a>(&'b ElfFile<'a>, SectionHeader);
+
+impl Display for Name<'_, '_> {
+    ghost output = { λ name. Some (name_text (name_of name.0.now.input.now name.0.now.header name.1)) };
+
+    fn fmt<W: fmt::Write>(&self, f: &mut fmt::Formatter<W>) -> fmt::Result {
+        match self.1.get_name(self.0) {
+            Ok(name) => write!(f, " = {name}"),
+            Err(error) => write!(f, " ! {error}"),
+        }
+    }
+}
+
+// The line of a section.
+#[derive(Clone, Copy)]
+struct SectionLine<'b, 'a> {
+    file: &'b ElfFile<'a>,
+    index: u32,
+    section: SectionHeader,
+}
+
+impl Display for SectionLine<'_, '_> {
+    ghost output = { λ line. Some (section_line line.file.now.input.now line.file.now.header line.index line.section) };
+
+    #[tactic(auto, unfolding(crate::specs::Report::section_line))]
+    fn fmt<W: fmt::Write>(&self, f: &mut fmt::Formatter<W>) -> fmt::Result {
+        let kind = SectionType(self.section.type_());
+        writeln!(
+            f,
+            "{} {}{}",
+            self.index,
+            kind,
+            Name(self.file, self.section)
+        )
+    }
+}
+
+// A line for each section but the first.
+#[derive(Clone, Copy)]
+struct SectionLines<'b, 'a>(&'b ElfFile<'a>);
+
+impl Display for SectionLines<'_, '_> {
+    ghost output = { λ lines. Some (section_lines lines.0.now.input.now lines.0.now.header) };
+
+    fn fmt<W: fmt::Write>(&self, f: &mut fmt::Formatter<W>) -> fmt::Result {
+        let file = self.0;
+        let mut sections = file.section_iter();
+        let _first = sections.next();
+        let mut index = 1;
+        for section in sections {
+            let line = SectionLine {
+                file,
+                index,
+                section,
+            };
+            write!(f, "{line}")?;
+            index += 1;
+        }
+        Ok(())
+    }
+}
+
+// The line of a segment.
+#[derive(Clone, Copy)]
+struct SegmentLine<'b, 'a> {
+    file: &'b ElfFile<'a>,
+    index: u32,
+    program: ProgramHeader,
+}
+
+impl Display for SegmentLine<'_, '_> {
+    ghost output = { λ line. Some (segment_line line.file.now.input.now line.file.now.header line.index line.program) };
+
+    #[tactic(auto, unfolding(crate::specs::Report::segment_line))]
+    fn fmt<W: fmt::Write>(&self, f: &mut fmt::Formatter<W>) -> fmt::Result {
+        let kind = SegmentType(self.program.type_());
+        let verdict = Verdict(program::sanity_check(self.program, self.file));
+        writeln!(f, "{} {}{}", self.index, kind, verdict)
+    }
+}
+
+// A line for each segment.
+#[derive(Clone, Copy)]
+struct SegmentLines<'b, 'a>(&'b ElfFile<'a>);
+
+impl Display for SegmentLines<'_, '_> {
+    ghost output = { λ lines. Some (segment_lines lines.0.now.input.now lines.0.now.header) };
+
+    fn fmt<W: fmt::Write>(&self, f: &mut fmt::Formatter<W>) -> fmt::Result {
+        let file = self.0;
+        let mut index = 0;
+        for program in file.program_iter() {
+            let line = SegmentLine {
+                file,
+                index,
+                program,
+            };
+            write!(f, "{line}")?;
+            index += 1;
+        }
+        Ok(())
+    }
+}
+
 // The report of an accepted file.
 #[derive(Clone, Copy)]
 struct FileReport<'b, 'a>(&'b ElfFile<'a>);
@@ -39,7 +175,14 @@ impl Display for FileReport<'_, '_> {
     ghost output = { λ report. Some (report_text report.0.now.input.now report.0.now.header) };
 
     fn fmt<W: fmt::Write>(&self, f: &mut fmt::Formatter<W>) -> fmt::Result {
-        write!(f, "{}", self.0.header)
+        write!(
+            f,
+            "{}{}sections\n{}\nprogram headers\n{}",
+            self.0.header,
+            CheckLine(self.0),
+            SectionLines(self.0),
+            SegmentLines(self.0)
+        )
     }
 }
 

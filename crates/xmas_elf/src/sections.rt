@@ -14,6 +14,7 @@ mod section_header;
 
 use crate::header::{Class, Header};
 use crate::ranges::is_within;
+pub(crate) use crate::sections::printed::SectionType;
 pub use crate::sections::records::SectionHeader_;
 pub use crate::sections::section_header::SectionHeader;
 use crate::{ElfError, ElfFile, P32, P64};

@@ -6,7 +6,7 @@ ghost use Rattle.xmas_elf.specs.ProgramLayout.{program_fields, program_record_si
 
 use crate::ElfError;
 use crate::program::records::{ProgramHeader32, ProgramHeader64};
-use crate::program::{Flags, Type};
+use crate::program::{Flags, Type, Type_};
 
 /// A program header of either width.
 #[derive(Clone, Copy, Debug)]
@@ -95,6 +95,16 @@ impl ProgramHeader {
         match self {
             ProgramHeader::Ph32(header) => header.get_type(),
             ProgramHeader::Ph64(header) => header.get_type(),
+        }
+    }
+
+    // What the segment is, as a number.
+    pub(crate) fn type_(&self) -> Type_
+        ensures { result ≡ (program_fields self.now).type_ }
+    {
+        match self {
+            ProgramHeader::Ph32(header) => header.type_,
+            ProgramHeader::Ph64(header) => header.type_,
         }
     }
 
