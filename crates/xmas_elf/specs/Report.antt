@@ -67,7 +67,7 @@ abbrev pub segment_lines : List ℕ → Header → List ℕ
 segment_lines input header = lines_from (segment_line input header) 0 (program_list input header)
 
 -- the report of a file with this header, item after item
-abbrev pub report_text : List ℕ → Header → List ℕ
+unfoldable pub report_text : List ℕ → Header → List ℕ
 report_text input header = joined (
     header_text header
     ∷ check_line input header

@@ -174,6 +174,7 @@ struct FileReport<'b, 'a>(&'b ElfFile<'a>);
 impl Display for FileReport<'_, '_> {
     ghost output = { λ report. Some (report_text report.0.now.input.now report.0.now.header) };
 
+    #[tactic(auto, unfolding(crate::specs::Report::report_text))]
     fn fmt<W: fmt::Write>(&self, f: &mut fmt::Formatter<W>) -> fmt::Result {
         write!(
             f,
