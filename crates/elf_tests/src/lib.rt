@@ -1,5 +1,6 @@
-//! Worked files and their answers, through the public surface of `xmas_elf`.
+//! Callers of `xmas_elf`, and worked files with their answers, through its public surface alone.
 #![tactic(auto)]
 
+pub mod callers;
 #[cfg(test)]
 mod tests;

@@ -1,5 +1,6 @@
 -- The program headers of a file (gABI, "Program Header": the program header table).
-use Rattle.std.specs.Prelude.{◌≡◌, ◌≢◌, ℕ, ◌+◌, ◌-◌, ◌<◌, ◌≤◌, ◌==◌, ◌||◌, ◌⊎◌, not, nat_lt, List, [], ◌∷◌, length, Result, if◌then◌else◌}
+use Rattle.std.specs.Prelude.{◌≡◌, ◌≢◌, ℕ, ◌+◌, ◌-◌, ◌<◌, ◌≤◌, ◌==◌, ◌||◌, ◌⊎◌, not, nat_lt, List, [], ◌∷◌, length, MatchOption, Ok, Option, Result, if◌then◌else◌}
+use Rattle.std.specs.Iterator.{YieldsFirst}
 use Rattle.elf_base.specs.Refusal.{unless}
 use Rattle.elf_base.specs.HeaderNumbers.{order_of}
 use Rattle.elf_base.specs.HeaderLayout.{fields}
@@ -48,3 +49,10 @@ program_list input header = headers_from (program_header_of input header) 0 (fie
 abbrev pub program_rest : ProgramIter → List ProgramHeader
 program_rest iter = headers_from (program_header_of iter.file.now.input.now iter.file.now.header)
     iter.next_index ((fields iter.file.now.header.pt2).ph_count - iter.next_index)
+
+-- one call of `next`: the header at the next index, and on to the index after it; at the end nothing,
+-- and the index stays
+abbrev pub ProgramStep : ProgramIter → Option ProgramHeader → ProgramIter → Type 0
+ProgramStep old result new = YieldsFirst program_rest old result new × (new.file ≡ old.file)
+    × MatchOption result (new.next_index ≡ old.next_index) (λ h. (new.next_index ≡ old.next_index + 1)
+    × (program_header_of old.file.now.input.now old.file.now.header old.next_index ≡ Ok h))

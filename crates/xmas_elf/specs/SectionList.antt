@@ -1,5 +1,6 @@
 -- The section headers of a file (gABI, "Sections": the section header table).
-use Rattle.std.specs.Prelude.{◌≡◌, ℕ, ◌+◌, ◌*◌, ◌-◌, ◌<◌, ◌≤◌, ◌==◌, ◌⊎◌, not, nat_le, nat_lt, List, [], ◌∷◌, length, Result, if◌then◌else◌}
+use Rattle.std.specs.Prelude.{◌≡◌, ℕ, ◌+◌, ◌*◌, ◌-◌, ◌<◌, ◌≤◌, ◌==◌, ◌⊎◌, not, nat_le, nat_lt, List, [], ◌∷◌, length, MatchOption, Ok, Option, Result, if◌then◌else◌}
+use Rattle.std.specs.Iterator.{YieldsFirst}
 use Rattle.elf_base.specs.Refusal.{unless}
 use Rattle.elf_base.specs.HeaderNumbers.{order_of}
 use Rattle.elf_base.specs.HeaderLayout.{fields}
@@ -46,3 +47,10 @@ section_list input header = headers_from (section_header_of input header) 0 (fie
 abbrev pub section_rest : SectionIter → List SectionHeader
 section_rest iter = headers_from (section_header_of iter.file.now.input.now iter.file.now.header)
     iter.next_index ((fields iter.file.now.header.pt2).sh_count - iter.next_index)
+
+-- one call of `next`: the header at the next index, and on to the index after it; at the end nothing,
+-- and the index stays
+abbrev pub SectionStep : SectionIter → Option SectionHeader → SectionIter → Type 0
+SectionStep old result new = YieldsFirst section_rest old result new × (new.file ≡ old.file)
+    × MatchOption result (new.next_index ≡ old.next_index) (λ h. (new.next_index ≡ old.next_index + 1)
+    × (section_header_of old.file.now.input.now old.file.now.header old.next_index ≡ Ok h))

@@ -1,8 +1,8 @@
 //! The segments of a file, by index and by iterator (gABI, "Program Header").
 
-ghost use Rattle.std.specs.Prelude.{◌≡◌, ◌↔◌, ◌+◌, IfNone, IfSome, IsOk, Ok, ⊤};
-ghost use Rattle.std.specs.Iterator.{MakesProgress, YieldsFirst, item_count};
-ghost use Rattle.xmas_elf.specs.ProgramList.{HasProgramHeader, program_header_of, program_rest};
+ghost use Rattle.std.specs.Prelude.{◌≡◌, ◌↔◌, IsOk, Ok};
+ghost use Rattle.std.specs.Iterator.{YieldsFirst, item_count};
+ghost use Rattle.xmas_elf.specs.ProgramList.{HasProgramHeader, ProgramStep, program_header_of, program_rest};
 ghost use Rattle.xmas_elf.specs.Segment.{program_check};
 
 mod printed;
@@ -73,20 +73,13 @@ pub struct ProgramIter<'b, 'a> {
     pub next_index: u16,
 }
 
-impl Iterator for ProgramIter<'_, '_> {
-    type Item = ProgramHeader;
-
-    ghost next_gives = { YieldsFirst program_rest };
-
-    ghost remaining = { item_count program_rest };
-
-    // At the end nothing changes, so that only `None` follows.
-    fn next(&mut self) -> Option<ProgramHeader>
-        ensures steps { YieldsFirst program_rest self.old result self.new }
-        ensures goes { MakesProgress (λ _. ⊤) (item_count program_rest) self.old result self.new }
-        ensures file { self.new.file ≡ self.old.file }
-        ensures item { IfSome result (λ header. (program_header_of self.old.file.now.input.now self.old.file.now.header self.old.next_index ≡ Ok header) × (self.new.next_index ≡ self.old.next_index + 1)) }
-        ensures end { IfNone result (self.new.next_index ≡ self.old.next_index) }
+impl ProgramIter<'_, '_> {
+    /// The program header at the next index, and on to the index after it. At the end it is `None` and
+    /// the index stays, so that only `None` follows.
+    ///
+    /// This is the call of `Iterator`, with what becomes of the index.
+    pub fn next(&mut self) -> Option<ProgramHeader>
+        ensures { ProgramStep self.old result self.new }
     {
         if self.next_index >= self.file.header.pt2.ph_count() {
             return None;
@@ -94,6 +87,18 @@ impl Iterator for ProgramIter<'_, '_> {
         let header = self.file.program_header(self.next_index).ok()?;
         self.next_index += 1;
         Some(header)
+    }
+}
+
+impl Iterator for ProgramIter<'_, '_> {
+    type Item = ProgramHeader;
+
+    ghost next_gives = { YieldsFirst program_rest };
+
+    ghost remaining = { item_count program_rest };
+
+    fn next(&mut self) -> Option<ProgramHeader> {
+        ProgramIter::next(self)
     }
 }
 

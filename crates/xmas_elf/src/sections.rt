@@ -1,12 +1,11 @@
 //! The sections of a file, by index and by iterator (gABI, "Sections").
 
-ghost use Rattle.std.specs.Prelude.{◌≡◌, ◌↔◌, ◌+◌, ◌*◌, ◌≤◌, ◌<◌, IfNone, IfSome, IsOk, Ok, ⊤};
-ghost use Rattle.std.specs.Iterator.{MakesProgress, YieldsFirst, item_count};
-ghost use Rattle.elf_base.specs.HeaderLayout.{fields};
+ghost use Rattle.std.specs.Prelude.{◌≡◌, ◌↔◌, IsOk, Ok};
+ghost use Rattle.std.specs.Iterator.{YieldsFirst, item_count};
 ghost use Rattle.elf_records.specs.SectionNumbers.{sh_type_of};
 ghost use Rattle.xmas_elf.specs.Range.{and_then};
 ghost use Rattle.xmas_elf.specs.SectionLayout.{section_fields};
-ghost use Rattle.xmas_elf.specs.SectionList.{HasSectionHeader, section_header_of, section_rest};
+ghost use Rattle.xmas_elf.specs.SectionList.{HasSectionHeader, SectionStep, section_header_of, section_rest};
 
 mod printed;
 mod records;
@@ -83,20 +82,13 @@ pub struct SectionIter<'b, 'a> {
     pub next_index: u16,
 }
 
-impl Iterator for SectionIter<'_, '_> {
-    type Item = SectionHeader;
-
-    ghost next_gives = { YieldsFirst section_rest };
-
-    ghost remaining = { item_count section_rest };
-
-    // At the end nothing changes, so that only `None` follows.
-    fn next(&mut self) -> Option<SectionHeader>
-        ensures steps { YieldsFirst section_rest self.old result self.new }
-        ensures goes { MakesProgress (λ _. ⊤) (item_count section_rest) self.old result self.new }
-        ensures file { self.new.file ≡ self.old.file }
-        ensures item { IfSome result (λ header. (section_header_of self.old.file.now.input.now self.old.file.now.header self.old.next_index ≡ Ok header) × (self.new.next_index ≡ self.old.next_index + 1)) }
-        ensures end { IfNone result (self.new.next_index ≡ self.old.next_index) }
+impl SectionIter<'_, '_> {
+    /// The section header at the next index, and on to the index after it. At the end it is `None` and
+    /// the index stays, so that only `None` follows.
+    ///
+    /// This is the call of `Iterator`, with what becomes of the index.
+    pub fn next(&mut self) -> Option<SectionHeader>
+        ensures { SectionStep self.old result self.new }
     {
         if self.next_index >= self.file.header.pt2.sh_count() {
             return None;
@@ -104,6 +96,18 @@ impl Iterator for SectionIter<'_, '_> {
         let header = self.file.section_header(self.next_index).ok()?;
         self.next_index += 1;
         Some(header)
+    }
+}
+
+impl Iterator for SectionIter<'_, '_> {
+    type Item = SectionHeader;
+
+    ghost next_gives = { YieldsFirst section_rest };
+
+    ghost remaining = { item_count section_rest };
+
+    fn next(&mut self) -> Option<SectionHeader> {
+        SectionIter::next(self)
     }
 }
 

@@ -11,6 +11,3 @@ invariant-loop-section g l = let file = l.fn.self.0.now in
     × (IsPlainFormatter l.initial.f → (written : List ℕ)
     × HasWritten g.W.Write.write_str_gives l.initial.f written l.f
     × (written ++ lines_from (section_line file.input.now file.header) l.index (section_rest l.section-iterator) ≡ section_lines file.input.now file.header))
-
-abbrev pub decreases-loop-section : goal.decreases-loop-section
-decreases-loop-section g l = length (section_rest l.section-iterator)

@@ -11,6 +11,3 @@ invariant-loop-program g l = let file = l.fn.self.0.now in
     × (IsPlainFormatter l.initial.f → (written : List ℕ)
     × HasWritten g.W.Write.write_str_gives l.initial.f written l.f
     × (written ++ lines_from (segment_line file.input.now file.header) l.index (program_rest l.program-iterator) ≡ segment_lines file.input.now file.header))
-
-abbrev pub decreases-loop-program : goal.decreases-loop-program
-decreases-loop-program g l = length (program_rest l.program-iterator)
