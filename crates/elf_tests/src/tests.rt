@@ -1,8 +1,12 @@
 //! Expected values are worked out by hand from the format, and never taken from the program's output.
 
+mod checks;
+mod constants;
 mod files;
 mod headers;
 mod messages;
 mod places;
 mod reports;
+mod sections;
+mod segments;
 mod writers;

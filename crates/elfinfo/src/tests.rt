@@ -28,6 +28,11 @@ const REPORT: &str = "ELF header:
     sh_entry_size:    40
     sh_count:         2
     sh_str_index:     1
+check: ok
+sections
+1 Ok(StrTab) = .strtab
+
+program headers
 ";
 
 const USAGE: &str = "usage: elfinfo <binary_path>\n";

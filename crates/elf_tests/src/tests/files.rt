@@ -2,8 +2,10 @@
 
 ghost use Rattle.std.specs.Prelude.{◌≤◌};
 
-use crate::tests::places::{header_32, header_64, put, section_32, section_64, set};
+use crate::tests::places::{header_32, header_64, program_32, put, section_32, section_64, set};
+use xmas_elf::ElfFile;
 use xmas_elf::bytes::Order;
+use xmas_elf::header::{Class_, Header};
 
 const LITTLE: Order = Order::Little;
 
@@ -77,4 +79,42 @@ pub fn debug_link_file() -> [u8; 397] {
         b"\x04\0\0\0\x04\0\0\0\x03\0\0\0GNU\0\xde\xad\xbe\xef",
     );
     file
+}
+
+/// Class 32, without sections: one segment that holds all but the last byte of the file.
+pub fn segment_file() -> [u8; 84] {
+    let mut file = [0; 84];
+    put(&mut file, 0, &[0x7f, b'E', b'L', b'F', 1, 1, 1]);
+    set(&mut file, 0, header_32::PH_OFFSET, 52, LITTLE);
+    set(&mut file, 0, header_32::HEADER_SIZE, 52, LITTLE);
+    set(&mut file, 0, header_32::PH_ENTRY_SIZE, 32, LITTLE);
+    set(&mut file, 0, header_32::PH_COUNT, 1, LITTLE);
+    set(&mut file, 52, program_32::TYPE, 1, LITTLE);
+    set(&mut file, 52, program_32::FILE_SIZE, 83, LITTLE);
+    set(&mut file, 52, program_32::MEM_SIZE, 83, LITTLE);
+    set(&mut file, 52, program_32::FLAGS, 5, LITTLE);
+    set(&mut file, 52, program_32::ALIGN, 1, LITTLE);
+    file
+}
+
+/// `strtab_file` with two program headers that lie over its section headers.
+pub fn overlaid_file() -> [u8; 144] {
+    let mut file = strtab_file(LITTLE);
+    set(&mut file, 0, header_32::PH_OFFSET, 52, LITTLE);
+    set(&mut file, 0, header_32::PH_ENTRY_SIZE, 32, LITTLE);
+    set(&mut file, 0, header_32::PH_COUNT, 2, LITTLE);
+    file
+}
+
+/// The file with another class in part 1 of its header.
+pub fn with_class<'a>(file: &ElfFile<'a>, class: u8) -> ElfFile<'a> {
+    let mut pt1 = file.header.pt1;
+    pt1.class = Class_::from_raw(class);
+    ElfFile {
+        input: file.input,
+        header: Header {
+            pt1,
+            pt2: file.header.pt2,
+        },
+    }
 }

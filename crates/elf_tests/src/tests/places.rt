@@ -131,6 +131,48 @@ pub mod section_64 {
     pub const ENTRY_SIZE: Place = Place(56, 8);
 }
 
+/// A program header of class 32.
+pub mod program_32 {
+    use super::Place;
+
+    pub const TYPE: Place = Place(0, 4);
+
+    pub const OFFSET: Place = Place(4, 4);
+
+    pub const VIRTUAL_ADDR: Place = Place(8, 4);
+
+    pub const PHYSICAL_ADDR: Place = Place(12, 4);
+
+    pub const FILE_SIZE: Place = Place(16, 4);
+
+    pub const MEM_SIZE: Place = Place(20, 4);
+
+    pub const FLAGS: Place = Place(24, 4);
+
+    pub const ALIGN: Place = Place(28, 4);
+}
+
+/// A program header of class 64.
+pub mod program_64 {
+    use super::Place;
+
+    pub const TYPE: Place = Place(0, 4);
+
+    pub const FLAGS: Place = Place(4, 4);
+
+    pub const OFFSET: Place = Place(8, 8);
+
+    pub const VIRTUAL_ADDR: Place = Place(16, 8);
+
+    pub const PHYSICAL_ADDR: Place = Place(24, 8);
+
+    pub const FILE_SIZE: Place = Place(32, 8);
+
+    pub const MEM_SIZE: Place = Place(40, 8);
+
+    pub const ALIGN: Place = Place(48, 8);
+}
+
 /// Writes a number into the field of the header that begins at `start`, as far as it lies in the file.
 pub fn set(file: &mut [u8], start: usize, place: Place, number: u64, order: Order) {
     let mut rest = number;

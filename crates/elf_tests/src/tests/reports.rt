@@ -1,8 +1,11 @@
 //! Reports, each written out by hand.
 
-use crate::tests::files::strtab_file;
-use crate::tests::places::{ABI_VERSION, OS_ABI, PADDING, VERSION, header_32, header_64, put, set};
+use crate::tests::files::{debug_link_file, strtab_file};
+use crate::tests::places::{
+    ABI_VERSION, OS_ABI, PADDING, VERSION, header_32, header_64, put, section_64, set,
+};
 use std::alloc::Global;
+use std::io::Write;
 use std::process::Abort;
 use xmas_elf::bytes::Order;
 use xmas_elf::report::report;
@@ -28,6 +31,20 @@ const STRTAB_REPORT: &str = "ELF header:
     sh_entry_size:    40
     sh_count:         2
     sh_str_index:     1
+check: ok
+sections
+1 Ok(StrTab) = .strtab
+
+program headers
+";
+
+const DEBUG_LINK_LINES: &str = "check: ok
+sections
+1 Ok(StrTab) = .shstrtab
+2 Ok(ProgBits) = .gnu_debuglink
+3 Ok(Note) = .note.gnu.build-id
+
+program headers
 ";
 
 const WIDE_REPORT: &str = "ELF header:
@@ -51,6 +68,10 @@ const WIDE_REPORT: &str = "ELF header:
     sh_entry_size:    64
     sh_count:         258
     sh_str_index:     259
+check: ! header_size does not match size of header
+sections
+
+program headers
 ";
 
 const BIG_ENDIAN_REPORT: &str = "ELF header:
@@ -74,17 +95,28 @@ const BIG_ENDIAN_REPORT: &str = "ELF header:
     sh_entry_size:    41
     sh_count:         3
     sh_str_index:     65535
+check: ! header_size does not match size of header
+sections
+
+program headers
 ";
 
-// Wants a report that begins with these lines.
+// Wants this report of the input.
 fn check_report(rt: &impl Abort, alloc: Global, input: &[u8], want: &str) {
     let mut text = Vec::new(alloc);
     assert_eq!(rt; report(input, &mut text), Ok(()));
-    assert_eq!(rt; text.as_slice().get(..want.len()), Some(want.as_bytes()));
+    assert_eq!(rt; text.as_slice(), want.as_bytes());
+}
+
+// Wants a report that ends with these lines.
+fn check_end(rt: &impl Abort, alloc: Global, input: &[u8], want: &str) {
+    let mut text = Vec::new(alloc);
+    assert_eq!(rt; report(input, &mut text), Ok(()));
+    assert!(rt; text.as_slice().ends_with(want.as_bytes()), "{want}");
 }
 
 #[test]
-fn reports_the_header_of_the_strtab_file(rt: HostRuntime) {
+fn reports_the_strtab_file(rt: HostRuntime) {
     check_report(&rt, rt.alloc(), &strtab_file(Order::Little), STRTAB_REPORT);
 }
 
@@ -143,4 +175,43 @@ fn reports_a_big_endian_header(rt: HostRuntime) {
     set(&mut file, 0, header_32::SH_COUNT, 3, order);
     set(&mut file, 0, header_32::SH_STR_INDEX, 0xffff, order);
     check_report(&rt, rt.alloc(), &file, BIG_ENDIAN_REPORT);
+}
+
+#[test]
+fn reports_each_section(rt: HostRuntime) {
+    check_end(&rt, rt.alloc(), &debug_link_file(), DEBUG_LINK_LINES);
+}
+
+// A refused name doesn't leave the section out, and an empty name is one.
+#[test]
+fn reports_refused_names(rt: HostRuntime) {
+    let lines = [
+        (132, "1 Ok(StrTab) ! Text starts past the end of its data\n"),
+        (133, "1 Ok(StrTab) ! Text has no terminating zero\n"),
+        (140, "1 Ok(StrTab) ! Text has no terminating zero\n"),
+        (141, "1 Ok(StrTab) = .strtab\n"),
+    ];
+    let file = strtab_file(Order::Little);
+    let mut want = Vec::new(rt.alloc());
+    for (len, line) in lines {
+        want.clear();
+        let joined = write!(want, "check: ok\nsections\n{line}\nprogram headers\n");
+        assert!(rt; joined.is_ok());
+        let mut text = Vec::new(rt.alloc());
+        let input = file.get(..len).unwrap_or(b"");
+        assert_eq!(rt; report(input, &mut text), Ok(()));
+        assert!(rt; text.as_slice().ends_with(want.as_slice()), "{len} bytes");
+    }
+    let mut file = debug_link_file();
+    set(&mut file, 128, section_64::NAME, 0, Order::Little);
+    set(&mut file, 192, section_64::TYPE, 12, Order::Little);
+    set(&mut file, 256, section_64::TYPE, 0, Order::Little);
+    let want = "sections
+1 Ok(StrTab) = 
+2 Err(\"Invalid sh type\") ! Invalid sh type
+3 Ok(Null) ! Attempt to get name of null section
+
+program headers
+";
+    check_end(&rt, rt.alloc(), &file, want);
 }
