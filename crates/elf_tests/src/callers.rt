@@ -10,7 +10,7 @@ ghost use Rattle.xmas_elf.specs.SectionLayout.{section_fields};
 ghost use Rattle.xmas_elf.specs.SectionList.{section_header_size, section_list};
 
 use std::alloc::{AllocError, Global};
-use xmas_elf::sections::SectionHeader;
+use xmas_elf::sections::{SectionHeader, ShType};
 use xmas_elf::{ElfError, ElfFile, header};
 
 /// How many sections of a file can be read, by its iterator.
@@ -83,6 +83,24 @@ pub fn name_in<'a>(input: &'a [u8], index: u32) -> Result<&'a str, ElfError>
 {
     let file = ElfFile::new(input)?;
     file.get_shstr(index)
+}
+
+/// How many bytes the string tables of a file have together, at most.
+pub fn string_bytes(input: &[u8]) -> Result<u64, ElfError> {
+    let file = ElfFile::new(input)?;
+    let mut total = 0u64;
+    for section in file.section_iter() {
+        if section.get_type() == Ok(ShType::StrTab) {
+            total = total.saturating_add(section.raw_data(&file)?.len() as u64);
+        }
+    }
+    Ok(total)
+}
+
+/// The instructions of a program, which live as long as its bytes.
+pub fn text_section(input: &[u8]) -> Option<&[u8]> {
+    let file = ElfFile::new(input).ok()?;
+    file.find_section_by_name(".text")?.raw_data(&file).ok()
 }
 
 /// The length of the first name in a copy of some bytes.

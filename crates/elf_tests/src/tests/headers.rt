@@ -259,3 +259,27 @@ fn holds_what_it_is_given(rt: HostRuntime) -> Result<(), Fail> {
     assert_eq!(rt; file.input.len(), 144);
     Ok(())
 }
+
+// The texts of derived `Debug`, which no contract states.
+#[test]
+fn shows_values_for_debugging(rt: HostRuntime) -> Result<(), Fail> {
+    let alloc = rt.alloc();
+    assert_eq!(rt;
+        format!(in alloc; "{:?}", Class_::from_raw(1))?.as_str(),
+        "Class_(1)"
+    );
+    assert_eq!(rt;
+        format!(in alloc; "{:?}", Machine::X86_64)?.as_str(),
+        "X86_64"
+    );
+    assert_eq!(rt;
+        format!(in alloc; "{:?}", Type::ProcessorSpecific(9))?.as_str(),
+        "ProcessorSpecific(9)"
+    );
+    assert_eq!(rt; format!(in alloc; "{:?}", Order::Big)?.as_str(), "Big");
+    assert_eq!(rt;
+        format!(in alloc; "{:?}", ElfError::NoMagic)?.as_str(),
+        "NoMagic"
+    );
+    Ok(())
+}

@@ -479,5 +479,7 @@ fn callers_get_what_they_ask_for(rt: HostRuntime) -> Result<(), Fail> {
     assert_eq!(rt; link.map(|section| section.size()), Some(12));
     assert_eq!(rt; callers::name_in(&bytes, 11), Ok(".gnu_debuglink"));
     assert_eq!(rt; callers::copied_name_len(rt.alloc(), &bytes)?, 9);
+    assert_eq!(rt; callers::string_bytes(&bytes), Ok(45));
+    assert!(rt; callers::text_section(&bytes).is_none());
     Ok(())
 }
