@@ -17,7 +17,6 @@ use Rattle.elf_base.specs.declared.header.kinds.Machine.{Machine}
 use Rattle.elf_base.specs.declared.header.kinds.Machine.TheVariants as machine
 use Rattle.elf_base.specs.declared.header.HeaderPt1.{HeaderPt1}
 use Rattle.elf_base.specs.declared.header.HeaderPt2_.{HeaderPt2_}
-use Rattle.elf_base.specs.declared.header.HeaderPt2.{HeaderPt2}
 use Rattle.elf_base.specs.declared.header.Header.{Header}
 
 abbrev pub class_text : Class → List ℕ

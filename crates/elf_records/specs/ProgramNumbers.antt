@@ -1,5 +1,5 @@
 -- What the numbers of segments mean (gABI, "Program Header", p_type and p_flags).
-use Rattle.std.specs.Prelude.{ℕ, ◌==◌, ◌^◌, nat_le, ◌&&◌, Bool, List, [], ◌∷◌, ◌++◌, Result, Ok, Err, codes, bit_and, if◌then◌else◌}
+use Rattle.std.specs.Prelude.{ℕ, ◌==◌, ◌^◌, nat_le, ◌&&◌, List, [], ◌∷◌, ◌++◌, Result, Ok, Err, codes, bit_and, if◌then◌else◌}
 use Rattle.elf_base.specs.Named.{named_or}
 use Rattle.elf_base.specs.Printed.{numbered}
 use Rattle.elf_base.specs.declared.error.ElfError.{ElfError}

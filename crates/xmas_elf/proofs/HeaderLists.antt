@@ -1,5 +1,5 @@
 -- Lists of headers, as they are computed and as they are meant.
-use Rattle.std.proofs.Common.{◌≡◌, ◌≢◌, ℕ, zero, suc, ◌+◌, ◌*◌, ◌≤◌, ◌<◌, List, [], ◌∷◌, ◌⊎◌, inl, inr, true, length, slice_get, Option, Some, None, Result, Ok, Err, IsOk, refl, sym, ap, ◌∙◌, subst, arith, add-zero}
+use Rattle.std.proofs.Common.{◌≡◌, ◌≢◌, ℕ, zero, suc, ◌+◌, ◌*◌, ◌≤◌, ◌<◌, List, ◌⊎◌, inl, inr, true, length, slice_get, Some, Result, Ok, Err, IsOk, refl, sym, ap, ◌∙◌, subst, arith, add-zero}
 use Rattle.elf_base.specs.declared.error.ElfError.{ElfError}
 use Rattle.elf_base.specs.declared.header.HeaderPt2.{HeaderPt2}
 use Rattle.elf_base.specs.declared.header.HeaderPt2.TheVariants.{Header32, Header64}
@@ -44,7 +44,7 @@ longest-headers_from header_at (suc count) index h short more =
 -- so the list that is computed is the longest one
 pub headers_from-longest : {H : Type 0} (header_at : ℕ → Result H ElfError) (limit : ℕ) → IsLongest header_at limit (headers_from header_at 0 limit)
 headers_from-longest header_at limit = record {
-  below = (let h = length-headers_from header_at 0 limit in omega arith);
+  counted = length-headers_from header_at 0 limit;
   each = λ i h item. ap header_at (omega arith) ∙ each-headers_from header_at limit 0 i h item;
   longest = λ h short more. longest-headers_from header_at limit 0 h short (ap header_at (omega arith) ∙ more);
 }

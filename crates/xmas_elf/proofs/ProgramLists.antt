@@ -1,5 +1,5 @@
 -- When every segment of a file can be read.
-use Rattle.std.proofs.Common.{◌≡◌, ◌≢◌, ℕ, ◌+◌, ◌≤◌, ◌<◌, ◌==◌, ◌||◌, ◌⊎◌, inl, inr, not, true, false, nat_lt, List, length, IsOk, refl, subst, arith}
+use Rattle.std.proofs.Common.{◌≡◌, ◌≢◌, ℕ, ◌+◌, ◌≤◌, ◌==◌, ◌⊎◌, inl, inr, true, false, nat_lt, List, length, IsOk, refl, subst, arith}
 use Rattle.std.proofs.lemmas.Bool.{le-ltb, lt-ltb, ne_eqb}
 use Rattle.elf_base.specs.HeaderLayout.{fields}
 use Rattle.elf_base.specs.declared.header.Header.{Header}

@@ -1,5 +1,5 @@
 -- The lines of headers, one header further.
-use Rattle.std.proofs.Common.{◌≡◌, ℕ, ◌+◌, List, [], ◌∷◌, ◌++◌, ◌∙◌, append_assoc}
+use Rattle.std.proofs.Common.{◌≡◌, ℕ, ◌+◌, List, ◌∷◌, ◌++◌, ◌∙◌, append_assoc}
 use Rattle.xmas_elf.specs.Report.{lines_from}
 
 pub next_line : {H : Type 0} (line : ℕ → H → List ℕ) (index : ℕ) (headers : List H) (h : H) (others : List H) (written all : List ℕ)

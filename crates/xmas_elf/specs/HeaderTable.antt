@@ -1,6 +1,6 @@
 -- Tables of headers, the section header table and the program header table alike (gABI, "Section
 -- Header" and "Program Header"; where a list ends is this project's own).
-use Rattle.std.specs.Prelude.{◌≡◌, ◌≢◌, ℕ, zero, suc, ◌+◌, ◌*◌, ◌<◌, ◌==◌, ◌||◌, Bool, List, [], ◌∷◌, length, slice_get, Some, Result, Ok, Err}
+use Rattle.std.specs.Prelude.{◌≡◌, ◌≢◌, ℕ, zero, suc, ◌+◌, ◌*◌, ◌<◌, ◌≤◌, ◌==◌, ◌||◌, Bool, List, [], ◌∷◌, length, slice_get, Some, Result, Ok, Err}
 use Rattle.elf_base.specs.declared.error.ElfError.{ElfError}
 
 -- where entry `index` of a table begins; entry `index` ends where the next begins
@@ -14,7 +14,7 @@ is_known_class class = class == 1 || class == 2
 -- the items are the headers 0, 1, 2 and so on, each readable at an index below `limit`, and as many
 -- of them as can be had
 pub record IsLongest {H : Type 0} (header_at : ℕ → Result H ElfError) (limit : ℕ) (items : List H) : Type 0 where
-  pub below : length items < suc limit
+  pub counted : length items ≤ limit
   pub each : (i : ℕ) (h : H) → slice_get items i ≡ Some h → header_at i ≡ Ok h
   pub longest : (h : H) → length items < limit → header_at (length items) ≢ Ok h
 

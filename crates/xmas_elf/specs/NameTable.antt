@@ -1,7 +1,7 @@
 -- The names and the data of sections (gABI, "Sections" and "String Table", e_shstrndx).
 use Rattle.std.specs.Prelude.{◌≡◌, ◌≢◌, ℕ, ◌<◌, nat_lt, Bool, true, false, List, [], ◌∷◌, length, drop, Result, Ok, Err, if◌then◌else◌}
 use Rattle.std.specs.List.{AllWithin, HoldsAt}
-use Rattle.elf_base.specs.Refusal.{unless}
+use Rattle.elf_base.specs.Refusal.{and_then, unless}
 use Rattle.elf_base.specs.Text.{IsText, text_of}
 use Rattle.elf_base.specs.HeaderLayout.{fields}
 use Rattle.elf_base.specs.declared.error.ElfError.{ElfError}
@@ -10,7 +10,7 @@ use Rattle.elf_base.specs.declared.header.Header.{Header}
 use Rattle.elf_records.specs.SectionNumbers.{sh_type_of}
 use Rattle.elf_records.specs.declared.sections.ShType.{ShType}
 use Rattle.elf_records.specs.declared.sections.ShType.TheVariants.{Null}
-use Rattle.xmas_elf.specs.Range.{and_then, range_of}
+use Rattle.xmas_elf.specs.Range.{range_of}
 use Rattle.xmas_elf.specs.SectionLayout.{section_fields}
 use Rattle.xmas_elf.specs.SectionList.{section_header_of}
 use Rattle.xmas_elf.specs.declared.sections.section_header.SectionHeader.{SectionHeader}

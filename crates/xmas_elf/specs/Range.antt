@@ -1,5 +1,5 @@
 -- Ranges of bytes (this project's own).
-use Rattle.std.specs.Prelude.{ℕ, ◌+◌, nat_lt, List, [], ◌∷◌, length, drop, take, Result, Ok, Err}
+use Rattle.std.specs.Prelude.{ℕ, ◌+◌, nat_lt, List, [], ◌∷◌, length, drop, take, Result}
 use Rattle.elf_base.specs.Refusal.{unless}
 use Rattle.elf_base.specs.declared.error.ElfError.{ElfError}
 use Rattle.elf_base.specs.declared.error.ElfError.TheVariants.{DataRange}
@@ -9,8 +9,3 @@ abbrev pub range_of : List ℕ → ℕ → ℕ → Result (List ℕ) ElfError
 range_of bytes start count = unless (
     (nat_lt (length bytes) (start + count), DataRange)
     ∷ []) (take count (drop start bytes))
-
--- the answer of a call that goes on only where another did not refuse
-abbrev pub and_then : {A B : Type 0} → Result A ElfError → (A → Result B ElfError) → Result B ElfError
-and_then (Ok value) next = next value
-and_then (Err error) next = Err error

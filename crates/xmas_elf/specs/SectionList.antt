@@ -1,5 +1,5 @@
 -- The section headers of a file (gABI, "Sections": the section header table).
-use Rattle.std.specs.Prelude.{◌≡◌, ℕ, ◌+◌, ◌*◌, ◌-◌, ◌<◌, ◌≤◌, ◌==◌, ◌⊎◌, not, nat_le, nat_lt, List, [], ◌∷◌, length, MatchOption, Ok, Option, Result, if◌then◌else◌}
+use Rattle.std.specs.Prelude.{◌≡◌, ℕ, ◌+◌, ◌-◌, ◌<◌, ◌≤◌, ◌==◌, ◌⊎◌, not, nat_le, nat_lt, List, [], ◌∷◌, length, MatchOption, Ok, Option, Result, if◌then◌else◌}
 use Rattle.std.specs.Iterator.{YieldsFirst}
 use Rattle.elf_base.specs.Refusal.{unless}
 use Rattle.elf_base.specs.HeaderNumbers.{order_of}

@@ -1,7 +1,7 @@
 -- The data of segments, and what the check of a program header looks at (gABI, "Program Header"; the
 -- check is this project's own, after the Rust crate).
 use Rattle.std.specs.Prelude.{ℕ, ◌+◌, ◌%◌, ◌==◌, ◌&&◌, not, nat_lt, nat_le, is_err, Bool, true, false, List, [], ◌∷◌, length, Result, Ok, Err, if◌then◌else◌}
-use Rattle.elf_base.specs.Refusal.{unless}
+use Rattle.elf_base.specs.Refusal.{and_then, unless}
 use Rattle.elf_base.specs.HeaderLayout.{fields}
 use Rattle.elf_base.specs.declared.error.ElfError.{ElfError}
 use Rattle.elf_base.specs.declared.error.ElfError.TheVariants.{NullData, PhSizeMismatch, EntryPointRange, InvalidPhType, ShLibUsed, BadAlign}
@@ -9,7 +9,7 @@ use Rattle.elf_base.specs.declared.header.Header.{Header}
 use Rattle.elf_records.specs.ProgramNumbers.{ph_type_of}
 use Rattle.elf_records.specs.declared.program.Type as the_type
 use Rattle.elf_records.specs.declared.program.Type.TheVariants.{Null, ShLib}
-use Rattle.xmas_elf.specs.Range.{and_then, range_of}
+use Rattle.xmas_elf.specs.Range.{range_of}
 use Rattle.xmas_elf.specs.ProgramLayout.{program_fields, program_record_size}
 use Rattle.xmas_elf.specs.declared.program.records.ProgramHeader64.{ProgramHeader64}
 use Rattle.xmas_elf.specs.declared.program.program_header.ProgramHeader.{ProgramHeader}

@@ -3,7 +3,7 @@
 ghost use Rattle.std.specs.Prelude.{◌≡◌, ◌↔◌, IsOk, Ok};
 ghost use Rattle.std.specs.Iterator.{YieldsFirst, item_count};
 ghost use Rattle.elf_records.specs.SectionNumbers.{sh_type_of};
-ghost use Rattle.xmas_elf.specs.Range.{and_then};
+ghost use Rattle.elf_base.specs.Refusal.{and_then};
 ghost use Rattle.xmas_elf.specs.SectionLayout.{section_fields};
 ghost use Rattle.xmas_elf.specs.SectionList.{HasSectionHeader, SectionStep, section_header_of, section_rest};
 
