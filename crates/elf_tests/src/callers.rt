@@ -5,11 +5,13 @@ ghost use Rattle.std.specs.List.{AllWithin, HoldsAt};
 ghost use Rattle.xmas_elf.specs.FileHeader.{header_of};
 ghost use Rattle.xmas_elf.specs.HeaderLayout.{fields};
 ghost use Rattle.xmas_elf.specs.NameTable.{IsFirstNamed, NoneBears, shstr_of};
-ghost use Rattle.xmas_elf.specs.ProgramList.{program_list};
+ghost use Rattle.xmas_elf.specs.ProgramLayout.{program_fields};
+ghost use Rattle.xmas_elf.specs.ProgramList.{program_header_of, program_list};
 ghost use Rattle.xmas_elf.specs.SectionLayout.{section_fields};
 ghost use Rattle.xmas_elf.specs.SectionList.{section_header_size, section_list};
 
 use std::alloc::{AllocError, Global};
+use xmas_elf::program::ProgramHeader;
 use xmas_elf::sections::{SectionHeader, ShType};
 use xmas_elf::{ElfError, ElfFile, header};
 
@@ -58,8 +60,38 @@ pub fn counted_sections(file: &ElfFile<'_>) -> u32
     count
 }
 
-/// How many sections a file has, where its header makes sense and the table's entries are of the
-/// usual size: the count of the header.
+/// The first section at this address, by `find`.
+pub fn section_with_address(file: &ElfFile<'_>, address: u64) -> Option<SectionHeader>
+    ensures { let sections = section_list file.now.input.now file.now.header in MatchOption result
+        (AllWithin (λ section. (section_fields section).address ≢ address) sections 0 (length sections))
+        (λ section. (section_fields section).address ≡ address) }
+{
+    file.section_iter()
+        .find(|section| section.address() == address)
+}
+
+/// How many bytes the data of a section has: as many as its header says.
+pub fn data_len(file: &ElfFile<'_>, section: SectionHeader) -> Result<usize, ElfError>
+    ensures { IfOk result (λ len. len ≡ (section_fields section).size) }
+{
+    let range = section.raw_data(file)?;
+    Ok(range.len())
+}
+
+/// How many bytes the data of a segment has: as many as its header says.
+pub fn segment_data_len(file: &ElfFile<'_>, index: u16) -> Result<usize, ElfError>
+    ensures { IfOk result (λ len. IfOk (program_header_of file.now.input.now file.now.header index)
+        (λ program. len ≡ (program_fields program).file_size)) }
+{
+    let range = match file.program_header(index)? {
+        ProgramHeader::Ph32(header) => header.raw_data(file)?,
+        ProgramHeader::Ph64(header) => header.raw_data(file)?,
+    };
+    Ok(range.len())
+}
+
+/// How many sections a file has, where its header makes sense, its entries are at least as large as
+/// the record and there are no more than 0xff00: the count of the header.
 pub fn checked_section_count(file: &ElfFile<'_>) -> Result<usize, ElfError>
     ensures { IfOk result (λ count. section_header_size file.now.header.pt1.class.0 ≤ (fields file.now.header.pt2).sh_entry_size
         → (fields file.now.header.pt2).sh_count ≤ 0xff00 → count ≡ (fields file.now.header.pt2).sh_count) }
@@ -85,7 +117,7 @@ pub fn name_in<'a>(input: &'a [u8], index: u32) -> Result<&'a str, ElfError>
     file.get_shstr(index)
 }
 
-/// How many bytes the string tables of a file have together, at most.
+/// How many bytes the string tables of a file have together, or the greatest number if that is less.
 pub fn string_bytes(input: &[u8]) -> Result<u64, ElfError> {
     let file = ElfFile::new(input)?;
     let mut total = 0u64;

@@ -32,8 +32,8 @@ enum Fault<'a> {
 
 /// Writes the report of the file to `out`, or says on `err` why it can't, and answers the exit status.
 ///
-/// `file` is `None` where the file at `path` could not be opened. A fault of `err` is passed over. The
-/// status is 0 where the whole report was written and flushed, and else 1.
+/// `file` is `None` where there is a path that does not open. The status is 0 once the whole report is
+/// written and flushed, and 1 otherwise; it says nothing of `err`.
 pub fn run<R: Read + Drop, W: Write, E: Write>(
     alloc: Global,
     path: Option<&str>,

@@ -1,10 +1,16 @@
 -- Ranges of bytes (this project's own).
-use Rattle.std.specs.Prelude.{ℕ, ◌+◌, nat_lt, List, [], ◌∷◌, length, drop, take, Result}
+use Rattle.std.specs.Prelude.{◌≡◌, ℕ, ◌+◌, ◌≤◌, nat_lt, List, [], ◌∷◌, length, drop, take, Result}
 use Rattle.elf_base.specs.Refusal.{unless}
 use Rattle.elf_base.specs.declared.error.ElfError.{ElfError}
 use Rattle.elf_base.specs.declared.error.ElfError.TheVariants.{DataRange}
 
--- the `count` bytes from place `start` on, where they lie in the bytes
+-- `range` is the `count` bytes from place `start` on, which lie in the bytes
+pub record IsRange (bytes : List ℕ) (start count : ℕ) (range : List ℕ) : Type 0 where
+  pub within : start + count ≤ length bytes
+  pub bytes_are : range ≡ take count (drop start bytes)
+  pub count_is : length range ≡ count
+
+-- the same as it is computed, or refused
 abbrev pub range_of : List ℕ → ℕ → ℕ → Result (List ℕ) ElfError
 range_of bytes start count = unless (
     (nat_lt (length bytes) (start + count), DataRange)

@@ -9,8 +9,8 @@ abbrev pub section_type_text : ℕ → List ℕ
 section_type_text number = result_text sh_type_text (sh_type_of number)
 
 -- the fields of either width, but `info`
-abbrev pub section_lines : SectionHeader_ ℕ → List ℕ
-section_lines section = joined (
+abbrev pub section_fields_text : SectionHeader_ ℕ → List ℕ
+section_fields_text section = joined (
     field_line (codes "name") (decimal section.name)
     ∷ field_line (codes "type") (section_type_text section.type_.0)
     ∷ field_line (codes "flags") (decimal section.flags)
@@ -23,4 +23,4 @@ section_lines section = joined (
     ∷ [])
 
 abbrev pub section_text : SectionHeader_ ℕ → List ℕ
-section_text section = codes "Section header:\n" ++ section_lines section
+section_text section = codes "Section header:\n" ++ section_fields_text section

@@ -1,6 +1,6 @@
 -- The data of segments, and what the check of a program header looks at (gABI, "Program Header"; the
 -- check is this project's own, after the Rust crate).
-use Rattle.std.specs.Prelude.{ℕ, ◌+◌, ◌%◌, ◌==◌, ◌&&◌, not, nat_lt, nat_le, is_err, Bool, true, false, List, [], ◌∷◌, length, Result, Ok, Err, if◌then◌else◌}
+use Rattle.std.specs.Prelude.{◌≡◌, ◌≢◌, ℕ, ◌+◌, ◌%◌, ◌==◌, ◌&&◌, not, nat_lt, nat_le, is_err, Bool, true, false, List, [], ◌∷◌, length, Result, Ok, Err, if◌then◌else◌}
 use Rattle.elf_base.specs.Refusal.{and_then, unless}
 use Rattle.elf_base.specs.HeaderLayout.{fields}
 use Rattle.elf_base.specs.declared.error.ElfError.{ElfError}
@@ -9,7 +9,7 @@ use Rattle.elf_base.specs.declared.header.Header.{Header}
 use Rattle.elf_records.specs.ProgramNumbers.{ph_type_of}
 use Rattle.elf_records.specs.declared.program.Type as the_type
 use Rattle.elf_records.specs.declared.program.Type.TheVariants.{Null, ShLib}
-use Rattle.xmas_elf.specs.Range.{range_of}
+use Rattle.xmas_elf.specs.Range.{IsRange, range_of}
 use Rattle.xmas_elf.specs.ProgramLayout.{program_fields, program_record_size}
 use Rattle.xmas_elf.specs.declared.program.records.ProgramHeader64.{ProgramHeader64}
 use Rattle.xmas_elf.specs.declared.program.program_header.ProgramHeader.{ProgramHeader}
@@ -22,6 +22,12 @@ is_null_segment _ = false
 abbrev pub is_sh_lib : Result the_type.Type ElfError → Bool
 is_sh_lib (Ok ShLib) = true
 is_sh_lib _ = false
+
+-- `range` is the data of a segment: as many bytes as it has in the file, and those at its offset where
+-- it has any
+pub record IsSegmentData (input : List ℕ) (segment : ProgramHeader64) (range : List ℕ) : Type 0 where
+  pub count_is : length range ≡ segment.file_size
+  pub lies_there : segment.file_size ≢ 0 → IsRange input segment.offset segment.file_size range
 
 -- the data of a segment as it stands in the input, or why it has none; an empty segment has no bytes
 -- wherever it lies

@@ -23,7 +23,7 @@ pub use elf_base::header::{
 pub fn sanity_check(file: &ElfFile<'_>) -> Result<(), ElfError>
     ensures exact { result ≡ header_check file.now.input.now file.now.header }
 
-    // Where all is well, no section and no segment is missing from its list.
+    // Where all is well and the entries are large enough, each list is as long as its count says.
     ensures sections { OnOk result (
         section_header_size file.now.header.pt1.class.0 ≤ (fields file.now.header.pt2).sh_entry_size
         → (fields file.now.header.pt2).sh_count ≤ 0xff00

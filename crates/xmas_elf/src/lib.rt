@@ -22,7 +22,7 @@ pub mod sections;
 use crate::bytes::text_at;
 use crate::header::{Header, parse_header};
 use crate::program::{ProgramHeader, ProgramIter, parse_program_header};
-use crate::sections::{SectionHeader, SectionIter, parse_section_header};
+use crate::sections::{SHN_UNDEF, SectionHeader, SectionIter, parse_section_header};
 pub use elf_base::{ElfError, P32, P64};
 
 /// An ELF file: its bytes, and its ELF header.
@@ -68,7 +68,7 @@ impl<'a> ElfFile<'a> {
         let _count = self.header.pt2.sh_count();
         SectionIter {
             file: self,
-            next_index: 0,
+            next_index: SHN_UNDEF,
         }
     }
 

@@ -1,7 +1,7 @@
 //! Ranges of the input, whose ends are whole numbers and never wrap.
 
 ghost use Rattle.std.specs.Prelude.{◌≡◌, ◌↔◌, ◌+◌, ◌≤◌, ◌<◌, Err, IfErr, IfOk, IsTrue, Ok, length};
-ghost use Rattle.xmas_elf.specs.Range.{range_of};
+ghost use Rattle.xmas_elf.specs.Range.{IsRange, range_of};
 
 use crate::ElfError;
 
@@ -23,6 +23,7 @@ pub(crate) fn ends_inside(input: &[u8], start: u64, count: u64) -> bool
 
 /// The `count` bytes of the input from `start` on, or `DataRange`.
 pub(crate) fn range_at(input: &[u8], start: u64, count: u64) -> Result<&[u8], ElfError>
+    ensures range { IfOk result (λ range. IsRange input.now start count range.now) }
     ensures ok { IfOk result (λ range. range_of input.now start count ≡ Ok range.now) }
     ensures err { IfErr result (λ error. range_of input.now start count ≡ Err error) }
 {

@@ -7,7 +7,7 @@ use crate::bytes::Order;
 
 /// A value that a fixed number of bytes stands for, as a header or a symbol.
 ///
-/// An implementation says by its ghost member `value` which value its bytes have in an order.
+/// The ghost member `value` of an implementation is what its bytes mean in an order.
 pub trait Record: Copy {
     ghost SIZE: { ℕ };
 

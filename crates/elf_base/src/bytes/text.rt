@@ -8,8 +8,8 @@ use memchr::memchr;
 
 /// The text from `start`, which is in bytes, up to the first zero byte.
 ///
-/// Refused with `TextStart` where `start` is greater than the length, `TextEnd` where no zero byte
-/// stands at or after `start`, and `TextUtf8` where the bytes before it are not UTF-8.
+/// Refused with `TextStart` for a start past the end of the data, `TextEnd` if no zero byte follows,
+/// and `TextUtf8` if what stands before it is not UTF-8.
 pub fn text_at(data: &[u8], start: usize) -> Result<&str, ElfError>
     ensures text { IfOk result (λ t. IsText «data».now start t.now) }
     ensures only { (t : List ℕ) → IsText «data».now start t → IsOkAnd result (λ s. s.now ≡ t) }

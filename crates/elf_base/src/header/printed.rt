@@ -106,20 +106,24 @@ impl Display for Machine {
     }
 }
 
-impl Display for HeaderPt1 {
-    ghost output = { λ part. Some (first_part_text part) };
+// Part 1, without its heading.
+#[derive(Clone, Copy)]
+struct FirstPart<'a>(&'a HeaderPt1);
+
+impl Display for FirstPart<'_> {
+    ghost output = { λ part. Some (first_part_text part.0.now) };
 
     fn fmt<W: fmt::Write>(&self, f: &mut fmt::Formatter<W>) -> fmt::Result {
         write!(
             f,
             "{}{}{}{}{}{}{}",
-            Field("magic:            ", Bytes(&self.magic)),
-            Field("class:            ", self.class()),
-            Field("data:             ", self.data()),
-            Field("version:          ", self.version()),
-            Field("os abi:           ", self.os_abi()),
-            Field("abi version:      ", self.abi_version),
-            Field("padding:          ", Bytes(&self.padding))
+            Field("magic:            ", Bytes(&self.0.magic)),
+            Field("class:            ", self.0.class()),
+            Field("data:             ", self.0.data()),
+            Field("version:          ", self.0.version()),
+            Field("os abi:           ", self.0.os_abi()),
+            Field("abi version:      ", self.0.abi_version),
+            Field("padding:          ", Bytes(&self.0.padding))
         )
     }
 }
@@ -194,6 +198,6 @@ impl Display for Header {
     ghost output = { λ header. Some (header_text header) };
 
     fn fmt<W: fmt::Write>(&self, f: &mut fmt::Formatter<W>) -> fmt::Result {
-        write!(f, "ELF header:\n{}{}", self.pt1, self.pt2)
+        write!(f, "ELF header:\n{}{}", FirstPart(&self.pt1), self.pt2)
     }
 }

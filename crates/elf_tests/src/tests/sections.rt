@@ -1,10 +1,10 @@
 //! Sections by index, by iterator and by name.
 
-use crate::callers;
 use crate::tests::files::{
     debug_link_file, plain_header, plain_header_len, strtab_file, with_class,
 };
 use crate::tests::places::{ENCODING, header_32, header_64, put, section_32, section_64, set};
+use crate::{callers, constants};
 use std::process::Abort;
 use std::string::ToString;
 use std::test::Fail;
@@ -145,17 +145,18 @@ fn prints_a_section_header(rt: HostRuntime) -> Result<(), Fail> {
     Ok(())
 }
 
-// The name table runs to the end of the input, whatever the section says of its size.
+// The name table runs to the end of the input, whatever the section says of its size and type.
 #[test]
 fn names_run_past_their_section(rt: HostRuntime) -> Result<(), Fail> {
-    let mut bytes = strtab_file(LITTLE);
-    set(&mut bytes, 92, section_32::SIZE, 11, LITTLE);
-    let file = ElfFile::new(&bytes)?;
-    assert_eq!(rt; file.get_shstr(9), Ok("ab"));
-    set(&mut bytes, 92, section_32::SIZE, 0, LITTLE);
-    set(&mut bytes, 92, section_32::TYPE, 1, LITTLE);
-    let file = ElfFile::new(&bytes)?;
-    assert_eq!(rt; file.get_shstr(9), Ok("ab"));
+    for (order, encoding) in [(LITTLE, 1), (Order::Big, 2), (LITTLE, 7)] {
+        let mut bytes = strtab_file(order);
+        set(&mut bytes, 0, ENCODING, encoding, order);
+        set(&mut bytes, 92, section_32::SIZE, 11, order);
+        assert_eq!(rt; ElfFile::new(&bytes)?.get_shstr(9), Ok("ab"));
+        set(&mut bytes, 92, section_32::SIZE, 0, order);
+        set(&mut bytes, 92, section_32::TYPE, 1, order);
+        assert_eq!(rt; ElfFile::new(&bytes)?.get_shstr(9), Ok("ab"));
+    }
     Ok(())
 }
 
@@ -199,7 +200,7 @@ fn names_are_refused(rt: HostRuntime) -> Result<(), Fail> {
     Ok(())
 }
 
-// A name as long as the file is read where the section's data is the whole file.
+// The data of a section may be the whole file, and names are then read from its start.
 #[test]
 fn data_may_be_the_whole_file(rt: HostRuntime) -> Result<(), Fail> {
     let mut bytes = strtab_file(LITTLE);
@@ -475,6 +476,11 @@ fn callers_get_what_they_ask_for(rt: HostRuntime) -> Result<(), Fail> {
     assert_eq!(rt; callers::empty_sections(&file), 1);
     assert_eq!(rt; callers::section_at(&file, 365), Some(2));
     assert_eq!(rt; callers::section_at(&file, 366), None);
+    assert!(rt; callers::section_with_address(&file, 1).is_none());
+    assert_eq!(rt; callers::data_len(&file, file.section_header(2)?), Ok(12));
+    let refused = callers::segment_data_len(&file, 0);
+    assert_eq!(rt; refused, Err(ElfError::NoProgramHeaders));
+    constants::have_their_values();
     let link = callers::named_section(&file, ".gnu_debuglink");
     assert_eq!(rt; link.map(|section| section.size()), Some(12));
     assert_eq!(rt; callers::name_in(&bytes, 11), Ok(".gnu_debuglink"));

@@ -2,7 +2,7 @@
 
 ghost use Rattle.std.specs.Prelude.{◌≡◌, Some};
 ghost use Rattle.xmas_elf.specs.ProgramLayout.{program_fields, widened};
-ghost use Rattle.xmas_elf.specs.ProgramText.{segment_lines, segment_text, segment_type_text};
+ghost use Rattle.xmas_elf.specs.ProgramText.{segment_fields_text, segment_text, segment_type_text};
 
 use crate::program::{ProgramHeader, ProgramHeader32, ProgramHeader64, Type_};
 use elf_base::print::{Field, Hex, PrintedResult};
@@ -26,7 +26,7 @@ impl Display for SegmentType {
 struct SegmentFields<'a>(&'a ProgramHeader64);
 
 impl Display for SegmentFields<'_> {
-    ghost output = { λ fields. Some (segment_lines fields.0.now) };
+    ghost output = { λ fields. Some (segment_fields_text fields.0.now) };
 
     fn fmt<W: fmt::Write>(&self, f: &mut fmt::Formatter<W>) -> fmt::Result {
         write!(

@@ -4,7 +4,7 @@ ghost use Rattle.std.specs.Prelude.{◌≡◌, ◌+◌, ◌≤◌, ◌<◌, Err,
 ghost use Rattle.std.proofs.Common.{lit<};
 ghost use Rattle.elf_records.specs.ProgramNumbers.{ph_type_of};
 ghost use Rattle.xmas_elf.specs.ProgramLayout.{program_header_32, program_header_64, widened};
-ghost use Rattle.xmas_elf.specs.Segment.{segment_data_of};
+ghost use Rattle.xmas_elf.specs.Segment.{IsSegmentData, segment_data_of};
 
 use crate::program::{Flags, Type, Type_};
 use crate::ranges::range_at;
@@ -66,6 +66,7 @@ impl ProgramHeader32 {
     /// Refused with `InvalidPhType`, with `NullData` for type Null, and with `DataRange` where it
     /// passes the end of the input; an empty segment is the empty slice, whatever its offset.
     pub fn raw_data<'a>(&self, file: &ElfFile<'a>) -> Result<&'a [u8], ElfError>
+        ensures range { IfOk result (λ range. IsSegmentData file.now.input.now (widened self.now) range.now) }
         ensures ok { IfOk result (λ range. segment_data_of file.now.input.now (widened self.now) ≡ Ok range.now) }
         ensures err { IfErr result (λ error. segment_data_of file.now.input.now (widened self.now) ≡ Err error) }
     {
@@ -134,6 +135,7 @@ impl ProgramHeader64 {
     /// passes the end of the input; an empty segment is the empty slice, whatever its offset.
     #[tactic(auto, unfolding(crate::specs::Segment::segment_data_of))]
     pub fn raw_data<'a>(&self, file: &ElfFile<'a>) -> Result<&'a [u8], ElfError>
+        ensures range { IfOk result (λ range. IsSegmentData file.now.input.now self.now range.now) }
         ensures ok { IfOk result (λ range. segment_data_of file.now.input.now self.now ≡ Ok range.now) }
         ensures err { IfErr result (λ error. segment_data_of file.now.input.now self.now ≡ Err error) }
     {

@@ -2,7 +2,7 @@
 
 ghost use Rattle.std.specs.Prelude.{◌≡◌, Some};
 ghost use Rattle.xmas_elf.specs.SectionLayout.{section_fields};
-ghost use Rattle.xmas_elf.specs.SectionText.{section_lines, section_text, section_type_text};
+ghost use Rattle.xmas_elf.specs.SectionText.{section_fields_text, section_text, section_type_text};
 
 use crate::P64;
 use crate::sections::{SectionHeader, SectionHeader_, ShType_};
@@ -27,7 +27,7 @@ impl Display for SectionType {
 struct SectionFields(SectionHeader_<P64>);
 
 impl Display for SectionFields {
-    ghost output = { λ fields. Some (section_lines fields.0) };
+    ghost output = { λ fields. Some (section_fields_text fields.0) };
 
     fn fmt<W: fmt::Write>(&self, f: &mut fmt::Formatter<W>) -> fmt::Result {
         write!(

@@ -3,6 +3,7 @@
 ghost use Rattle.std.specs.Prelude.{◌≡◌, ◌↔◌, Err, IfErr, IfOk, IsOkAnd, IsTrue, List, Ok, ℕ};
 ghost use Rattle.elf_records.specs.SectionNumbers.{sh_type_of};
 ghost use Rattle.xmas_elf.specs.NameTable.{Bears, data_of, name_of};
+ghost use Rattle.xmas_elf.specs.Range.{IsRange};
 ghost use Rattle.xmas_elf.specs.SectionLayout.{section_fields};
 
 use crate::ranges::range_at;
@@ -90,7 +91,7 @@ impl SectionHeader {
         }
     }
 
-    /// What the section's type says.
+    /// More about the section, as its type has it.
     pub fn info(&self) -> u32
         ensures { result ≡ (section_fields self.now).info }
     {
@@ -157,9 +158,10 @@ impl SectionHeader {
     /// The data of the section as it stands in the input, where it lives as long.
     ///
     /// Refused with `InvalidShType`, with `NullData` for type Null, and with `DataRange` where it
-    /// passes the end of the input; type NoBits and size 0 are no exceptions.
+    /// passes the end of the input, also for type NoBits and for an empty section.
     #[tactic(auto, unfolding(crate::specs::NameTable::data_of))]
     pub fn raw_data<'a>(&self, file: &ElfFile<'a>) -> Result<&'a [u8], ElfError>
+        ensures range { IfOk result (λ range. IsRange file.now.input.now (section_fields self.now).offset (section_fields self.now).size range.now) }
         ensures ok { IfOk result (λ range. data_of file.now.input.now self.now ≡ Ok range.now) }
         ensures err { IfErr result (λ error. data_of file.now.input.now self.now ≡ Err error) }
     {
