@@ -19,23 +19,27 @@ use Rattle.elf_base.specs.declared.header.HeaderPt1.{HeaderPt1}
 use Rattle.elf_base.specs.declared.header.HeaderPt2_.{HeaderPt2_}
 use Rattle.elf_base.specs.declared.header.Header.{Header}
 
+-- what EI_CLASS means, by name
 abbrev pub class_text : Class → List ℕ
 class_text class.None = codes "None"
 class_text class.ThirtyTwo = codes "ThirtyTwo"
 class_text class.SixtyFour = codes "SixtyFour"
 class_text (class.Other n) = numbered (codes "Other") n
 
+-- EI_DATA
 abbrev pub data_text : Data → List ℕ
 data_text encoding.None = codes "None"
 data_text encoding.LittleEndian = codes "LittleEndian"
 data_text encoding.BigEndian = codes "BigEndian"
 data_text (encoding.Other n) = numbered (codes "Other") n
 
+-- EI_VERSION
 abbrev pub version_text : Version → List ℕ
 version_text version.None = codes "None"
 version_text version.Current = codes "Current"
 version_text (version.Other n) = numbered (codes "Other") n
 
+-- EI_OSABI
 abbrev pub os_abi_text : OsAbi → List ℕ
 os_abi_text os_abi.SystemV = codes "SystemV"
 os_abi_text os_abi.HpUx = codes "HpUx"
@@ -49,6 +53,7 @@ os_abi_text os_abi.OpenBSD = codes "OpenBSD"
 os_abi_text os_abi.OpenVMS = codes "OpenVMS"
 os_abi_text (os_abi.Other n) = numbered (codes "Other") n
 
+-- e_type
 abbrev pub type_text : the_type.Type → List ℕ
 type_text kind.None = codes "None"
 type_text kind.Relocatable = codes "Relocatable"
@@ -57,6 +62,7 @@ type_text kind.SharedObject = codes "SharedObject"
 type_text kind.Core = codes "Core"
 type_text (kind.ProcessorSpecific n) = numbered (codes "ProcessorSpecific") n
 
+-- e_machine
 abbrev pub machine_text : Machine → List ℕ
 machine_text machine.None = codes "None"
 machine_text machine.Sparc = codes "Sparc"
@@ -72,6 +78,7 @@ machine_text machine.RISC_V = codes "RISC_V"
 machine_text machine.BPF = codes "BPF"
 machine_text (machine.Other n) = numbered (codes "Other") n
 
+-- part 1: a line for each of its seven fields
 abbrev pub first_part_text : HeaderPt1 → List ℕ
 first_part_text part = joined (
     field_line (codes "magic") (bytes_text part.magic)
@@ -101,6 +108,7 @@ second_part_text part = joined (
     ∷ field_line (codes "sh_str_index") (decimal part.sh_str_index)
     ∷ [])
 
+-- the whole header, under its heading
 abbrev pub header_text : Header → List ℕ
 header_text header =
     codes "ELF header:\n" ++ (first_part_text header.pt1 ++ second_part_text (fields header.pt2))

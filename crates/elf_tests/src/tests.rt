@@ -5,6 +5,7 @@ mod constants;
 mod files;
 mod headers;
 mod messages;
+mod names;
 mod places;
 mod reports;
 mod sections;

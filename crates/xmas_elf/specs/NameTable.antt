@@ -32,6 +32,7 @@ pub record IsShstr (input : List ℕ) (header : Header) (index : ℕ) (text : Li
   pub names : name_table input header ≡ Ok table
   pub is_text : IsText table index text
 
+-- the type is Null (SHT_NULL)
 abbrev pub is_null : ShType → Bool
 is_null Null = true
 is_null _ = false

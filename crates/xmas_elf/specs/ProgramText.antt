@@ -21,5 +21,6 @@ segment_fields_text segment = joined (
     ∷ field_line (codes "align") (hex_text segment.align)
     ∷ [])
 
+-- a program header, under its heading
 abbrev pub segment_text : ProgramHeader64 → List ℕ
 segment_text segment = codes "Program header:\n" ++ segment_fields_text segment

@@ -22,5 +22,6 @@ section_fields_text section = joined (
     ∷ field_line (codes "entry size") (decimal section.entry_size)
     ∷ [])
 
+-- a section header, under its heading
 abbrev pub section_text : SectionHeader_ ℕ → List ℕ
 section_text section = codes "Section header:\n" ++ section_fields_text section

@@ -14,6 +14,7 @@ use Rattle.xmas_elf.specs.ProgramLayout.{program_fields, program_record_size}
 use Rattle.xmas_elf.specs.declared.program.records.ProgramHeader64.{ProgramHeader64}
 use Rattle.xmas_elf.specs.declared.program.program_header.ProgramHeader.{ProgramHeader}
 
+-- the type is Null (PT_NULL)
 abbrev pub is_null_segment : the_type.Type → Bool
 is_null_segment Null = true
 is_null_segment _ = false
