@@ -1,7 +1,8 @@
 //! The constants, as a caller in another crate knows them.
 
-ghost use Rattle.std.specs.Prelude.{◌≡◌};
+ghost use Rattle.std.specs.Prelude.{◌≡◌, [], ◌∷◌};
 
+use xmas_elf::header::MAGIC;
 use xmas_elf::program::{
     FLAG_MASKOS, FLAG_MASKPROC, FLAG_R, FLAG_W, FLAG_X, TYPE_GNU_RELRO, TYPE_HIOS, TYPE_HIPROC,
     TYPE_LOOS, TYPE_LOPROC,
@@ -16,6 +17,7 @@ use xmas_elf::sections::{
 
 /// Does nothing: its contract states the values of the constants.
 pub fn have_their_values()
+    ensures magic { MAGIC ≡ 0x7f ∷ 0x45 ∷ 0x4c ∷ 0x46 ∷ [] }
     ensures section_indices { (SHN_UNDEF ≡ 0) × (SHN_LORESERVE ≡ 0xff00) × (SHN_LOPROC ≡ 0xff00)
         × (SHN_HIPROC ≡ 0xff1f) × (SHN_LOOS ≡ 0xff20) × (SHN_HIOS ≡ 0xff3f) × (SHN_ABS ≡ 0xfff1)
         × (SHN_COMMON ≡ 0xfff2) × (SHN_XINDEX ≡ 0xffff) × (SHN_HIRESERVE ≡ 0xffff) }
