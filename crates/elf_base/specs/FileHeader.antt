@@ -3,7 +3,8 @@ use Rattle.std.specs.Prelude.{◌≡◌, ℕ, ◌≤◌, ◌==◌, ◌||◌, ◌
 use lib.Pointwise.{pointwise}
 use Rattle.elf_base.specs.Number.{byte_at}
 use Rattle.elf_base.specs.Refusal.{unless}
-use Rattle.elf_base.specs.HeaderNumbers.{order_of}
+use Rattle.elf_base.specs.HeaderNumbers.{class_number, encoding_number, order_of}
+use Rattle.elf_base.specs.declared.bytes.Order.{Order}
 use Rattle.elf_base.specs.HeaderLayout.{header_pt1, header_pt2_32, header_pt2_64}
 use Rattle.elf_base.specs.declared.error.ElfError.{ElfError}
 use Rattle.elf_base.specs.declared.error.ElfError.TheVariants as error
@@ -26,6 +27,18 @@ header_pt2 bytes = if byte_at 4 bytes == 1
     then Header32 (header_pt2_32 (order_of (byte_at 5 bytes)) 16 bytes)
     else Header64 (header_pt2_64 (order_of (byte_at 5 bytes)) 16 bytes)
 
+-- the header at the front of some bytes
+abbrev pub file_header : List ℕ → Header
+file_header bytes = record { pt1 = header_pt1 bytes; pt2 = header_pt2 bytes }
+
+-- the class of a file, by part 1 of its header
+abbrev pub file_class : Header → ℕ
+file_class header = class_number header.pt1.class
+
+-- the order of a file's numbers
+abbrev pub file_order : Header → Order
+file_order header = order_of (encoding_number header.pt1.encoding)
+
 -- the header of a file, or why there is none
 unfoldable pub header_of : List ℕ → Result Header ElfError
 header_of bytes = unless (
@@ -33,4 +46,4 @@ header_of bytes = unless (
     ∷ (not (pointwise nat_eq (slice_range bytes 0 4) magic_number), error.NoMagic)
     ∷ (not (byte_at 4 bytes == 1 || byte_at 4 bytes == 2), error.InvalidClass)
     ∷ (nat_lt (length bytes) (if byte_at 4 bytes == 1 then 52 else 64), error.ShortHeaders)
-    ∷ []) (record { pt1 = header_pt1 bytes; pt2 = header_pt2 bytes })
+    ∷ []) (file_header bytes)

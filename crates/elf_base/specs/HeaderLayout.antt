@@ -1,6 +1,7 @@
 -- Where the fields of an ELF header lie (gABI, "ELF Header": Elf32_Ehdr and Elf64_Ehdr).
 use Rattle.std.specs.Prelude.{ℕ, ◌+◌, List, slice_range}
 use Rattle.elf_base.specs.Number.{number, byte_at}
+use Rattle.elf_base.specs.HeaderNumbers.{class_raw, encoding_raw, machine_raw, os_abi_raw, type_raw, version_raw}
 use Rattle.elf_base.specs.declared.bytes.Order.{Order}
 use Rattle.elf_base.specs.declared.header.HeaderPt1.{HeaderPt1}
 use Rattle.elf_base.specs.declared.header.HeaderPt2_.{HeaderPt2_}
@@ -11,10 +12,10 @@ use Rattle.elf_base.specs.declared.header.HeaderPt2.TheVariants.{Header32, Heade
 abbrev pub header_pt1 : List ℕ → HeaderPt1
 header_pt1 bytes = record {
   magic = slice_range bytes 0 4;
-  class = record { 0 = byte_at 4 bytes };
-  encoding = record { 0 = byte_at 5 bytes };
-  version = record { 0 = byte_at 6 bytes };
-  os_abi = record { 0 = byte_at 7 bytes };
+  class = class_raw (byte_at 4 bytes);
+  encoding = encoding_raw (byte_at 5 bytes);
+  version = version_raw (byte_at 6 bytes);
+  os_abi = os_abi_raw (byte_at 7 bytes);
   abi_version = byte_at 8 bytes;
   padding = slice_range bytes 9 16;
 }
@@ -22,8 +23,8 @@ header_pt1 bytes = record {
 -- the 36 bytes that follow in class 32; `place` is 16 in a file
 abbrev pub header_pt2_32 : Order → ℕ → List ℕ → HeaderPt2_ ℕ
 header_pt2_32 order place bytes = record {
-  type_ = record { 0 = number order 2 place bytes };
-  machine = record { 0 = number order 2 (place + 2) bytes };
+  type_ = type_raw (number order 2 place bytes);
+  machine = machine_raw (number order 2 (place + 2) bytes);
   version = number order 4 (place + 4) bytes;
   entry_point = number order 4 (place + 8) bytes;
   ph_offset = number order 4 (place + 12) bytes;
@@ -40,8 +41,8 @@ header_pt2_32 order place bytes = record {
 -- the 48 bytes that follow in class 64; `place` is 16 in a file
 abbrev pub header_pt2_64 : Order → ℕ → List ℕ → HeaderPt2_ ℕ
 header_pt2_64 order place bytes = record {
-  type_ = record { 0 = number order 2 place bytes };
-  machine = record { 0 = number order 2 (place + 2) bytes };
+  type_ = type_raw (number order 2 place bytes);
+  machine = machine_raw (number order 2 (place + 2) bytes);
   version = number order 4 (place + 4) bytes;
   entry_point = number order 8 (place + 8) bytes;
   ph_offset = number order 8 (place + 16) bytes;
@@ -56,9 +57,9 @@ header_pt2_64 order place bytes = record {
 }
 
 -- the fields of part 2, of either width
-abbrev pub fields : HeaderPt2 → HeaderPt2_ ℕ
-fields (Header32 part) = part
-fields (Header64 part) = part
+abbrev pub header_fields : HeaderPt2 → HeaderPt2_ ℕ
+header_fields (Header32 part) = part
+header_fields (Header64 part) = part
 
 -- how many bytes part 2 has
 abbrev pub pt2_size : HeaderPt2 → ℕ

@@ -3,6 +3,12 @@ use Rattle.std.specs.Prelude.{ℕ, ◌==◌, [], ◌∷◌, if◌then◌else◌}
 use Rattle.elf_base.specs.Named.{named_or}
 use Rattle.elf_base.specs.declared.bytes.Order.{Order}
 use Rattle.elf_base.specs.declared.bytes.Order.TheVariants.{Little, Big}
+use Rattle.elf_base.specs.declared.header.kinds.Class_.{Class_}
+use Rattle.elf_base.specs.declared.header.kinds.Data_.{Data_}
+use Rattle.elf_base.specs.declared.header.kinds.Version_.{Version_}
+use Rattle.elf_base.specs.declared.header.kinds.OsAbi_.{OsAbi_}
+use Rattle.elf_base.specs.declared.header.kinds.Type_.{Type_}
+use Rattle.elf_base.specs.declared.header.kinds.Machine_.{Machine_}
 use Rattle.elf_base.specs.declared.header.kinds.Class.{Class}
 use Rattle.elf_base.specs.declared.header.kinds.Class.TheVariants as class
 use Rattle.elf_base.specs.declared.header.kinds.Data.{Data}
@@ -16,36 +22,78 @@ use Rattle.elf_base.specs.declared.header.kinds.Type.TheVariants as kind
 use Rattle.elf_base.specs.declared.header.kinds.Machine.{Machine}
 use Rattle.elf_base.specs.declared.header.kinds.Machine.TheVariants as machine
 
--- EI_CLASS
+-- EI_CLASS: the number that stands in a file, and the value of a number
+abbrev pub class_number : Class_ → ℕ
+class_number raw = raw.0
+
+abbrev pub class_raw : ℕ → Class_
+class_raw n = record { 0 = n }
+
+-- what the number means
 abbrev pub class_of : ℕ → Class
 class_of n = named_or class.Other ((0, class.None) ∷ (1, class.ThirtyTwo) ∷ (2, class.SixtyFour) ∷ []) n
 
--- EI_DATA
-abbrev pub data_of : ℕ → Data
-data_of n = named_or encoding.Other (
+-- EI_DATA: the number that stands in a file, and the value of a number
+abbrev pub encoding_number : Data_ → ℕ
+encoding_number raw = raw.0
+
+abbrev pub encoding_raw : ℕ → Data_
+encoding_raw n = record { 0 = n }
+
+-- what the number means
+abbrev pub encoding_of : ℕ → Data
+encoding_of n = named_or encoding.Other (
     (0, encoding.None) ∷ (1, encoding.LittleEndian) ∷ (2, encoding.BigEndian) ∷ []) n
 
 -- the order of a file's numbers, by EI_DATA: all numbers but 2 mean little-endian (this project's own)
 abbrev pub order_of : ℕ → Order
 order_of n = if n == 2 then Big else Little
 
--- EI_VERSION
+-- EI_VERSION: the number that stands in a file, and the value of a number
+abbrev pub version_number : Version_ → ℕ
+version_number raw = raw.0
+
+abbrev pub version_raw : ℕ → Version_
+version_raw n = record { 0 = n }
+
+-- what the number means
 abbrev pub version_of : ℕ → Version
 version_of n = named_or version.Other ((0, version.None) ∷ (1, version.Current) ∷ []) n
 
--- EI_OSABI
+-- EI_OSABI: the number that stands in a file, and the value of a number
+abbrev pub os_abi_number : OsAbi_ → ℕ
+os_abi_number raw = raw.0
+
+abbrev pub os_abi_raw : ℕ → OsAbi_
+os_abi_raw n = record { 0 = n }
+
+-- what the number means
 abbrev pub os_abi_of : ℕ → OsAbi
 os_abi_of n = named_or os_abi.Other (
     (0, os_abi.SystemV) ∷ (1, os_abi.HpUx) ∷ (2, os_abi.NetBSD) ∷ (3, os_abi.Linux)
     ∷ (6, os_abi.Solaris) ∷ (7, os_abi.Aix) ∷ (8, os_abi.Irix) ∷ (9, os_abi.FreeBSD)
     ∷ (12, os_abi.OpenBSD) ∷ (13, os_abi.OpenVMS) ∷ []) n
 
--- e_type
+-- e_type: the number that stands in a file, and the value of a number
+abbrev pub type_number : Type_ → ℕ
+type_number raw = raw.0
+
+abbrev pub type_raw : ℕ → Type_
+type_raw n = record { 0 = n }
+
+-- what the number means
 abbrev pub type_of : ℕ → the_type.Type
 type_of n = named_or kind.ProcessorSpecific (
     (0, kind.None) ∷ (1, kind.Relocatable) ∷ (2, kind.Executable) ∷ (3, kind.SharedObject) ∷ (4, kind.Core) ∷ []) n
 
--- e_machine
+-- e_machine: the number that stands in a file, and the value of a number
+abbrev pub machine_number : Machine_ → ℕ
+machine_number raw = raw.0
+
+abbrev pub machine_raw : ℕ → Machine_
+machine_raw n = record { 0 = n }
+
+-- what the number means
 abbrev pub machine_of : ℕ → Machine
 machine_of n = named_or machine.Other (
     (0, machine.None) ∷ (2, machine.Sparc) ∷ (3, machine.X86) ∷ (8, machine.Mips)

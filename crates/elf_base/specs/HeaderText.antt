@@ -1,8 +1,8 @@
 -- How an ELF header is printed (this project's own, after the Rust crate).
 use Rattle.std.specs.Prelude.{ℕ, List, [], ◌∷◌, ◌++◌, codes, decimal}
 use Rattle.elf_base.specs.Printed.{numbered, bytes_text, field_line, joined}
-use Rattle.elf_base.specs.HeaderNumbers.{class_of, data_of, machine_of, os_abi_of, type_of, version_of}
-use Rattle.elf_base.specs.HeaderLayout.{fields}
+use Rattle.elf_base.specs.HeaderNumbers.{class_number, class_of, encoding_number, encoding_of, machine_number, machine_of, os_abi_number, os_abi_of, type_number, type_of, version_number, version_of}
+use Rattle.elf_base.specs.HeaderLayout.{header_fields}
 use Rattle.elf_base.specs.declared.header.kinds.Class.{Class}
 use Rattle.elf_base.specs.declared.header.kinds.Class.TheVariants as class
 use Rattle.elf_base.specs.declared.header.kinds.Data.{Data}
@@ -27,11 +27,11 @@ class_text class.SixtyFour = codes "SixtyFour"
 class_text (class.Other n) = numbered (codes "Other") n
 
 -- EI_DATA
-abbrev pub data_text : Data → List ℕ
-data_text encoding.None = codes "None"
-data_text encoding.LittleEndian = codes "LittleEndian"
-data_text encoding.BigEndian = codes "BigEndian"
-data_text (encoding.Other n) = numbered (codes "Other") n
+abbrev pub encoding_text : Data → List ℕ
+encoding_text encoding.None = codes "None"
+encoding_text encoding.LittleEndian = codes "LittleEndian"
+encoding_text encoding.BigEndian = codes "BigEndian"
+encoding_text (encoding.Other n) = numbered (codes "Other") n
 
 -- EI_VERSION
 abbrev pub version_text : Version → List ℕ
@@ -82,10 +82,10 @@ machine_text (machine.Other n) = numbered (codes "Other") n
 abbrev pub first_part_text : HeaderPt1 → List ℕ
 first_part_text part = joined (
     field_line (codes "magic") (bytes_text part.magic)
-    ∷ field_line (codes "class") (class_text (class_of part.class.0))
-    ∷ field_line (codes "data") (data_text (data_of part.encoding.0))
-    ∷ field_line (codes "version") (version_text (version_of part.version.0))
-    ∷ field_line (codes "os abi") (os_abi_text (os_abi_of part.os_abi.0))
+    ∷ field_line (codes "class") (class_text (class_of (class_number part.class)))
+    ∷ field_line (codes "data") (encoding_text (encoding_of (encoding_number part.encoding)))
+    ∷ field_line (codes "version") (version_text (version_of (version_number part.version)))
+    ∷ field_line (codes "os abi") (os_abi_text (os_abi_of (os_abi_number part.os_abi)))
     ∷ field_line (codes "abi version") (decimal part.abi_version)
     ∷ field_line (codes "padding") (bytes_text part.padding)
     ∷ [])
@@ -93,8 +93,8 @@ first_part_text part = joined (
 -- part 2, of either width
 abbrev pub second_part_text : HeaderPt2_ ℕ → List ℕ
 second_part_text part = joined (
-    field_line (codes "type") (type_text (type_of part.type_.0))
-    ∷ field_line (codes "machine") (machine_text (machine_of part.machine.0))
+    field_line (codes "type") (type_text (type_of (type_number part.type_)))
+    ∷ field_line (codes "machine") (machine_text (machine_of (machine_number part.machine)))
     ∷ field_line (codes "version") (decimal part.version)
     ∷ field_line (codes "entry_point") (decimal part.entry_point)
     ∷ field_line (codes "ph_offset") (decimal part.ph_offset)
@@ -111,4 +111,4 @@ second_part_text part = joined (
 -- the whole header, under its heading
 abbrev pub header_text : Header → List ℕ
 header_text header =
-    codes "ELF header:\n" ++ (first_part_text header.pt1 ++ second_part_text (fields header.pt2))
+    codes "ELF header:\n" ++ (first_part_text header.pt1 ++ second_part_text (header_fields header.pt2))

@@ -7,4 +7,6 @@ pub mod HeaderLayout
 pub mod FileHeader
 pub mod Printed
 pub mod HeaderText
+pub mod Lent
 pub mod Text
+pub mod TextCompared

@@ -32,13 +32,10 @@ abbrev pub printed_result : {T : Type 0} → (T → Option (List ℕ)) → Resul
 printed_result text (Ok value) = Some (codes "Ok(") ++? text value ++? Some (codes ")")
 printed_result text (Err error) = Some (codes "Err(\"" ++ (message_of error ++ codes "\")"))
 
--- a line: four spaces, the label as it stands, the value, a line feed
-unfoldable pub filled_line : List ℕ → List ℕ → List ℕ
-filled_line label value = codes "    " ++ (label ++ (value ++ codes "\n"))
-
--- a field's line: the label, with a colon, is filled with spaces up to 18 places
-abbrev pub field_line : List ℕ → List ℕ → List ℕ
-field_line label value = filled_line (label ++ (codes ":" ++ replicate (17 - length label) 32)) value
+-- a field's line: four spaces, the label with a colon, filled with spaces up to 18 places, the value
+unfoldable pub field_line : List ℕ → List ℕ → List ℕ
+field_line label value = codes "    " ++ (label ++ (codes ":"
+    ++ (replicate (17 - length label) 32 ++ (value ++ codes "\n"))))
 
 -- lines, one after another
 abbrev pub joined : List (List ℕ) → List ℕ

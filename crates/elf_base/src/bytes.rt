@@ -7,7 +7,7 @@ mod record;
 mod text;
 
 pub use crate::bytes::record::Record;
-pub use crate::bytes::text::text_at;
+pub use crate::bytes::text::{text_at, text_is};
 use byteorder::{BigEndian, ByteOrder, LittleEndian};
 
 /// The order of a number's bytes (gABI, "ELF Header", EI_DATA).

@@ -1,9 +1,9 @@
 //! The ELF header, with which every file begins (gABI, "ELF Header").
 
-ghost use Rattle.std.specs.Prelude.{◌≡◌, ◌↔◌, IsOk};
-ghost use Rattle.elf_base.specs.FileHeader.{IsAccepted, header_of};
-ghost use Rattle.elf_base.specs.HeaderLayout.{fields, pt2_size};
-ghost use Rattle.elf_base.specs.HeaderNumbers.{class_of, data_of, order_of, os_abi_of, version_of};
+ghost use Rattle.std.specs.Prelude.{◌≡◌, ◌↔◌, IfOk, IsOk};
+ghost use Rattle.elf_base.specs.FileHeader.{IsAccepted, file_header, header_of};
+ghost use Rattle.elf_base.specs.HeaderLayout.{header_fields, pt2_size};
+ghost use Rattle.elf_base.specs.HeaderNumbers.{class_number, class_of, encoding_number, encoding_of, order_of, os_abi_number, os_abi_of, version_number, version_of};
 
 mod kinds;
 mod printed;
@@ -89,28 +89,28 @@ pub struct HeaderPt2_<P> {
 impl HeaderPt1 {
     /// How wide the addresses and offsets of the file are.
     pub fn class(&self) -> Class
-        ensures { result ≡ class_of self.now.class.0 }
+        ensures { result ≡ class_of (class_number self.now.class) }
     {
         self.class.as_class()
     }
 
     /// The encoding of the numbers of the file.
     pub fn data(&self) -> Data
-        ensures { result ≡ data_of self.now.encoding.0 }
+        ensures { result ≡ encoding_of (encoding_number self.now.encoding) }
     {
         self.encoding.as_data()
     }
 
     /// The version of the header.
     pub fn version(&self) -> Version
-        ensures { result ≡ version_of self.now.version.0 }
+        ensures { result ≡ version_of (version_number self.now.version) }
     {
         self.version.as_version()
     }
 
     /// The operating system whose extensions the file uses.
     pub fn os_abi(&self) -> OsAbi
-        ensures { result ≡ os_abi_of self.now.os_abi.0 }
+        ensures { result ≡ os_abi_of (os_abi_number self.now.os_abi) }
     {
         self.os_abi.as_os_abi()
     }
@@ -129,7 +129,7 @@ impl HeaderPt2 {
 
     /// What the file is for.
     pub fn type_(&self) -> Type_
-        ensures { result ≡ (fields self.now).type_ }
+        ensures { result ≡ (header_fields self.now).type_ }
     {
         match self {
             HeaderPt2::Header32(part) => part.type_,
@@ -139,7 +139,7 @@ impl HeaderPt2 {
 
     /// The processor that the file is for.
     pub fn machine(&self) -> Machine_
-        ensures { result ≡ (fields self.now).machine }
+        ensures { result ≡ (header_fields self.now).machine }
     {
         match self {
             HeaderPt2::Header32(part) => part.machine,
@@ -149,7 +149,7 @@ impl HeaderPt2 {
 
     /// The version of the file.
     pub fn version(&self) -> u32
-        ensures { result ≡ (fields self.now).version }
+        ensures { result ≡ (header_fields self.now).version }
     {
         match self {
             HeaderPt2::Header32(part) => part.version,
@@ -159,7 +159,7 @@ impl HeaderPt2 {
 
     /// How many bytes the ELF header has, as it says itself.
     pub fn header_size(&self) -> u16
-        ensures { result ≡ (fields self.now).header_size }
+        ensures { result ≡ (header_fields self.now).header_size }
     {
         match self {
             HeaderPt2::Header32(part) => part.header_size,
@@ -169,7 +169,7 @@ impl HeaderPt2 {
 
     /// The address at which a program begins to run, or 0.
     pub fn entry_point(&self) -> u64
-        ensures { result ≡ (fields self.now).entry_point }
+        ensures { result ≡ (header_fields self.now).entry_point }
     {
         match self {
             HeaderPt2::Header32(part) => u64::from(part.entry_point),
@@ -179,7 +179,7 @@ impl HeaderPt2 {
 
     /// Where the program header table lies, in bytes from the start of the file, or 0.
     pub fn ph_offset(&self) -> u64
-        ensures { result ≡ (fields self.now).ph_offset }
+        ensures { result ≡ (header_fields self.now).ph_offset }
     {
         match self {
             HeaderPt2::Header32(part) => u64::from(part.ph_offset),
@@ -189,7 +189,7 @@ impl HeaderPt2 {
 
     /// Where the section header table lies, in bytes from the start of the file, or 0.
     pub fn sh_offset(&self) -> u64
-        ensures { result ≡ (fields self.now).sh_offset }
+        ensures { result ≡ (header_fields self.now).sh_offset }
     {
         match self {
             HeaderPt2::Header32(part) => u64::from(part.sh_offset),
@@ -199,7 +199,7 @@ impl HeaderPt2 {
 
     /// How many bytes one entry of the program header table has.
     pub fn ph_entry_size(&self) -> u16
-        ensures { result ≡ (fields self.now).ph_entry_size }
+        ensures { result ≡ (header_fields self.now).ph_entry_size }
     {
         match self {
             HeaderPt2::Header32(part) => part.ph_entry_size,
@@ -209,7 +209,7 @@ impl HeaderPt2 {
 
     /// How many entries the program header table has.
     pub fn ph_count(&self) -> u16
-        ensures { result ≡ (fields self.now).ph_count }
+        ensures { result ≡ (header_fields self.now).ph_count }
     {
         match self {
             HeaderPt2::Header32(part) => part.ph_count,
@@ -219,7 +219,7 @@ impl HeaderPt2 {
 
     /// How many bytes one entry of the section header table has.
     pub fn sh_entry_size(&self) -> u16
-        ensures { result ≡ (fields self.now).sh_entry_size }
+        ensures { result ≡ (header_fields self.now).sh_entry_size }
     {
         match self {
             HeaderPt2::Header32(part) => part.sh_entry_size,
@@ -229,7 +229,7 @@ impl HeaderPt2 {
 
     /// How many entries the section header table has.
     pub fn sh_count(&self) -> u16
-        ensures { result ≡ (fields self.now).sh_count }
+        ensures { result ≡ (header_fields self.now).sh_count }
     {
         match self {
             HeaderPt2::Header32(part) => part.sh_count,
@@ -239,7 +239,7 @@ impl HeaderPt2 {
 
     /// The index of the section that holds the names of the sections.
     pub fn sh_str_index(&self) -> u16
-        ensures { result ≡ (fields self.now).sh_str_index }
+        ensures { result ≡ (header_fields self.now).sh_str_index }
     {
         match self {
             HeaderPt2::Header32(part) => part.sh_str_index,
@@ -250,7 +250,7 @@ impl HeaderPt2 {
 
 /// The order of a file's numbers, by its data byte: big-endian for 2, else little-endian.
 pub fn byte_order(encoding: Data_) -> Order
-    ensures { result ≡ order_of encoding.0 }
+    ensures { result ≡ order_of (encoding_number encoding) }
 {
     match encoding.as_data() {
         Data::BigEndian => Order::Big,
@@ -266,6 +266,7 @@ pub fn byte_order(encoding: Data_) -> Order
 #[tactic(auto, unfolding(crate::specs::FileHeader::header_of))]
 pub fn parse_header(input: &[u8]) -> Result<Header, ElfError>
     ensures accepts { IsOk result ↔ IsAccepted input.now }
+    ensures value { IfOk result (λ header. header ≡ file_header input.now) }
     ensures exact { result ≡ header_of input.now }
 {
     if input.len() < HeaderPt1::SIZE {

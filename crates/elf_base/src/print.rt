@@ -1,26 +1,43 @@
 //! Printed forms that the items of several crates share.
 
-ghost use Rattle.std.specs.Prelude.{◌≡◌, Some, option_map};
-ghost use Rattle.elf_base.specs.Printed.{bytes_text, filled_line, hex_text, printed_result};
+ghost use Rattle.std.specs.Prelude.{◌≡◌, Some, option_map, replicate};
+ghost use Rattle.elf_base.specs.Printed.{bytes_text, field_line, hex_text, printed_result};
 
 use crate::ElfError;
 use std::fmt;
 use std::fmt::Display;
 
-/// A line of a printed header: four spaces, the label with its colon and its fill, the value.
-#[derive(Clone, Copy)]
+/// A line of a printed header: four spaces, the label with its colon, spaces up to the value's place,
+/// the value.
+#[derive(Clone, Copy, Debug)]
 pub struct Field<'a, T>(pub &'a str, pub T);
 
 impl<T: Display> Display for Field<'_, T> {
-    ghost output = { λ field. option_map (filled_line field.0.now) (T.output field.1) };
+    ghost output = { λ field. option_map (field_line field.0.now) (T.output field.1) };
 
     fn fmt<W: fmt::Write>(&self, f: &mut fmt::Formatter<W>) -> fmt::Result {
-        writeln!(f, "    {}{}", self.0, self.1)
+        let fill = Spaces(17usize.saturating_sub(self.0.len()));
+        writeln!(f, "    {}:{}{}", self.0, fill, self.1)
+    }
+}
+
+// So many spaces.
+#[derive(Clone, Copy)]
+struct Spaces(usize);
+
+impl Display for Spaces {
+    ghost output = { λ spaces. Some (replicate spaces.0 32) };
+
+    fn fmt<W: fmt::Write>(&self, f: &mut fmt::Formatter<W>) -> fmt::Result {
+        for _space in 0..self.0 {
+            f.write_str(" ")?;
+        }
+        Ok(())
     }
 }
 
 /// Bytes, printed in decimal as `[127, 69]`.
-#[derive(Clone, Copy)]
+#[derive(Clone, Copy, Debug)]
 pub struct Bytes<'a>(pub &'a [u8]);
 
 impl Display for Bytes<'_> {
@@ -32,7 +49,7 @@ impl Display for Bytes<'_> {
 }
 
 /// A result, printed as `Ok(StrTab)` or `Err("Invalid sh type")`.
-#[derive(Clone, Copy)]
+#[derive(Clone, Copy, Debug)]
 pub struct PrintedResult<T>(pub Result<T, ElfError>);
 
 impl<T: Display> Display for PrintedResult<T> {
@@ -47,7 +64,7 @@ impl<T: Display> Display for PrintedResult<T> {
 }
 
 /// A number in hexadecimal, as `0x7f`.
-#[derive(Clone, Copy)]
+#[derive(Clone, Copy, Debug)]
 pub struct Hex(pub u64);
 
 impl Display for Hex {

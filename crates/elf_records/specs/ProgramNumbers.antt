@@ -4,8 +4,16 @@ use Rattle.elf_base.specs.Named.{named_or}
 use Rattle.elf_base.specs.Printed.{numbered}
 use Rattle.elf_base.specs.declared.error.ElfError.{ElfError}
 use Rattle.elf_base.specs.declared.error.ElfError.TheVariants.{InvalidPhType}
+use Rattle.elf_records.specs.declared.program.Type_.{Type_}
 use Rattle.elf_records.specs.declared.program.Type as the_type
 use Rattle.elf_records.specs.declared.program.Type.TheVariants as ph_type
+
+-- p_type: the number that stands in a file, and the value of a number
+abbrev pub ph_type_number : Type_ → ℕ
+ph_type_number raw = raw.0
+
+abbrev pub ph_type_raw : ℕ → Type_
+ph_type_raw n = record { 0 = n }
 
 -- the types that are ranges: of the operating system, of the processor
 abbrev pub ph_type_in_range : ℕ → Result the_type.Type ElfError
@@ -14,7 +22,7 @@ ph_type_in_range n =
     else (if nat_le 0x70000000 n && nat_le n 0x7fffffff then Ok (ph_type.ProcessorSpecific n)
     else Err InvalidPhType)
 
--- p_type
+-- what the number means
 unfoldable pub ph_type_of : ℕ → Result the_type.Type ElfError
 ph_type_of n = named_or ph_type_in_range (
     (0, Ok ph_type.Null)

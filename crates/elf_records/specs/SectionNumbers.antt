@@ -4,8 +4,16 @@ use Rattle.elf_base.specs.Named.{named_or}
 use Rattle.elf_base.specs.Printed.{numbered}
 use Rattle.elf_base.specs.declared.error.ElfError.{ElfError}
 use Rattle.elf_base.specs.declared.error.ElfError.TheVariants.{InvalidShType}
+use Rattle.elf_records.specs.declared.sections.ShType_.{ShType_}
 use Rattle.elf_records.specs.declared.sections.ShType.{ShType}
 use Rattle.elf_records.specs.declared.sections.ShType.TheVariants as sh_type
+
+-- sh_type: the number that stands in a file, and the value of a number
+abbrev pub sh_type_number : ShType_ → ℕ
+sh_type_number raw = raw.0
+
+abbrev pub sh_type_raw : ℕ → ShType_
+sh_type_raw n = record { 0 = n }
 
 -- the types that are ranges: of the operating system, of the processor, of programs
 abbrev pub sh_type_in_range : ℕ → Result ShType ElfError
@@ -15,7 +23,7 @@ sh_type_in_range n =
     else (if nat_le 0x80000000 n then Ok (sh_type.User n)
     else Err InvalidShType))
 
--- sh_type
+-- what the number means
 unfoldable pub sh_type_of : ℕ → Result ShType ElfError
 sh_type_of n = named_or sh_type_in_range (
     (0, Ok sh_type.Null)

@@ -2,3 +2,4 @@ pub mod HeaderLists
 pub mod SectionLists
 pub mod ProgramLists
 pub mod ReportLines
+pub mod Names

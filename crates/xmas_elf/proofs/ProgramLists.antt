@@ -1,42 +1,73 @@
--- When every segment of a file can be read.
-use Rattle.std.proofs.Common.{◌≡◌, ◌≢◌, ℕ, ◌+◌, ◌≤◌, ◌==◌, ◌⊎◌, inl, inr, true, false, nat_lt, List, length, IsOk, refl, subst, arith}
-use Rattle.std.proofs.lemmas.Bool.{le-ltb, lt-ltb, ne_eqb}
-use Rattle.elf_base.specs.HeaderLayout.{fields}
+-- When every segment of a file can be read, and how many can.
+use Rattle.std.proofs.Common.{◌≡◌, ◌≢◌, ℕ, suc, ◌+◌, ◌*◌, ◌≤◌, ◌==◌, inl, inr, Bool, true, false, nat_lt, not, ◌||◌, List, [], ◌∷◌, length, Ok, IsOk, if◌then◌else◌, refl, arith}
+use Rattle.std.proofs.lemmas.Bool.{le-ltb, ltb-false, lt-ltb, ne_eqb}
+use Rattle.elf_base.specs.FileHeader.{file_class}
+use Rattle.elf_base.specs.HeaderLayout.{header_fields}
+use Rattle.elf_base.specs.declared.error.ElfError.TheVariants.{NoProgramHeaders, ShortProgramHeader, UnknownClass, SmallEntry}
 use Rattle.elf_base.specs.declared.header.Header.{Header}
-use Rattle.xmas_elf.specs.HeaderTable.{entry_place, is_known_class}
-use Rattle.xmas_elf.specs.ProgramList.{HasProgramHeader, program_header_of, program_header_size, program_list}
-use Rattle.xmas_elf.proofs.HeaderLists.{entry_place-within, headers_from-whole, is_known_class-known}
+use Rattle.xmas_elf.specs.Counts.{program_count_of}
+use Rattle.xmas_elf.specs.HeaderTable.{IsKnownClass, is_known_class}
+use Rattle.xmas_elf.specs.ProgramHeader.{HasProgramEntry, program_at, program_entry, program_header_size, program_place, segment_of}
+use Rattle.xmas_elf.specs.ProgramList.{program_list}
+use Rattle.xmas_elf.specs.declared.ElfFile.{ElfFile}
+use Rattle.xmas_elf.specs.declared.program.program_header.ProgramHeader.{ProgramHeader}
+use Rattle.xmas_elf.proofs.HeaderLists.{entries_fit, entry_place-within, header_list-fits, header_list-whole, is_known_class-known, unless-passed}
 
 -- a record has some bytes
-some_bytes : (class size : ℕ) → (class ≡ 1) ⊎ (class ≡ 2) → program_header_size class ≤ size → size ≢ 0
+some_bytes : (class size : ℕ) → IsKnownClass class → program_header_size class ≤ size → size ≢ 0
 some_bytes class size (inl one) large none = let enough : 32 ≤ size = rw one at large in omega arith
 some_bytes class size (inr two) large none = let enough : 56 ≤ size = rw two at large in omega arith
 
-program_header_of-has : (input : List ℕ) (header : Header) (index : ℕ) → HasProgramHeader input header index → IsOk (program_header_of input header index)
-unfolding program_header_of
-program_header_of-has input header index can =
-    let part = fields header.pt2 in
-    let counted : nat_lt index part.ph_count ≡ true = lt-ltb _ _ can.counted in
+program_entry-has : (input : List ℕ) (header : Header) (count index : ℕ) → HasProgramEntry input header count index → IsOk (program_entry input header count index)
+unfolding program_entry
+program_entry-has input header count index can =
+    let part = header_fields header.pt2 in
+    let counted : nat_lt index count ≡ true = lt-ltb _ _ can.counted in
     let placed : (part.ph_offset == 0) ≡ false = ne_eqb _ _ can.placed in
-    let sized : (part.ph_entry_size == 0) ≡ false = ne_eqb _ _ (some_bytes header.pt1.class.0 part.ph_entry_size can.class can.large) in
-    let known : is_known_class header.pt1.class.0 ≡ true = is_known_class-known header.pt1.class.0 can.class in
-    let within : nat_lt (length input) (entry_place part.ph_offset part.ph_entry_size (index + 1)) ≡ false = le-ltb _ _ can.within in
-    let large : nat_lt part.ph_entry_size (program_header_size header.pt1.class.0) ≡ false = le-ltb _ _ can.large in
+    let sized : (part.ph_entry_size == 0) ≡ false = ne_eqb _ _ (some_bytes (file_class header) part.ph_entry_size can.class can.large) in
+    let known : is_known_class (file_class header) ≡ true = is_known_class-known (file_class header) can.class in
+    let within : nat_lt (length input) (program_place header (index + 1)) ≡ false = le-ltb _ _ can.within in
+    let large : nat_lt part.ph_entry_size (program_header_size (file_class header)) ≡ false = le-ltb _ _ can.large in
     rw (counted, placed, sized, known, within, large) refl
 
 -- where the table lies in the input and its entries are large enough, no segment is missing
-pub length-program_list : (input : List ℕ) (header : Header) → (header.pt1.class.0 ≡ 1) ⊎ (header.pt1.class.0 ≡ 2)
-    → entry_place (fields header.pt2).ph_offset (fields header.pt2).ph_entry_size (fields header.pt2).ph_count ≤ length input
-    → (fields header.pt2).ph_offset ≢ 0 → program_header_size header.pt1.class.0 ≤ (fields header.pt2).ph_entry_size
-    → length (program_list input header) ≡ (fields header.pt2).ph_count
-length-program_list input header class within placed large =
-    let part = fields header.pt2 in
-    headers_from-whole (program_header_of input header) part.ph_count 0 (λ i below.
-    let same : i ≡ 0 + i = omega arith in
-    subst (λ k. IsOk (program_header_of input header k)) same (program_header_of-has input header i (record {
+pub length-program_list : (file : ElfFile) → IsKnownClass (file_class file.header)
+    → program_place file.header (program_count_of file) ≤ length file.input.now
+    → (header_fields file.header.pt2).ph_offset ≢ 0
+    → program_header_size (file_class file.header) ≤ (header_fields file.header.pt2).ph_entry_size
+    → length (program_list file) ≡ program_count_of file
+length-program_list file class within placed large =
+    let part = header_fields file.header.pt2 in
+    let count = program_count_of file in
+    header_list-whole (segment_of file) count (λ i below. program_entry-has file.input.now file.header count i (record {
       counted = below;
       placed = placed;
-      within = entry_place-within part.ph_offset part.ph_entry_size part.ph_count (length input) i within below;
+      within = entry_place-within part.ph_offset part.ph_entry_size count (length file.input.now) i within below;
       class = class;
       large = large;
-    })))
+    }))
+
+at_least_32 : (one : Bool) → 32 ≤ (if one then 32 else 56)
+at_least_32 true = omega arith
+at_least_32 false = omega arith
+
+-- each segment that can be read has bytes of its own in the table
+program_entry-ends : (input : List ℕ) (header : Header) (count index : ℕ) (h : ProgramHeader) → program_entry input header count index ≡ Ok h → suc index * 32 ≤ length input
+unfolding program_entry
+program_entry-ends input header count index h is =
+    let part = header_fields header.pt2 in
+    let passed = unless-passed (
+    (not (nat_lt index count) || part.ph_offset == 0 || part.ph_entry_size == 0, NoProgramHeaders)
+    ∷ (not (is_known_class (file_class header)), UnknownClass)
+    ∷ (nat_lt (length input) (program_place header (index + 1)), ShortProgramHeader)
+    ∷ (nat_lt part.ph_entry_size (program_header_size (file_class header)), SmallEntry)
+    ∷ []) (program_at input header index) h is in
+    let within : program_place header (index + 1) ≤ length input = ltb-false _ _ passed.1.1.0 in
+    let large : program_header_size (file_class header) ≤ part.ph_entry_size = ltb-false _ _ passed.1.1.1.0 in
+    let least : 32 ≤ program_header_size (file_class header) = at_least_32 (file_class header == 1) in
+    entries_fit part.ph_offset part.ph_entry_size 32 index (length input) (omega arith) within
+
+-- so there are no more than there is room for
+pub program_list-fits : (file : ElfFile) → length (program_list file) * 32 ≤ length file.input.now
+program_list-fits file = let count = program_count_of file in
+    header_list-fits (segment_of file) count 32 (length file.input.now) (λ i h is. program_entry-ends file.input.now file.header count i h is)

@@ -1,35 +1,58 @@
--- When every section of a file can be read.
-use Rattle.std.proofs.Common.{◌≡◌, ℕ, ◌+◌, ◌≤◌, ◌⊎◌, true, false, nat_lt, nat_le, List, length, IsOk, refl, subst, arith}
-use Rattle.std.proofs.lemmas.Bool.{le-ltb}
-use Rattle.std.proofs.lemmas.Bool.Decides.{nat_tests}
-use Rattle.elf_base.specs.HeaderLayout.{fields}
+-- When every section of a file can be read, and how many can.
+use Rattle.std.proofs.Common.{◌≡◌, ℕ, suc, ◌+◌, ◌*◌, ◌≤◌, ◌==◌, Bool, true, false, nat_lt, not, List, [], ◌∷◌, length, Ok, IsOk, if◌then◌else◌, refl, arith}
+use Rattle.std.proofs.lemmas.Bool.{le-ltb, ltb-false}
+use Rattle.elf_base.specs.FileHeader.{file_class}
+use Rattle.elf_base.specs.HeaderLayout.{header_fields}
+use Rattle.elf_base.specs.declared.error.ElfError.TheVariants.{ShortSectionHeader, UnknownClass, SmallEntry}
 use Rattle.elf_base.specs.declared.header.Header.{Header}
-use Rattle.xmas_elf.specs.HeaderTable.{entry_place, is_known_class}
-use Rattle.xmas_elf.specs.SectionList.{HasSectionHeader, section_header_of, section_header_size, section_list}
-use Rattle.xmas_elf.proofs.HeaderLists.{entry_place-within, headers_from-whole, is_known_class-known}
+use Rattle.xmas_elf.specs.Counts.{section_count_of}
+use Rattle.xmas_elf.specs.HeaderTable.{IsKnownClass, is_known_class}
+use Rattle.xmas_elf.specs.SectionHeader.{HasSectionEntry, section_at, section_entry, section_header_size, section_of, section_place}
+use Rattle.xmas_elf.specs.SectionList.{section_list}
+use Rattle.xmas_elf.specs.declared.ElfFile.{ElfFile}
+use Rattle.xmas_elf.specs.declared.sections.section_header.SectionHeader.{SectionHeader}
+use Rattle.xmas_elf.proofs.HeaderLists.{entries_fit, entry_place-within, header_list-fits, header_list-whole, is_known_class-known, unless-passed}
 
-section_header_of-has : (input : List ℕ) (header : Header) (index : ℕ) → HasSectionHeader input header index → IsOk (section_header_of input header index)
-unfolding section_header_of
-section_header_of-has input header index can =
-    let unreserved = can.unreserved in
-    let named : nat_le 0xff00 index ≡ false = grind (arith, nat_tests) in
-    let within : nat_lt (length input) (entry_place (fields header.pt2).sh_offset (fields header.pt2).sh_entry_size (index + 1)) ≡ false = le-ltb _ _ can.within in
-    let known : is_known_class header.pt1.class.0 ≡ true = is_known_class-known header.pt1.class.0 can.class in
-    let large : nat_lt (fields header.pt2).sh_entry_size (section_header_size header.pt1.class.0) ≡ false = le-ltb _ _ can.large in
-    rw (named, within, known, large) refl
+section_entry-has : (input : List ℕ) (header : Header) (index : ℕ) → HasSectionEntry input header index → IsOk (section_entry input header index)
+unfolding section_entry
+section_entry-has input header index can =
+    let within : nat_lt (length input) (section_place header (index + 1)) ≡ false = le-ltb _ _ can.within in
+    let known : is_known_class (file_class header) ≡ true = is_known_class-known (file_class header) can.class in
+    let large : nat_lt (header_fields header.pt2).sh_entry_size (section_header_size (file_class header)) ≡ false = le-ltb _ _ can.large in
+    rw (within, known, large) refl
 
 -- where the table lies in the input and its entries are large enough, no section is missing
-pub length-section_list : (input : List ℕ) (header : Header) → (header.pt1.class.0 ≡ 1) ⊎ (header.pt1.class.0 ≡ 2)
-    → entry_place (fields header.pt2).sh_offset (fields header.pt2).sh_entry_size (fields header.pt2).sh_count ≤ length input
-    → section_header_size header.pt1.class.0 ≤ (fields header.pt2).sh_entry_size → (fields header.pt2).sh_count ≤ 0xff00
-    → length (section_list input header) ≡ (fields header.pt2).sh_count
-length-section_list input header class within large few =
-    let part = fields header.pt2 in
-    headers_from-whole (section_header_of input header) part.sh_count 0 (λ i below.
-    let same : i ≡ 0 + i = omega arith in
-    subst (λ k. IsOk (section_header_of input header k)) same (section_header_of-has input header i (record {
-      unreserved = omega arith;
-      within = entry_place-within part.sh_offset part.sh_entry_size part.sh_count (length input) i within below;
+pub length-section_list : (file : ElfFile) → IsKnownClass (file_class file.header)
+    → section_place file.header (section_count_of file) ≤ length file.input.now
+    → section_header_size (file_class file.header) ≤ (header_fields file.header.pt2).sh_entry_size
+    → length (section_list file) ≡ section_count_of file
+length-section_list file class within large =
+    let part = header_fields file.header.pt2 in
+    header_list-whole (section_of file) (section_count_of file) (λ i below. section_entry-has file.input.now file.header i (record {
+      within = entry_place-within part.sh_offset part.sh_entry_size (section_count_of file) (length file.input.now) i within below;
       class = class;
       large = large;
-    })))
+    }))
+
+at_least_40 : (one : Bool) → 40 ≤ (if one then 40 else 64)
+at_least_40 true = omega arith
+at_least_40 false = omega arith
+
+-- each section that can be read has bytes of its own
+section_entry-ends : (input : List ℕ) (header : Header) (index : ℕ) (h : SectionHeader) → section_entry input header index ≡ Ok h → suc index * 40 ≤ length input
+unfolding section_entry
+section_entry-ends input header index h is =
+    let part = header_fields header.pt2 in
+    let passed = unless-passed (
+    (nat_lt (length input) (section_place header (index + 1)), ShortSectionHeader)
+    ∷ (not (is_known_class (file_class header)), UnknownClass)
+    ∷ (nat_lt part.sh_entry_size (section_header_size (file_class header)), SmallEntry)
+    ∷ []) (section_at input header index) h is in
+    let within : section_place header (index + 1) ≤ length input = ltb-false _ _ passed.0 in
+    let large : section_header_size (file_class header) ≤ part.sh_entry_size = ltb-false _ _ passed.1.1.0 in
+    let least : 40 ≤ section_header_size (file_class header) = at_least_40 (file_class header == 1) in
+    entries_fit part.sh_offset part.sh_entry_size 40 index (length input) (omega arith) within
+
+-- so there are no more than there is room for
+pub section_list-fits : (file : ElfFile) → length (section_list file) * 40 ≤ length file.input.now
+section_list-fits file = header_list-fits (section_of file) (section_count_of file) 40 (length file.input.now) (λ i h is. section_entry-ends file.input.now file.header i h is)

@@ -1,6 +1,8 @@
 -- Tables of headers, the section header table and the program header table alike (gABI, "Section
 -- Header" and "Program Header"; where a list ends is this project's own).
-use Rattle.std.specs.Prelude.{◌≡◌, ◌≢◌, ℕ, zero, suc, ◌+◌, ◌*◌, ◌<◌, ◌≤◌, ◌==◌, ◌||◌, Bool, List, [], ◌∷◌, length, slice_get, Some, Result, Ok, Err}
+use Rattle.std.specs.Prelude.{◌≡◌, ◌≢◌, ℕ, zero, suc, ◌+◌, ◌-◌, ◌*◌, ◌<◌, ◌≤◌, ◌==◌, ◌||◌, ◌⊎◌, Bool, List, [], ◌∷◌, length, MatchOption, Option, Result, Ok, Err}
+use Rattle.std.specs.Iterator.{YieldsFirst}
+use Rattle.std.specs.List.{HoldsAt}
 use Rattle.elf_base.specs.declared.error.ElfError.{ElfError}
 
 -- where entry `index` of a table begins; entry `index` ends where the next begins
@@ -8,6 +10,10 @@ abbrev pub entry_place : ℕ → ℕ → ℕ → ℕ
 entry_place offset entry_size index = offset + index * entry_size
 
 -- a class whose records are known: 32 or 64
+abbrev pub IsKnownClass : ℕ → Type 0
+IsKnownClass class = (class ≡ 1) ⊎ (class ≡ 2)
+
+-- the same as a test
 abbrev pub is_known_class : ℕ → Bool
 is_known_class class = class == 1 || class == 2
 
@@ -15,7 +21,7 @@ is_known_class class = class == 1 || class == 2
 -- of them as can be had
 pub record IsLongest {H : Type 0} (header_at : ℕ → Result H ElfError) (limit : ℕ) (items : List H) : Type 0 where
   pub counted : length items ≤ limit
-  pub each : (i : ℕ) (h : H) → slice_get items i ≡ Some h → header_at i ≡ Ok h
+  pub each : (i : ℕ) → i < length items → HoldsAt (λ h. header_at i ≡ Ok h) items i
   pub longest : (h : H) → length items < limit → header_at (length items) ≢ Ok h
 
 -- a header, where it is readable, before what follows it
@@ -27,3 +33,18 @@ before (Err error) others = []
 abbrev pub headers_from : {H : Type 0} → (ℕ → Result H ElfError) → ℕ → ℕ → List H
 headers_from header_at index zero = []
 headers_from header_at index (suc count) = before (header_at index) (headers_from header_at (suc index) count)
+
+-- the headers from `index` on, below `limit`, up to the first that is refused
+abbrev pub header_rest : {H : Type 0} → (ℕ → Result H ElfError) → ℕ → ℕ → List H
+header_rest header_at limit index = headers_from header_at index (limit - index)
+
+-- the list of the headers of a table: the longest, as it is computed
+abbrev pub header_list : {H : Type 0} → (ℕ → Result H ElfError) → ℕ → List H
+header_list header_at limit = header_rest header_at limit 0
+
+-- one call of `next` of an iterator over headers: the header at the next index, and on to the index
+-- after it; at the end nothing, and the index stays
+abbrev pub HeaderStep : {I H : Type 0} → (I → List H) → (I → ℕ) → (I → ℕ → Result H ElfError) → I → Option H → I → Type 0
+HeaderStep rest index_of header_at old result new = YieldsFirst rest old result new
+    × MatchOption result (index_of new ≡ index_of old)
+    (λ h. (index_of new ≡ index_of old + 1) × (header_at old (index_of old) ≡ Ok h))

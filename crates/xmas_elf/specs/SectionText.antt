@@ -2,17 +2,17 @@
 use Rattle.std.specs.Prelude.{ℕ, List, [], ◌∷◌, ◌++◌, codes, decimal}
 use Rattle.elf_base.specs.Printed.{field_line, joined, result_text}
 use Rattle.elf_records.specs.SectionNumbers.{sh_type_of, sh_type_text}
-use Rattle.xmas_elf.specs.declared.sections.records.SectionHeader_.{SectionHeader_}
+use Rattle.xmas_elf.specs.SectionHeader.{SectionFields}
 
 -- the type of a section, as `Ok(StrTab)` or `Err("Invalid sh type")`
 abbrev pub section_type_text : ℕ → List ℕ
 section_type_text number = result_text sh_type_text (sh_type_of number)
 
 -- the fields of either width, but `info`
-abbrev pub section_fields_text : SectionHeader_ ℕ → List ℕ
+abbrev pub section_fields_text : SectionFields → List ℕ
 section_fields_text section = joined (
     field_line (codes "name") (decimal section.name)
-    ∷ field_line (codes "type") (section_type_text section.type_.0)
+    ∷ field_line (codes "type") (section_type_text section.type_)
     ∷ field_line (codes "flags") (decimal section.flags)
     ∷ field_line (codes "address") (decimal section.address)
     ∷ field_line (codes "offset") (decimal section.offset)
@@ -23,5 +23,5 @@ section_fields_text section = joined (
     ∷ [])
 
 -- a section header, under its heading
-abbrev pub section_text : SectionHeader_ ℕ → List ℕ
+abbrev pub section_text : SectionFields → List ℕ
 section_text section = codes "Section header:\n" ++ section_fields_text section

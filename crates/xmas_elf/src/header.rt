@@ -1,12 +1,17 @@
 //! The ELF header, with which every file begins (gABI, "ELF Header").
 
 ghost use Rattle.std.specs.Prelude.{◌≡◌, ◌≢◌, ◌≤◌, OnOk, length};
-ghost use Rattle.elf_base.specs.HeaderLayout.{fields};
-ghost use Rattle.xmas_elf.specs.HeaderCheck.{header_check, part_class};
-ghost use Rattle.xmas_elf.specs.ProgramList.{program_header_size, program_list};
-ghost use Rattle.xmas_elf.specs.SectionList.{section_header_size, section_list};
+ghost use Rattle.elf_base.specs.FileHeader.{file_class};
+ghost use Rattle.elf_base.specs.HeaderLayout.{header_fields};
+ghost use Rattle.xmas_elf.specs.Checks.{header_check, part_class};
+ghost use Rattle.xmas_elf.specs.Counts.{program_count_of, section_count_of};
+ghost use Rattle.xmas_elf.specs.ProgramHeader.{program_header_size};
+ghost use Rattle.xmas_elf.specs.ProgramList.{program_list};
+ghost use Rattle.xmas_elf.specs.SectionHeader.{section_header_size};
+ghost use Rattle.xmas_elf.specs.SectionList.{section_list};
 
-use crate::ranges::is_within;
+use crate::bytes::Record;
+use crate::ranges::table_is_within;
 use crate::{ElfError, ElfFile};
 pub use elf_base::header::{
     Class, Class_, Data, Data_, Header, HeaderPt1, HeaderPt2, HeaderPt2_, MAGIC, Machine, Machine_,
@@ -19,26 +24,25 @@ pub use elf_base::header::{
 /// than that of its two parts; `NoClass` for class 0; `ClassMismatch` where the class is not that of
 /// part 2; `NoVersion` and `NoDataFormat` for a 0 there; `PhTableRange` and `ShTableRange` where a
 /// header table passes the end of the input.
-#[tactic(auto, unfolding(crate::specs::HeaderCheck::header_check))]
+#[tactic(auto, unfolding(crate::specs::Checks::header_check))]
 pub fn sanity_check(file: &ElfFile<'_>) -> Result<(), ElfError>
-    ensures exact { result ≡ header_check file.now.input.now file.now.header }
+    ensures exact { result ≡ header_check file.now }
 
     // Where all is well and the entries are large enough, each list is as long as its count says.
     ensures sections { OnOk result (
-        section_header_size file.now.header.pt1.class.0 ≤ (fields file.now.header.pt2).sh_entry_size
-        → (fields file.now.header.pt2).sh_count ≤ 0xff00
-        → length (section_list file.now.input.now file.now.header) ≡ (fields file.now.header.pt2).sh_count) }
+        section_header_size (file_class file.now.header) ≤ (header_fields file.now.header.pt2).sh_entry_size
+        → length (section_list file.now) ≡ section_count_of file.now) }
     ensures segments { OnOk result (
-        (fields file.now.header.pt2).ph_offset ≢ 0
-        → program_header_size file.now.header.pt1.class.0 ≤ (fields file.now.header.pt2).ph_entry_size
-        → length (program_list file.now.input.now file.now.header) ≡ (fields file.now.header.pt2).ph_count) }
+        (header_fields file.now.header.pt2).ph_offset ≢ 0
+        → program_header_size (file_class file.now.header) ≤ (header_fields file.now.header.pt2).ph_entry_size
+        → length (program_list file.now) ≡ program_count_of file.now) }
 {
     let pt1 = &file.header.pt1;
     let pt2 = &file.header.pt2;
     if pt1.magic != MAGIC {
         return Err(ElfError::BadMagic);
     }
-    if 16 + pt2.size() != usize::from(pt2.header_size()) {
+    if HeaderPt1::SIZE + pt2.size() != usize::from(pt2.header_size()) {
         return Err(ElfError::HeaderSize);
     }
     if pt1.class.is_none() {
@@ -54,12 +58,12 @@ pub fn sanity_check(file: &ElfFile<'_>) -> Result<(), ElfError>
     if pt1.encoding.is_none() {
         return Err(ElfError::NoDataFormat);
     }
-    let ph_size = u64::from(pt2.ph_count()) * u64::from(pt2.ph_entry_size());
-    if !is_within(file.input, pt2.ph_offset(), ph_size) {
+    let ph_count = u64::from(file.program_count());
+    if !table_is_within(file.input, pt2.ph_offset(), pt2.ph_entry_size(), ph_count) {
         return Err(ElfError::PhTableRange);
     }
-    let sh_size = u64::from(pt2.sh_count()) * u64::from(pt2.sh_entry_size());
-    if !is_within(file.input, pt2.sh_offset(), sh_size) {
+    let sh_count = file.section_count();
+    if !table_is_within(file.input, pt2.sh_offset(), pt2.sh_entry_size(), sh_count) {
         return Err(ElfError::ShTableRange);
     }
     Ok(())

@@ -1,9 +1,10 @@
 //! The segments of a file, by index and by iterator (gABI, "Program Header").
 
-ghost use Rattle.std.specs.Prelude.{◌≡◌, ◌↔◌, IsOk, Ok};
+ghost use Rattle.std.specs.Prelude.{◌≡◌, ◌↔◌, IfOk, IsOk};
 ghost use Rattle.std.specs.Iterator.{YieldsFirst, item_count};
-ghost use Rattle.xmas_elf.specs.ProgramList.{HasProgramHeader, ProgramStep, program_header_of, program_rest};
-ghost use Rattle.xmas_elf.specs.Segment.{program_check};
+ghost use Rattle.xmas_elf.specs.Checks.{program_check};
+ghost use Rattle.xmas_elf.specs.ProgramHeader.{HasProgramEntry, HasProgramHeader, program_at, program_entry, program_header_of};
+ghost use Rattle.xmas_elf.specs.ProgramList.{ProgramStep, program_rest};
 
 mod printed;
 mod program_header;
@@ -13,8 +14,9 @@ use crate::header::{Class, Header};
 pub(crate) use crate::program::printed::SegmentType;
 pub use crate::program::program_header::ProgramHeader;
 pub use crate::program::records::{ProgramHeader32, ProgramHeader64};
-use crate::ranges::{ends_inside, is_within};
+use crate::ranges::{ends_inside, entry_at};
 use crate::{ElfError, ElfFile};
+use elf_base::bytes::Record;
 use elf_base::header::byte_order;
 pub use elf_records::program::{
     FLAG_MASKOS, FLAG_MASKPROC, FLAG_R, FLAG_W, FLAG_X, Flags, TYPE_GNU_RELRO, TYPE_HIOS,
@@ -27,41 +29,59 @@ pub use elf_records::program::{
 /// size of the table is 0; `UnknownClass` where the class is neither 1 nor 2; `ShortProgramHeader`
 /// where the entry passes the end of the input; and `SmallEntry` where the entries are smaller than
 /// the record of the class.
-#[tactic(auto, unfolding(crate::specs::ProgramList::program_header_of))]
 pub fn parse_program_header(
     input: &[u8],
     header: Header,
     index: u16,
 ) -> Result<ProgramHeader, ElfError>
     ensures readable { IsOk result ↔ HasProgramHeader input.now header index }
+    ensures value { IfOk result (λ program. program ≡ program_at input.now header index) }
     ensures exact { result ≡ program_header_of input.now header index }
+{
+    let count = u32::from(header.pt2.ph_count());
+    program_entry(input, &header, count, u32::from(index))
+}
+
+// The program header at any index below this count, refused as by `parse_program_header`.
+#[tactic(auto, unfolding(crate::specs::ProgramHeader::program_entry))]
+pub(crate) fn program_entry(
+    input: &[u8],
+    header: &Header,
+    count: u32,
+    index: u32,
+) -> Result<ProgramHeader, ElfError>
+    ensures readable { IsOk result ↔ HasProgramEntry input.now header.now count index }
+    ensures value { IfOk result (λ program. program ≡ program_at input.now header.now index) }
+    ensures exact { result ≡ program_entry input.now header.now count index }
 {
     let offset = header.pt2.ph_offset();
     let entry_size = header.pt2.ph_entry_size();
-    if index >= header.pt2.ph_count() || offset == 0 || entry_size == 0 {
+    if index >= count || offset == 0 || entry_size == 0 {
         return Err(ElfError::NoProgramHeaders);
     }
-    let (is_32, size) = match header.pt1.class() {
-        Class::ThirtyTwo => (true, 32),
-        Class::SixtyFour => (false, 56),
-        Class::None | Class::Other(_) => return Err(ElfError::UnknownClass),
-    };
-    if !is_within(
-        input,
-        offset,
-        (u64::from(index) + 1) * u64::from(entry_size),
-    ) {
-        return Err(ElfError::ShortProgramHeader);
-    }
-    if entry_size < size {
-        return Err(ElfError::SmallEntry);
-    }
-    let place = (offset + u64::from(index) * u64::from(entry_size)) as usize;
+    let place = entry_at(input, offset, entry_size, u64::from(index)).ok_or(
+        ElfError::ShortProgramHeader,
+    );
     let order = byte_order(header.pt1.encoding);
-    if is_32 {
-        return Ok(ProgramHeader::Ph32(ProgramHeader32::read(input, place, order)));
+    match header.pt1.class() {
+        Class::ThirtyTwo => {
+            let place = place?;
+            if usize::from(entry_size) < ProgramHeader32::SIZE {
+                return Err(ElfError::SmallEntry);
+            }
+            let record = ProgramHeader32::read(input, place, order);
+            Ok(ProgramHeader::Ph32(record))
+        }
+        Class::SixtyFour => {
+            let place = place?;
+            if usize::from(entry_size) < ProgramHeader64::SIZE {
+                return Err(ElfError::SmallEntry);
+            }
+            let record = ProgramHeader64::read(input, place, order);
+            Ok(ProgramHeader::Ph64(record))
+        }
+        Class::None | Class::Other(_) => Err(ElfError::UnknownClass),
     }
-    Ok(ProgramHeader::Ph64(ProgramHeader64::read(input, place, order)))
 }
 
 /// The program headers of a file in order, up to their count or the first that is refused.
@@ -70,7 +90,7 @@ pub struct ProgramIter<'b, 'a> {
     /// The file whose segments they are.
     pub file: &'b ElfFile<'a>,
     /// The index of the next program header.
-    pub next_index: u16,
+    pub next_index: u32,
 }
 
 impl ProgramIter<'_, '_> {
@@ -81,10 +101,10 @@ impl ProgramIter<'_, '_> {
     pub fn next(&mut self) -> Option<ProgramHeader>
         ensures { ProgramStep self.old result self.new }
     {
-        if self.next_index >= self.file.header.pt2.ph_count() {
+        if self.next_index >= self.file.program_count() {
             return None;
         }
-        let header = self.file.program_header(self.next_index).ok()?;
+        let header = self.file.program_header_at(self.next_index).ok()?;
         self.next_index += 1;
         Some(header)
     }
@@ -108,11 +128,11 @@ impl Iterator for ProgramIter<'_, '_> {
 /// than the record; `EntryPointRange` where the segment does not end before the end of the input
 /// (also where it ends right there, as in the Rust crate); `InvalidPhType`; `ShLibUsed` for type
 /// ShLib; and `BadAlign` where address and offset differ modulo an alignment above 1.
-#[tactic(auto, unfolding(crate::specs::Segment::program_check))]
+#[tactic(auto, unfolding(crate::specs::Checks::program_check))]
 pub fn sanity_check(program: ProgramHeader, file: &ElfFile<'_>) -> Result<(), ElfError>
-    ensures { result ≡ program_check file.now.input.now file.now.header program }
+    ensures { result ≡ program_check file.now program }
 {
-    if file.header.pt2.ph_entry_size() != program.record_size() {
+    if usize::from(file.header.pt2.ph_entry_size()) != program.record_size() {
         return Err(ElfError::PhSizeMismatch);
     }
     if !ends_inside(file.input, program.offset(), program.file_size()) {

@@ -1,6 +1,8 @@
 //! Ranges of the input, whose ends are whole numbers and never wrap.
 
-ghost use Rattle.std.specs.Prelude.{◌≡◌, ◌↔◌, ◌+◌, ◌≤◌, ◌<◌, Err, IfErr, IfOk, IsTrue, Ok, length};
+ghost use Rattle.std.specs.Prelude.{◌≡◌, ◌↔◌, ◌+◌, ◌≤◌, ◌<◌, IsOk, IsTrue, MatchOption, length};
+ghost use Rattle.elf_base.specs.Lent.{Answers, Lends};
+ghost use Rattle.xmas_elf.specs.HeaderTable.{entry_place};
 ghost use Rattle.xmas_elf.specs.Range.{IsRange, range_of};
 
 use crate::ElfError;
@@ -23,13 +25,34 @@ pub(crate) fn ends_inside(input: &[u8], start: u64, count: u64) -> bool
 
 /// The `count` bytes of the input from `start` on, or `DataRange`.
 pub(crate) fn range_at(input: &[u8], start: u64, count: u64) -> Result<&[u8], ElfError>
-    ensures range { IfOk result (λ range. IsRange input.now start count range.now) }
-    ensures ok { IfOk result (λ range. range_of input.now start count ≡ Ok range.now) }
-    ensures err { IfErr result (λ error. range_of input.now start count ≡ Err error) }
+    ensures within { IsOk result ↔ (start + count ≤ length input.now) }
+    ensures range { Lends (IsRange input.now start count) result }
+    ensures exact { Answers (range_of input.now start count) result }
 {
     if !is_within(input, start, count) {
         return Err(ElfError::DataRange);
     }
     let start = start as usize;
     Ok(&input[start..start + count as usize])
+}
+
+/// Where entry `index` of a table begins, if it ends within the input.
+pub(crate) fn entry_at(input: &[u8], offset: u64, entry_size: u16, index: u64) -> Option<usize>
+    ensures { MatchOption result (length input.now < entry_place offset entry_size (index + 1))
+        (λ place. (place ≡ entry_place offset entry_size index) × (place + entry_size ≤ length input.now)) }
+{
+    // 128 bits hold the place of any entry.
+    let size = u128::from(entry_size);
+    let place = u128::from(offset) + u128::from(index) * size;
+    if place + size > input.len() as u128 {
+        return None;
+    }
+    Some(place as usize)
+}
+
+/// Whether a table with so many entries ends within the input.
+pub(crate) fn table_is_within(input: &[u8], offset: u64, entry_size: u16, count: u64) -> bool
+    ensures { IsTrue result ↔ (entry_place offset entry_size count ≤ length input.now) }
+{
+    u128::from(offset) + u128::from(count) * u128::from(entry_size) <= input.len() as u128
 }

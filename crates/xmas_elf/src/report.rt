@@ -54,7 +54,7 @@ impl Display for Verdict {
 struct CheckLine<'b, 'a>(&'b ElfFile<'a>);
 
 impl Display for CheckLine<'_, '_> {
-    ghost output = { λ line. Some (check_line line.0.now.input.now line.0.now.header) };
+    ghost output = { λ line. Some (check_line line.0.now) };
 
     fn fmt<W: fmt::Write>(&self, f: &mut fmt::Formatter<W>) -> fmt::Result {
         writeln!(f, "check:{}", Verdict(header::sanity_check(self.0)))
@@ -66,7 +66,7 @@ impl Display for CheckLine<'_, '_> {
 struct Name<'b, 'a>(&'b ElfFile<'a>, SectionHeader);
 
 impl Display for Name<'_, '_> {
-    ghost output = { λ name. Some (name_text (name_of name.0.now.input.now name.0.now.header name.1)) };
+    ghost output = { λ name. Some (name_text (name_of name.0.now name.1)) };
 
     fn fmt<W: fmt::Write>(&self, f: &mut fmt::Formatter<W>) -> fmt::Result {
         match self.1.get_name(self.0) {
@@ -80,12 +80,12 @@ impl Display for Name<'_, '_> {
 #[derive(Clone, Copy)]
 struct SectionLine<'b, 'a> {
     file: &'b ElfFile<'a>,
-    index: u32,
+    index: u64,
     section: SectionHeader,
 }
 
 impl Display for SectionLine<'_, '_> {
-    ghost output = { λ line. Some (section_line line.file.now.input.now line.file.now.header line.index line.section) };
+    ghost output = { λ line. Some (section_line line.file.now line.index line.section) };
 
     #[tactic(auto, unfolding(crate::specs::Report::section_line))]
     fn fmt<W: fmt::Write>(&self, f: &mut fmt::Formatter<W>) -> fmt::Result {
@@ -105,7 +105,7 @@ impl Display for SectionLine<'_, '_> {
 struct SectionLines<'b, 'a>(&'b ElfFile<'a>);
 
 impl Display for SectionLines<'_, '_> {
-    ghost output = { λ lines. Some (section_lines lines.0.now.input.now lines.0.now.header) };
+    ghost output = { λ lines. Some (section_lines lines.0.now) };
 
     fn fmt<W: fmt::Write>(&self, f: &mut fmt::Formatter<W>) -> fmt::Result {
         let file = self.0;
@@ -129,12 +129,12 @@ impl Display for SectionLines<'_, '_> {
 #[derive(Clone, Copy)]
 struct SegmentLine<'b, 'a> {
     file: &'b ElfFile<'a>,
-    index: u32,
+    index: u64,
     program: ProgramHeader,
 }
 
 impl Display for SegmentLine<'_, '_> {
-    ghost output = { λ line. Some (segment_line line.file.now.input.now line.file.now.header line.index line.program) };
+    ghost output = { λ line. Some (segment_line line.file.now line.index line.program) };
 
     #[tactic(auto, unfolding(crate::specs::Report::segment_line))]
     fn fmt<W: fmt::Write>(&self, f: &mut fmt::Formatter<W>) -> fmt::Result {
@@ -149,7 +149,7 @@ impl Display for SegmentLine<'_, '_> {
 struct SegmentLines<'b, 'a>(&'b ElfFile<'a>);
 
 impl Display for SegmentLines<'_, '_> {
-    ghost output = { λ lines. Some (segment_lines lines.0.now.input.now lines.0.now.header) };
+    ghost output = { λ lines. Some (segment_lines lines.0.now) };
 
     fn fmt<W: fmt::Write>(&self, f: &mut fmt::Formatter<W>) -> fmt::Result {
         let file = self.0;
@@ -172,7 +172,7 @@ impl Display for SegmentLines<'_, '_> {
 struct FileReport<'b, 'a>(&'b ElfFile<'a>);
 
 impl Display for FileReport<'_, '_> {
-    ghost output = { λ report. Some (report_text report.0.now.input.now report.0.now.header) };
+    ghost output = { λ report. Some (report_text report.0.now) };
 
     #[tactic(auto, unfolding(crate::specs::Report::report_text))]
     fn fmt<W: fmt::Write>(&self, f: &mut fmt::Formatter<W>) -> fmt::Result {
@@ -192,7 +192,7 @@ impl Display for FileReport<'_, '_> {
 /// `Elf` where `ElfFile::new` refuses the bytes, and `Write` where the writer failed; how much was
 /// written then is left open.
 pub fn report<W: io::Write>(input: &[u8], w: &mut W) -> Result<(), ReportFault>
-    ensures written { OnOk result (WritesReport input.now (W.contents w.old) (W.contents w.new)) }
+    ensures written { OnOk result (WritesReport input.entry (W.contents w.old) (W.contents w.new)) }
     ensures refused { RefusesExactly input.now result }
     ensures untouched { IfErr result (λ fault. WritesNothing fault w.old w.new) }
 {
@@ -204,7 +204,7 @@ pub fn report<W: io::Write>(input: &[u8], w: &mut W) -> Result<(), ReportFault>
 
 // Writes the report of an accepted file.
 fn write_file<W: io::Write>(file: &ElfFile<'_>, w: &mut W) -> Result<(), ReportFault>
-    ensures written { OnOk result (Appends (W.contents w.old) (W.contents w.new) (report_text file.now.input.now file.now.header)) }
+    ensures written { OnOk result (Appends (W.contents w.old) (W.contents w.new) (report_text file.now)) }
     ensures fault { IfErr result (λ fault. fault ≡ ReportFault.Write) }
 {
     write!(w, "{}", FileReport(file)).map_err(|_| ReportFault::Write)

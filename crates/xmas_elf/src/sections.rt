@@ -1,22 +1,21 @@
 //! The sections of a file, by index and by iterator (gABI, "Sections").
 
-ghost use Rattle.std.specs.Prelude.{◌≡◌, ◌↔◌, IsOk, Ok};
+ghost use Rattle.std.specs.Prelude.{◌≡◌, ◌↔◌, IfOk, IsOk};
 ghost use Rattle.std.specs.Iterator.{YieldsFirst, item_count};
-ghost use Rattle.elf_records.specs.SectionNumbers.{sh_type_of};
-ghost use Rattle.elf_base.specs.Refusal.{and_then};
-ghost use Rattle.xmas_elf.specs.SectionLayout.{section_fields};
-ghost use Rattle.xmas_elf.specs.SectionList.{HasSectionHeader, SectionStep, section_header_of, section_rest};
+ghost use Rattle.xmas_elf.specs.SectionHeader.{HasSectionEntry, HasSectionHeader, section_at, section_check, section_entry, section_header_of};
+ghost use Rattle.xmas_elf.specs.SectionList.{SectionStep, section_rest};
 
 mod printed;
 mod records;
 mod section_header;
 
 use crate::header::{Class, Header};
-use crate::ranges::is_within;
+use crate::ranges::entry_at;
 pub(crate) use crate::sections::printed::SectionType;
 pub use crate::sections::records::SectionHeader_;
 pub use crate::sections::section_header::SectionHeader;
 use crate::{ElfError, ElfFile, P32, P64};
+use elf_base::bytes::Record;
 use elf_base::header::byte_order;
 pub use elf_records::sections::{
     GRP_COMDAT, GRP_MASKOS, GRP_MASKPROC, SHF_ALLOC, SHF_COMPRESSED, SHF_EXECINSTR, SHF_GROUP,
@@ -31,39 +30,48 @@ pub use elf_records::sections::{
 /// The index is not compared with the count of sections. Refused with `ReservedIndex` from 0xff00 on,
 /// `ShortSectionHeader` where the entry passes the end of the input, `UnknownClass` where the class
 /// is neither 1 nor 2, and `SmallEntry` where the entries are smaller than the record of the class.
-#[tactic(auto, unfolding(crate::specs::SectionList::section_header_of))]
+#[tactic(auto, unfolding(crate::specs::SectionHeader::section_header_of))]
 pub fn parse_section_header(
     input: &[u8],
     header: Header,
     index: u16,
 ) -> Result<SectionHeader, ElfError>
     ensures readable { IsOk result ↔ HasSectionHeader input.now header index }
+    ensures value { IfOk result (λ section. section ≡ section_at input.now header index) }
     ensures exact { result ≡ section_header_of input.now header index }
 {
     if index >= SHN_LORESERVE {
         return Err(ElfError::ReservedIndex);
     }
-    let offset = header.pt2.sh_offset();
+    section_entry(input, &header, u64::from(index))
+}
+
+// The section header at any index, refused as by `parse_section_header` but for `ReservedIndex`.
+#[tactic(auto, unfolding(crate::specs::SectionHeader::section_entry))]
+pub(crate) fn section_entry(
+    input: &[u8],
+    header: &Header,
+    index: u64,
+) -> Result<SectionHeader, ElfError>
+    ensures readable { IsOk result ↔ HasSectionEntry input.now header.now index }
+    ensures value { IfOk result (λ section. section ≡ section_at input.now header.now index) }
+    ensures exact { result ≡ section_entry input.now header.now index }
+{
     let entry_size = header.pt2.sh_entry_size();
-    if !is_within(
-        input,
-        offset,
-        (u64::from(index) + 1) * u64::from(entry_size),
-    ) {
+    let Some(place) = entry_at(input, header.pt2.sh_offset(), entry_size, index) else {
         return Err(ElfError::ShortSectionHeader);
-    }
-    let place = (offset + u64::from(index) * u64::from(entry_size)) as usize;
+    };
     let order = byte_order(header.pt1.encoding);
     match header.pt1.class() {
         Class::ThirtyTwo => {
-            if entry_size < 40 {
+            if usize::from(entry_size) < SectionHeader_::<P32>::SIZE {
                 return Err(ElfError::SmallEntry);
             }
             let record = SectionHeader_::<P32>::read(input, place, order);
             Ok(SectionHeader::Sh32(record))
         }
         Class::SixtyFour => {
-            if entry_size < 64 {
+            if usize::from(entry_size) < SectionHeader_::<P64>::SIZE {
                 return Err(ElfError::SmallEntry);
             }
             let record = SectionHeader_::<P64>::read(input, place, order);
@@ -79,7 +87,7 @@ pub struct SectionIter<'b, 'a> {
     /// The file whose sections they are.
     pub file: &'b ElfFile<'a>,
     /// The index of the next section header.
-    pub next_index: u16,
+    pub next_index: u64,
 }
 
 impl SectionIter<'_, '_> {
@@ -90,10 +98,10 @@ impl SectionIter<'_, '_> {
     pub fn next(&mut self) -> Option<SectionHeader>
         ensures { SectionStep self.old result self.new }
     {
-        if self.next_index >= self.file.header.pt2.sh_count() {
+        if self.next_index >= self.file.section_count() {
             return None;
         }
-        let header = self.file.section_header(self.next_index).ok()?;
+        let header = self.file.section_header_at(self.next_index).ok()?;
         self.next_index += 1;
         Some(header)
     }
@@ -113,7 +121,7 @@ impl Iterator for SectionIter<'_, '_> {
 
 /// Whether a section header makes sense: `InvalidShType` is its one fault.
 pub fn sanity_check(header: SectionHeader, _file: &ElfFile<'_>) -> Result<(), ElfError>
-    ensures { result ≡ and_then (sh_type_of (section_fields header).type_.0) (λ kind. Ok tt) }
+    ensures { result ≡ section_check header }
 {
     let _kind = header.get_type()?;
     Ok(())

@@ -1,7 +1,9 @@
 //! Texts that a zero byte ends (gABI, "String Table").
 
-ghost use Rattle.std.specs.Prelude.{◌≡◌, ℕ, List, Ok, Err, IfErr, IfOk, IsOkAnd};
+ghost use Rattle.std.specs.Prelude.{◌≡◌, ◌↔◌, ◌+◌, ◌≤◌, IfErr, IsTrue, length};
+ghost use Rattle.elf_base.specs.Lent.{Answers, Lends, LendsOnly};
 ghost use Rattle.elf_base.specs.Text.{IsText, TextRefused, text_of};
+ghost use Rattle.elf_base.specs.TextCompared.{FrontCompared, TextCompared};
 
 use crate::ElfError;
 use memchr::memchr;
@@ -11,13 +13,10 @@ use memchr::memchr;
 /// Refused with `TextStart` for a start past the end of the data, `TextEnd` if no zero byte follows,
 /// and `TextUtf8` if what stands before it is not UTF-8.
 pub fn text_at(data: &[u8], start: usize) -> Result<&str, ElfError>
-    ensures text { IfOk result (λ t. IsText «data».now start t.now) }
-    ensures only { (t : List ℕ) → IsText «data».now start t → IsOkAnd result (λ s. s.now ≡ t) }
-    ensures refused { IfErr result (λ error. TextRefused «data».now start error) }
-
-    // the same, for callers that go on with what the text is
-    ensures ok { IfOk result (λ t. text_of «data».now start ≡ Ok t.now) }
-    ensures err { IfErr result (λ error. text_of «data».now start ≡ Err error) }
+    ensures text { Lends (IsText «data».now start) result }
+    ensures only { LendsOnly (IsText «data».now start) result }
+    ensures refused { IfErr result (TextRefused «data».now start) }
+    ensures exact { Answers (text_of «data».now start) result }
 {
     if start > data.len() {
         return Err(ElfError::TextStart);
@@ -30,4 +29,41 @@ pub fn text_at(data: &[u8], start: usize) -> Result<&str, ElfError>
         Ok(text) => Ok(text),
         Err(_) => Err(ElfError::TextUtf8),
     }
+}
+
+/// Whether the text from `start`, which is in bytes, up to the first zero byte is this one, and how
+/// many bytes were compared to find out.
+///
+/// None are where `start` is past the end of the data or a zero byte stands in `text`; else all of
+/// `text` and a zero byte behind it, up to the first that the data lacks or that differs there. The
+/// data's text isn't tested for UTF-8, which `text` is.
+pub fn text_is(data: &[u8], start: usize, text: &str) -> (bool, usize)
+    ensures is { IsTrue result.0 ↔ IsText «data».now start text.now }
+    ensures compared { TextCompared «data».now start text.now result.0 result.1 }
+    ensures few { result.1 ≤ length text.now + 1 }
+{
+    let wanted = text.as_bytes();
+    if start > data.len() || memchr(0, wanted).is_some() {
+        return (false, 0);
+    }
+    front_is(&data[start..], wanted)
+}
+
+// Whether the bytes begin with these and a zero byte, and how many were compared.
+fn front_is(bytes: &[u8], wanted: &[u8]) -> (bool, usize)
+    ensures { FrontCompared bytes.now wanted.now result.0 result.1 }
+{
+    for place in 0..wanted.len() {
+        if place >= bytes.len() {
+            return (false, place);
+        }
+        if bytes[place] != wanted[place] {
+            return (false, place + 1);
+        }
+    }
+    let end = wanted.len();
+    if end >= bytes.len() {
+        return (false, end);
+    }
+    (bytes[end] == 0, end + 1)
 }

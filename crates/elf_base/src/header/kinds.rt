@@ -4,7 +4,7 @@
 //! The enum of the same name is what the number means.
 
 ghost use Rattle.std.specs.Prelude.{◌≡◌, ◌↔◌, IsTrue};
-ghost use Rattle.elf_base.specs.HeaderNumbers.{class_of, data_of, machine_of, os_abi_of, type_of, version_of};
+ghost use Rattle.elf_base.specs.HeaderNumbers.{class_number, class_of, class_raw, encoding_number, encoding_of, encoding_raw, machine_number, machine_of, machine_raw, os_abi_number, os_abi_of, os_abi_raw, type_number, type_of, type_raw, version_number, version_of, version_raw};
 
 /// How wide the addresses and offsets of a file are, as a number (gABI, "ELF Header", EI_CLASS).
 #[derive(Clone, Copy, Debug, PartialEq, Eq)]
@@ -13,21 +13,21 @@ pub struct Class_(u8);
 impl Class_ {
     /// The value of this number, which may be any.
     pub fn from_raw(number: u8) -> Class_
-        ensures { result ≡ record { 0 = number } }
+        ensures { result ≡ class_raw number }
     {
         Class_(number)
     }
 
     /// The number as it stands in the file.
     pub fn raw(self) -> u8
-        ensures { result ≡ self.0 }
+        ensures { result ≡ class_number self }
     {
         self.0
     }
 
     /// What the number means.
     pub fn as_class(self) -> Class
-        ensures { result ≡ class_of self.0 }
+        ensures { result ≡ class_of (class_number self) }
     {
         match self.0 {
             0 => Class::None,
@@ -39,7 +39,7 @@ impl Class_ {
 
     /// Whether the number is 0.
     pub fn is_none(self) -> bool
-        ensures { IsTrue result ↔ (self.0 ≡ 0) }
+        ensures { IsTrue result ↔ (class_number self ≡ 0) }
     {
         self.0 == 0
     }
@@ -74,21 +74,21 @@ pub struct Data_(u8);
 impl Data_ {
     /// The value of this number, which may be any.
     pub fn from_raw(number: u8) -> Data_
-        ensures { result ≡ record { 0 = number } }
+        ensures { result ≡ encoding_raw number }
     {
         Data_(number)
     }
 
     /// The number as it stands in the file.
     pub fn raw(self) -> u8
-        ensures { result ≡ self.0 }
+        ensures { result ≡ encoding_number self }
     {
         self.0
     }
 
     /// What the number means.
     pub fn as_data(self) -> Data
-        ensures { result ≡ data_of self.0 }
+        ensures { result ≡ encoding_of (encoding_number self) }
     {
         match self.0 {
             0 => Data::None,
@@ -100,7 +100,7 @@ impl Data_ {
 
     /// Whether the number is 0.
     pub fn is_none(self) -> bool
-        ensures { IsTrue result ↔ (self.0 ≡ 0) }
+        ensures { IsTrue result ↔ (encoding_number self ≡ 0) }
     {
         self.0 == 0
     }
@@ -135,21 +135,21 @@ pub struct Version_(u8);
 impl Version_ {
     /// The value of this number, which may be any.
     pub fn from_raw(number: u8) -> Version_
-        ensures { result ≡ record { 0 = number } }
+        ensures { result ≡ version_raw number }
     {
         Version_(number)
     }
 
     /// The number as it stands in the file.
     pub fn raw(self) -> u8
-        ensures { result ≡ self.0 }
+        ensures { result ≡ version_number self }
     {
         self.0
     }
 
     /// What the number means.
     pub fn as_version(self) -> Version
-        ensures { result ≡ version_of self.0 }
+        ensures { result ≡ version_of (version_number self) }
     {
         match self.0 {
             0 => Version::None,
@@ -160,7 +160,7 @@ impl Version_ {
 
     /// Whether the number is 0.
     pub fn is_none(self) -> bool
-        ensures { IsTrue result ↔ (self.0 ≡ 0) }
+        ensures { IsTrue result ↔ (version_number self ≡ 0) }
     {
         self.0 == 0
     }
@@ -193,21 +193,21 @@ pub struct OsAbi_(u8);
 impl OsAbi_ {
     /// The value of this number, which may be any.
     pub fn from_raw(number: u8) -> OsAbi_
-        ensures { result ≡ record { 0 = number } }
+        ensures { result ≡ os_abi_raw number }
     {
         OsAbi_(number)
     }
 
     /// The number as it stands in the file.
     pub fn raw(self) -> u8
-        ensures { result ≡ self.0 }
+        ensures { result ≡ os_abi_number self }
     {
         self.0
     }
 
     /// What the number means.
     pub fn as_os_abi(self) -> OsAbi
-        ensures { result ≡ os_abi_of self.0 }
+        ensures { result ≡ os_abi_of (os_abi_number self) }
     {
         match self.0 {
             0 => OsAbi::SystemV,
@@ -259,21 +259,21 @@ pub struct Type_(pub u16);
 impl Type_ {
     /// The value of this number, which may be any.
     pub fn from_raw(number: u16) -> Type_
-        ensures { result ≡ record { 0 = number } }
+        ensures { result ≡ type_raw number }
     {
         Type_(number)
     }
 
     /// The number as it stands in the file.
     pub fn raw(self) -> u16
-        ensures { result ≡ self.0 }
+        ensures { result ≡ type_number self }
     {
         self.0
     }
 
     /// What the number means.
     pub fn as_type(self) -> Type
-        ensures { result ≡ type_of self.0 }
+        ensures { result ≡ type_of (type_number self) }
     {
         match self.0 {
             0 => Type::None,
@@ -310,21 +310,21 @@ pub struct Machine_(u16);
 impl Machine_ {
     /// The value of this number, which may be any.
     pub fn from_raw(number: u16) -> Machine_
-        ensures { result ≡ record { 0 = number } }
+        ensures { result ≡ machine_raw number }
     {
         Machine_(number)
     }
 
     /// The number as it stands in the file.
     pub fn raw(self) -> u16
-        ensures { result ≡ self.0 }
+        ensures { result ≡ machine_number self }
     {
         self.0
     }
 
     /// What the number means.
     pub fn as_machine(self) -> Machine
-        ensures { result ≡ machine_of self.0 }
+        ensures { result ≡ machine_of (machine_number self) }
     {
         match self.0 {
             0 => Machine::None,

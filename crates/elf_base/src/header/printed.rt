@@ -1,8 +1,8 @@
 //! How the ELF header is printed: a line for each field.
 
 ghost use Rattle.std.specs.Prelude.{◌≡◌, Some};
-ghost use Rattle.elf_base.specs.HeaderLayout.{fields};
-ghost use Rattle.elf_base.specs.HeaderText.{class_text, data_text, first_part_text, header_text, machine_text, os_abi_text, second_part_text, type_text, version_text};
+ghost use Rattle.elf_base.specs.HeaderLayout.{header_fields};
+ghost use Rattle.elf_base.specs.HeaderText.{class_text, encoding_text, first_part_text, header_text, machine_text, os_abi_text, second_part_text, type_text, version_text};
 
 use crate::header::kinds::{Class, Data, Machine, OsAbi, Type, Version};
 use crate::header::{Header, HeaderPt1, HeaderPt2, HeaderPt2_};
@@ -25,7 +25,7 @@ impl Display for Class {
 }
 
 impl Display for Data {
-    ghost output = { λ encoding. Some (data_text encoding) };
+    ghost output = { λ encoding. Some (encoding_text encoding) };
 
     fn fmt<W: fmt::Write>(&self, f: &mut fmt::Formatter<W>) -> fmt::Result {
         f.write_str(match *self {
@@ -117,13 +117,13 @@ impl Display for FirstPart<'_> {
         write!(
             f,
             "{}{}{}{}{}{}{}",
-            Field("magic:            ", Bytes(&self.0.magic)),
-            Field("class:            ", self.0.class()),
-            Field("data:             ", self.0.data()),
-            Field("version:          ", self.0.version()),
-            Field("os abi:           ", self.0.os_abi()),
-            Field("abi version:      ", self.0.abi_version),
-            Field("padding:          ", Bytes(&self.0.padding))
+            Field("magic", Bytes(&self.0.magic)),
+            Field("class", self.0.class()),
+            Field("data", self.0.data()),
+            Field("version", self.0.version()),
+            Field("os abi", self.0.os_abi()),
+            Field("abi version", self.0.abi_version),
+            Field("padding", Bytes(&self.0.padding))
         )
     }
 }
@@ -166,25 +166,25 @@ impl Display for HeaderPt2_<P64> {
         write!(
             f,
             "{}{}{}{}{}{}{}{}{}{}{}{}{}",
-            Field("type:             ", self.type_.as_type()),
-            Field("machine:          ", self.machine.as_machine()),
-            Field("version:          ", self.version),
-            Field("entry_point:      ", self.entry_point),
-            Field("ph_offset:        ", self.ph_offset),
-            Field("sh_offset:        ", self.sh_offset),
-            Field("flags:            ", self.flags),
-            Field("header_size:      ", self.header_size),
-            Field("ph_entry_size:    ", self.ph_entry_size),
-            Field("ph_count:         ", self.ph_count),
-            Field("sh_entry_size:    ", self.sh_entry_size),
-            Field("sh_count:         ", self.sh_count),
-            Field("sh_str_index:     ", self.sh_str_index)
+            Field("type", self.type_.as_type()),
+            Field("machine", self.machine.as_machine()),
+            Field("version", self.version),
+            Field("entry_point", self.entry_point),
+            Field("ph_offset", self.ph_offset),
+            Field("sh_offset", self.sh_offset),
+            Field("flags", self.flags),
+            Field("header_size", self.header_size),
+            Field("ph_entry_size", self.ph_entry_size),
+            Field("ph_count", self.ph_count),
+            Field("sh_entry_size", self.sh_entry_size),
+            Field("sh_count", self.sh_count),
+            Field("sh_str_index", self.sh_str_index)
         )
     }
 }
 
 impl Display for HeaderPt2 {
-    ghost output = { λ part. Some (second_part_text (fields part)) };
+    ghost output = { λ part. Some (second_part_text (header_fields part)) };
 
     fn fmt<W: fmt::Write>(&self, f: &mut fmt::Formatter<W>) -> fmt::Result {
         match self {

@@ -1,8 +1,9 @@
 //! How a program header is printed: a line for each field.
 
 ghost use Rattle.std.specs.Prelude.{◌≡◌, Some};
-ghost use Rattle.xmas_elf.specs.ProgramLayout.{program_fields, widened};
-ghost use Rattle.xmas_elf.specs.ProgramText.{segment_fields_text, segment_text, segment_type_text};
+ghost use Rattle.elf_records.specs.ProgramNumbers.{ph_type_number};
+ghost use Rattle.xmas_elf.specs.ProgramHeader.{program_64, program_fields};
+ghost use Rattle.xmas_elf.specs.SegmentText.{segment_fields_text, segment_text, segment_type_text};
 
 use crate::program::{ProgramHeader, ProgramHeader32, ProgramHeader64, Type_};
 use elf_base::print::{Field, Hex, PrintedResult};
@@ -14,7 +15,7 @@ use std::fmt::Display;
 pub(crate) struct SegmentType(pub(crate) Type_);
 
 impl Display for SegmentType {
-    ghost output = { λ kind. Some (segment_type_text kind.0.0) };
+    ghost output = { λ kind. Some (segment_type_text (ph_type_number kind.0)) };
 
     fn fmt<W: fmt::Write>(&self, f: &mut fmt::Formatter<W>) -> fmt::Result {
         write!(f, "{}", PrintedResult(self.0.as_type()))
@@ -32,14 +33,14 @@ impl Display for SegmentFields<'_> {
         write!(
             f,
             "{}{}{}{}{}{}{}{}",
-            Field("type:             ", SegmentType(self.0.type_)),
-            Field("flags:            ", self.0.flags),
-            Field("offset:           ", Hex(self.0.offset)),
-            Field("virtual address:  ", Hex(self.0.virtual_addr)),
-            Field("physical address: ", Hex(self.0.physical_addr)),
-            Field("file size:        ", Hex(self.0.file_size)),
-            Field("memory size:      ", Hex(self.0.mem_size)),
-            Field("align:            ", Hex(self.0.align))
+            Field("type", SegmentType(self.0.type_)),
+            Field("flags", self.0.flags),
+            Field("offset", Hex(self.0.offset)),
+            Field("virtual address", Hex(self.0.virtual_addr)),
+            Field("physical address", Hex(self.0.physical_addr)),
+            Field("file size", Hex(self.0.file_size)),
+            Field("memory size", Hex(self.0.mem_size)),
+            Field("align", Hex(self.0.align))
         )
     }
 }
@@ -53,10 +54,10 @@ impl Display for ProgramHeader64 {
 }
 
 impl Display for ProgramHeader32 {
-    ghost output = { λ header. Some (segment_text (widened header)) };
+    ghost output = { λ header. Some (segment_text (program_64 header)) };
 
     fn fmt<W: fmt::Write>(&self, f: &mut fmt::Formatter<W>) -> fmt::Result {
-        self.widened().fmt(f)
+        self.to_64().fmt(f)
     }
 }
 
@@ -64,6 +65,9 @@ impl Display for ProgramHeader {
     ghost output = { λ header. Some (segment_text (program_fields header)) };
 
     fn fmt<W: fmt::Write>(&self, f: &mut fmt::Formatter<W>) -> fmt::Result {
-        self.widened().fmt(f)
+        match self {
+            ProgramHeader::Ph32(header) => fmt::Display::fmt(header, f),
+            ProgramHeader::Ph64(header) => fmt::Display::fmt(header, f),
+        }
     }
 }

@@ -1,12 +1,14 @@
 //! A program header of either width (gABI, "Program Header").
 
-ghost use Rattle.std.specs.Prelude.{◌≡◌};
-ghost use Rattle.elf_records.specs.ProgramNumbers.{ph_type_of};
-ghost use Rattle.xmas_elf.specs.ProgramLayout.{program_fields, program_record_size};
+ghost use Rattle.std.specs.Prelude.{◌≡◌, ◌↔◌, IsOk};
+ghost use Rattle.elf_base.specs.Lent.{Answers, Lends};
+ghost use Rattle.xmas_elf.specs.ProgramHeader.{program_fields, program_record_size, segment_type};
+ghost use Rattle.xmas_elf.specs.SegmentData.{HasSegmentData, IsSegmentData, segment_data_of};
 
-use crate::ElfError;
 use crate::program::records::{ProgramHeader32, ProgramHeader64};
 use crate::program::{Flags, Type, Type_};
+use crate::{ElfError, ElfFile};
+use elf_base::bytes::Record;
 
 /// A program header of either width.
 #[derive(Clone, Copy, Debug)]
@@ -90,11 +92,26 @@ impl ProgramHeader {
 
     /// What the segment is, or `InvalidPhType`.
     pub fn get_type(&self) -> Result<Type, ElfError>
-        ensures { result ≡ ph_type_of (program_fields self.now).type_.0 }
+        ensures { result ≡ segment_type (program_fields self.now) }
     {
         match self {
             ProgramHeader::Ph32(header) => header.get_type(),
             ProgramHeader::Ph64(header) => header.get_type(),
+        }
+    }
+
+    /// The data of the segment as it stands in the input, where it lives as long.
+    ///
+    /// Refused with `InvalidPhType`, with `NullData` for type Null, and with `DataRange` where it
+    /// passes the end of the input; an empty segment is the empty slice, whatever its offset.
+    pub fn raw_data<'a>(&self, file: &ElfFile<'a>) -> Result<&'a [u8], ElfError>
+        ensures readable { IsOk result ↔ HasSegmentData file.now (program_fields self.now) }
+        ensures range { Lends (IsSegmentData file.now (program_fields self.now)) result }
+        ensures exact { Answers (segment_data_of file.now (program_fields self.now)) result }
+    {
+        match self {
+            ProgramHeader::Ph32(header) => header.raw_data(file),
+            ProgramHeader::Ph64(header) => header.raw_data(file),
         }
     }
 
@@ -109,22 +126,12 @@ impl ProgramHeader {
     }
 
     // How many bytes the record has: 32 or 56.
-    pub(crate) fn record_size(&self) -> u16
+    pub(crate) fn record_size(&self) -> usize
         ensures { result ≡ program_record_size self.now }
     {
         match self {
-            ProgramHeader::Ph32(_) => 32,
-            ProgramHeader::Ph64(_) => 56,
-        }
-    }
-
-    // The same numbers in the record of class 64.
-    pub(crate) fn widened(&self) -> ProgramHeader64
-        ensures { result ≡ program_fields self.now }
-    {
-        match self {
-            ProgramHeader::Ph32(header) => header.widened(),
-            ProgramHeader::Ph64(header) => *header,
+            ProgramHeader::Ph32(_) => ProgramHeader32::SIZE,
+            ProgramHeader::Ph64(_) => ProgramHeader64::SIZE,
         }
     }
 }

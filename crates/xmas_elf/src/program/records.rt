@@ -1,10 +1,10 @@
 //! Program headers as records in bytes (gABI, "Program Header": Elf32_Phdr and Elf64_Phdr).
 
-ghost use Rattle.std.specs.Prelude.{◌≡◌, ◌+◌, ◌≤◌, ◌<◌, Err, IfErr, IfOk, Ok, length};
+ghost use Rattle.std.specs.Prelude.{◌≡◌, ◌↔◌, ◌+◌, ◌≤◌, ◌<◌, IsOk, length};
 ghost use Rattle.std.proofs.Common.{lit<};
-ghost use Rattle.elf_records.specs.ProgramNumbers.{ph_type_of};
-ghost use Rattle.xmas_elf.specs.ProgramLayout.{program_header_32, program_header_64, widened};
-ghost use Rattle.xmas_elf.specs.Segment.{IsSegmentData, segment_data_of};
+ghost use Rattle.elf_base.specs.Lent.{Answers, Lends};
+ghost use Rattle.xmas_elf.specs.ProgramHeader.{program_64, program_header_32, program_header_64, segment_type};
+ghost use Rattle.xmas_elf.specs.SegmentData.{HasSegmentData, IsSegmentData, segment_data_of};
 
 use crate::program::{Flags, Type, Type_};
 use crate::ranges::range_at;
@@ -56,7 +56,7 @@ pub struct ProgramHeader64 {
 impl ProgramHeader32 {
     /// What the segment is, or `InvalidPhType`.
     pub fn get_type(&self) -> Result<Type, ElfError>
-        ensures { result ≡ ph_type_of self.now.type_.0 }
+        ensures { result ≡ segment_type (program_64 self.now) }
     {
         self.type_.as_type()
     }
@@ -66,16 +66,16 @@ impl ProgramHeader32 {
     /// Refused with `InvalidPhType`, with `NullData` for type Null, and with `DataRange` where it
     /// passes the end of the input; an empty segment is the empty slice, whatever its offset.
     pub fn raw_data<'a>(&self, file: &ElfFile<'a>) -> Result<&'a [u8], ElfError>
-        ensures range { IfOk result (λ range. IsSegmentData file.now.input.now (widened self.now) range.now) }
-        ensures ok { IfOk result (λ range. segment_data_of file.now.input.now (widened self.now) ≡ Ok range.now) }
-        ensures err { IfErr result (λ error. segment_data_of file.now.input.now (widened self.now) ≡ Err error) }
+        ensures readable { IsOk result ↔ HasSegmentData file.now (program_64 self.now) }
+        ensures range { Lends (IsSegmentData file.now (program_64 self.now)) result }
+        ensures exact { Answers (segment_data_of file.now (program_64 self.now)) result }
     {
-        self.widened().raw_data(file)
+        self.to_64().raw_data(file)
     }
 
     // The same numbers in the record of class 64.
-    pub(crate) fn widened(&self) -> ProgramHeader64
-        ensures { result ≡ widened self.now }
+    pub(crate) fn to_64(&self) -> ProgramHeader64
+        ensures { result ≡ program_64 self.now }
     {
         ProgramHeader64 {
             type_: self.type_,
@@ -124,7 +124,7 @@ impl Record for ProgramHeader32 {
 impl ProgramHeader64 {
     /// What the segment is, or `InvalidPhType`.
     pub fn get_type(&self) -> Result<Type, ElfError>
-        ensures { result ≡ ph_type_of self.now.type_.0 }
+        ensures { result ≡ segment_type self.now }
     {
         self.type_.as_type()
     }
@@ -133,21 +133,16 @@ impl ProgramHeader64 {
     ///
     /// Refused with `InvalidPhType`, with `NullData` for type Null, and with `DataRange` where it
     /// passes the end of the input; an empty segment is the empty slice, whatever its offset.
-    #[tactic(auto, unfolding(crate::specs::Segment::segment_data_of))]
+    #[tactic(auto, unfolding(crate::specs::SegmentData::segment_data_of))]
     pub fn raw_data<'a>(&self, file: &ElfFile<'a>) -> Result<&'a [u8], ElfError>
-        ensures range { IfOk result (λ range. IsSegmentData file.now.input.now self.now range.now) }
-        ensures ok { IfOk result (λ range. segment_data_of file.now.input.now self.now ≡ Ok range.now) }
-        ensures err { IfErr result (λ error. segment_data_of file.now.input.now self.now ≡ Err error) }
+        ensures readable { IsOk result ↔ HasSegmentData file.now self.now }
+        ensures range { Lends (IsSegmentData file.now self.now) result }
+        ensures exact { Answers (segment_data_of file.now self.now) result }
     {
-        match self.get_type() {
-            Err(error) => Err(error),
-            Ok(Type::Null) => Err(ElfError::NullData),
-            Ok(_) => {
-                if self.file_size == 0 {
-                    return Ok(&[]);
-                }
-                range_at(file.input, self.offset, self.file_size)
-            }
+        match self.get_type()? {
+            Type::Null => Err(ElfError::NullData),
+            _ if self.file_size == 0 => Ok(&[]),
+            _ => range_at(file.input, self.offset, self.file_size),
         }
     }
 

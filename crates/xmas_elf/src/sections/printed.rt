@@ -1,7 +1,8 @@
 //! How a section header is printed: a line for each field but `info`.
 
 ghost use Rattle.std.specs.Prelude.{◌≡◌, Some};
-ghost use Rattle.xmas_elf.specs.SectionLayout.{section_fields};
+ghost use Rattle.elf_records.specs.SectionNumbers.{sh_type_number};
+ghost use Rattle.xmas_elf.specs.SectionHeader.{record_fields, section_fields};
 ghost use Rattle.xmas_elf.specs.SectionText.{section_fields_text, section_text, section_type_text};
 
 use crate::P64;
@@ -15,7 +16,7 @@ use std::fmt::Display;
 pub(crate) struct SectionType(pub(crate) ShType_);
 
 impl Display for SectionType {
-    ghost output = { λ kind. Some (section_type_text kind.0.0) };
+    ghost output = { λ kind. Some (section_type_text (sh_type_number kind.0)) };
 
     fn fmt<W: fmt::Write>(&self, f: &mut fmt::Formatter<W>) -> fmt::Result {
         write!(f, "{}", PrintedResult(self.0.as_sh_type()))
@@ -27,29 +28,29 @@ impl Display for SectionType {
 struct SectionFields(SectionHeader_<P64>);
 
 impl Display for SectionFields {
-    ghost output = { λ fields. Some (section_fields_text fields.0) };
+    ghost output = { λ fields. Some (section_fields_text (record_fields fields.0)) };
 
     fn fmt<W: fmt::Write>(&self, f: &mut fmt::Formatter<W>) -> fmt::Result {
         write!(
             f,
             "{}{}{}{}{}{}{}{}{}",
-            Field("name:             ", self.0.name),
-            Field("type:             ", SectionType(self.0.type_)),
-            Field("flags:            ", self.0.flags),
-            Field("address:          ", self.0.address),
-            Field("offset:           ", self.0.offset),
-            Field("size:             ", self.0.size),
-            Field("link:             ", self.0.link),
-            Field("align:            ", self.0.align),
-            Field("entry size:       ", self.0.entry_size)
+            Field("name", self.0.name),
+            Field("type", SectionType(self.0.type_)),
+            Field("flags", self.0.flags),
+            Field("address", self.0.address),
+            Field("offset", self.0.offset),
+            Field("size", self.0.size),
+            Field("link", self.0.link),
+            Field("align", self.0.align),
+            Field("entry size", self.0.entry_size)
         )
     }
 }
 
 impl SectionHeader {
     // The same numbers, in the types of class 64, so that one text serves both.
-    fn widened(&self) -> SectionHeader_<P64>
-        ensures { result ≡ section_fields self.now }
+    fn record_64(&self) -> SectionHeader_<P64>
+        ensures { record_fields result ≡ section_fields self.now }
     {
         match self {
             SectionHeader::Sh32(header) => SectionHeader_ {
@@ -73,6 +74,6 @@ impl Display for SectionHeader {
     ghost output = { λ section. Some (section_text (section_fields section)) };
 
     fn fmt<W: fmt::Write>(&self, f: &mut fmt::Formatter<W>) -> fmt::Result {
-        write!(f, "Section header:\n{}", SectionFields(self.widened()))
+        write!(f, "Section header:\n{}", SectionFields(self.record_64()))
     }
 }

@@ -2,7 +2,7 @@
 
 ghost use Rattle.std.specs.Prelude.{◌≡◌, ◌+◌, ◌≤◌, ◌<◌, length};
 ghost use Rattle.std.proofs.Common.{lit<};
-ghost use Rattle.xmas_elf.specs.SectionLayout.{section_header_32, section_header_64};
+ghost use Rattle.xmas_elf.specs.SectionHeader.{section_header_32, section_header_64};
 
 use crate::sections::ShType_;
 use crate::{P32, P64};

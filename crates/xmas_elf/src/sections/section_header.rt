@@ -1,11 +1,14 @@
 //! A section header of either width (gABI, "Section Header").
 
-ghost use Rattle.std.specs.Prelude.{◌≡◌, ◌↔◌, Err, IfErr, IfOk, IsOkAnd, IsTrue, List, Ok, ℕ};
-ghost use Rattle.elf_records.specs.SectionNumbers.{sh_type_of};
-ghost use Rattle.xmas_elf.specs.NameTable.{Bears, data_of, name_of};
-ghost use Rattle.xmas_elf.specs.Range.{IsRange};
-ghost use Rattle.xmas_elf.specs.SectionLayout.{section_fields};
+ghost use Rattle.std.specs.Prelude.{◌≡◌, ◌↔◌, IsOk, IsTrue, Ok};
+ghost use Rattle.elf_base.specs.Lent.{Answers, Lends, LendsOnly};
+ghost use Rattle.elf_records.specs.SectionNumbers.{sh_type_raw};
+ghost use Rattle.xmas_elf.specs.NameTable.{Bears, name_of, name_table_of};
+ghost use Rattle.xmas_elf.specs.SectionData.{HasSectionData, IsSectionData, section_data_of};
+ghost use Rattle.xmas_elf.specs.SectionHeader.{section_fields, section_type};
+ghost use Rattle.xmas_elf.specs.declared.ElfFile.{ElfFile};
 
+use crate::bytes::text_is;
 use crate::ranges::range_at;
 use crate::sections::records::SectionHeader_;
 use crate::sections::{ShType, ShType_};
@@ -73,7 +76,7 @@ impl SectionHeader {
 
     /// What the section holds.
     pub fn type_(&self) -> ShType_
-        ensures { result ≡ (section_fields self.now).type_ }
+        ensures { result ≡ sh_type_raw (section_fields self.now).type_ }
     {
         match self {
             SectionHeader::Sh32(header) => header.type_,
@@ -123,7 +126,7 @@ impl SectionHeader {
 
     /// What the section holds, or `InvalidShType`.
     pub fn get_type(&self) -> Result<ShType, ElfError>
-        ensures { result ≡ sh_type_of (section_fields self.now).type_.0 }
+        ensures { result ≡ section_type self.now }
     {
         self.type_().as_sh_type()
     }
@@ -133,42 +136,40 @@ impl SectionHeader {
     /// Refused with `InvalidShType`, with `NullName` for type Null, and as `ElfFile::get_shstr` is.
     #[tactic(auto, unfolding(crate::specs::NameTable::name_of))]
     pub fn get_name<'a>(&self, file: &ElfFile<'a>) -> Result<&'a str, ElfError>
-        ensures name { IfOk result (λ t. Bears file.now.input.now file.now.header self.now t.now) }
-        ensures only { (t : List ℕ) → Bears file.now.input.now file.now.header self.now t → IsOkAnd result (λ s. s.now ≡ t) }
-        ensures ok { IfOk result (λ t. name_of file.now.input.now file.now.header self.now ≡ Ok t.now) }
-        ensures err { IfErr result (λ error. name_of file.now.input.now file.now.header self.now ≡ Err error) }
+        ensures name { Lends (Bears file.now self.now) result }
+        ensures only { LendsOnly (Bears file.now self.now) result }
+        ensures exact { Answers (name_of file.now self.now) result }
+    {
+        match self.get_type()? {
+            ShType::Null => Err(ElfError::NullName),
+            _ => file.get_shstr(self.name()),
+        }
+    }
+
+    // Whether the section bears this name, where `names` is the name table of a file.
+    pub(crate) fn bears(&self, names: &[u8], name: &str) -> bool
+        ensures { (file : ElfFile) → name_table_of file ≡ Ok names.now → (IsTrue result ↔ Bears file self.now name.now) }
     {
         match self.get_type() {
-            Err(error) => Err(error),
-            Ok(ShType::Null) => Err(ElfError::NullName),
-            Ok(_) => file.get_shstr(self.name()),
+            Err(_) | Ok(ShType::Null) => false,
+            Ok(_) => text_is(names, self.name() as usize, name).0,
         }
     }
 
-    // Whether the section's name is readable and is this one.
-    pub(crate) fn bears(&self, file: &ElfFile<'_>, name: &str) -> bool
-        ensures { IsTrue result ↔ Bears file.now.input.now file.now.header self.now name.now }
-    {
-        match self.get_name(file) {
-            Ok(text) => text == name,
-            Err(_) => false,
-        }
-    }
-
-    /// The data of the section as it stands in the input, where it lives as long.
+    /// The data of the section as it stands in the input, where it lives as long. For type NoBits these
+    /// bytes belong to other sections, or to none: such a section has no bytes in the file.
     ///
     /// Refused with `InvalidShType`, with `NullData` for type Null, and with `DataRange` where it
     /// passes the end of the input, also for type NoBits and for an empty section.
-    #[tactic(auto, unfolding(crate::specs::NameTable::data_of))]
+    #[tactic(auto, unfolding(crate::specs::SectionData::section_data_of))]
     pub fn raw_data<'a>(&self, file: &ElfFile<'a>) -> Result<&'a [u8], ElfError>
-        ensures range { IfOk result (λ range. IsRange file.now.input.now (section_fields self.now).offset (section_fields self.now).size range.now) }
-        ensures ok { IfOk result (λ range. data_of file.now.input.now self.now ≡ Ok range.now) }
-        ensures err { IfErr result (λ error. data_of file.now.input.now self.now ≡ Err error) }
+        ensures readable { IsOk result ↔ HasSectionData file.now self.now }
+        ensures range { Lends (IsSectionData file.now self.now) result }
+        ensures exact { Answers (section_data_of file.now self.now) result }
     {
-        match self.get_type() {
-            Err(error) => Err(error),
-            Ok(ShType::Null) => Err(ElfError::NullData),
-            Ok(_) => range_at(file.input, self.offset(), self.size()),
+        match self.get_type()? {
+            ShType::Null => Err(ElfError::NullData),
+            _ => range_at(file.input, self.offset(), self.size()),
         }
     }
 }

@@ -13,8 +13,8 @@ loop-section-preserved g c =
     let small = c.loop-section.invariant.0 in (
       omega (arith, one, small),
       λ plain. let before = c.loop-section.invariant.1 plain in (
-        before.0 ++ section_line file.input.now file.header c.loop-section.index c.in-Some.section,
+        before.0 ++ section_line file c.loop-section.index c.in-Some.section,
         has_written_append _ _ _ _ _ _ before.1 (search rules),
-        next_line (section_line file.input.now file.header) c.loop-section.index _ c.in-Some.section _ _ (section_lines file.input.now file.header) steps before.2,
+        next_line (section_line file) c.loop-section.index _ c.in-Some.section _ _ (section_lines file) steps before.2,
       ),
     )

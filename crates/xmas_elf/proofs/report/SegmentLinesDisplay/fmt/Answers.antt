@@ -13,8 +13,8 @@ loop-program-preserved g c =
     let small = c.loop-program.invariant.0 in (
       omega (arith, one, small),
       λ plain. let before = c.loop-program.invariant.1 plain in (
-        before.0 ++ segment_line file.input.now file.header c.loop-program.index c.in-Some.program,
+        before.0 ++ segment_line file c.loop-program.index c.in-Some.program,
         has_written_append _ _ _ _ _ _ before.1 (search rules),
-        next_line (segment_line file.input.now file.header) c.loop-program.index _ c.in-Some.program _ _ (segment_lines file.input.now file.header) steps before.2,
+        next_line (segment_line file) c.loop-program.index _ c.in-Some.program _ _ (segment_lines file) steps before.2,
       ),
     )

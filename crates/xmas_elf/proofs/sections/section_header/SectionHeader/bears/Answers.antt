@@ -1,17 +1,17 @@
-use Rattle.std.proofs.Common.{subst}
-use Rattle.std.proofs.lemmas.Bool.Decides.{Decides-eqb}
-use Rattle.std.proofs.lemmas.Slice.Eq.{slice_eq-Decides}
-use Rattle.xmas_elf.specs.NameTable.{Bears}
+use Rattle.std.proofs.Common.{◌≡◌, ◌≢◌, Ok, rules, sym, ◌∙◌}
+use Rattle.elf_records.specs.declared.sections.ShType.TheVariants.{Null}
+use Rattle.xmas_elf.specs.SectionHeader.{section_type}
+use Rattle.xmas_elf.proofs.Names.{bears_text, text_borne}
 use Rattle.xmas_elf.proofs.sections.section_header.SectionHeader.bears.Goals as goal
 
 pub returns-in-Ok : goal.returns-in-Ok
-returns-in-Ok c =
-    let file = c.args.file.now in
-    let answer = c.in-Ok.ensures in
-    let decides = slice_eq-Decides Decides-eqb c.in-Ok.text.now c.args.name.now c.eq.result c.eq.ensures in (
-      λ yes. subst (Bears file.input.now file.header c.args.self.now) (decides.0 yes) answer.name,
-      λ bears. decides.1 (answer.only c.args.name.now bears),
+returns-in-Ok c = λ file table.
+    let section = c.args.self.now in
+    let names = c.args.names.now in
+    let name = c.args.name.now in
+    let kind = c.in-Ok.field-0 in
+    let typed : section_type section ≡ Ok kind = sym c.get_type.ensures ∙ c.in-Ok.is in
+    let not_null : kind ≢ Null = search rules in (
+      λ yes. bears_text file section kind names name table typed not_null (rw (← c.name.ensures) (c.text_is.ensures.is.0 yes)),
+      λ bears. c.text_is.ensures.is.1 (rw c.name.ensures (text_borne file section names name table bears)),
     )
-
-pub returns-in-Err : goal.returns-in-Err
-returns-in-Err c = (λ no. cc, λ bears. absurd (c.in-Err.ensures.only c.args.name.now bears))

@@ -1,7 +1,7 @@
 -- How a program header is printed (this project's own, after the Rust crate).
 use Rattle.std.specs.Prelude.{ℕ, List, [], ◌∷◌, ◌++◌, codes}
 use Rattle.elf_base.specs.Printed.{field_line, hex_text, joined, result_text}
-use Rattle.elf_records.specs.ProgramNumbers.{flags_text, ph_type_of, ph_type_text}
+use Rattle.elf_records.specs.ProgramNumbers.{flags_text, ph_type_number, ph_type_of, ph_type_text}
 use Rattle.xmas_elf.specs.declared.program.records.ProgramHeader64.{ProgramHeader64}
 
 -- the type of a segment, as `Ok(Load)` or `Err("Invalid type")`
@@ -11,7 +11,7 @@ segment_type_text number = result_text ph_type_text (ph_type_of number)
 -- the fields of either width
 abbrev pub segment_fields_text : ProgramHeader64 → List ℕ
 segment_fields_text segment = joined (
-    field_line (codes "type") (segment_type_text segment.type_.0)
+    field_line (codes "type") (segment_type_text (ph_type_number segment.type_))
     ∷ field_line (codes "flags") (flags_text segment.flags.0)
     ∷ field_line (codes "offset") (hex_text segment.offset)
     ∷ field_line (codes "virtual address") (hex_text segment.virtual_addr)

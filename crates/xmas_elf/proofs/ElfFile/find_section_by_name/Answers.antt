@@ -1,0 +1,8 @@
+use Rattle.xmas_elf.proofs.Names.{found_named, missing_named}
+use Rattle.xmas_elf.proofs.ElfFile.find_section_by_name.Goals as goal
+
+pub returns-clause-found : goal.returns-clause-found
+returns-clause-found c = found_named c.args.self.now c.args.name.now c.first_named.result c.first_named.ensures
+
+pub returns-clause-missing : goal.returns-clause-missing
+returns-clause-missing c = missing_named c.args.self.now c.args.name.now c.first_named.result c.first_named.ensures

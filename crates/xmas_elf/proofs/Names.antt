@@ -1,0 +1,94 @@
+-- The section with a name, in the list and by its index.
+use Rattle.std.proofs.Common.{◌≡◌, ◌≢◌, ℕ, suc, ◌<◌, ◌≤◌, nat_lt, Bool, true, false, Result, Err, drop, List, [], ◌∷◌, refl, length, slice_index_or, Ok, Option, None, Some, IfSome, IfNone, MatchOption, ap, sym, subst, ◌∙◌, arith}
+use Rattle.std.proofs.lemmas.Bool.{ltb-false}
+use Rattle.elf_base.specs.Refusal.{and_then, unless}
+use Rattle.elf_base.specs.Text.{IsText}
+use Rattle.elf_base.specs.declared.error.ElfError.{ElfError}
+use Rattle.elf_base.specs.declared.error.ElfError.TheVariants.{ShortSectionOffset}
+use Rattle.elf_records.specs.declared.sections.ShType.{ShType}
+use Rattle.elf_records.specs.declared.sections.ShType.TheVariants.{Null}
+use Rattle.xmas_elf.specs.Counts.{section_count_of}
+use Rattle.xmas_elf.specs.HeaderTable.{IsLongest}
+use Rattle.xmas_elf.specs.NameTable.{Bears, IsFirstInList, IsFirstNamed, IsNameTable, NoneBears, name_table_of, names_section_of}
+use Rattle.xmas_elf.specs.SectionHeader.{section_fields, section_of, section_type}
+use Rattle.xmas_elf.specs.SectionList.{section_list}
+use Rattle.xmas_elf.specs.declared.ElfFile.{ElfFile}
+use Rattle.xmas_elf.specs.declared.sections.section_header.SectionHeader.{SectionHeader}
+use Rattle.xmas_elf.proofs.HeaderLists.{header_list-longest}
+
+-- an answer that isn't refused for its place
+not_short : (short : Bool) (table t : List ℕ) → unless ((short, ShortSectionOffset) ∷ []) table ≡ Ok t → (short ≡ false) × (t ≡ table)
+not_short true table t is = cc
+not_short false table t is = (refl, cc)
+
+-- the name table that is computed is the name table
+table_of_section : (file : ElfFile) (r : Result SectionHeader ElfError) (t : List ℕ) → names_section_of file ≡ r → and_then r (λ section. unless (
+    (nat_lt (length file.input.now) (section_fields section).offset, ShortSectionOffset)
+    ∷ []) (drop (section_fields section).offset file.input.now)) ≡ Ok t → IsNameTable file t
+table_of_section file (Ok section) t names is =
+    let placed = not_short (nat_lt (length file.input.now) (section_fields section).offset) (drop (section_fields section).offset file.input.now) t is in record {
+      section = section;
+      names = names;
+      within = ltb-false _ _ placed.0;
+      table_is = placed.1;
+    }
+table_of_section file (Err error) t names is = cc
+
+name_table-is : (file : ElfFile) (t : List ℕ) → name_table_of file ≡ Ok t → IsNameTable file t
+unfolding name_table_of
+name_table-is file t is = table_of_section file (names_section_of file) t refl is
+
+-- there is at most one
+one_table : (file : ElfFile) (s t : List ℕ) → IsNameTable file s → IsNameTable file t → s ≡ t
+one_table file s t a b =
+    let same : a.section ≡ b.section = let x = a.names in let y = b.names in cc in
+    a.table_is ∙ ap (λ section. drop (section_fields section).offset file.input.now) same ∙ sym b.table_is
+
+-- a section bears the name that stands in the name table at its index
+pub bears_text : (file : ElfFile) (section : SectionHeader) (kind : ShType) (names name : List ℕ) → name_table_of file ≡ Ok names → section_type section ≡ Ok kind → kind ≢ Null → IsText names (section_fields section).name name → Bears file section name
+bears_text file section kind names name table typed not_null is = record {
+  kind = kind;
+  typed = typed;
+  not_null = not_null;
+  named = record { table = names; in_table = name_table-is file names table; is_text = is };
+}
+
+pub text_borne : (file : ElfFile) (section : SectionHeader) (names name : List ℕ) → name_table_of file ≡ Ok names → Bears file section name → IsText names (section_fields section).name name
+text_borne file section names name table bears =
+    subst (λ t. IsText t (section_fields section).name name) (one_table file bears.named.table names bears.named.in_table (name_table-is file names table)) bears.named.is_text
+
+longest : (file : ElfFile) → IsLongest (section_of file) (section_count_of file) (section_list file)
+longest file = header_list-longest (section_of file) (section_count_of file)
+
+-- the item of the list at an index is the header there
+same_header : (file : ElfFile) (i : ℕ) (section : SectionHeader) → i < length (section_list file) → section_of file i ≡ Ok section → slice_index_or (section_list file) i section ≡ section
+same_header file i section below is = let each = (longest file).each i below section in cc
+
+-- a section below a place of the list below which none bears the name
+none_below : (file : ElfFile) (name : List ℕ) (high : ℕ) → high < suc (length (section_list file)) → NoneBears file name high → (i : ℕ) (section : SectionHeader) → i < high → section_of file i ≡ Ok section → ¬ Bears file section name
+none_below file name high fits none i section below is bears =
+    let same = same_header file i section (omega arith) is in
+    none i section (omega arith) below (subst (λ s. Bears file s name) (sym same) bears)
+
+pub none_named : (file : ElfFile) (name : List ℕ) → NoneBears file name (length (section_list file)) → (i : ℕ) (section : SectionHeader) → i < length (section_list file) → section_of file i ≡ Ok section → ¬ Bears file section name
+none_named file name none = none_below file name (length (section_list file)) (omega arith) none
+
+pub first_named : (file : ElfFile) (name : List ℕ) (section : SectionHeader) → IsFirstInList file name section → (index : ℕ) × IsFirstNamed file name index section
+first_named file name section (bears, (i, below, at, none)) = (
+  i,
+  record {
+    below = let counted = (longest file).counted in omega arith;
+    is_header = (longest file).each i below section ∙ ap Ok (at section);
+    bears = bears;
+    first = none_below file name i (omega arith) none;
+  },
+)
+
+-- the same of the answer of a search
+pub found_named : (file : ElfFile) (name : List ℕ) (r : Option SectionHeader) → MatchOption r (NoneBears file name (length (section_list file))) (IsFirstInList file name) → IfSome r (λ section. (index : ℕ) × IsFirstNamed file name index section)
+found_named file name None found = tt
+found_named file name (Some section) found = first_named file name section found
+
+pub missing_named : (file : ElfFile) (name : List ℕ) (r : Option SectionHeader) → MatchOption r (NoneBears file name (length (section_list file))) (IsFirstInList file name) → IfNone r ((i : ℕ) (section : SectionHeader) → i < length (section_list file) → section_of file i ≡ Ok section → ¬ Bears file section name)
+missing_named file name None found = none_named file name found
+missing_named file name (Some section) found = tt

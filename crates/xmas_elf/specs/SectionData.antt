@@ -1,0 +1,33 @@
+-- The bytes of a section in its file (gABI, "Section Header", sh_offset and sh_size).
+use Rattle.std.specs.Prelude.{◌≡◌, ◌≢◌, ℕ, ◌+◌, ◌≤◌, Bool, true, false, List, length, Result, Ok, Err, if◌then◌else◌}
+use Rattle.elf_base.specs.Refusal.{and_then}
+use Rattle.elf_base.specs.declared.error.ElfError.{ElfError}
+use Rattle.elf_base.specs.declared.error.ElfError.TheVariants.{NullData}
+use Rattle.elf_records.specs.declared.sections.ShType.{ShType}
+use Rattle.elf_records.specs.declared.sections.ShType.TheVariants.{Null}
+use Rattle.xmas_elf.specs.Range.{IsRange, range_of}
+use Rattle.xmas_elf.specs.SectionHeader.{section_fields, section_type}
+use Rattle.xmas_elf.specs.declared.ElfFile.{ElfFile}
+use Rattle.xmas_elf.specs.declared.sections.section_header.SectionHeader.{SectionHeader}
+
+-- a section has data: its type is valid and not Null, and its range lies in the input
+pub record HasSectionData (file : ElfFile) (section : SectionHeader) : Type 0 where
+  pub kind : ShType
+  pub typed : section_type section ≡ Ok kind
+  pub not_null : kind ≢ Null
+  pub within : (section_fields section).offset + (section_fields section).size ≤ length file.input.now
+
+-- the bytes are those of the input from the section's offset on, as many as its size says
+abbrev pub IsSectionData : ElfFile → SectionHeader → List ℕ → Type 0
+IsSectionData file section =
+    IsRange file.input.now (section_fields section).offset (section_fields section).size
+
+-- the type is Null (SHT_NULL)
+abbrev pub is_null : ShType → Bool
+is_null Null = true
+is_null _ = false
+
+-- the data of a section as it is computed, or why it has none
+unfoldable pub section_data_of : ElfFile → SectionHeader → Result (List ℕ) ElfError
+section_data_of file section = and_then (section_type section) (λ kind. if is_null kind then Err NullData
+    else range_of file.input.now (section_fields section).offset (section_fields section).size)
