@@ -12,10 +12,11 @@ magic number is passed over silently.
 Each difference is a line `FILE: field: elfinfo says X, readelf says Y`, and
 the last line holds the counts. What elfinfo refuses by design is counted as
 an expected refusal. The results of elfinfo's own checks aren't compared: the
-check line, what follows the type of a segment, and the hash line. A file with
-extended numbering is compared without its sections or segments, and a line
-says so. The exit status is 0 if there is no difference, 1 if there is one,
-and 2 if the comparison couldn't be run.
+check line, what follows the type of a segment, and the hash line. Where a
+number stands in section 0 (extended numbering), the fields of the ELF header
+are compared as they stand there, and the lists go by section 0. The exit
+status is 0 if there is no difference, 1 if there is one, and 2 if the
+comparison couldn't be run.
 """
 
 import argparse
@@ -115,10 +116,9 @@ HEADER_FIELDS: Tuple[Tuple[str, str, Optional[NameTable]], ...] = (
     ("sh_str_index", "Section header string table index", None),
 )
 
-# readelf's labels of the numbers that may stand in section 0 instead of the
-# ELF header (extended numbering).
-SECTION_NUMBERS = ("Number of section headers", "Section header string table index")
-SEGMENT_NUMBERS = ("Number of program headers",)
+# readelf's labels of the counts.
+SECTION_COUNT = "Number of section headers"
+SEGMENT_COUNT = "Number of program headers"
 
 SECTION_TYPES: NameTable = {
     "Null": ("NULL",),
@@ -352,7 +352,8 @@ READELF_UNKNOWN_NUMBER = re.compile(
     r"(?:<unknown|Specific)\S* \(?(?:0x)?([0-9a-f]+)[)>]?$"
 )
 READELF_UNKNOWN_VERSION = re.compile(r"(\d+) <unknown>$")
-EXTENDED_NUMBER = re.compile(r"\d+ \(\d+\)")
+# `7`, or the field of the ELF header and the number in section 0: `0 (70000)`
+READELF_COUNT = re.compile(r"(\d+)(?: \((\d+)\))?")
 
 
 class Finished(NamedTuple):
@@ -565,9 +566,10 @@ def is_utf8(name: str) -> bool:
     return not any(0xDC80 <= ord(letter) <= 0xDCFF for letter in name)
 
 
-def is_extended(header: Dict[str, str], labels: Texts) -> bool:
-    """Whether readelf took one of these numbers from section 0."""
-    return any(EXTENDED_NUMBER.match(header.get(label, "")) for label in labels)
+def readelf_count(header: Dict[str, str], label: str) -> int:
+    """The count that readelf goes by: section 0's where it took that one."""
+    found = READELF_COUNT.match(header.get(label, ""))
+    return int(found[2] or found[1]) if found else 0
 
 
 def is_refused_section_type(reads: str) -> bool:
@@ -656,36 +658,35 @@ def compare_segment(
         tally.expected += 1
 
 
-def compare_count(path: str, what: str, says: int, reads: int, tally: Tally) -> None:
-    """Compares the lengths of two lists."""
-    if says != reads:
-        tally.differ(path, f"{what} count", str(says), str(reads))
+def compare_count(
+    path: str, what: str, says: int, listed: int, counted: int, tally: Tally
+) -> None:
+    """Compares the length of a list with readelf's count and readelf's list."""
+    if says != counted:
+        tally.differ(path, f"{what} count", str(says), str(counted))
+    elif says != listed:
+        tally.differ(path, f"number of {what} lines", str(says), str(listed))
 
 
-def skip_reason(extended: bool, what: str, errors: str) -> Optional[str]:
-    """Why the headers of sections or of segments aren't compared, if so.
+def cannot_list(what: str, errors: str) -> bool:
+    """Whether readelf could not read the headers of sections or of segments.
 
-    elfinfo reads the 16-bit numbers of the ELF header alone, where readelf
-    takes larger ones from section 0. elfinfo lists each header that lies
-    whole in the file, where readelf lists none if one of them doesn't.
+    elfinfo lists each header that lies whole in the file, where readelf lists
+    none if one of them doesn't.
     """
-    if extended:
-        return "the file uses extended numbering"
-    if re.search(rf"readelf: Error: .* {what} headers", errors):
-        return "readelf could not read their headers"
-    return None
+    return re.search(rf"readelf: Error: .* {what} header", errors) is not None
 
 
 def compare_sections(
     path: str, says: Report, reads: Report, errors: str, tally: Tally
 ) -> None:
     """Compares the sections, section 0 left out."""
-    extended = is_extended(reads.header, SECTION_NUMBERS)
-    reason = skip_reason(extended, "section", errors)
-    if reason is not None:
-        print(f"{path}: sections not compared: {reason}")
+    if cannot_list("section", errors):
+        print(f"{path}: sections not compared: readelf could not read their headers")
         return
-    compare_count(path, "section", len(says.sections), len(reads.sections), tally)
+    counted = max(readelf_count(reads.header, SECTION_COUNT) - 1, 0)
+    listed = len(reads.sections)
+    compare_count(path, "section", len(says.sections), listed, counted, tally)
     for index in sorted(says.sections.keys() & reads.sections.keys()):
         compare_section(
             path, index, says.sections[index], reads.sections[index], tally
@@ -696,12 +697,12 @@ def compare_segments(
     path: str, says: Report, reads: Report, errors: str, tally: Tally
 ) -> None:
     """Compares the segments."""
-    extended = is_extended(reads.header, SEGMENT_NUMBERS)
-    reason = skip_reason(extended, "program", errors)
-    if reason is not None:
-        print(f"{path}: segments not compared: {reason}")
+    if cannot_list("program", errors):
+        print(f"{path}: segments not compared: readelf could not read their headers")
         return
-    compare_count(path, "segment", len(says.segments), len(reads.segments), tally)
+    counted = readelf_count(reads.header, SEGMENT_COUNT)
+    listed = len(reads.segments)
+    compare_count(path, "segment", len(says.segments), listed, counted, tally)
     for index in sorted(says.segments.keys() & reads.segments.keys()):
         compare_segment(
             path, index, says.segments[index], reads.segments[index], tally

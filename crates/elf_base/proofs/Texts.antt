@@ -141,17 +141,30 @@ pub record TextAnswers (bytes : List ℕ) (start : ℕ) (s : List ℕ) : Type 0 
   pub text : IsText bytes start s
   pub only : (t : List ℕ) → IsText bytes start t → s ≡ t
   pub ok : text_of bytes start ≡ Ok s
+  pub refuses : (e : ElfError) → TextRefused bytes start e → ⊥
 
 pub text_answers : (bytes : List ℕ) (start : ℕ) (s : List ℕ) → IsText bytes start s → TextAnswers bytes start s
 text_answers bytes start s is =
-    record { text = is; only = λ t is'. one_text bytes start s t is is'; ok = text_of-text bytes start s is }
+    record {
+      text = is;
+      only = λ t is'. one_text bytes start s t is is';
+      ok = text_of-text bytes start s is;
+      refuses = λ e refused. refused_none bytes start e s refused is;
+    }
 
 -- and by the refusal that it is
 pub record RefusalAnswers (bytes : List ℕ) (start : ℕ) (e : ElfError) : Type 0 where
   pub only : (t : List ℕ) → IsText bytes start t → ⊥
   pub refused : TextRefused bytes start e
   pub err : text_of bytes start ≡ Err e
+  pub refuses : (why : ElfError) → TextRefused bytes start why → e ≡ why
 
 pub refusal_answers : (bytes : List ℕ) (start : ℕ) (e : ElfError) → TextRefused bytes start e → RefusalAnswers bytes start e
 refusal_answers bytes start e r =
-    record { only = λ t is. refused_none bytes start e t r is; refused = r; err = text_of-refused bytes start e r }
+    let err = text_of-refused bytes start e r in
+    record {
+      only = λ t is. refused_none bytes start e t r is;
+      refused = r;
+      err = err;
+      refuses = λ why refused. let other = text_of-refused bytes start why refused in cc;
+    }

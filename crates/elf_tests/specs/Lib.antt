@@ -1,0 +1,2 @@
+pub mod Executable
+pub mod Refusals

@@ -1,46 +1,74 @@
 //! Callers of `xmas_elf` in another crate, proved by its public contracts alone.
 
-ghost use Rattle.std.specs.Prelude.{◌≡◌, ◌≢◌, ◌≤◌, ◌<◌, ◌==◌, IfOk, MatchOption, Ok, count_by, length};
+ghost use Rattle.std.specs.Prelude.{◌≡◌, ◌≢◌, ◌+◌, ◌↔◌, ◌≤◌, ◌<◌, ◌==◌, IfOk, IsOkAnd, IsTrue, List, MatchOption, Ok, count_by, drop, length, ℕ};
 ghost use Rattle.std.specs.List.{AllWithin, HoldsAt};
-ghost use Rattle.xmas_elf.specs.FileHeader.{header_of};
-ghost use Rattle.xmas_elf.specs.HeaderLayout.{fields};
-ghost use Rattle.xmas_elf.specs.NameTable.{IsFirstNamed, NoneBears, shstr_of};
-ghost use Rattle.xmas_elf.specs.ProgramLayout.{program_fields};
-ghost use Rattle.xmas_elf.specs.ProgramList.{program_header_of, program_list};
-ghost use Rattle.xmas_elf.specs.SectionLayout.{section_fields};
-ghost use Rattle.xmas_elf.specs.SectionList.{section_header_size, section_list};
+ghost use Rattle.xmas_elf.specs.Checks.{header_check};
+ghost use Rattle.xmas_elf.specs.Counts.{program_count_of, section_count_of};
+ghost use Rattle.xmas_elf.specs.FileHeader.{file_class, file_order, header_of};
+ghost use Rattle.xmas_elf.specs.HeaderLayout.{header_fields};
+ghost use Rattle.xmas_elf.specs.NameTable.{Bears, IsFirstNamed, IsNameTable, shstr_of};
+ghost use Rattle.xmas_elf.specs.Number.{byte_at, number};
+ghost use Rattle.xmas_elf.specs.ProgramHeader.{program_fields, program_header_of};
+ghost use Rattle.xmas_elf.specs.ProgramList.{program_list};
+ghost use Rattle.xmas_elf.specs.Range.{IsRange};
+ghost use Rattle.xmas_elf.specs.SectionHeader.{section_fields, section_header_size, section_of, section_place, section_type};
+ghost use Rattle.xmas_elf.specs.SectionList.{section_list};
+ghost use Rattle.xmas_elf.specs.Text.{IsText};
+ghost use Rattle.xmas_elf.specs.declared.ElfFile.{ElfFile};
+ghost use Rattle.xmas_elf.specs.declared.sections.section_header.SectionHeader.{SectionHeader};
+
+pub mod indices;
+pub mod values;
 
 use std::alloc::{AllocError, Global};
-use xmas_elf::program::ProgramHeader;
+use xmas_elf::program::{ProgramHeader, ProgramHeader64};
 use xmas_elf::sections::{SectionHeader, ShType};
 use xmas_elf::{ElfError, ElfFile, header};
 
+/// The class of a file, which is its byte 4.
+pub fn class_byte(input: &[u8]) -> Result<u8, ElfError>
+    ensures { IfOk result (λ class. class ≡ byte_at 4 input.now) }
+{
+    let file = ElfFile::new(input)?;
+    Ok(file.header.pt1.class.raw())
+}
+
+/// The size of a section of class 64: the number of eight bytes that stands 32 behind its place.
+pub fn size_64(file: &ElfFile<'_>, index: u16) -> Result<u64, ElfError>
+    requires { file_class file.now.header ≡ 2 }
+    ensures { IfOk result (λ size. size
+        ≡ number (file_order file.now.header) 8 (section_place file.now.header index + 32) file.now.input.now) }
+{
+    let section = file.section_header(index)?;
+    Ok(section.size())
+}
+
 /// How many sections of a file can be read, by its iterator.
-pub fn section_count(file: &ElfFile<'_>) -> usize
-    ensures { result ≡ length (section_list file.now.input.now file.now.header) }
+pub fn readable_sections(file: &ElfFile<'_>) -> usize
+    ensures { result ≡ length (section_list file.now) }
 {
     file.section_iter().count()
 }
 
 /// How many segments of a file can be read, by its iterator.
-pub fn segment_count(file: &ElfFile<'_>) -> usize
-    ensures { result ≡ length (program_list file.now.input.now file.now.header) }
+pub fn readable_segments(file: &ElfFile<'_>) -> usize
+    ensures { result ≡ length (program_list file.now) }
 {
     file.program_iter().count()
 }
 
 /// How many sections are empty, by a chain.
 pub fn empty_sections(file: &ElfFile<'_>) -> usize
-    ensures { result ≡ count_by (λ section. (section_fields section).size == 0) (section_list file.now.input.now file.now.header) }
+    ensures { result ≡ count_by (λ section. (section_fields section).size == 0) (section_list file.now) }
 {
     file.section_iter()
         .filter(|section| section.size() == 0)
         .count()
 }
 
-/// The index of the first section at this offset.
+/// The place in the list of the first section at this offset.
 pub fn section_at(file: &ElfFile<'_>, offset: u64) -> Option<usize>
-    ensures { let sections = section_list file.now.input.now file.now.header in MatchOption result
+    ensures { let sections = section_list file.now in MatchOption result
         (AllWithin (λ section. (section_fields section).offset ≢ offset) sections 0 (length sections))
         (λ i. (i < length sections) × HoldsAt (λ section. (section_fields section).offset ≡ offset) sections i
         × AllWithin (λ section. (section_fields section).offset ≢ offset) sections 0 i) }
@@ -50,8 +78,8 @@ pub fn section_at(file: &ElfFile<'_>, offset: u64) -> Option<usize>
 }
 
 /// How many sections a file has, by a loop.
-pub fn counted_sections(file: &ElfFile<'_>) -> u32
-    ensures { result ≡ length (section_list file.now.input.now file.now.header) }
+pub fn counted_sections(file: &ElfFile<'_>) -> u64
+    ensures { result ≡ length (section_list file.now) }
 {
     let mut count = 0;
     for _section in file.section_iter() {
@@ -62,7 +90,7 @@ pub fn counted_sections(file: &ElfFile<'_>) -> u32
 
 /// The first section at this address, by `find`.
 pub fn section_with_address(file: &ElfFile<'_>, address: u64) -> Option<SectionHeader>
-    ensures { let sections = section_list file.now.input.now file.now.header in MatchOption result
+    ensures { let sections = section_list file.now in MatchOption result
         (AllWithin (λ section. (section_fields section).address ≢ address) sections 0 (length sections))
         (λ section. (section_fields section).address ≡ address) }
 {
@@ -78,40 +106,65 @@ pub fn data_len(file: &ElfFile<'_>, section: SectionHeader) -> Result<usize, Elf
     Ok(range.len())
 }
 
+/// Whether the bytes of a section that the program defines are all there.
+pub fn is_whole(file: &ElfFile<'_>, section: SectionHeader) -> bool
+    requires { section_type section ≡ Ok ShType.ProgBits }
+    ensures { IsTrue result
+        ↔ ((section_fields section).offset + (section_fields section).size ≤ length file.now.input.now) }
+{
+    section.raw_data(file).is_ok()
+}
+
+/// Whether a section of type Null has data, which it never has.
+pub fn null_has_data(file: &ElfFile<'_>, section: SectionHeader) -> bool
+    requires { section_type section ≡ Ok ShType.Null }
+    ensures { ¬ IsTrue result }
+{
+    section.raw_data(file).is_ok()
+}
+
 /// How many bytes the data of a segment has: as many as its header says.
 pub fn segment_data_len(file: &ElfFile<'_>, index: u16) -> Result<usize, ElfError>
     ensures { IfOk result (λ len. IfOk (program_header_of file.now.input.now file.now.header index)
         (λ program. len ≡ (program_fields program).file_size)) }
 {
-    let range = match file.program_header(index)? {
-        ProgramHeader::Ph32(header) => header.raw_data(file)?,
-        ProgramHeader::Ph64(header) => header.raw_data(file)?,
-    };
+    let range = file.program_header(index)?.raw_data(file)?;
     Ok(range.len())
 }
 
-/// How many sections a file has, where its header makes sense, its entries are at least as large as
-/// the record and there are no more than 0xff00: the count of the header.
+/// How many sections a file has, where its header makes sense and its entries are at least as large as
+/// the record: their count.
 pub fn checked_section_count(file: &ElfFile<'_>) -> Result<usize, ElfError>
-    ensures { IfOk result (λ count. section_header_size file.now.header.pt1.class.0 ≤ (fields file.now.header.pt2).sh_entry_size
-        → (fields file.now.header.pt2).sh_count ≤ 0xff00 → count ≡ (fields file.now.header.pt2).sh_count) }
+    ensures { IfOk result (λ count.
+        section_header_size (file_class file.now.header) ≤ (header_fields file.now.header.pt2).sh_entry_size
+        → count ≡ section_count_of file.now) }
 {
     header::sanity_check(file)?;
-    Ok(section_count(file))
+    Ok(readable_sections(file))
 }
 
-/// The first section with this name.
+/// The first section with this name: some section header below the count, before which none bears it.
 pub fn named_section(file: &ElfFile<'_>, name: &str) -> Option<SectionHeader>
-    ensures { let sections = section_list file.now.input.now file.now.header in MatchOption result
-        (NoneBears file.now.input.now file.now.header name.now sections (length sections))
-        (λ section. IsFirstNamed file.now.input.now file.now.header name.now sections section) }
+    ensures { MatchOption result
+        ((i : ℕ) (section : SectionHeader) → i < length (section_list file.now)
+        → section_of file.now i ≡ Ok section → ¬ Bears file.now section name.now)
+        (λ section. (i : ℕ) × IsFirstNamed file.now name.now i section) }
 {
     file.find_section_by_name(name)
 }
 
+/// The name of a section, which stands at its index in the name table.
+pub fn name_of<'a>(file: &ElfFile<'a>, section: SectionHeader) -> Result<&'a str, ElfError>
+    ensures { IfOk result (λ name. (table : List ℕ)
+        × IsNameTable file.now table × IsText table (section_fields section).name name.now) }
+{
+    section.get_name(file)
+}
+
 /// A name, which outlives the `ElfFile` that it was read by.
 pub fn name_in<'a>(input: &'a [u8], index: u32) -> Result<&'a str, ElfError>
-    ensures { IfOk result (λ name. IfOk (header_of input.now) (λ header. shstr_of input.now header index ≡ Ok name.now)) }
+    ensures { IfOk result (λ name. IfOk (header_of input.now) (λ header.
+        let file : ElfFile = record { input = input.entry; header = header } in shstr_of file index ≡ Ok name.now)) }
 {
     let file = ElfFile::new(input)?;
     file.get_shstr(index)
@@ -129,10 +182,15 @@ pub fn string_bytes(input: &[u8]) -> Result<u64, ElfError> {
     Ok(total)
 }
 
-/// The instructions of a program, which live as long as its bytes.
+/// The instructions of a program, which live as long as its bytes; none where the file doesn't hold
+/// them.
 pub fn text_section(input: &[u8]) -> Option<&[u8]> {
     let file = ElfFile::new(input).ok()?;
-    file.find_section_by_name(".text")?.raw_data(&file).ok()
+    let section = file.find_section_by_name(".text")?;
+    if section.get_type() != Ok(ShType::ProgBits) {
+        return None;
+    }
+    section.raw_data(&file).ok()
 }
 
 /// The length of the first name in a copy of some bytes.

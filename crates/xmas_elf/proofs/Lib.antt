@@ -1,3 +1,4 @@
+pub mod lemmas
 pub mod HeaderLists
 pub mod SectionLists
 pub mod ProgramLists

@@ -8,13 +8,14 @@ use Rattle.elf_base.specs.declared.error.ElfError.TheVariants.{ShortSectionOffse
 use Rattle.elf_records.specs.declared.sections.ShType.{ShType}
 use Rattle.elf_records.specs.declared.sections.ShType.TheVariants.{Null}
 use Rattle.xmas_elf.specs.Counts.{section_count_of}
-use Rattle.xmas_elf.specs.HeaderTable.{IsLongest}
+use Rattle.xmas_elf.specs.HeaderTable.{EachBelow, IsLongest}
 use Rattle.xmas_elf.specs.NameTable.{Bears, IsFirstInList, IsFirstNamed, IsNameTable, NoneBears, name_table_of, names_section_of}
 use Rattle.xmas_elf.specs.SectionHeader.{section_fields, section_of, section_type}
 use Rattle.xmas_elf.specs.SectionList.{section_list}
 use Rattle.xmas_elf.specs.declared.ElfFile.{ElfFile}
 use Rattle.xmas_elf.specs.declared.sections.section_header.SectionHeader.{SectionHeader}
 use Rattle.xmas_elf.proofs.HeaderLists.{header_list-longest}
+use Rattle.xmas_elf.proofs.lemmas.HeaderList.{sections_within}
 
 -- an answer that isn't refused for its place
 not_short : (short : Bool) (table t : List ℕ) → unless ((short, ShortSectionOffset) ∷ []) table ≡ Ok t → (short ≡ false) × (t ≡ table)
@@ -60,17 +61,11 @@ text_borne file section names name table bears =
 longest : (file : ElfFile) → IsLongest (section_of file) (section_count_of file) (section_list file)
 longest file = header_list-longest (section_of file) (section_count_of file)
 
--- the item of the list at an index is the header there
-same_header : (file : ElfFile) (i : ℕ) (section : SectionHeader) → i < length (section_list file) → section_of file i ≡ Ok section → slice_index_or (section_list file) i section ≡ section
-same_header file i section below is = let each = (longest file).each i below section in cc
+-- the sections below a place below which none bears the name
+none_below : (file : ElfFile) (name : List ℕ) (high : ℕ) → high ≤ length (section_list file) → NoneBears file name high → EachBelow (section_of file) (λ section. ¬ Bears file section name) high
+none_below file name high fits none = sections_within file (λ section. ¬ Bears file section name) high fits none
 
--- a section below a place of the list below which none bears the name
-none_below : (file : ElfFile) (name : List ℕ) (high : ℕ) → high < suc (length (section_list file)) → NoneBears file name high → (i : ℕ) (section : SectionHeader) → i < high → section_of file i ≡ Ok section → ¬ Bears file section name
-none_below file name high fits none i section below is bears =
-    let same = same_header file i section (omega arith) is in
-    none i section (omega arith) below (subst (λ s. Bears file s name) (sym same) bears)
-
-pub none_named : (file : ElfFile) (name : List ℕ) → NoneBears file name (length (section_list file)) → (i : ℕ) (section : SectionHeader) → i < length (section_list file) → section_of file i ≡ Ok section → ¬ Bears file section name
+pub none_named : (file : ElfFile) (name : List ℕ) → NoneBears file name (length (section_list file)) → EachBelow (section_of file) (λ section. ¬ Bears file section name) (length (section_list file))
 none_named file name none = none_below file name (length (section_list file)) (omega arith) none
 
 pub first_named : (file : ElfFile) (name : List ℕ) (section : SectionHeader) → IsFirstInList file name section → (index : ℕ) × IsFirstNamed file name index section
@@ -89,6 +84,6 @@ pub found_named : (file : ElfFile) (name : List ℕ) (r : Option SectionHeader) 
 found_named file name None found = tt
 found_named file name (Some section) found = first_named file name section found
 
-pub missing_named : (file : ElfFile) (name : List ℕ) (r : Option SectionHeader) → MatchOption r (NoneBears file name (length (section_list file))) (IsFirstInList file name) → IfNone r ((i : ℕ) (section : SectionHeader) → i < length (section_list file) → section_of file i ≡ Ok section → ¬ Bears file section name)
+pub missing_named : (file : ElfFile) (name : List ℕ) (r : Option SectionHeader) → MatchOption r (NoneBears file name (length (section_list file))) (IsFirstInList file name) → IfNone r (EachBelow (section_of file) (λ section. ¬ Bears file section name) (length (section_list file)))
 missing_named file name None found = none_named file name found
 missing_named file name (Some section) found = tt

@@ -24,6 +24,10 @@ pub record IsLongest {H : Type 0} (header_at : ℕ → Result H ElfError) (limit
   pub each : (i : ℕ) → i < length items → HoldsAt (λ h. header_at i ≡ Ok h) items i
   pub longest : (h : H) → length items < limit → header_at (length items) ≢ Ok h
 
+-- each header that can be read at an index below `high` has the property
+abbrev pub EachBelow : {H : Type 0} → (ℕ → Result H ElfError) → (H → Type 0) → ℕ → Type 0
+EachBelow {H} header_at P high = (i : ℕ) (h : H) → i < high → header_at i ≡ Ok h → P h
+
 -- a header, where it is readable, before what follows it
 abbrev pub before : {H : Type 0} → Result H ElfError → List H → List H
 before (Ok h) others = h ∷ others

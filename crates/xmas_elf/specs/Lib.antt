@@ -12,6 +12,24 @@ pub use Rattle.elf_base.specs.Text
 pub use Rattle.elf_base.specs.TextCompared
 pub use Rattle.elf_records.specs.SectionNumbers
 pub use Rattle.elf_records.specs.ProgramNumbers
+pub use Rattle.elf_base.specs.declared.error.ElfError
+pub use Rattle.elf_base.specs.declared.bytes.Order
+pub use Rattle.elf_base.specs.declared.header.Header
+pub use Rattle.elf_base.specs.declared.header.HeaderPt1
+pub use Rattle.elf_base.specs.declared.header.HeaderPt2
+pub use Rattle.elf_base.specs.declared.header.HeaderPt2_
+pub use Rattle.elf_base.specs.declared.header.TheConstants as HeaderConstants
+pub use Rattle.elf_base.specs.declared.header.kinds.Class
+pub use Rattle.elf_base.specs.declared.header.kinds.Data
+pub use Rattle.elf_base.specs.declared.header.kinds.Version
+pub use Rattle.elf_base.specs.declared.header.kinds.OsAbi
+pub use Rattle.elf_base.specs.declared.header.kinds.Type as HeaderType
+pub use Rattle.elf_base.specs.declared.header.kinds.Machine
+pub use Rattle.elf_records.specs.declared.sections.ShType
+pub use Rattle.elf_records.specs.declared.sections.TheConstants as SectionConstants
+pub use Rattle.elf_records.specs.declared.program.Type as SegmentType
+pub use Rattle.elf_records.specs.declared.program.Flags
+pub use Rattle.elf_records.specs.declared.program.TheConstants as SegmentConstants
 pub mod HeaderTable
 pub mod SectionHeader
 pub mod Counts

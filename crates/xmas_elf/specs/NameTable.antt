@@ -10,6 +10,7 @@ use Rattle.elf_base.specs.declared.error.ElfError.TheVariants.{ShortSectionOffse
 use Rattle.elf_records.specs.declared.sections.ShType.{ShType}
 use Rattle.elf_records.specs.declared.sections.ShType.TheVariants.{Null}
 use Rattle.xmas_elf.specs.Counts.{section_count_of, shstr_index_of}
+use Rattle.xmas_elf.specs.HeaderTable.{EachBelow}
 use Rattle.xmas_elf.specs.SectionData.{is_null}
 use Rattle.xmas_elf.specs.SectionHeader.{section_fields, section_of, section_type}
 use Rattle.xmas_elf.specs.SectionList.{section_list}
@@ -67,7 +68,7 @@ pub record IsFirstNamed (file : ElfFile) (name : List ℕ) (index : ℕ) (sectio
   pub below : index < section_count_of file
   pub is_header : section_of file index ≡ Ok section
   pub bears : Bears file section name
-  pub first : (i : ℕ) (earlier : SectionHeader) → i < index → section_of file i ≡ Ok earlier → ¬ Bears file earlier name
+  pub first : EachBelow (section_of file) (λ earlier. ¬ Bears file earlier name) index
 
 -- no section of the list bears the name, below place `high`
 abbrev pub NoneBears : ElfFile → List ℕ → ℕ → Type 0

@@ -8,13 +8,12 @@ ghost use Rattle.std.specs.Prelude.{◌≡◌, ◌↔◌, ◌+◌, ◌*◌, ◌�
 ghost use Rattle.elf_base.specs.FileHeader.{IsAccepted, file_header, header_of};
 ghost use Rattle.elf_base.specs.Lent.{Answers, Lends, LendsOnly};
 ghost use Rattle.xmas_elf.specs.Counts.{first_section, program_count_of, section_count_of, shstr_index_of};
-ghost use Rattle.xmas_elf.specs.HeaderTable.{IsLongest};
+ghost use Rattle.xmas_elf.specs.HeaderTable.{EachBelow, IsLongest};
 ghost use Rattle.xmas_elf.specs.NameTable.{Bears, IsFirstInList, IsFirstNamed, IsNameAt, IsNameTable, NameCompared, NoneBears, name_table_of, names_section_of, shstr_of};
 ghost use Rattle.xmas_elf.specs.ProgramHeader.{HasProgramHeader, HasSegment, program_at, program_header_of, segment_of};
 ghost use Rattle.xmas_elf.specs.ProgramList.{program_list, program_rest};
 ghost use Rattle.xmas_elf.specs.SectionHeader.{HasSectionEntry, HasSectionHeader, section_at, section_header_of, section_of};
 ghost use Rattle.xmas_elf.specs.SectionList.{section_list, section_rest};
-ghost use Rattle.xmas_elf.specs.declared.sections.section_header.SectionHeader.{SectionHeader};
 
 pub mod bytes;
 pub mod header;
@@ -247,8 +246,8 @@ impl<'a> ElfFile<'a> {
             (NoneBears self.now name.now (length (section_list self.now)))
             (IsFirstInList self.now name.now) }
         ensures found { IfSome result (λ section. (index : ℕ) × IsFirstNamed self.now name.now index section) }
-        ensures missing { IfNone result ((index : ℕ) (section : SectionHeader) → index < length (section_list self.now)
-            → section_of self.now index ≡ Ok section → ¬ Bears self.now section name.now) }
+        ensures missing { IfNone result (EachBelow (section_of self.now)
+            (λ section. ¬ Bears self.now section name.now) (length (section_list self.now))) }
     {
         self.first_named(name)
     }

@@ -1,9 +1,10 @@
 //! Texts that a zero byte ends (gABI, "String Table").
 
-ghost use Rattle.std.specs.Prelude.{◌≡◌, ◌↔◌, ◌+◌, ◌≤◌, IfErr, IsTrue, length};
+ghost use Rattle.std.specs.Prelude.{◌≡◌, ◌↔◌, ◌+◌, ◌≤◌, IfErr, IsErrOf, IsTrue, length};
 ghost use Rattle.elf_base.specs.Lent.{Answers, Lends, LendsOnly};
 ghost use Rattle.elf_base.specs.Text.{IsText, TextRefused, text_of};
 ghost use Rattle.elf_base.specs.TextCompared.{FrontCompared, TextCompared};
+ghost use Rattle.elf_base.specs.declared.error.ElfError.{ElfError};
 
 use crate::ElfError;
 use memchr::memchr;
@@ -16,6 +17,7 @@ pub fn text_at(data: &[u8], start: usize) -> Result<&str, ElfError>
     ensures text { Lends (IsText «data».now start) result }
     ensures only { LendsOnly (IsText «data».now start) result }
     ensures refused { IfErr result (TextRefused «data».now start) }
+    ensures refuses { (why : ElfError) → TextRefused «data».now start why → IsErrOf result why }
     ensures exact { Answers (text_of «data».now start) result }
 {
     if start > data.len() {

@@ -1,0 +1,2 @@
+pub mod HeaderList
+pub mod Equality

@@ -1,0 +1,12 @@
+-- That `==` of refusals is equality: what `search` doesn't find for an enum of so many variants.
+use denote.Enum.Bare.{sameb, same_true, true_same}
+use Rattle.std.proofs.Common.{◌≡◌, true}
+use Rattle.elf_base.specs.contracts.error.ElfError.{the_type}
+use Rattle.elf_base.specs.declared.error.ElfError.{ElfError}
+
+-- `sameb the_type` is the test that `==` of two refusals computes
+pub same_error : (one other : ElfError) → sameb the_type one other ≡ true → one ≡ other
+same_error one other test = same_true the_type tt one other test
+
+pub error_same : (one other : ElfError) → one ≡ other → sameb the_type one other ≡ true
+error_same one other same = true_same the_type one other same

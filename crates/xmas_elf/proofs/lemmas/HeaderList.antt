@@ -1,0 +1,110 @@
+-- What a caller knows of the header at an index of a list, of a search by position, and of one more turn
+-- of a loop.
+use Rattle.std.proofs.Common.{◌≡◌, ℕ, zero, suc, ◌+◌, ◌-◌, ◌≤◌, ◌<◌, List, [], ◌∷◌, length, slice_index_or, Option, None, Some, MatchOption, Result, Ok, Err, IsOkAnd, refl, sym, ap, ◌∙◌, subst, arith}
+use borrow.Author.Count.{below_more}
+use Rattle.std.specs.List.{AllWithin, HoldsAt}
+use Rattle.elf_base.specs.declared.error.ElfError.{ElfError}
+use Rattle.xmas_elf.specs.Counts.{program_count_of, section_count_of}
+use Rattle.xmas_elf.specs.HeaderTable.{EachBelow, IsLongest, before, header_rest, headers_from}
+use Rattle.xmas_elf.specs.ProgramHeader.{segment_of}
+use Rattle.xmas_elf.specs.ProgramList.{program_list}
+use Rattle.xmas_elf.specs.SectionHeader.{section_of}
+use Rattle.xmas_elf.specs.SectionList.{section_list}
+use Rattle.xmas_elf.specs.declared.ElfFile.{ElfFile}
+use Rattle.xmas_elf.specs.declared.program.program_header.ProgramHeader.{ProgramHeader}
+use Rattle.xmas_elf.specs.declared.sections.section_header.SectionHeader.{SectionHeader}
+use Rattle.xmas_elf.proofs.HeaderLists.{header_list-longest}
+
+-- some item of a list that isn't empty
+first_item : {H : Type 0} (items : List H) (i : ℕ) → i < length items → H
+first_item [] i below = absurd (omega arith)
+first_item (h ∷ others) i below = h
+
+-- what holds at a place of the longest list holds of the header at that index
+pub header_holds : {H : Type 0} (header_at : ℕ → Result H ElfError) (limit : ℕ) (items : List H) (P : H → Type 0) (i : ℕ) → IsLongest header_at limit items → i < length items → HoldsAt P items i → IsOkAnd (header_at i) P
+header_holds header_at limit items P i longest below holds =
+    let d = first_item items i below in
+    subst (λ r. IsOkAnd r P) (sym (longest.each i below d)) (holds d)
+
+-- and the header at an index is the item there
+pub header-item : {H : Type 0} (header_at : ℕ → Result H ElfError) (limit : ℕ) (items : List H) (i : ℕ) (h : H) → IsLongest header_at limit items → i < length items → header_at i ≡ Ok h → slice_index_or items i h ≡ h
+header-item header_at limit items i h longest below is = let item = longest.each i below h in cc
+
+-- what holds of all items below a place holds of the headers below that index
+pub headers_within : {H : Type 0} (header_at : ℕ → Result H ElfError) (limit : ℕ) (items : List H) (P : H → Type 0) (high : ℕ) → IsLongest header_at limit items → high ≤ length items → AllWithin P items 0 high → EachBelow header_at P high
+headers_within header_at limit items P high longest fits all i h below is =
+    subst P (header-item header_at limit items i h longest (omega arith) is) (all i h (omega arith) below)
+
+-- what a search by `position` in a list says of the headers by index: where something was found, the
+-- property holds of the header there and fails of those before it; else it fails of all in the list
+module _ {H : Type 0} (header_at : ℕ → Result H ElfError) (limit : ℕ) (items : List H) (P N : H → Type 0) where
+  abbrev pub FoundAt : Option ℕ → Type 0
+  FoundAt r = MatchOption r (AllWithin N items 0 (length items))
+      (λ i. (i < length items) × HoldsAt P items i × AllWithin N items 0 i)
+
+  abbrev pub FoundHeader : Option ℕ → Type 0
+  FoundHeader r = MatchOption r (EachBelow header_at N (length items))
+      (λ i. IsOkAnd (header_at i) P × EachBelow header_at N i)
+
+  pub found_header : (r : Option ℕ) → IsLongest header_at limit items → FoundAt r → FoundHeader r
+  found_header None longest found = headers_within header_at limit items N (length items) longest (omega arith) found
+  found_header (Some i) longest found = (
+    header_holds header_at limit items P i longest found.0 found.1,
+    headers_within header_at limit items N i longest (let below = found.0 in omega arith) found.2,
+  )
+
+-- the same for the sections and for the segments of a file
+pub found_section : (file : ElfFile) (P N : SectionHeader → Type 0) (r : Option ℕ) → FoundAt (section_of file) (section_count_of file) (section_list file) P N r → FoundHeader (section_of file) (section_count_of file) (section_list file) P N r
+found_section file P N r found =
+    found_header (section_of file) (section_count_of file) (section_list file) P N r (header_list-longest (section_of file) (section_count_of file)) found
+
+pub found_segment : (file : ElfFile) (P N : ProgramHeader → Type 0) (r : Option ℕ) → FoundAt (segment_of file) (program_count_of file) (program_list file) P N r → FoundHeader (segment_of file) (program_count_of file) (program_list file) P N r
+found_segment file P N r found =
+    found_header (segment_of file) (program_count_of file) (program_list file) P N r (header_list-longest (segment_of file) (program_count_of file)) found
+
+pub sections_within : (file : ElfFile) (P : SectionHeader → Type 0) (high : ℕ) → high ≤ length (section_list file) → AllWithin P (section_list file) 0 high → EachBelow (section_of file) P high
+sections_within file P high fits all =
+    headers_within (section_of file) (section_count_of file) (section_list file) P high (header_list-longest (section_of file) (section_count_of file)) fits all
+
+-- one more turn of a loop: the first of what is left is the header at the index, and the others are what
+-- is left behind it
+before-first : {H : Type 0} (r : Result H ElfError) (rest others : List H) (h : H) → before r rest ≡ h ∷ others → (r ≡ Ok h) × (others ≡ rest)
+before-first (Ok x) rest others h is = (cc, cc)
+before-first (Err error) rest others h is = cc
+
+rest-first : {H : Type 0} (header_at : ℕ → Result H ElfError) (index count : ℕ) (h : H) (others : List H) → headers_from header_at index count ≡ h ∷ others → (header_at index ≡ Ok h) × (others ≡ headers_from header_at (index + 1) (count - 1))
+rest-first header_at index zero h others is = cc
+rest-first header_at index (suc count) h others is =
+    let first = before-first (header_at index) (headers_from header_at (suc index) count) others h is in
+    let next : suc index ≡ index + 1 = omega arith in
+    let fewer : count ≡ suc count - 1 = omega arith in
+    (first.0, first.1 ∙ ap (λ k. headers_from header_at k count) next ∙ ap (headers_from header_at (index + 1)) fewer)
+
+pub first_of_rest : {H : Type 0} (header_at : ℕ → Result H ElfError) (limit index : ℕ) (h : H) (others : List H) → header_rest header_at limit index ≡ h ∷ others → (header_at index ≡ Ok h) × (others ≡ header_rest header_at limit (index + 1))
+first_of_rest header_at limit index h others is =
+    let first = rest-first header_at index (limit - index) h others is in
+    let fewer : limit - index - 1 ≡ limit - (index + 1) = omega arith in
+    (first.0, first.1 ∙ ap (headers_from header_at (index + 1)) fewer)
+
+-- one more header with the property
+each_below-next : {H : Type 0} (header_at : ℕ → Result H ElfError) (P : H → Type 0) (index : ℕ) (h : H) → header_at index ≡ Ok h → P h → EachBelow header_at P index → EachBelow header_at P (index + 1)
+each_below-next header_at P index h here holds earlier i x below is =
+    below_more (λ k. header_at k ≡ Ok x → P x) index (λ k lower at. earlier k x lower at)
+    (λ at. let same : h ≡ x = cc in subst P same holds) i below is
+
+-- how far a loop with a counter has come over the items of a list: all headers so far have the property,
+-- and what is left begins at the index
+pub record HasPassed {H : Type 0} (header_at : ℕ → Result H ElfError) (limit : ℕ) (P : H → Type 0) (rest : List H) (index : ℕ) : Type 0 where
+  pub left : rest ≡ header_rest header_at limit index
+  pub counted : index + length rest ≡ length (header_rest header_at limit 0)
+  pub passed : EachBelow header_at P index
+
+pub has_passed_one : {H : Type 0} (header_at : ℕ → Result H ElfError) (limit : ℕ) (P : H → Type 0) (index : ℕ) (rest others : List H) (h : H) → rest ≡ h ∷ others → P h → HasPassed header_at limit P rest index → HasPassed header_at limit P others (index + 1)
+has_passed_one header_at limit P index rest others h is holds before =
+    let first = first_of_rest header_at limit index h others (sym before.left ∙ is) in
+    let one : length rest ≡ length others + 1 = grind (arith, ap length is) in
+    let counted = before.counted in record {
+      left = first.1;
+      counted = omega (arith, one, counted);
+      passed = each_below-next header_at P index h first.0 holds before.passed;
+    }
