@@ -2,3 +2,4 @@ pub mod Numbers
 pub mod PrintedBytes
 pub mod PrintedLines
 pub mod Texts
+pub mod lemmas

@@ -8,3 +8,4 @@ pub mod FileHeader
 pub mod Printed
 pub mod HeaderText
 pub mod Text
+pub mod Table
