@@ -1,2 +1,4 @@
 pub mod SectionNumbers
 pub mod ProgramNumbers
+pub mod Relocation
+pub mod Note

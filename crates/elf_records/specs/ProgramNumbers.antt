@@ -4,8 +4,17 @@ use Rattle.elf_base.specs.Named.{named_or}
 use Rattle.elf_base.specs.Printed.{numbered}
 use Rattle.elf_base.specs.declared.error.ElfError.{ElfError}
 use Rattle.elf_base.specs.declared.error.ElfError.TheVariants.{InvalidPhType}
+use Rattle.elf_records.specs.declared.program.Type_.{Type_}
 use Rattle.elf_records.specs.declared.program.Type as the_type
 use Rattle.elf_records.specs.declared.program.Type.TheVariants as ph_type
+
+-- the number of a type, as it stands in the file
+abbrev pub ph_type_number : Type_ → ℕ
+ph_type_number type_ = type_.0
+
+-- the type of a number
+abbrev pub ph_type_raw : ℕ → Type_
+ph_type_raw n = record { 0 = n }
 
 -- the types that are ranges: of the operating system, of the processor
 abbrev pub ph_type_in_range : ℕ → Result the_type.Type ElfError

@@ -4,8 +4,17 @@ use Rattle.elf_base.specs.Named.{named_or}
 use Rattle.elf_base.specs.Printed.{numbered}
 use Rattle.elf_base.specs.declared.error.ElfError.{ElfError}
 use Rattle.elf_base.specs.declared.error.ElfError.TheVariants.{InvalidShType}
+use Rattle.elf_records.specs.declared.sections.ShType_.{ShType_}
 use Rattle.elf_records.specs.declared.sections.ShType.{ShType}
 use Rattle.elf_records.specs.declared.sections.ShType.TheVariants as sh_type
+
+-- the number of a type, as it stands in the file
+abbrev pub sh_type_number : ShType_ → ℕ
+sh_type_number type_ = type_.0
+
+-- the type of a number
+abbrev pub sh_type_raw : ℕ → ShType_
+sh_type_raw n = record { 0 = n }
 
 -- the types that are ranges: of the operating system, of the processor, of programs
 abbrev pub sh_type_in_range : ℕ → Result ShType ElfError

@@ -2,7 +2,7 @@
 
 ghost use Rattle.std.specs.Prelude.{◌≡◌, ◌↔◌, IsTrue, Some};
 ghost use Rattle.std.specs.Int.{IsBitSet};
-ghost use Rattle.elf_records.specs.ProgramNumbers.{flags_text, ph_type_of, ph_type_text};
+ghost use Rattle.elf_records.specs.ProgramNumbers.{flags_text, ph_type_number, ph_type_of, ph_type_raw, ph_type_text};
 
 use elf_base::ElfError;
 use std::fmt;
@@ -45,14 +45,14 @@ pub struct Type_(u32);
 impl Type_ {
     /// The value of this number, which may be any.
     pub fn from_raw(number: u32) -> Type_
-        ensures { result ≡ record { 0 = number } }
+        ensures { result ≡ ph_type_raw number }
     {
         Type_(number)
     }
 
     /// The number as it stands in the file.
     pub fn raw(self) -> u32
-        ensures { result ≡ self.0 }
+        ensures { result ≡ ph_type_number self }
     {
         self.0
     }
@@ -60,7 +60,7 @@ impl Type_ {
     /// What the number means; `InvalidPhType` for 8 to 0x5fffffff and from 0x80000000 on.
     #[tactic(auto, unfolding(crate::specs::ProgramNumbers::ph_type_of))]
     pub fn as_type(self) -> Result<Type, ElfError>
-        ensures { result ≡ ph_type_of self.0 }
+        ensures { result ≡ ph_type_of (ph_type_number self) }
     {
         Ok(match self.0 {
             0 => Type::Null,

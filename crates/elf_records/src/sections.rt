@@ -1,8 +1,13 @@
-//! The numbers of sections that have names (gABI, "Sections").
+//! The numbers of sections that have names, and the records in sections (gABI, "Sections").
 
 ghost use Rattle.std.specs.Prelude.{◌≡◌, Some};
-ghost use Rattle.elf_records.specs.SectionNumbers.{sh_type_of, sh_type_text};
+ghost use Rattle.elf_records.specs.SectionNumbers.{sh_type_number, sh_type_of, sh_type_raw, sh_type_text};
 
+mod note;
+mod relocations;
+
+pub use crate::sections::note::NoteHeader;
+pub use crate::sections::relocations::{Rel, Rela};
 use elf_base::ElfError;
 use std::fmt;
 use std::fmt::Display;
@@ -110,14 +115,14 @@ pub struct ShType_(u32);
 impl ShType_ {
     /// The value of this number, which may be any.
     pub fn from_raw(number: u32) -> ShType_
-        ensures { result ≡ record { 0 = number } }
+        ensures { result ≡ sh_type_raw number }
     {
         ShType_(number)
     }
 
     /// The number as it stands in the file.
     pub fn raw(self) -> u32
-        ensures { result ≡ self.0 }
+        ensures { result ≡ sh_type_number self }
     {
         self.0
     }
@@ -125,7 +130,7 @@ impl ShType_ {
     /// What the number means; `InvalidShType` for 12, 13 and 19 to 0x5fffffff.
     #[tactic(auto, unfolding(crate::specs::SectionNumbers::sh_type_of))]
     pub fn as_sh_type(self) -> Result<ShType, ElfError>
-        ensures { result ≡ sh_type_of self.0 }
+        ensures { result ≡ sh_type_of (sh_type_number self) }
     {
         Ok(match self.0 {
             0 => ShType::Null,
