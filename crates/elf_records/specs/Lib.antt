@@ -2,3 +2,4 @@ pub mod SectionNumbers
 pub mod ProgramNumbers
 pub mod Relocation
 pub mod Note
+pub mod Tag
