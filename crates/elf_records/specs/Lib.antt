@@ -3,3 +3,5 @@ pub mod ProgramNumbers
 pub mod Relocation
 pub mod Note
 pub mod Tag
+pub mod SymbolNumbers
+pub mod HashNumber

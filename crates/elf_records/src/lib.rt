@@ -2,5 +2,7 @@
 #![tactic(auto)]
 
 pub mod dynamic;
+pub mod hash;
 pub mod program;
 pub mod sections;
+pub mod symbol_table;
