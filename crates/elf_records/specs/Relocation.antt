@@ -36,20 +36,20 @@ rela_64 order bytes = record {
 }
 
 -- r_offset and r_info of a relocation without an addend
-abbrev pub rel_offset : Rel ℕ → ℕ
+abbrev pub rel_offset : {P : Type 0} → Rel P → P
 rel_offset rel = rel.offset
 
-abbrev pub rel_info : Rel ℕ → ℕ
+abbrev pub rel_info : {P : Type 0} → Rel P → P
 rel_info rel = rel.info
 
 -- r_offset, r_info and r_addend of one with an addend
-abbrev pub rela_offset : Rela ℕ → ℕ
+abbrev pub rela_offset : {P : Type 0} → Rela P → P
 rela_offset rela = rela.offset
 
-abbrev pub rela_info : Rela ℕ → ℕ
+abbrev pub rela_info : {P : Type 0} → Rela P → P
 rela_info rela = rela.info
 
-abbrev pub rela_addend : Rela ℕ → ℕ
+abbrev pub rela_addend : {P : Type 0} → Rela P → P
 rela_addend rela = rela.addend
 
 -- the symbol and the type in the r_info of class 32 (ELF32_R_SYM and ELF32_R_TYPE)

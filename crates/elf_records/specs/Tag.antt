@@ -28,10 +28,10 @@ dynamic_64 order bytes = record {
 }
 
 -- d_tag and d_un of an entry
-abbrev pub dynamic_tag : Dynamic ℕ → ℕ
+abbrev pub dynamic_tag : {P : Type 0} → Dynamic P → P
 dynamic_tag entry = entry.tag.0
 
-abbrev pub dynamic_value : Dynamic ℕ → ℕ
+abbrev pub dynamic_value : {P : Type 0} → Dynamic P → P
 dynamic_value entry = entry.value
 
 -- the number of a tag, as it stands in the file
@@ -97,13 +97,13 @@ abbrev pub tag_of : ℕ → Result (Tag ℕ) ElfError
 tag_of n = and_then (row_of n n) (λ row. Ok row.0)
 
 -- d_un as a value, where the tag has one
-abbrev pub value_in : ℕ → Content → Result ℕ ElfError
+abbrev pub value_in : {P : Type 0} → P → Content → Result P ElfError
 value_in value Value = Ok value
 value_in value Unspecified = Ok value
 value_in value _ = Err InvalidValue
 
 -- d_un as a pointer, where the tag has one
-abbrev pub pointer_in : ℕ → Content → Result ℕ ElfError
+abbrev pub pointer_in : {P : Type 0} → P → Content → Result P ElfError
 pointer_in value Pointer = Ok value
 pointer_in value Unspecified = Ok value
 pointer_in value _ = Err InvalidPtr

@@ -2,7 +2,7 @@
 
 ghost use Rattle.std.specs.Prelude.{◌≡◌};
 ghost use Rattle.std.proofs.Common.{lit<};
-ghost use Rattle.elf_records.specs.Tag.{dynamic_32, dynamic_64, dynamic_tag, dynamic_value, pointer_of, row_of, tag_number, tag_of, tag_raw, value_of};
+ghost use Rattle.elf_records.specs.Tag.{dynamic_32, dynamic_64, dynamic_tag, dynamic_value, pointer_in, pointer_of, row_of, tag_number, tag_of, tag_raw, value_in, value_of};
 
 use elf_base::bytes::{Order, Record, read_u32, read_u64};
 use elf_base::{ElfError, P32, P64};
@@ -200,6 +200,28 @@ enum Content {
     Unspecified,
 }
 
+impl Content {
+    // The number of an entry as a value.
+    fn value<P: Copy>(self, number: P) -> Result<P, ElfError>
+        ensures { result ≡ value_in number self }
+    {
+        match self {
+            Content::Value | Content::Unspecified => Ok(number),
+            Content::Ignored | Content::Pointer => Err(ElfError::InvalidValue),
+        }
+    }
+
+    // The number of an entry as a pointer.
+    fn pointer<P: Copy>(self, number: P) -> Result<P, ElfError>
+        ensures { result ≡ pointer_in number self }
+    {
+        match self {
+            Content::Pointer | Content::Unspecified => Ok(number),
+            Content::Ignored | Content::Value => Err(ElfError::InvalidPtr),
+        }
+    }
+}
+
 // The tag that a number means, and what the number of its entries is; `raw` is that number as the
 // file has it.
 #[tactic(auto, unfolding(crate::specs::Tag::row_of))]
@@ -324,10 +346,7 @@ impl Dynamic<P32> {
         ensures { result ≡ value_of (dynamic_tag self.now) (dynamic_value self.now) }
     {
         let (_tag, content) = row(u64::from(self.tag.0), self.tag.0)?;
-        match content {
-            Content::Value | Content::Unspecified => Ok(self.value),
-            Content::Ignored | Content::Pointer => Err(ElfError::InvalidValue),
-        }
+        content.value(self.value)
     }
 
     /// The entry's number as a pointer; `InvalidTag`, or `InvalidPtr` where the tag has none.
@@ -335,10 +354,7 @@ impl Dynamic<P32> {
         ensures { result ≡ pointer_of (dynamic_tag self.now) (dynamic_value self.now) }
     {
         let (_tag, content) = row(u64::from(self.tag.0), self.tag.0)?;
-        match content {
-            Content::Pointer | Content::Unspecified => Ok(self.value),
-            Content::Ignored | Content::Value => Err(ElfError::InvalidPtr),
-        }
+        content.pointer(self.value)
     }
 }
 
@@ -365,10 +381,7 @@ impl Dynamic<P64> {
         ensures { result ≡ value_of (dynamic_tag self.now) (dynamic_value self.now) }
     {
         let (_tag, content) = row(self.tag.0, self.tag.0)?;
-        match content {
-            Content::Value | Content::Unspecified => Ok(self.value),
-            Content::Ignored | Content::Pointer => Err(ElfError::InvalidValue),
-        }
+        content.value(self.value)
     }
 
     /// The entry's number as a pointer; `InvalidTag`, or `InvalidPtr` where the tag has none.
@@ -376,9 +389,6 @@ impl Dynamic<P64> {
         ensures { result ≡ pointer_of (dynamic_tag self.now) (dynamic_value self.now) }
     {
         let (_tag, content) = row(self.tag.0, self.tag.0)?;
-        match content {
-            Content::Pointer | Content::Unspecified => Ok(self.value),
-            Content::Ignored | Content::Value => Err(ElfError::InvalidPtr),
-        }
+        content.pointer(self.value)
     }
 }

@@ -92,108 +92,119 @@ impl Record for Rela<P64> {
     }
 }
 
-impl Rel<P32> {
+// The symbol's index in the info of class 32.
+fn symbol_index_32(info: P32) -> u32
+    ensures { result ≡ symbol_in_32 info }
+{
+    info / 256
+}
+
+// The type in the info of class 32.
+fn relocation_type_32(info: P32) -> u8
+    ensures { result ≡ type_in_32 info }
+{
+    (info % 256) as u8
+}
+
+// The symbol's index in the info of class 64.
+fn symbol_index_64(info: P64) -> u32
+    ensures { result ≡ symbol_in_64 info }
+{
+    (info / 0x1_0000_0000) as u32
+}
+
+// The type in the info of class 64.
+fn relocation_type_64(info: P64) -> u32
+    ensures { result ≡ type_in_64 info }
+{
+    (info % 0x1_0000_0000) as u32
+}
+
+impl<P: Copy> Rel<P> {
     /// Where it applies: an offset in a section, or an address.
-    pub fn get_offset(&self) -> P32
+    pub fn get_offset(&self) -> P
         ensures { result ≡ rel_offset self.now }
     {
         self.offset
     }
+}
 
+impl Rel<P32> {
     /// The index of its symbol in the symbol table.
     pub fn get_symbol_table_index(&self) -> u32
         ensures { result ≡ symbol_in_32 (rel_info self.now) }
     {
-        self.info / 256
+        symbol_index_32(self.info)
     }
 
     /// What is done there, by a number of the processor.
     pub fn get_type(&self) -> u8
         ensures { result ≡ type_in_32 (rel_info self.now) }
     {
-        (self.info % 256) as u8
+        relocation_type_32(self.info)
     }
 }
 
 impl Rel<P64> {
-    /// Where it applies: an offset in a section, or an address.
-    pub fn get_offset(&self) -> P64
-        ensures { result ≡ rel_offset self.now }
-    {
-        self.offset
-    }
-
     /// The index of its symbol in the symbol table.
     pub fn get_symbol_table_index(&self) -> u32
         ensures { result ≡ symbol_in_64 (rel_info self.now) }
     {
-        (self.info / 0x1_0000_0000) as u32
+        symbol_index_64(self.info)
     }
 
     /// What is done there, by a number of the processor.
     pub fn get_type(&self) -> u32
         ensures { result ≡ type_in_64 (rel_info self.now) }
     {
-        (self.info % 0x1_0000_0000) as u32
+        relocation_type_64(self.info)
     }
 }
 
-impl Rela<P32> {
+impl<P: Copy> Rela<P> {
     /// Where it applies: an offset in a section, or an address.
-    pub fn get_offset(&self) -> P32
+    pub fn get_offset(&self) -> P
         ensures { result ≡ rela_offset self.now }
     {
         self.offset
     }
 
     /// What is added, as an unsigned number.
-    pub fn get_addend(&self) -> P32
+    pub fn get_addend(&self) -> P
         ensures { result ≡ rela_addend self.now }
     {
         self.addend
     }
+}
 
+impl Rela<P32> {
     /// The index of its symbol in the symbol table.
     pub fn get_symbol_table_index(&self) -> u32
         ensures { result ≡ symbol_in_32 (rela_info self.now) }
     {
-        self.info / 256
+        symbol_index_32(self.info)
     }
 
     /// What is done there, by a number of the processor.
     pub fn get_type(&self) -> u8
         ensures { result ≡ type_in_32 (rela_info self.now) }
     {
-        (self.info % 256) as u8
+        relocation_type_32(self.info)
     }
 }
 
 impl Rela<P64> {
-    /// Where it applies: an offset in a section, or an address.
-    pub fn get_offset(&self) -> P64
-        ensures { result ≡ rela_offset self.now }
-    {
-        self.offset
-    }
-
-    /// What is added, as an unsigned number.
-    pub fn get_addend(&self) -> P64
-        ensures { result ≡ rela_addend self.now }
-    {
-        self.addend
-    }
-
     /// The index of its symbol in the symbol table.
     pub fn get_symbol_table_index(&self) -> u32
         ensures { result ≡ symbol_in_64 (rela_info self.now) }
     {
-        (self.info / 0x1_0000_0000) as u32
+        symbol_index_64(self.info)
     }
 
     /// What is done there, by a number of the processor.
     pub fn get_type(&self) -> u32
         ensures { result ≡ type_in_64 (rela_info self.now) }
     {
-        (self.info % 0x1_0000_0000) as u32
+        relocation_type_64(self.info)
     }
 }
