@@ -3,3 +3,4 @@ pub mod PrintedBytes
 pub mod PrintedLines
 pub mod Texts
 pub mod TextComparisons
+pub mod lemmas

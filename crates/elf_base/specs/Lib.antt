@@ -10,3 +10,4 @@ pub mod HeaderText
 pub mod Lent
 pub mod Text
 pub mod TextCompared
+pub mod Table

@@ -4,9 +4,11 @@ ghost use Rattle.std.specs.Prelude.{◌≡◌, ◌+◌, ◌≤◌, length, slice
 ghost use Rattle.elf_base.specs.Number.{number};
 
 mod record;
+mod table;
 mod text;
 
 pub use crate::bytes::record::Record;
+pub use crate::bytes::table::{Table, TableIter};
 pub use crate::bytes::text::{text_at, text_is};
 use byteorder::{BigEndian, ByteOrder, LittleEndian};
 

@@ -1,2 +1,7 @@
 pub mod SectionNumbers
 pub mod ProgramNumbers
+pub mod Relocation
+pub mod Note
+pub mod Tag
+pub mod SymbolNumbers
+pub mod HashNumber

@@ -8,10 +8,11 @@ use Rattle.elf_records.specs.declared.program.Type_.{Type_}
 use Rattle.elf_records.specs.declared.program.Type as the_type
 use Rattle.elf_records.specs.declared.program.Type.TheVariants as ph_type
 
--- p_type: the number that stands in a file, and the value of a number
+-- the number of a segment's type (p_type), as it stands in the file
 abbrev pub ph_type_number : Type_ → ℕ
-ph_type_number raw = raw.0
+ph_type_number type_ = type_.0
 
+-- the type of a number
 abbrev pub ph_type_raw : ℕ → Type_
 ph_type_raw n = record { 0 = n }
 

@@ -8,10 +8,11 @@ use Rattle.elf_records.specs.declared.sections.ShType_.{ShType_}
 use Rattle.elf_records.specs.declared.sections.ShType.{ShType}
 use Rattle.elf_records.specs.declared.sections.ShType.TheVariants as sh_type
 
--- sh_type: the number that stands in a file, and the value of a number
+-- the number of a section's type (sh_type), as it stands in the file
 abbrev pub sh_type_number : ShType_ → ℕ
-sh_type_number raw = raw.0
+sh_type_number type_ = type_.0
 
+-- the type of a number
 abbrev pub sh_type_raw : ℕ → ShType_
 sh_type_raw n = record { 0 = n }
 

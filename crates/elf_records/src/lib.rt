@@ -1,5 +1,8 @@
 //! The numbers and records that lie in the sections and segments of an ELF file.
 #![tactic(auto)]
 
+pub mod dynamic;
+pub mod hash;
 pub mod program;
 pub mod sections;
+pub mod symbol_table;

@@ -1,8 +1,13 @@
-//! The numbers of sections that have names (gABI, "Sections").
+//! The numbers of sections that have names, and the records in sections (gABI, "Sections").
 
 ghost use Rattle.std.specs.Prelude.{◌≡◌, Some};
 ghost use Rattle.elf_records.specs.SectionNumbers.{sh_type_number, sh_type_of, sh_type_raw, sh_type_text};
 
+mod note;
+mod relocations;
+
+pub use crate::sections::note::NoteHeader;
+pub use crate::sections::relocations::{Rel, Rela};
 use elf_base::ElfError;
 use std::fmt;
 use std::fmt::Display;

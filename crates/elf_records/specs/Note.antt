@@ -1,0 +1,58 @@
+-- Notes: a header, and after it a name and a description (gABI, "Note Section").
+use Rattle.std.specs.Prelude.{◌≡◌, ◌≢◌, ℕ, ◌+◌, ◌*◌, ◌/◌, ◌≤◌, nat_eq, nat_lt, not, List, [], ◌∷◌, length, drop, take, Result}
+use Rattle.elf_base.specs.Number.{number}
+use Rattle.elf_base.specs.Refusal.{and_then, unless}
+use Rattle.elf_base.specs.Text.{IsText, TextRefused, text_of}
+use Rattle.elf_base.specs.declared.bytes.Order.{Order}
+use Rattle.elf_base.specs.declared.error.ElfError.{ElfError}
+use Rattle.elf_base.specs.declared.error.ElfError.TheVariants.{NoteDesc, NoteName}
+use Rattle.elf_records.specs.declared.sections.note.NoteHeader.{NoteHeader}
+
+-- the header that twelve bytes are
+abbrev pub note_header : Order → List ℕ → NoteHeader
+note_header order bytes = record { bytes = bytes; order = order }
+
+-- n_namesz: how many bytes the name has, with the zero byte that ends it
+unfoldable pub note_name_size : NoteHeader → ℕ
+note_name_size header = number header.order 4 0 header.bytes
+
+-- n_descsz: how many bytes the description has
+unfoldable pub note_desc_size : NoteHeader → ℕ
+note_desc_size header = number header.order 4 4 header.bytes
+
+-- n_type
+unfoldable pub note_type : NoteHeader → ℕ
+note_type header = number header.order 4 8 header.bytes
+
+-- the name of a note, in the bytes that follow its header: the text at their front, which with its zero byte has
+-- the size that the header says
+pub record IsNoteName (body : List ℕ) (name_size : ℕ) (text : List ℕ) : Type 0 where
+  pub front : IsText body 0 text
+  pub size : length text + 1 ≡ name_size
+
+-- why there is no name: no text, or one of another size
+abbrev pub NoteNameRefused : List ℕ → ℕ → ElfError → Type 0
+NoteNameRefused body name_size NoteName = (text : List ℕ) × IsText body 0 text × (length text + 1 ≢ name_size)
+NoteNameRefused body name_size error = TextRefused body 0 error
+
+-- the name as it is computed, or why there is none
+unfoldable pub note_name_of : List ℕ → ℕ → Result (List ℕ) ElfError
+note_name_of body name_size = and_then (text_of body 0) (λ text. unless (
+    (not (nat_eq (length text + 1) name_size), NoteName)
+    ∷ []) text)
+
+-- n rounded up to a multiple of four
+abbrev pub rounded_up : ℕ → ℕ
+rounded_up n = (n + 3) / 4 * 4
+
+-- the description of a note, in the bytes that follow its header: as many bytes as the header says, from the
+-- end of the name on, rounded up to a multiple of four
+pub record IsNoteDescription (body : List ℕ) (name_size desc_size : ℕ) (desc : List ℕ) : Type 0 where
+  pub fits : rounded_up name_size + desc_size ≤ length body
+  pub bytes : desc ≡ take desc_size (drop (rounded_up name_size) body)
+
+-- the description as it is computed, or that it passes the end
+unfoldable pub note_desc_of : List ℕ → ℕ → ℕ → Result (List ℕ) ElfError
+note_desc_of body name_size desc_size = unless (
+    (nat_lt (length body) (rounded_up name_size + desc_size), NoteDesc)
+    ∷ []) (take desc_size (drop (rounded_up name_size) body))

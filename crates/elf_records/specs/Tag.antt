@@ -1,0 +1,116 @@
+-- The dynamic section (gABI, "Dynamic Section": Elf32_Dyn, Elf64_Dyn and the table of tags).
+use Rattle.std.specs.Prelude.{ℕ, nat_le, ◌&&◌, List, [], ◌∷◌, Result, Ok, Err, if◌then◌else◌}
+use Rattle.elf_base.specs.Named.{named_or}
+use Rattle.elf_base.specs.Number.{number}
+use Rattle.elf_base.specs.Refusal.{and_then}
+use Rattle.elf_base.specs.declared.bytes.Order.{Order}
+use Rattle.elf_base.specs.declared.error.ElfError.{ElfError}
+use Rattle.elf_base.specs.declared.error.ElfError.TheVariants.{InvalidPtr, InvalidTag, InvalidValue}
+use Rattle.elf_records.specs.declared.dynamic.Content.{Content}
+use Rattle.elf_records.specs.declared.dynamic.Content.TheVariants.{Ignored, Value, Pointer, Unspecified}
+use Rattle.elf_records.specs.declared.dynamic.Dynamic.{Dynamic}
+use Rattle.elf_records.specs.declared.dynamic.Tag_.{Tag_}
+use Rattle.elf_records.specs.declared.dynamic.Tag.{Tag}
+use Rattle.elf_records.specs.declared.dynamic.Tag.TheVariants as tag
+
+-- the 8 bytes of class 32
+abbrev pub dynamic_32 : Order → List ℕ → Dynamic ℕ
+dynamic_32 order bytes = record {
+  tag = record { 0 = number order 4 0 bytes };
+  value = number order 4 4 bytes;
+}
+
+-- the 16 bytes of class 64
+abbrev pub dynamic_64 : Order → List ℕ → Dynamic ℕ
+dynamic_64 order bytes = record {
+  tag = record { 0 = number order 8 0 bytes };
+  value = number order 8 8 bytes;
+}
+
+-- d_tag and d_un of an entry
+abbrev pub dynamic_tag : {P : Type 0} → Dynamic P → P
+dynamic_tag entry = entry.tag.0
+
+abbrev pub dynamic_value : {P : Type 0} → Dynamic P → P
+dynamic_value entry = entry.value
+
+-- the number of a tag, as it stands in the file
+abbrev pub tag_number : {P : Type 0} → Tag_ P → P
+tag_number tag = tag.0
+
+-- the tag of a number
+abbrev pub tag_raw : {P : Type 0} → P → Tag_ P
+tag_raw n = record { 0 = n }
+
+-- the tags that are ranges: of the operating system, of the processor
+abbrev pub row_in_range : {P : Type 0} → P → ℕ → Result (Tag P × Content) ElfError
+row_in_range raw n =
+    if nat_le 0x6000000d n && nat_le n 0x6fffffff then Ok (tag.OsSpecific raw, Unspecified)
+    else (if nat_le 0x70000000 n && nat_le n 0x7fffffff then Ok (tag.ProcessorSpecific raw, Unspecified)
+    else Err InvalidTag)
+
+-- d_tag: its number, its name, and what d_un is; the same in both classes
+unfoldable pub row_of : {P : Type 0} → P → ℕ → Result (Tag P × Content) ElfError
+row_of raw n = named_or (row_in_range raw) (
+    (0, Ok (tag.Null, Ignored))
+    ∷ (1, Ok (tag.Needed, Value))
+    ∷ (2, Ok (tag.PltRelSize, Value))
+    ∷ (3, Ok (tag.Pltgot, Pointer))
+    ∷ (4, Ok (tag.Hash, Pointer))
+    ∷ (5, Ok (tag.StrTab, Pointer))
+    ∷ (6, Ok (tag.SymTab, Pointer))
+    ∷ (7, Ok (tag.Rela, Pointer))
+    ∷ (8, Ok (tag.RelaSize, Value))
+    ∷ (9, Ok (tag.RelaEnt, Value))
+    ∷ (10, Ok (tag.StrSize, Value))
+    ∷ (11, Ok (tag.SymEnt, Value))
+    ∷ (12, Ok (tag.Init, Pointer))
+    ∷ (13, Ok (tag.Fini, Pointer))
+    ∷ (14, Ok (tag.SoName, Value))
+    ∷ (15, Ok (tag.RPath, Value))
+    ∷ (16, Ok (tag.Symbolic, Ignored))
+    ∷ (17, Ok (tag.Rel, Pointer))
+    ∷ (18, Ok (tag.RelSize, Value))
+    ∷ (19, Ok (tag.RelEnt, Value))
+    ∷ (20, Ok (tag.PltRel, Value))
+    ∷ (21, Ok (tag.Debug, Pointer))
+    ∷ (22, Ok (tag.TextRel, Ignored))
+    ∷ (23, Ok (tag.JmpRel, Pointer))
+    ∷ (24, Ok (tag.BindNow, Ignored))
+    ∷ (25, Ok (tag.InitArray, Pointer))
+    ∷ (26, Ok (tag.FiniArray, Pointer))
+    ∷ (27, Ok (tag.InitArraySize, Value))
+    ∷ (28, Ok (tag.FiniArraySize, Value))
+    ∷ (29, Ok (tag.RunPath, Value))
+    ∷ (30, Ok (tag.Flags, Value))
+    ∷ (32, Ok (tag.PreInitArray, Pointer))
+    ∷ (33, Ok (tag.PreInitArraySize, Value))
+    ∷ (34, Ok (tag.SymTabShIndex, Pointer))
+    ∷ (35, Ok (tag.RelrSize, Value))
+    ∷ (36, Ok (tag.Relr, Pointer))
+    ∷ (37, Ok (tag.RelrEnt, Value))
+    ∷ (0x6ffffffb, Ok (tag.Flags1, Value))
+    ∷ []) n
+
+-- the tag that a number means, or that it means none
+abbrev pub tag_of : ℕ → Result (Tag ℕ) ElfError
+tag_of n = and_then (row_of n n) (λ row. Ok row.0)
+
+-- d_un as a value, where the tag has one
+abbrev pub value_in : {P : Type 0} → P → Content → Result P ElfError
+value_in value Value = Ok value
+value_in value Unspecified = Ok value
+value_in value _ = Err InvalidValue
+
+-- d_un as a pointer, where the tag has one
+abbrev pub pointer_in : {P : Type 0} → P → Content → Result P ElfError
+pointer_in value Pointer = Ok value
+pointer_in value Unspecified = Ok value
+pointer_in value _ = Err InvalidPtr
+
+-- the value and the pointer of an entry, by its two numbers, or why it has none
+abbrev pub value_of : ℕ → ℕ → Result ℕ ElfError
+value_of n value = and_then (row_of n n) (λ row. value_in value row.1)
+
+abbrev pub pointer_of : ℕ → ℕ → Result ℕ ElfError
+pointer_of n value = and_then (row_of n n) (λ row. pointer_in value row.1)

@@ -1,0 +1,394 @@
+//! The dynamic section (gABI, "Dynamic Section").
+
+ghost use Rattle.std.specs.Prelude.{◌≡◌};
+ghost use Rattle.std.proofs.Common.{lit<};
+ghost use Rattle.elf_records.specs.Tag.{dynamic_32, dynamic_64, dynamic_tag, dynamic_value, pointer_in, pointer_of, row_of, tag_number, tag_of, tag_raw, value_in, value_of};
+
+use elf_base::bytes::{Order, Record, read_u32, read_u64};
+use elf_base::{ElfError, P32, P64};
+
+/// All relocations are made before the program runs.
+pub const FLAG_1_NOW: u64 = 0x1;
+
+/// The symbols of the library are open to all others.
+pub const FLAG_1_GLOBAL: u64 = 0x2;
+
+/// The library is a member of a group.
+pub const FLAG_1_GROUP: u64 = 0x4;
+
+/// The library stays loaded.
+pub const FLAG_1_NODELETE: u64 = 0x8;
+
+/// Filtered libraries are loaded at once.
+pub const FLAG_1_LOADFLTR: u64 = 0x10;
+
+/// The library begins before all others.
+pub const FLAG_1_INITFIRST: u64 = 0x20;
+
+/// The library cannot be opened while the program runs.
+pub const FLAG_1_NOOPEN: u64 = 0x40;
+
+/// Paths may name the place of the library.
+pub const FLAG_1_ORIGIN: u64 = 0x80;
+
+/// Symbols are bound directly.
+pub const FLAG_1_DIRECT: u64 = 0x100;
+
+/// No meaning is known.
+pub const FLAG_1_TRANS: u64 = 0x200;
+
+/// The symbols of the library come before those of others.
+pub const FLAG_1_INTERPOSE: u64 = 0x400;
+
+/// The default places of libraries are passed over.
+pub const FLAG_1_NODEFLIB: u64 = 0x800;
+
+/// The library cannot be dumped.
+pub const FLAG_1_NODUMP: u64 = 0x1000;
+
+/// Another configuration is in use.
+pub const FLAG_1_CONFALT: u64 = 0x2000;
+
+/// The search for filtered libraries ends here.
+pub const FLAG_1_ENDFILTEE: u64 = 0x4000;
+
+/// Relocations by displacement were made when the file was.
+pub const FLAG_1_DISPRELDNE: u64 = 0x8000;
+
+/// Relocations by displacement are left for the run.
+pub const FLAG_1_DISPRELPND: u64 = 0x1_0000;
+
+/// The file has no direct bindings.
+pub const FLAG_1_NODIRECT: u64 = 0x2_0000;
+
+/// Further definitions of a symbol are passed over.
+pub const FLAG_1_IGNMULDEF: u64 = 0x4_0000;
+
+/// No meaning is known.
+pub const FLAG_1_NOKSYMS: u64 = 0x8_0000;
+
+/// No meaning is known.
+pub const FLAG_1_NOHDR: u64 = 0x10_0000;
+
+/// The file was changed after it was made.
+pub const FLAG_1_EDITED: u64 = 0x20_0000;
+
+/// No meaning is known.
+pub const FLAG_1_NORELOC: u64 = 0x40_0000;
+
+/// Single symbols come before those of others.
+pub const FLAG_1_SYMINTPOSE: u64 = 0x80_0000;
+
+/// All libraries are audited.
+pub const FLAG_1_GLOBAUDIT: u64 = 0x100_0000;
+
+/// Symbols of which there is one in a program are used.
+pub const FLAG_1_SINGLETON: u64 = 0x200_0000;
+
+/// The file stands for another, which holds the code.
+pub const FLAG_1_STUB: u64 = 0x400_0000;
+
+/// The program may be loaded at any address.
+pub const FLAG_1_PIE: u64 = 0x800_0000;
+
+/// An entry of the dynamic section: a tag, and a number whose meaning is the tag's.
+#[derive(Clone, Copy, Debug)]
+pub struct Dynamic<P> {
+    tag: Tag_<P>,
+    value: P,
+}
+
+/// What an entry of the dynamic section is, as a number (gABI, "Dynamic Section", d_tag).
+#[derive(Clone, Copy, Debug)]
+pub struct Tag_<P>(P);
+
+/// What an entry of the dynamic section is (gABI, "Dynamic Section", d_tag).
+#[derive(Clone, Debug, Drop, PartialEq, Eq)]
+pub enum Tag<P> {
+    /// The end of the entries.
+    Null,
+    /// The name of a library that is needed, as an offset in the string table.
+    Needed,
+    /// The size of the relocations of the procedure linkage table, in bytes.
+    PltRelSize,
+    /// The address of the procedure linkage table or the global offset table.
+    Pltgot,
+    /// The address of the symbol hash table.
+    Hash,
+    /// The address of the string table.
+    StrTab,
+    /// The address of the symbol table.
+    SymTab,
+    /// The address of the relocations with addends.
+    Rela,
+    /// The size of those, in bytes.
+    RelaSize,
+    /// The size of one of those, in bytes.
+    RelaEnt,
+    /// The size of the string table, in bytes.
+    StrSize,
+    /// The size of one entry of the symbol table, in bytes.
+    SymEnt,
+    /// The address of the function that begins the run.
+    Init,
+    /// The address of the function that ends the run.
+    Fini,
+    /// The name of this library, as an offset in the string table.
+    SoName,
+    /// Where libraries are looked for, as an offset in the string table (older).
+    RPath,
+    /// Symbols are looked for in this library first.
+    Symbolic,
+    /// The address of the relocations without addends.
+    Rel,
+    /// The size of those, in bytes.
+    RelSize,
+    /// The size of one of those, in bytes.
+    RelEnt,
+    /// Which kind of relocations the procedure linkage table has: the tag Rel or Rela.
+    PltRel,
+    /// An address for debuggers.
+    Debug,
+    /// A relocation may change a segment that cannot be written.
+    TextRel,
+    /// The address of the relocations of the procedure linkage table.
+    JmpRel,
+    /// All relocations are made before the program runs.
+    BindNow,
+    /// The address of the pointers to functions that begin the run.
+    InitArray,
+    /// The address of the pointers to functions that end the run.
+    FiniArray,
+    /// The size of the pointers of InitArray, in bytes.
+    InitArraySize,
+    /// The size of the pointers of FiniArray, in bytes.
+    FiniArraySize,
+    /// Where libraries are looked for, as an offset in the string table.
+    RunPath,
+    /// Flags of this file.
+    Flags,
+    /// The address of the pointers to functions that run before those of InitArray.
+    PreInitArray,
+    /// The size of those pointers, in bytes.
+    PreInitArraySize,
+    /// The address of the section indices of symbols that need more than 16 bits.
+    SymTabShIndex,
+    /// The size of the relative relocations, in bytes.
+    RelrSize,
+    /// The address of the relative relocations.
+    Relr,
+    /// The size of one of those, in bytes.
+    RelrEnt,
+    /// Further flags of this file: `FLAG_1_NOW` and the like.
+    Flags1,
+    /// A tag of the operating system.
+    OsSpecific(P),
+    /// A tag of the processor.
+    ProcessorSpecific(P),
+}
+
+// What the number of an entry is, by its tag (gABI, "Dynamic Section", the column d_un).
+#[derive(Clone, Copy)]
+enum Content {
+    // It has no meaning.
+    Ignored,
+    // A value, as a size or an offset.
+    Value,
+    // An address.
+    Pointer,
+    // Either, by a rule that the tag's owner makes.
+    Unspecified,
+}
+
+impl Content {
+    // The number of an entry as a value.
+    fn value<P: Copy>(self, number: P) -> Result<P, ElfError>
+        ensures { result ≡ value_in number self }
+    {
+        match self {
+            Content::Value | Content::Unspecified => Ok(number),
+            Content::Ignored | Content::Pointer => Err(ElfError::InvalidValue),
+        }
+    }
+
+    // The number of an entry as a pointer.
+    fn pointer<P: Copy>(self, number: P) -> Result<P, ElfError>
+        ensures { result ≡ pointer_in number self }
+    {
+        match self {
+            Content::Pointer | Content::Unspecified => Ok(number),
+            Content::Ignored | Content::Value => Err(ElfError::InvalidPtr),
+        }
+    }
+}
+
+// The tag that a number means, and what the number of its entries is; `raw` is that number as the
+// file has it.
+#[tactic(auto, unfolding(crate::specs::Tag::row_of))]
+fn row<P: Copy>(number: u64, raw: P) -> Result<(Tag<P>, Content), ElfError>
+    ensures { result ≡ row_of raw number }
+{
+    Ok(match number {
+        0 => (Tag::Null, Content::Ignored),
+        1 => (Tag::Needed, Content::Value),
+        2 => (Tag::PltRelSize, Content::Value),
+        3 => (Tag::Pltgot, Content::Pointer),
+        4 => (Tag::Hash, Content::Pointer),
+        5 => (Tag::StrTab, Content::Pointer),
+        6 => (Tag::SymTab, Content::Pointer),
+        7 => (Tag::Rela, Content::Pointer),
+        8 => (Tag::RelaSize, Content::Value),
+        9 => (Tag::RelaEnt, Content::Value),
+        10 => (Tag::StrSize, Content::Value),
+        11 => (Tag::SymEnt, Content::Value),
+        12 => (Tag::Init, Content::Pointer),
+        13 => (Tag::Fini, Content::Pointer),
+        14 => (Tag::SoName, Content::Value),
+        15 => (Tag::RPath, Content::Value),
+        16 => (Tag::Symbolic, Content::Ignored),
+        17 => (Tag::Rel, Content::Pointer),
+        18 => (Tag::RelSize, Content::Value),
+        19 => (Tag::RelEnt, Content::Value),
+        20 => (Tag::PltRel, Content::Value),
+        21 => (Tag::Debug, Content::Pointer),
+        22 => (Tag::TextRel, Content::Ignored),
+        23 => (Tag::JmpRel, Content::Pointer),
+        24 => (Tag::BindNow, Content::Ignored),
+        25 => (Tag::InitArray, Content::Pointer),
+        26 => (Tag::FiniArray, Content::Pointer),
+        27 => (Tag::InitArraySize, Content::Value),
+        28 => (Tag::FiniArraySize, Content::Value),
+        29 => (Tag::RunPath, Content::Value),
+        30 => (Tag::Flags, Content::Value),
+        32 => (Tag::PreInitArray, Content::Pointer),
+        33 => (Tag::PreInitArraySize, Content::Value),
+        34 => (Tag::SymTabShIndex, Content::Pointer),
+        35 => (Tag::RelrSize, Content::Value),
+        36 => (Tag::Relr, Content::Pointer),
+        37 => (Tag::RelrEnt, Content::Value),
+        0x6fff_fffb => (Tag::Flags1, Content::Value),
+        0x6000_000d..=0x6fff_ffff => (Tag::OsSpecific(raw), Content::Unspecified),
+        0x7000_0000..=0x7fff_ffff => (Tag::ProcessorSpecific(raw), Content::Unspecified),
+        _ => return Err(ElfError::InvalidTag),
+    })
+}
+
+impl Record for Dynamic<P32> {
+    ghost SIZE = { 8 };
+
+    const SIZE: usize = 8;
+
+    ghost value = { dynamic_32 };
+
+    ghost size_above_zero = { lit< tt };
+
+    fn decode(bytes: &[u8], order: Order) -> Dynamic<P32> {
+        Dynamic {
+            tag: Tag_(read_u32(bytes, 0, order)),
+            value: read_u32(bytes, 4, order),
+        }
+    }
+}
+
+impl Record for Dynamic<P64> {
+    ghost SIZE = { 16 };
+
+    const SIZE: usize = 16;
+
+    ghost value = { dynamic_64 };
+
+    ghost size_above_zero = { lit< tt };
+
+    fn decode(bytes: &[u8], order: Order) -> Dynamic<P64> {
+        Dynamic {
+            tag: Tag_(read_u64(bytes, 0, order)),
+            value: read_u64(bytes, 8, order),
+        }
+    }
+}
+
+impl<P: Copy> Tag_<P> {
+    /// The value of this number, which may be any.
+    pub fn from_raw(number: P) -> Tag_<P>
+        ensures { result ≡ tag_raw number }
+    {
+        Tag_(number)
+    }
+
+    /// The number as it stands in the file.
+    pub fn raw(self) -> P
+        ensures { result ≡ tag_number self }
+    {
+        self.0
+    }
+}
+
+impl Tag_<P32> {
+    /// What the number means; `InvalidTag` for 31, 38 to 0x6000000c and from 0x80000000 on.
+    pub fn as_tag(self) -> Result<Tag<P32>, ElfError>
+        ensures { result ≡ tag_of (tag_number self) }
+    {
+        let (tag, _content) = row(u64::from(self.0), self.0)?;
+        Ok(tag)
+    }
+}
+
+impl Dynamic<P32> {
+    /// What the entry is; `InvalidTag` where the tag's number has no meaning.
+    pub fn get_tag(&self) -> Result<Tag<P32>, ElfError>
+        ensures { result ≡ tag_of (dynamic_tag self.now) }
+    {
+        self.tag.as_tag()
+    }
+
+    /// The entry's number as a value; `InvalidTag`, or `InvalidValue` where the tag has none.
+    pub fn get_val(&self) -> Result<P32, ElfError>
+        ensures { result ≡ value_of (dynamic_tag self.now) (dynamic_value self.now) }
+    {
+        let (_tag, content) = row(u64::from(self.tag.0), self.tag.0)?;
+        content.value(self.value)
+    }
+
+    /// The entry's number as a pointer; `InvalidTag`, or `InvalidPtr` where the tag has none.
+    pub fn get_ptr(&self) -> Result<P32, ElfError>
+        ensures { result ≡ pointer_of (dynamic_tag self.now) (dynamic_value self.now) }
+    {
+        let (_tag, content) = row(u64::from(self.tag.0), self.tag.0)?;
+        content.pointer(self.value)
+    }
+}
+
+impl Tag_<P64> {
+    /// What the number means; `InvalidTag` for 31, 38 to 0x6000000c and from 0x80000000 on.
+    pub fn as_tag(self) -> Result<Tag<P64>, ElfError>
+        ensures { result ≡ tag_of (tag_number self) }
+    {
+        let (tag, _content) = row(self.0, self.0)?;
+        Ok(tag)
+    }
+}
+
+impl Dynamic<P64> {
+    /// What the entry is; `InvalidTag` where the tag's number has no meaning.
+    pub fn get_tag(&self) -> Result<Tag<P64>, ElfError>
+        ensures { result ≡ tag_of (dynamic_tag self.now) }
+    {
+        self.tag.as_tag()
+    }
+
+    /// The entry's number as a value; `InvalidTag`, or `InvalidValue` where the tag has none.
+    pub fn get_val(&self) -> Result<P64, ElfError>
+        ensures { result ≡ value_of (dynamic_tag self.now) (dynamic_value self.now) }
+    {
+        let (_tag, content) = row(self.tag.0, self.tag.0)?;
+        content.value(self.value)
+    }
+
+    /// The entry's number as a pointer; `InvalidTag`, or `InvalidPtr` where the tag has none.
+    pub fn get_ptr(&self) -> Result<P64, ElfError>
+        ensures { result ≡ pointer_of (dynamic_tag self.now) (dynamic_value self.now) }
+    {
+        let (_tag, content) = row(self.tag.0, self.tag.0)?;
+        content.pointer(self.value)
+    }
+}

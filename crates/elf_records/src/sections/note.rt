@@ -1,0 +1,100 @@
+//! Notes (gABI, "Note Section").
+
+ghost use Rattle.std.specs.Prelude.{◌≡◌, ◌<◌, ◌+◌, ℕ, List, length, Ok, Err, IfErr, IfOk, IsOkAnd};
+ghost use Rattle.std.proofs.Common.{lit<};
+ghost use Rattle.elf_records.specs.Note.{IsNoteDescription, IsNoteName, NoteNameRefused, note_desc_of, note_desc_size, note_header, note_name_of, note_name_size, note_type, rounded_up};
+
+use elf_base::ElfError;
+use elf_base::bytes::{Order, Record, read_u32, text_at};
+
+/// The header of a note, kept as its twelve bytes.
+///
+/// Its calls take the bytes that follow the header, up to the end of the section or segment.
+#[derive(Clone, Copy, Debug)]
+pub struct NoteHeader {
+    bytes: [u8; 12],
+    order: Order,
+}
+
+impl Record for NoteHeader {
+    ghost SIZE = { 12 };
+
+    const SIZE: usize = 12;
+
+    ghost value = { note_header };
+
+    ghost size_above_zero = { lit< tt };
+
+    fn decode(bytes: &[u8], order: Order) -> NoteHeader {
+        match <[u8; 12]>::try_from(bytes) {
+            Ok(kept) => NoteHeader { bytes: kept, order },
+            Err(_) => unreachable!(),
+        }
+    }
+}
+
+#[tactic(auto, unfolding(crate::specs::Note::note_name_size, crate::specs::Note::note_desc_size, crate::specs::Note::note_type))]
+impl NoteHeader {
+    /// What the description means, by the note's name.
+    pub fn type_(&self) -> u32
+        ensures { result ≡ note_type self.now }
+    {
+        read_u32(&self.bytes, 8, self.order)
+    }
+
+    // How many bytes the name has, with its zero byte.
+    fn name_size(&self) -> u32
+        ensures { result ≡ note_name_size self.now }
+    {
+        read_u32(&self.bytes, 0, self.order)
+    }
+
+    // How many bytes the description has.
+    fn desc_size(&self) -> u32
+        ensures { result ≡ note_desc_size self.now }
+    {
+        read_u32(&self.bytes, 4, self.order)
+    }
+}
+
+impl NoteHeader {
+    /// The name of the note: `TextEnd` and `TextUtf8` as `text_at`, and `NoteName` where the text with
+    /// its zero byte has not the size that the header says.
+    #[tactic(auto, unfolding(crate::specs::Note::note_name_of))]
+    pub fn name<'a>(&self, body: &'a [u8]) -> Result<&'a str, ElfError>
+        ensures text { IfOk result (λ t. IsNoteName body.now (note_name_size self.now) t.now) }
+        ensures only { (t : List ℕ) → IsNoteName body.now (note_name_size self.now) t → IsOkAnd result (λ s. s.now ≡ t) }
+        ensures refused { IfErr result (λ error. NoteNameRefused body.now (note_name_size self.now) error) }
+
+        // the same, for callers that go on with what the name is
+        ensures ok { IfOk result (λ t. note_name_of body.now (note_name_size self.now) ≡ Ok t.now) }
+        ensures err { IfErr result (λ error. note_name_of body.now (note_name_size self.now) ≡ Err error) }
+    {
+        let text = text_at(body, 0)?;
+        if text.len() as u64 + 1 != u64::from(self.name_size()) {
+            return Err(ElfError::NoteName);
+        }
+        Ok(text)
+    }
+
+    /// The description of the note; `NoteDesc` where it passes the end of `body`.
+    #[tactic(auto, unfolding(crate::specs::Note::note_desc_of))]
+    pub fn desc<'a>(&self, body: &'a [u8]) -> Result<&'a [u8], ElfError>
+        ensures desc { IfOk result (λ d. IsNoteDescription body.now (note_name_size self.now) (note_desc_size self.now) d.now) }
+        ensures only { (d : List ℕ) → IsNoteDescription body.now (note_name_size self.now) (note_desc_size self.now) d
+            → IsOkAnd result (λ s. s.now ≡ d) }
+        ensures refused { IfErr result (λ error. (error ≡ ElfError.NoteDesc)
+            × (length body.now < rounded_up (note_name_size self.now) + note_desc_size self.now)) }
+
+        // the same, for callers that go on with what the description is
+        ensures ok { IfOk result (λ d. note_desc_of body.now (note_name_size self.now) (note_desc_size self.now) ≡ Ok d.now) }
+        ensures err { IfErr result (λ error. note_desc_of body.now (note_name_size self.now) (note_desc_size self.now) ≡ Err error) }
+    {
+        let start = (u64::from(self.name_size()) + 3) / 4 * 4;
+        let end = start + u64::from(self.desc_size());
+        if end > body.len() as u64 {
+            return Err(ElfError::NoteDesc);
+        }
+        Ok(&body[start as usize..end as usize])
+    }
+}

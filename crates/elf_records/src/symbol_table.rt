@@ -1,0 +1,211 @@
+//! The numbers of symbols that have names (gABI, "Symbol Table").
+
+ghost use Rattle.std.specs.Prelude.{◌≡◌, Some};
+ghost use Rattle.elf_records.specs.SymbolNumbers.{binding_number, binding_of, binding_raw, binding_text, symbol_type_number, symbol_type_of, symbol_type_raw, symbol_type_text, visibility_number, visibility_of, visibility_raw, visibility_text};
+
+use elf_base::ElfError;
+use std::fmt;
+use std::fmt::Display;
+
+/// Who sees a symbol, as a number (gABI, "Symbol Table", st_other).
+#[derive(Clone, Copy, Debug)]
+pub struct Visibility_(u8);
+
+impl Visibility_ {
+    /// The value of this number, which may be any.
+    pub fn from_raw(number: u8) -> Visibility_
+        ensures { result ≡ visibility_raw number }
+    {
+        Visibility_(number)
+    }
+
+    /// The number as it stands in the file.
+    pub fn raw(self) -> u8
+        ensures { result ≡ visibility_number self }
+    {
+        self.0
+    }
+
+    /// What the number means, by its remainder by four.
+    #[tactic(auto, unfolding(crate::specs::SymbolNumbers::visibility_of))]
+    pub fn as_visibility(self) -> Visibility
+        ensures { result ≡ visibility_of (visibility_number self) }
+    {
+        match self.0 % 4 {
+            0 => Visibility::Default,
+            1 => Visibility::Internal,
+            2 => Visibility::Hidden,
+            _ => Visibility::Protected,
+        }
+    }
+}
+
+/// Who sees a symbol (gABI, "Symbol Table", st_other).
+#[derive(Clone, Copy, Debug, PartialEq, Eq)]
+pub enum Visibility {
+    /// As its binding says.
+    Default,
+    /// As Hidden, with a further meaning of the processor.
+    Internal,
+    /// No other file.
+    Hidden,
+    /// All files, but the file itself uses its own.
+    Protected,
+}
+
+impl Display for Visibility {
+    ghost output = { λ visibility. Some (visibility_text visibility) };
+
+    fn fmt<W: fmt::Write>(&self, f: &mut fmt::Formatter<W>) -> fmt::Result {
+        f.write_str(match *self {
+            Visibility::Default => "Default",
+            Visibility::Internal => "Internal",
+            Visibility::Hidden => "Hidden",
+            Visibility::Protected => "Protected",
+        })
+    }
+}
+
+/// How files share a symbol, as a number (gABI, "Symbol Table", ELF32_ST_BIND).
+#[derive(Clone, Copy, Debug)]
+pub struct Binding_(u8);
+
+impl Binding_ {
+    /// The value of this number, which may be any.
+    pub fn from_raw(number: u8) -> Binding_
+        ensures { result ≡ binding_raw number }
+    {
+        Binding_(number)
+    }
+
+    /// The number as it stands in the file.
+    pub fn raw(self) -> u8
+        ensures { result ≡ binding_number self }
+    {
+        self.0
+    }
+
+    /// What the number means; `InvalidBinding` for 3 to 9 and from 16 on.
+    #[tactic(auto, unfolding(crate::specs::SymbolNumbers::binding_of))]
+    pub fn as_binding(self) -> Result<Binding, ElfError>
+        ensures { result ≡ binding_of (binding_number self) }
+    {
+        Ok(match self.0 {
+            0 => Binding::Local,
+            1 => Binding::Global,
+            2 => Binding::Weak,
+            10..=12 => Binding::OsSpecific(self.0),
+            13..=15 => Binding::ProcessorSpecific(self.0),
+            _ => return Err(ElfError::InvalidBinding),
+        })
+    }
+}
+
+/// How files share a symbol (gABI, "Symbol Table", ELF32_ST_BIND).
+#[derive(Clone, Copy, Debug, PartialEq, Eq)]
+pub enum Binding {
+    /// Only its own file has it.
+    Local,
+    /// All files have it.
+    Global,
+    /// As Global, but it gives way to a global one.
+    Weak,
+    /// A binding of the operating system.
+    OsSpecific(u8),
+    /// A binding of the processor.
+    ProcessorSpecific(u8),
+}
+
+impl Display for Binding {
+    ghost output = { λ binding. Some (binding_text binding) };
+
+    fn fmt<W: fmt::Write>(&self, f: &mut fmt::Formatter<W>) -> fmt::Result {
+        f.write_str(match *self {
+            Binding::Local => "Local",
+            Binding::Global => "Global",
+            Binding::Weak => "Weak",
+            Binding::OsSpecific(number) => return write!(f, "OsSpecific({number})"),
+            Binding::ProcessorSpecific(number) => return write!(f, "ProcessorSpecific({number})"),
+        })
+    }
+}
+
+/// What a symbol stands for, as a number (gABI, "Symbol Table", ELF32_ST_TYPE).
+#[derive(Clone, Copy, Debug)]
+pub struct Type_(u8);
+
+impl Type_ {
+    /// The value of this number, which may be any.
+    pub fn from_raw(number: u8) -> Type_
+        ensures { result ≡ symbol_type_raw number }
+    {
+        Type_(number)
+    }
+
+    /// The number as it stands in the file.
+    pub fn raw(self) -> u8
+        ensures { result ≡ symbol_type_number self }
+    {
+        self.0
+    }
+
+    /// What the number means; `InvalidSymbolType` for 7 to 9 and from 16 on.
+    #[tactic(auto, unfolding(crate::specs::SymbolNumbers::symbol_type_of))]
+    pub fn as_type(self) -> Result<Type, ElfError>
+        ensures { result ≡ symbol_type_of (symbol_type_number self) }
+    {
+        Ok(match self.0 {
+            0 => Type::NoType,
+            1 => Type::Object,
+            2 => Type::Func,
+            3 => Type::Section,
+            4 => Type::File,
+            5 => Type::Common,
+            6 => Type::Tls,
+            10..=12 => Type::OsSpecific(self.0),
+            13..=15 => Type::ProcessorSpecific(self.0),
+            _ => return Err(ElfError::InvalidSymbolType),
+        })
+    }
+}
+
+/// What a symbol stands for (gABI, "Symbol Table", ELF32_ST_TYPE).
+#[derive(Clone, Copy, Debug, PartialEq, Eq)]
+pub enum Type {
+    /// Nothing is said.
+    NoType,
+    /// Data, as a variable.
+    Object,
+    /// A function or other code.
+    Func,
+    /// A section.
+    Section,
+    /// The name of a source file.
+    File,
+    /// A common block that is not yet placed.
+    Common,
+    /// A thread-local variable.
+    Tls,
+    /// A type of the operating system.
+    OsSpecific(u8),
+    /// A type of the processor.
+    ProcessorSpecific(u8),
+}
+
+impl Display for Type {
+    ghost output = { λ kind. Some (symbol_type_text kind) };
+
+    fn fmt<W: fmt::Write>(&self, f: &mut fmt::Formatter<W>) -> fmt::Result {
+        f.write_str(match *self {
+            Type::NoType => "NoType",
+            Type::Object => "Object",
+            Type::Func => "Func",
+            Type::Section => "Section",
+            Type::File => "File",
+            Type::Common => "Common",
+            Type::Tls => "Tls",
+            Type::OsSpecific(number) => return write!(f, "OsSpecific({number})"),
+            Type::ProcessorSpecific(number) => return write!(f, "ProcessorSpecific({number})"),
+        })
+    }
+}
