@@ -21,11 +21,14 @@ pub record IsAccepted (bytes : List ℕ) : Type 0 where
   pub magic : slice_range bytes 0 4 ≡ magic_number
   pub class : ((byte_at 4 bytes ≡ 1) × (52 ≤ length bytes)) ⊎ ((byte_at 4 bytes ≡ 2) × (64 ≤ length bytes))
 
--- part 2, its width by the class and its order by the data byte
+-- part 2, its width by the class
+abbrev pub pt2_record : ℕ → Order → List ℕ → HeaderPt2
+pt2_record class order bytes =
+    if class == 1 then Header32 (header_pt2_32 order 16 bytes) else Header64 (header_pt2_64 order 16 bytes)
+
+-- part 2 of a file, by its class byte and its data byte
 abbrev pub header_pt2 : List ℕ → HeaderPt2
-header_pt2 bytes = if byte_at 4 bytes == 1
-    then Header32 (header_pt2_32 (order_of (byte_at 5 bytes)) 16 bytes)
-    else Header64 (header_pt2_64 (order_of (byte_at 5 bytes)) 16 bytes)
+header_pt2 bytes = pt2_record (byte_at 4 bytes) (order_of (byte_at 5 bytes)) bytes
 
 -- the header at the front of some bytes
 abbrev pub file_header : List ℕ → Header

@@ -22,6 +22,7 @@ pub enum Order {
 }
 
 /// The number of the two bytes from `place` on.
+#[inline(always)]
 pub fn read_u16(bytes: &[u8], place: usize, order: Order) -> u16
     requires { place + 2 ≤ length bytes.now }
     ensures { result ≡ number order 2 place bytes.now }
@@ -33,6 +34,7 @@ pub fn read_u16(bytes: &[u8], place: usize, order: Order) -> u16
 }
 
 /// The number of the four bytes from `place` on.
+#[inline(always)]
 pub fn read_u32(bytes: &[u8], place: usize, order: Order) -> u32
     requires { place + 4 ≤ length bytes.now }
     ensures { result ≡ number order 4 place bytes.now }
@@ -44,6 +46,7 @@ pub fn read_u32(bytes: &[u8], place: usize, order: Order) -> u32
 }
 
 /// The number of the eight bytes from `place` on.
+#[inline(always)]
 pub fn read_u64(bytes: &[u8], place: usize, order: Order) -> u64
     requires { place + 8 ≤ length bytes.now }
     ensures { result ≡ number order 8 place bytes.now }

@@ -1,7 +1,8 @@
 //! The ELF header, with which every file begins (gABI, "ELF Header").
 
-ghost use Rattle.std.specs.Prelude.{◌≡◌, ◌↔◌, IfOk, IsOk};
-ghost use Rattle.elf_base.specs.FileHeader.{IsAccepted, file_header, header_of};
+ghost use Rattle.std.specs.Prelude.{◌≡◌, ◌↔◌, ◌==◌, ◌||◌, [], ◌∷◌, IfOk, IsOk, if◌then◌else◌, length, nat_lt, not};
+ghost use Rattle.elf_base.specs.FileHeader.{IsAccepted, file_header, header_of, pt2_record};
+ghost use Rattle.elf_base.specs.Refusal.{unless};
 ghost use Rattle.elf_base.specs.HeaderLayout.{header_fields, pt2_size};
 ghost use Rattle.elf_base.specs.HeaderNumbers.{class_number, class_of, encoding_number, encoding_of, order_of, os_abi_number, os_abi_of, version_number, version_of};
 
@@ -249,6 +250,7 @@ impl HeaderPt2 {
 }
 
 /// The order of a file's numbers, by its data byte: big-endian for 2, else little-endian.
+#[inline(always)]
 pub fn byte_order(encoding: Data_) -> Order
     ensures { result ≡ order_of (encoding_number encoding) }
 {
@@ -264,6 +266,7 @@ pub fn byte_order(encoding: Data_) -> Order
 /// `InvalidClass` where the class is neither 1 nor 2, and `ShortHeaders` where the bytes end before
 /// the header of that class does.
 #[tactic(auto, unfolding(crate::specs::FileHeader::header_of))]
+#[inline(always)]
 pub fn parse_header(input: &[u8]) -> Result<Header, ElfError>
     ensures accepts { IsOk result ↔ IsAccepted input.now }
     ensures value { IfOk result (λ header. header ≡ file_header input.now) }
@@ -276,21 +279,37 @@ pub fn parse_header(input: &[u8]) -> Result<Header, ElfError>
     if pt1.magic != MAGIC {
         return Err(ElfError::NoMagic);
     }
-    let order = byte_order(pt1.encoding);
-    let pt2 = match pt1.class() {
-        Class::ThirtyTwo => {
-            if input.len() < 52 {
-                return Err(ElfError::ShortHeaders);
-            }
-            HeaderPt2::Header32(HeaderPt2_::<P32>::read(input, 16, order))
-        }
-        Class::SixtyFour => {
-            if input.len() < 64 {
-                return Err(ElfError::ShortHeaders);
-            }
-            HeaderPt2::Header64(HeaderPt2_::<P64>::read(input, 16, order))
-        }
-        Class::None | Class::Other(_) => return Err(ElfError::InvalidClass),
+    // One choice of the order for all fields.
+    let pt2 = match byte_order(pt1.encoding) {
+        Order::Little => read_pt2(input, pt1.class, Order::Little)?,
+        Order::Big => read_pt2(input, pt1.class, Order::Big)?,
     };
     Ok(Header { pt1, pt2 })
+}
+
+// Part 2, its width by the class.
+#[inline(always)]
+fn read_pt2(input: &[u8], class: Class_, order: Order) -> Result<HeaderPt2, ElfError>
+    ensures { result ≡ unless (
+        (not (class_number class == 1 || class_number class == 2), ElfError.InvalidClass)
+        ∷ (nat_lt (length input.now) (if class_number class == 1 then 52 else 64), ElfError.ShortHeaders)
+        ∷ []) (pt2_record (class_number class) order input.now) }
+{
+    match class.as_class() {
+        Class::ThirtyTwo => {
+            if input.len() < HeaderPt1::SIZE + HeaderPt2_::<P32>::SIZE {
+                return Err(ElfError::ShortHeaders);
+            }
+            let part = HeaderPt2_::<P32>::read(input, HeaderPt1::SIZE, order);
+            Ok(HeaderPt2::Header32(part))
+        }
+        Class::SixtyFour => {
+            if input.len() < HeaderPt1::SIZE + HeaderPt2_::<P64>::SIZE {
+                return Err(ElfError::ShortHeaders);
+            }
+            let part = HeaderPt2_::<P64>::read(input, HeaderPt1::SIZE, order);
+            Ok(HeaderPt2::Header64(part))
+        }
+        Class::None | Class::Other(_) => Err(ElfError::InvalidClass),
+    }
 }

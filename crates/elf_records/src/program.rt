@@ -59,6 +59,7 @@ impl Type_ {
 
     /// What the number means; `InvalidPhType` for 8 to 0x5fffffff and from 0x80000000 on.
     #[tactic(auto, unfolding(crate::specs::ProgramNumbers::ph_type_of))]
+    #[inline(always)]
     pub fn as_type(self) -> Result<Type, ElfError>
         ensures { result ≡ ph_type_of (ph_type_number self) }
     {

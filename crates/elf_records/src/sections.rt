@@ -129,6 +129,7 @@ impl ShType_ {
 
     /// What the number means; `InvalidShType` for 12, 13 and 19 to 0x5fffffff.
     #[tactic(auto, unfolding(crate::specs::SectionNumbers::sh_type_of))]
+    #[inline(always)]
     pub fn as_sh_type(self) -> Result<ShType, ElfError>
         ensures { result ≡ sh_type_of (sh_type_number self) }
     {

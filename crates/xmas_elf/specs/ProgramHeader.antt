@@ -81,11 +81,15 @@ abbrev pub program_place : Header → ℕ → ℕ
 program_place header index = let part = header_fields header.pt2 in
     entry_place part.ph_offset part.ph_entry_size index
 
+-- the program header at a place, its width by the class
+abbrev pub program_record : ℕ → Order → ℕ → List ℕ → ProgramHeader
+program_record class order place input =
+    if class == 1 then Ph32 (program_header_32 order place input) else Ph64 (program_header_64 order place input)
+
 -- the program header that lies at an index, its width and order by part 1 of the ELF header
 abbrev pub program_at : List ℕ → Header → ℕ → ProgramHeader
-program_at input header index = if file_class header == 1
-    then Ph32 (program_header_32 (file_order header) (program_place header index) input)
-    else Ph64 (program_header_64 (file_order header) (program_place header index) input)
+program_at input header index =
+    program_record (file_class header) (file_order header) (program_place header index) input
 
 -- program header `index` can be read, where the table has `count` entries: there is a table with so
 -- many, the entry lies in the input and is large enough for its class

@@ -93,11 +93,15 @@ abbrev pub section_place : Header → ℕ → ℕ
 section_place header index = let part = header_fields header.pt2 in
     entry_place part.sh_offset part.sh_entry_size index
 
+-- the section header at a place, its width by the class
+abbrev pub section_record : ℕ → Order → ℕ → List ℕ → SectionHeader
+section_record class order place input =
+    if class == 1 then Sh32 (section_header_32 order place input) else Sh64 (section_header_64 order place input)
+
 -- the section header that lies at an index, its width and order by part 1 of the ELF header
 abbrev pub section_at : List ℕ → Header → ℕ → SectionHeader
-section_at input header index = if file_class header == 1
-    then Sh32 (section_header_32 (file_order header) (section_place header index) input)
-    else Sh64 (section_header_64 (file_order header) (section_place header index) input)
+section_at input header index =
+    section_record (file_class header) (file_order header) (section_place header index) input
 
 -- entry `index` of the section header table can be read: it lies in the input and is large enough for
 -- its class

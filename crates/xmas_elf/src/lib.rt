@@ -46,6 +46,7 @@ pub struct ElfFile<'a> {
 
 impl<'a> ElfFile<'a> {
     /// The file that these bytes are, with the answer of `parse_header`.
+    #[inline(always)]
     pub fn new(input: &'a [u8]) -> Result<ElfFile<'a>, ElfError>
         ensures accepts { IsOk result ↔ IsAccepted input.now }
         ensures input { IfOk result (λ file. file.input ≡ input.entry) }
@@ -60,6 +61,7 @@ impl<'a> ElfFile<'a> {
     /// How many sections the file has: the count of the ELF header, or for 0 the size of section
     /// header 0; 0 where that can't be read (gABI, "ELF Header", e_shnum).
     #[tactic(auto, unfolding(crate::specs::Counts::section_count_of))]
+    #[inline(always)]
     pub fn section_count(&self) -> u64
         ensures { result ≡ section_count_of self.now }
     {
@@ -72,6 +74,7 @@ impl<'a> ElfFile<'a> {
     /// How many segments the file has: the count of the ELF header, or for 0xffff the info of section
     /// header 0; 0xffff where that can't be read (gABI, "ELF Header", e_phnum).
     #[tactic(auto, unfolding(crate::specs::Counts::program_count_of))]
+    #[inline(always)]
     pub fn program_count(&self) -> u32
         ensures { result ≡ program_count_of self.now }
     {
@@ -90,6 +93,7 @@ impl<'a> ElfFile<'a> {
     /// Refused with `ReservedIndex` for 0xff00 to 0xfffe, and for 0xffff where section header 0 can't
     /// be read.
     #[tactic(auto, unfolding(crate::specs::Counts::shstr_index_of))]
+    #[inline(always)]
     pub fn shstr_index(&self) -> Result<u32, ElfError>
         ensures { result ≡ shstr_index_of self.now }
     {
@@ -115,6 +119,7 @@ impl<'a> ElfFile<'a> {
     }
 
     /// The section header at this index, with the answer of `sections::parse_section_header`.
+    #[inline(always)]
     pub fn section_header(&self, index: u16) -> Result<SectionHeader, ElfError>
         ensures readable { IsOk result ↔ HasSectionHeader self.now.input.now self.now.header index }
         ensures value { IfOk result (λ section. section ≡ section_at self.now.input.now self.now.header index) }
@@ -128,6 +133,7 @@ impl<'a> ElfFile<'a> {
     ///
     /// Refused with `ShortSectionHeader`, `UnknownClass` and `SmallEntry` as by
     /// `sections::parse_section_header`.
+    #[inline(always)]
     pub fn section_header_at(&self, index: u64) -> Result<SectionHeader, ElfError>
         ensures readable { IsOk result ↔ HasSectionEntry self.now.input.now self.now.header index }
         ensures value { IfOk result (λ section. section ≡ section_at self.now.input.now self.now.header index) }
@@ -153,6 +159,7 @@ impl<'a> ElfFile<'a> {
     }
 
     /// The program header at this index, with the answer of `program::parse_program_header`.
+    #[inline(always)]
     pub fn program_header(&self, index: u16) -> Result<ProgramHeader, ElfError>
         ensures readable { IsOk result ↔ HasProgramHeader self.now.input.now self.now.header index }
         ensures value { IfOk result (λ program. program ≡ program_at self.now.input.now self.now.header index) }
@@ -165,6 +172,7 @@ impl<'a> ElfFile<'a> {
     ///
     /// Refused with `NoProgramHeaders`, `UnknownClass`, `ShortProgramHeader` and `SmallEntry` as by
     /// `program::parse_program_header`.
+    #[inline(always)]
     pub fn program_header_at(&self, index: u32) -> Result<ProgramHeader, ElfError>
         ensures readable { IsOk result ↔ HasSegment self.now index }
         ensures value { IfOk result (λ program. program ≡ program_at self.now.input.now self.now.header index) }
@@ -196,6 +204,7 @@ impl<'a> ElfFile<'a> {
     /// `ShortSectionOffset` where that section begins past the end of the input, and as
     /// `bytes::text_at` is.
     #[tactic(auto, unfolding(crate::specs::NameTable::shstr_of))]
+    #[inline(always)]
     pub fn get_shstr(&self, index: u32) -> Result<&'a str, ElfError>
         ensures name { Lends (IsNameAt self.now index) result }
         ensures only { LendsOnly (IsNameAt self.now index) result }
@@ -206,6 +215,7 @@ impl<'a> ElfFile<'a> {
 
     /// Whether the text at an index of the name table is this one, and how many bytes were compared
     /// to find out: none where there is no name table, and else as by `bytes::text_is`.
+    #[inline(always)]
     pub fn shstr_is(&self, index: u32, name: &str) -> (bool, usize)
         ensures is { IsTrue result.0 ↔ IsNameAt self.now index name.now }
         ensures compared { NameCompared (name_table_of self.now) index name.now result.0 result.1 }
@@ -219,6 +229,7 @@ impl<'a> ElfFile<'a> {
 
     // The section that holds the names.
     #[tactic(auto, unfolding(crate::specs::NameTable::names_section_of))]
+    #[inline(always)]
     fn names_section(&self) -> Result<SectionHeader, ElfError>
         ensures { result ≡ names_section_of self.now }
     {
@@ -227,6 +238,7 @@ impl<'a> ElfFile<'a> {
 
     // The input from the offset of the section that holds the names, whatever its type and size.
     #[tactic(auto, unfolding(crate::specs::NameTable::name_table_of))]
+    #[inline(always)]
     fn name_table(&self) -> Result<&'a [u8], ElfError>
         ensures table { Lends (IsNameTable self.now) result }
         ensures only { LendsOnly (IsNameTable self.now) result }
@@ -253,6 +265,7 @@ impl<'a> ElfFile<'a> {
     }
 
     // The first section of the list that bears this name; the name table is found once.
+    #[inline(always)]
     fn first_named(&self, name: &str) -> Option<SectionHeader>
         ensures { MatchOption result
             (NoneBears self.now name.now (length (section_list self.now)))

@@ -1,9 +1,14 @@
 //! The segments of a file, by index and by iterator (gABI, "Program Header").
 
-ghost use Rattle.std.specs.Prelude.{◌≡◌, ◌↔◌, IfOk, IsOk};
+ghost use Rattle.std.specs.Prelude.{◌≡◌, ◌↔◌, ◌+◌, ◌≤◌, [], ◌∷◌, IfOk, IsOk, is_none, length, nat_lt, not, unwrap_or};
+ghost use Rattle.std.specs.Option.{ForSome};
 ghost use Rattle.std.specs.Iterator.{YieldsFirst, item_count};
+ghost use Rattle.elf_base.specs.FileHeader.{file_class};
+ghost use Rattle.elf_base.specs.HeaderLayout.{header_fields};
+ghost use Rattle.elf_base.specs.Refusal.{unless};
 ghost use Rattle.xmas_elf.specs.Checks.{program_check};
-ghost use Rattle.xmas_elf.specs.ProgramHeader.{HasProgramEntry, HasProgramHeader, program_at, program_entry, program_header_of};
+ghost use Rattle.xmas_elf.specs.HeaderTable.{is_known_class};
+ghost use Rattle.xmas_elf.specs.ProgramHeader.{HasProgramEntry, HasProgramHeader, program_at, program_entry, program_header_of, program_header_size, program_record};
 ghost use Rattle.xmas_elf.specs.ProgramList.{ProgramStep, program_rest};
 
 mod printed;
@@ -16,7 +21,7 @@ pub use crate::program::program_header::ProgramHeader;
 pub use crate::program::records::{ProgramHeader32, ProgramHeader64};
 use crate::ranges::{ends_inside, entry_at};
 use crate::{ElfError, ElfFile};
-use elf_base::bytes::Record;
+use elf_base::bytes::{Order, Record};
 use elf_base::header::byte_order;
 pub use elf_records::program::{
     FLAG_MASKOS, FLAG_MASKPROC, FLAG_R, FLAG_W, FLAG_X, Flags, TYPE_GNU_RELRO, TYPE_HIOS,
@@ -29,6 +34,7 @@ pub use elf_records::program::{
 /// size of the table is 0; `UnknownClass` where the class is neither 1 nor 2; `ShortProgramHeader`
 /// where the entry passes the end of the input; and `SmallEntry` where the entries are smaller than
 /// the record of the class.
+#[inline(always)]
 pub fn parse_program_header(
     input: &[u8],
     header: Header,
@@ -44,6 +50,7 @@ pub fn parse_program_header(
 
 // The program header at any index below this count, refused as by `parse_program_header`.
 #[tactic(auto, unfolding(crate::specs::ProgramHeader::program_entry))]
+#[inline(always)]
 pub(crate) fn program_entry(
     input: &[u8],
     header: &Header,
@@ -59,22 +66,42 @@ pub(crate) fn program_entry(
     if index >= count || offset == 0 || entry_size == 0 {
         return Err(ElfError::NoProgramHeaders);
     }
-    let place = entry_at(input, offset, entry_size, u64::from(index)).ok_or(
-        ElfError::ShortProgramHeader,
-    );
-    let order = byte_order(header.pt1.encoding);
+    let place = entry_at(input, offset, entry_size, u64::from(index));
+    // One choice of the order for all fields.
+    match byte_order(header.pt1.encoding) {
+        Order::Little => record_at(input, place, header, Order::Little),
+        Order::Big => record_at(input, place, header, Order::Big),
+    }
+}
+
+// The program header at a place of the input, if there is one, its width by the class.
+#[inline(always)]
+fn record_at(
+    input: &[u8],
+    place: Option<usize>,
+    header: &Header,
+    order: Order,
+) -> Result<ProgramHeader, ElfError>
+    requires { ForSome place (λ start. start + (header_fields header.now.pt2).ph_entry_size ≤ length input.now) }
+    ensures { result ≡ unless (
+        (not (is_known_class (file_class header.now)), ElfError.UnknownClass)
+        ∷ (is_none place, ElfError.ShortProgramHeader)
+        ∷ (nat_lt (header_fields header.now.pt2).ph_entry_size (program_header_size (file_class header.now)), ElfError.SmallEntry)
+        ∷ []) (program_record (file_class header.now) order (unwrap_or place 0) input.now) }
+{
+    let entry_size = usize::from(header.pt2.ph_entry_size());
     match header.pt1.class() {
         Class::ThirtyTwo => {
-            let place = place?;
-            if usize::from(entry_size) < ProgramHeader32::SIZE {
+            let place = place.ok_or(ElfError::ShortProgramHeader)?;
+            if entry_size < ProgramHeader32::SIZE {
                 return Err(ElfError::SmallEntry);
             }
             let record = ProgramHeader32::read(input, place, order);
             Ok(ProgramHeader::Ph32(record))
         }
         Class::SixtyFour => {
-            let place = place?;
-            if usize::from(entry_size) < ProgramHeader64::SIZE {
+            let place = place.ok_or(ElfError::ShortProgramHeader)?;
+            if entry_size < ProgramHeader64::SIZE {
                 return Err(ElfError::SmallEntry);
             }
             let record = ProgramHeader64::read(input, place, order);
@@ -98,6 +125,7 @@ impl ProgramIter<'_, '_> {
     /// the index stays, so that only `None` follows.
     ///
     /// This is the call of `Iterator`, with what becomes of the index.
+    #[inline(always)]
     pub fn next(&mut self) -> Option<ProgramHeader>
         ensures { ProgramStep self.old result self.new }
     {
@@ -117,6 +145,7 @@ impl Iterator for ProgramIter<'_, '_> {
 
     ghost remaining = { item_count program_rest };
 
+    #[inline(always)]
     fn next(&mut self) -> Option<ProgramHeader> {
         ProgramIter::next(self)
     }
@@ -129,6 +158,7 @@ impl Iterator for ProgramIter<'_, '_> {
 /// (also where it ends right there, as in the Rust crate); `InvalidPhType`; `ShLibUsed` for type
 /// ShLib; and `BadAlign` where address and offset differ modulo an alignment above 1.
 #[tactic(auto, unfolding(crate::specs::Checks::program_check))]
+#[inline(always)]
 pub fn sanity_check(program: ProgramHeader, file: &ElfFile<'_>) -> Result<(), ElfError>
     ensures { result ≡ program_check file.now program }
 {

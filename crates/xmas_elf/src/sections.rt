@@ -1,8 +1,12 @@
 //! The sections of a file, by index and by iterator (gABI, "Sections").
 
-ghost use Rattle.std.specs.Prelude.{◌≡◌, ◌↔◌, IfOk, IsOk};
+ghost use Rattle.std.specs.Prelude.{◌≡◌, ◌↔◌, ◌+◌, ◌≤◌, [], ◌∷◌, IfOk, IsOk, length, nat_lt, not};
 ghost use Rattle.std.specs.Iterator.{YieldsFirst, item_count};
-ghost use Rattle.xmas_elf.specs.SectionHeader.{HasSectionEntry, HasSectionHeader, section_at, section_check, section_entry, section_header_of};
+ghost use Rattle.elf_base.specs.FileHeader.{file_class};
+ghost use Rattle.elf_base.specs.HeaderLayout.{header_fields};
+ghost use Rattle.elf_base.specs.Refusal.{unless};
+ghost use Rattle.xmas_elf.specs.HeaderTable.{is_known_class};
+ghost use Rattle.xmas_elf.specs.SectionHeader.{section_header_size, section_record, HasSectionEntry, HasSectionHeader, section_at, section_check, section_entry, section_header_of};
 ghost use Rattle.xmas_elf.specs.SectionList.{SectionStep, section_rest};
 
 mod printed;
@@ -15,7 +19,7 @@ pub(crate) use crate::sections::printed::SectionType;
 pub use crate::sections::records::SectionHeader_;
 pub use crate::sections::section_header::SectionHeader;
 use crate::{ElfError, ElfFile, P32, P64};
-use elf_base::bytes::Record;
+use elf_base::bytes::{Order, Record};
 use elf_base::header::byte_order;
 pub use elf_records::sections::{
     GRP_COMDAT, GRP_MASKOS, GRP_MASKPROC, SHF_ALLOC, SHF_COMPRESSED, SHF_EXECINSTR, SHF_GROUP,
@@ -31,6 +35,7 @@ pub use elf_records::sections::{
 /// `ShortSectionHeader` where the entry passes the end of the input, `UnknownClass` where the class
 /// is neither 1 nor 2, and `SmallEntry` where the entries are smaller than the record of the class.
 #[tactic(auto, unfolding(crate::specs::SectionHeader::section_header_of))]
+#[inline(always)]
 pub fn parse_section_header(
     input: &[u8],
     header: Header,
@@ -48,6 +53,7 @@ pub fn parse_section_header(
 
 // The section header at any index, refused as by `parse_section_header` but for `ReservedIndex`.
 #[tactic(auto, unfolding(crate::specs::SectionHeader::section_entry))]
+#[inline(always)]
 pub(crate) fn section_entry(
     input: &[u8],
     header: &Header,
@@ -61,17 +67,38 @@ pub(crate) fn section_entry(
     let Some(place) = entry_at(input, header.pt2.sh_offset(), entry_size, index) else {
         return Err(ElfError::ShortSectionHeader);
     };
-    let order = byte_order(header.pt1.encoding);
+    // One choice of the order for all fields.
+    match byte_order(header.pt1.encoding) {
+        Order::Little => record_at(input, place, header, Order::Little),
+        Order::Big => record_at(input, place, header, Order::Big),
+    }
+}
+
+// The section header at a place of the input, its width by the class.
+#[inline(always)]
+fn record_at(
+    input: &[u8],
+    place: usize,
+    header: &Header,
+    order: Order,
+) -> Result<SectionHeader, ElfError>
+    requires { place + (header_fields header.now.pt2).sh_entry_size ≤ length input.now }
+    ensures { result ≡ unless (
+        (not (is_known_class (file_class header.now)), ElfError.UnknownClass)
+        ∷ (nat_lt (header_fields header.now.pt2).sh_entry_size (section_header_size (file_class header.now)), ElfError.SmallEntry)
+        ∷ []) (section_record (file_class header.now) order place input.now) }
+{
+    let entry_size = usize::from(header.pt2.sh_entry_size());
     match header.pt1.class() {
         Class::ThirtyTwo => {
-            if usize::from(entry_size) < SectionHeader_::<P32>::SIZE {
+            if entry_size < SectionHeader_::<P32>::SIZE {
                 return Err(ElfError::SmallEntry);
             }
             let record = SectionHeader_::<P32>::read(input, place, order);
             Ok(SectionHeader::Sh32(record))
         }
         Class::SixtyFour => {
-            if usize::from(entry_size) < SectionHeader_::<P64>::SIZE {
+            if entry_size < SectionHeader_::<P64>::SIZE {
                 return Err(ElfError::SmallEntry);
             }
             let record = SectionHeader_::<P64>::read(input, place, order);
@@ -95,6 +122,7 @@ impl SectionIter<'_, '_> {
     /// the index stays, so that only `None` follows.
     ///
     /// This is the call of `Iterator`, with what becomes of the index.
+    #[inline(always)]
     pub fn next(&mut self) -> Option<SectionHeader>
         ensures { SectionStep self.old result self.new }
     {
@@ -114,6 +142,7 @@ impl Iterator for SectionIter<'_, '_> {
 
     ghost remaining = { item_count section_rest };
 
+    #[inline(always)]
     fn next(&mut self) -> Option<SectionHeader> {
         SectionIter::next(self)
     }

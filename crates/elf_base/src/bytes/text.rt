@@ -13,6 +13,7 @@ use memchr::memchr;
 ///
 /// Refused with `TextStart` for a start past the end of the data, `TextEnd` if no zero byte follows,
 /// and `TextUtf8` if what stands before it is not UTF-8.
+#[inline(always)]
 pub fn text_at(data: &[u8], start: usize) -> Result<&str, ElfError>
     ensures text { Lends (IsText «data».now start) result }
     ensures only { LendsOnly (IsText «data».now start) result }
@@ -39,6 +40,7 @@ pub fn text_at(data: &[u8], start: usize) -> Result<&str, ElfError>
 /// None are where `start` is past the end of the data or a zero byte stands in `text`; else all of
 /// `text` and a zero byte behind it, up to the first that the data lacks or that differs there. The
 /// data's text isn't tested for UTF-8, which `text` is.
+#[inline(always)]
 pub fn text_is(data: &[u8], start: usize, text: &str) -> (bool, usize)
     ensures is { IsTrue result.0 ↔ IsText «data».now start text.now }
     ensures compared { TextCompared «data».now start text.now result.0 result.1 }
@@ -52,6 +54,7 @@ pub fn text_is(data: &[u8], start: usize, text: &str) -> (bool, usize)
 }
 
 // Whether the bytes begin with these and a zero byte, and how many were compared.
+#[inline(always)]
 fn front_is(bytes: &[u8], wanted: &[u8]) -> (bool, usize)
     ensures { FrontCompared bytes.now wanted.now result.0 result.1 }
 {

@@ -11,6 +11,7 @@ use crate::{P32, P64};
 
 impl HeaderPt1 {
     // The first 16 bytes of a file; no number in them has an order.
+    #[inline(always)]
     pub(crate) fn read(bytes: &[u8]) -> HeaderPt1
         requires { 16 ≤ length bytes.now }
         ensures { result ≡ header_pt1 bytes.now }
@@ -47,6 +48,7 @@ impl Record for HeaderPt1 {
 
 impl HeaderPt2_<P32> {
     // The 36 bytes from `place` on.
+    #[inline(always)]
     pub(crate) fn read(bytes: &[u8], place: usize, order: Order) -> HeaderPt2_<P32>
         requires { place + 36 ≤ length bytes.now }
         ensures { result ≡ header_pt2_32 order place bytes.now }
@@ -85,6 +87,7 @@ impl Record for HeaderPt2_<P32> {
 
 impl HeaderPt2_<P64> {
     // The 48 bytes from `place` on.
+    #[inline(always)]
     pub(crate) fn read(bytes: &[u8], place: usize, order: Order) -> HeaderPt2_<P64>
         requires { place + 48 ≤ length bytes.now }
         ensures { result ≡ header_pt2_64 order place bytes.now }

@@ -91,6 +91,7 @@ impl ProgramHeader {
     }
 
     /// What the segment is, or `InvalidPhType`.
+    #[inline(always)]
     pub fn get_type(&self) -> Result<Type, ElfError>
         ensures { result ≡ segment_type (program_fields self.now) }
     {
@@ -104,6 +105,7 @@ impl ProgramHeader {
     ///
     /// Refused with `InvalidPhType`, with `NullData` for type Null, and with `DataRange` where it
     /// passes the end of the input; an empty segment is the empty slice, whatever its offset.
+    #[inline(always)]
     pub fn raw_data<'a>(&self, file: &ElfFile<'a>) -> Result<&'a [u8], ElfError>
         ensures readable { IsOk result ↔ HasSegmentData file.now (program_fields self.now) }
         ensures range { Lends (IsSegmentData file.now (program_fields self.now)) result }

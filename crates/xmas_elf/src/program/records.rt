@@ -55,6 +55,7 @@ pub struct ProgramHeader64 {
 
 impl ProgramHeader32 {
     /// What the segment is, or `InvalidPhType`.
+    #[inline(always)]
     pub fn get_type(&self) -> Result<Type, ElfError>
         ensures { result ≡ segment_type (program_64 self.now) }
     {
@@ -65,6 +66,7 @@ impl ProgramHeader32 {
     ///
     /// Refused with `InvalidPhType`, with `NullData` for type Null, and with `DataRange` where it
     /// passes the end of the input; an empty segment is the empty slice, whatever its offset.
+    #[inline(always)]
     pub fn raw_data<'a>(&self, file: &ElfFile<'a>) -> Result<&'a [u8], ElfError>
         ensures readable { IsOk result ↔ HasSegmentData file.now (program_64 self.now) }
         ensures range { Lends (IsSegmentData file.now (program_64 self.now)) result }
@@ -74,6 +76,7 @@ impl ProgramHeader32 {
     }
 
     // The same numbers in the record of class 64.
+    #[inline(always)]
     pub(crate) fn to_64(&self) -> ProgramHeader64
         ensures { result ≡ program_64 self.now }
     {
@@ -90,6 +93,7 @@ impl ProgramHeader32 {
     }
 
     // The 32 bytes from `place` on.
+    #[inline(always)]
     pub(crate) fn read(bytes: &[u8], place: usize, order: Order) -> ProgramHeader32
         requires { place + 32 ≤ length bytes.now }
         ensures { result ≡ program_header_32 order place bytes.now }
@@ -123,6 +127,7 @@ impl Record for ProgramHeader32 {
 
 impl ProgramHeader64 {
     /// What the segment is, or `InvalidPhType`.
+    #[inline(always)]
     pub fn get_type(&self) -> Result<Type, ElfError>
         ensures { result ≡ segment_type self.now }
     {
@@ -134,6 +139,7 @@ impl ProgramHeader64 {
     /// Refused with `InvalidPhType`, with `NullData` for type Null, and with `DataRange` where it
     /// passes the end of the input; an empty segment is the empty slice, whatever its offset.
     #[tactic(auto, unfolding(crate::specs::SegmentData::segment_data_of))]
+    #[inline(always)]
     pub fn raw_data<'a>(&self, file: &ElfFile<'a>) -> Result<&'a [u8], ElfError>
         ensures readable { IsOk result ↔ HasSegmentData file.now self.now }
         ensures range { Lends (IsSegmentData file.now self.now) result }
@@ -147,6 +153,7 @@ impl ProgramHeader64 {
     }
 
     // The 56 bytes from `place` on.
+    #[inline(always)]
     pub(crate) fn read(bytes: &[u8], place: usize, order: Order) -> ProgramHeader64
         requires { place + 56 ≤ length bytes.now }
         ensures { result ≡ program_header_64 order place bytes.now }

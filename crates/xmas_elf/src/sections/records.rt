@@ -25,6 +25,7 @@ pub struct SectionHeader_<P> {
 
 impl SectionHeader_<P32> {
     // The 40 bytes from `place` on.
+    #[inline(always)]
     pub(crate) fn read(bytes: &[u8], place: usize, order: Order) -> SectionHeader_<P32>
         requires { place + 40 ≤ length bytes.now }
         ensures { result ≡ section_header_32 order place bytes.now }
@@ -60,6 +61,7 @@ impl Record for SectionHeader_<P32> {
 
 impl SectionHeader_<P64> {
     // The 64 bytes from `place` on.
+    #[inline(always)]
     pub(crate) fn read(bytes: &[u8], place: usize, order: Order) -> SectionHeader_<P64>
         requires { place + 64 ≤ length bytes.now }
         ensures { result ≡ section_header_64 order place bytes.now }

@@ -125,6 +125,7 @@ impl SectionHeader {
     }
 
     /// What the section holds, or `InvalidShType`.
+    #[inline(always)]
     pub fn get_type(&self) -> Result<ShType, ElfError>
         ensures { result ≡ section_type self.now }
     {
@@ -135,6 +136,7 @@ impl SectionHeader {
     ///
     /// Refused with `InvalidShType`, with `NullName` for type Null, and as `ElfFile::get_shstr` is.
     #[tactic(auto, unfolding(crate::specs::NameTable::name_of))]
+    #[inline(always)]
     pub fn get_name<'a>(&self, file: &ElfFile<'a>) -> Result<&'a str, ElfError>
         ensures name { Lends (Bears file.now self.now) result }
         ensures only { LendsOnly (Bears file.now self.now) result }
@@ -147,6 +149,7 @@ impl SectionHeader {
     }
 
     // Whether the section bears this name, where `names` is the name table of a file.
+    #[inline(always)]
     pub(crate) fn bears(&self, names: &[u8], name: &str) -> bool
         ensures { (file : ElfFile) → name_table_of file ≡ Ok names.now → (IsTrue result ↔ Bears file self.now name.now) }
     {
@@ -162,6 +165,7 @@ impl SectionHeader {
     /// Refused with `InvalidShType`, with `NullData` for type Null, and with `DataRange` where it
     /// passes the end of the input, also for type NoBits and for an empty section.
     #[tactic(auto, unfolding(crate::specs::SectionData::section_data_of))]
+    #[inline(always)]
     pub fn raw_data<'a>(&self, file: &ElfFile<'a>) -> Result<&'a [u8], ElfError>
         ensures readable { IsOk result ↔ HasSectionData file.now self.now }
         ensures range { Lends (IsSectionData file.now self.now) result }
