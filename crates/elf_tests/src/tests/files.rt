@@ -39,7 +39,11 @@ fn data_byte(order: Order) -> u8 {
 /// Class 32, in either order: section 1, `.strtab`, names itself and holds `ab`.
 pub fn strtab_file(order: Order) -> [u8; 144] {
     let mut file = [0; 144];
-    put(&mut file, 0, &[0x7f, b'E', b'L', b'F', 1, data_byte(order), 1]);
+    put(
+        &mut file,
+        0,
+        &[0x7f, b'E', b'L', b'F', 1, data_byte(order), 1],
+    );
     set(&mut file, 0, header_32::SH_OFFSET, 52, order);
     set(&mut file, 0, header_32::HEADER_SIZE, 52, order);
     set(&mut file, 0, header_32::SH_ENTRY_SIZE, 40, order);
@@ -57,7 +61,11 @@ pub fn strtab_file(order: Order) -> [u8; 144] {
 /// `strtab_file` in class 64: the section headers stand at 64 and 128, and the names at 192.
 pub fn wide_strtab_file(order: Order) -> [u8; 204] {
     let mut file = [0; 204];
-    put(&mut file, 0, &[0x7f, b'E', b'L', b'F', 2, data_byte(order), 1]);
+    put(
+        &mut file,
+        0,
+        &[0x7f, b'E', b'L', b'F', 2, data_byte(order), 1],
+    );
     set(&mut file, 0, header_64::SH_OFFSET, 64, order);
     set(&mut file, 0, header_64::HEADER_SIZE, 64, order);
     set(&mut file, 0, header_64::SH_ENTRY_SIZE, 64, order);
