@@ -1,6 +1,7 @@
 //! Expected values are worked out by hand from the format, and never taken from the program's output.
 
 mod checks;
+mod compared;
 mod constants;
 mod files;
 mod headers;
@@ -10,4 +11,5 @@ mod places;
 mod reports;
 mod sections;
 mod segments;
+mod wide;
 mod writers;

@@ -3,6 +3,7 @@
 ghost use Rattle.std.specs.Prelude.{◌≤◌};
 
 use crate::tests::places::{header_32, header_64, program_32, put, section_32, section_64, set};
+use std::alloc::{AllocError, Global};
 use xmas_elf::ElfFile;
 use xmas_elf::bytes::Order;
 use xmas_elf::header::{Class_, Header};
@@ -27,14 +28,22 @@ pub fn plain_header_len(class: u8) -> usize
     }
 }
 
+// The byte that says the order of a file's numbers.
+fn data_byte(order: Order) -> u8 {
+    match order {
+        Order::Little => 1,
+        Order::Big => 2,
+    }
+}
+
 /// Class 32, in either order: section 1, `.strtab`, names itself and holds `ab`.
 pub fn strtab_file(order: Order) -> [u8; 144] {
     let mut file = [0; 144];
-    let data_byte = match order {
-        Order::Little => 1,
-        Order::Big => 2,
-    };
-    put(&mut file, 0, &[0x7f, b'E', b'L', b'F', 1, data_byte, 1]);
+    put(
+        &mut file,
+        0,
+        &[0x7f, b'E', b'L', b'F', 1, data_byte(order), 1],
+    );
     set(&mut file, 0, header_32::SH_OFFSET, 52, order);
     set(&mut file, 0, header_32::HEADER_SIZE, 52, order);
     set(&mut file, 0, header_32::SH_ENTRY_SIZE, 40, order);
@@ -46,6 +55,28 @@ pub fn strtab_file(order: Order) -> [u8; 144] {
     set(&mut file, 92, section_32::SIZE, 12, order);
     set(&mut file, 92, section_32::ALIGN, 1, order);
     put(&mut file, 132, b"\0.strtab\0ab\0");
+    file
+}
+
+/// `strtab_file` in class 64: the section headers stand at 64 and 128, and the names at 192.
+pub fn wide_strtab_file(order: Order) -> [u8; 204] {
+    let mut file = [0; 204];
+    put(
+        &mut file,
+        0,
+        &[0x7f, b'E', b'L', b'F', 2, data_byte(order), 1],
+    );
+    set(&mut file, 0, header_64::SH_OFFSET, 64, order);
+    set(&mut file, 0, header_64::HEADER_SIZE, 64, order);
+    set(&mut file, 0, header_64::SH_ENTRY_SIZE, 64, order);
+    set(&mut file, 0, header_64::SH_COUNT, 2, order);
+    set(&mut file, 0, header_64::SH_STR_INDEX, 1, order);
+    set(&mut file, 128, section_64::NAME, 1, order);
+    set(&mut file, 128, section_64::TYPE, 3, order);
+    set(&mut file, 128, section_64::OFFSET, 192, order);
+    set(&mut file, 128, section_64::SIZE, 12, order);
+    set(&mut file, 128, section_64::ALIGN, 1, order);
+    put(&mut file, 192, b"\0.strtab\0ab\0");
     file
 }
 
@@ -95,6 +126,33 @@ pub fn segment_file() -> [u8; 84] {
     set(&mut file, 52, program_32::FLAGS, 5, LITTLE);
     set(&mut file, 52, program_32::ALIGN, 1, LITTLE);
     file
+}
+
+/// Class 32, with 70,000 sections, whose number stands in section header 0: section 1 holds the names,
+/// section 2 is `.symtab_shndx`, and the last is of type ProgBits and has an empty name.
+pub fn many_sections_file(alloc: Global) -> Result<Vec<u8>, AllocError> {
+    let mut bytes = Vec::new(alloc);
+    bytes.resize(2_800_083, 0u8)?;
+    let file = bytes.as_mut_slice();
+    put(file, 0, &[0x7f, b'E', b'L', b'F', 1, 1, 1]);
+    set(file, 0, header_32::SH_OFFSET, 52, LITTLE);
+    set(file, 0, header_32::HEADER_SIZE, 52, LITTLE);
+    set(file, 0, header_32::SH_ENTRY_SIZE, 40, LITTLE);
+    set(file, 0, header_32::SH_STR_INDEX, 1, LITTLE);
+    set(file, 52, section_32::SIZE, 70_000, LITTLE);
+    set(file, 92, section_32::NAME, 1, LITTLE);
+    set(file, 92, section_32::TYPE, 3, LITTLE);
+    set(file, 92, section_32::OFFSET, 2_800_052, LITTLE);
+    set(file, 92, section_32::SIZE, 23, LITTLE);
+    set(file, 92, section_32::ALIGN, 1, LITTLE);
+    set(file, 132, section_32::NAME, 9, LITTLE);
+    set(file, 132, section_32::TYPE, 18, LITTLE);
+    set(file, 132, section_32::OFFSET, 2_800_075, LITTLE);
+    set(file, 132, section_32::SIZE, 8, LITTLE);
+    set(file, 2_800_012, section_32::TYPE, 1, LITTLE);
+    put(file, 2_800_052, b"\0.strtab\0.symtab_shndx\0");
+    put(file, 2_800_075, b"\0\0\0\0\x01\0\0\0");
+    Ok(bytes)
 }
 
 /// `strtab_file` with two program headers that lie over its section headers.

@@ -53,7 +53,9 @@ fn names_are_refused(rt: HostRuntime) -> Result<(), Fail> {
         (1, Ok("")),
         (2, Err(ElfError::ShortSectionHeader)),
         (0xff00, Err(ElfError::ReservedIndex)),
-        (0xffff, Err(ElfError::ReservedIndex)),
+        (0xfffe, Err(ElfError::ReservedIndex)),
+        // the link of section header 0, which is 0
+        (0xffff, Ok("\x7fELF\x01\x01\x01")),
     ];
     for (index, answer) in answers {
         let mut bytes = strtab_file(LITTLE);

@@ -108,8 +108,8 @@ fn check_report(rt: &impl Abort, alloc: Global, input: &[u8], want: &str) {
     assert_eq!(rt; text.as_slice(), want.as_bytes());
 }
 
-// Wants a report that ends with these lines.
-fn check_end(rt: &impl Abort, alloc: Global, input: &[u8], want: &str) {
+/// Wants a report that ends with these lines.
+pub fn check_end(rt: &impl Abort, alloc: Global, input: &[u8], want: &str) {
     let mut text = Vec::new(alloc);
     assert_eq!(rt; report(input, &mut text), Ok(()));
     assert!(rt; text.as_slice().ends_with(want.as_bytes()), "{want}");

@@ -4,16 +4,14 @@ use crate::tests::files::{
     debug_link_file, overlaid_file, plain_header, plain_header_len, segment_file, with_class,
 };
 use crate::tests::places::{Place, header_32, header_64, program_32, program_64, set};
-use std::alloc::Global;
+use crate::tests::reports::check_end;
 use std::fmt;
-use std::process::Abort;
 use std::string::ToString;
 use std::test::Fail;
 use xmas_elf::bytes::{Order, Record};
 use xmas_elf::program::{
     Flags, ProgramHeader, ProgramHeader32, ProgramHeader64, Type, Type_, sanity_check,
 };
-use xmas_elf::report::report;
 use xmas_elf::{ElfError, ElfFile, header};
 
 const LITTLE: Order = Order::Little;
@@ -28,13 +26,6 @@ const PRINTED: &str = "Program header:
     memory size:      0x53
     align:            0x1
 ";
-
-// Wants a report that ends with these lines.
-fn check_end(rt: &impl Abort, alloc: Global, input: &[u8], want: &str) {
-    let mut text = Vec::new(alloc);
-    assert_eq!(rt; report(input, &mut text), Ok(()));
-    assert!(rt; text.as_slice().ends_with(want.as_bytes()), "{want}");
-}
 
 #[test]
 fn reads_a_segment(rt: HostRuntime) -> Result<(), Fail> {

@@ -1,0 +1,114 @@
+//! Names compared in place, and how many bytes were compared.
+
+use crate::tests::files::{strtab_file, wide_strtab_file};
+use crate::tests::places::{header_32, put, section_32, set};
+use std::process::Abort;
+use std::test::Fail;
+use xmas_elf::bytes::{Order, text_at, text_is};
+use xmas_elf::{ElfError, ElfFile};
+
+const LITTLE: Order = Order::Little;
+
+const BOTH_ORDERS: [Order; 2] = [Order::Little, Order::Big];
+
+/// Wants the comparisons of `strtab_file` and `wide_strtab_file`.
+pub fn check_compared(rt: &impl Abort, file: &ElfFile<'_>) {
+    let rows = [
+        (1, ".strtab", (true, 8)),
+        (1, ".strtax", (false, 7)),
+        (1, ".str", (false, 5)),
+        (9, "abc", (false, 3)),
+        (9, "ab", (true, 3)),
+        (0, "", (true, 1)),
+        (12, "", (false, 0)),
+        (13, "ab", (false, 0)),
+        (1, ".strtab\0ab", (false, 0)),
+        (u32::MAX, "", (false, 0)),
+    ];
+    for (index, name, answer) in rows {
+        assert_eq!(rt; file.shstr_is(index, name), answer, "{name} at {index}");
+    }
+}
+
+#[test]
+fn names_are_compared_in_place(rt: HostRuntime) -> Result<(), Fail> {
+    for order in BOTH_ORDERS {
+        let bytes = strtab_file(order);
+        check_compared(&rt, &ElfFile::new(&bytes)?);
+        let cut = ElfFile::new(bytes.get(..143).unwrap_or(b""))?;
+        assert_eq!(rt; cut.shstr_is(9, "ab"), (false, 2));
+        let bytes = wide_strtab_file(order);
+        check_compared(&rt, &ElfFile::new(&bytes)?);
+        let cut = ElfFile::new(bytes.get(..203).unwrap_or(b""))?;
+        assert_eq!(rt; cut.shstr_is(9, "ab"), (false, 2));
+    }
+    Ok(())
+}
+
+// The name table runs to the end of the input, and a name there need not be UTF-8 to be compared.
+#[test]
+fn names_are_compared_where_they_stand(rt: HostRuntime) -> Result<(), Fail> {
+    let mut bytes = strtab_file(LITTLE);
+    put(&mut bytes, 133, b"\xff");
+    assert_eq!(rt; ElfFile::new(&bytes)?.shstr_is(1, ".strtab"), (false, 1));
+    let mut bytes = strtab_file(LITTLE);
+    set(&mut bytes, 92, section_32::SIZE, 0, LITTLE);
+    check_compared(&rt, &ElfFile::new(&bytes)?);
+    set(&mut bytes, 92, section_32::OFFSET, 144, LITTLE);
+    assert_eq!(rt; ElfFile::new(&bytes)?.shstr_is(0, ""), (false, 0));
+    set(&mut bytes, 92, section_32::OFFSET, 145, LITTLE);
+    assert_eq!(rt; ElfFile::new(&bytes)?.shstr_is(0, ""), (false, 0));
+    for index in [2, 0xfeff, 0xff00, 0xff05, 0xfffe] {
+        let mut bytes = strtab_file(LITTLE);
+        set(&mut bytes, 0, header_32::SH_STR_INDEX, index, LITTLE);
+        let file = ElfFile::new(&bytes)?;
+        assert_eq!(rt; file.shstr_is(0, ""), (false, 0), "index {index}");
+        assert!(rt; file.find_section_by_name(".strtab").is_none());
+    }
+    Ok(())
+}
+
+// Only a section of a valid type that is not Null bears its name.
+#[test]
+fn a_section_is_found_by_its_type_too(rt: HostRuntime) -> Result<(), Fail> {
+    let rows = [(0, false), (1, true), (12, false), (13, false), (14, true)];
+    for (kind, is_found) in rows {
+        let mut bytes = strtab_file(LITTLE);
+        set(&mut bytes, 92, section_32::TYPE, kind, LITTLE);
+        let found = ElfFile::new(&bytes)?.find_section_by_name(".strtab");
+        assert_eq!(rt; found.is_some(), is_found, "type {kind}");
+    }
+    Ok(())
+}
+
+#[test]
+fn texts_are_compared_in_place(rt: HostRuntime) {
+    let bytes = b"\0ab\0\xff\0cd";
+    let rows = [
+        (0, "", (true, 1)),
+        (0, "a", (false, 1)),
+        (1, "ab", (true, 3)),
+        (1, "", (false, 1)),
+        (1, "a", (false, 2)),
+        (1, "ac", (false, 2)),
+        (1, "abc", (false, 3)),
+        (1, "ab\0", (false, 0)),
+        (1, "\0", (false, 0)),
+        (2, "b", (true, 2)),
+        (4, "\u{ff}", (false, 1)),
+        (5, "", (true, 1)),
+        (6, "", (false, 1)),
+        (6, "c", (false, 2)),
+        (6, "cd", (false, 2)),
+        (6, "cde", (false, 2)),
+        (8, "", (false, 0)),
+        (8, "ab", (false, 0)),
+        (9, "", (false, 0)),
+        (usize::MAX, "ab", (false, 0)),
+    ];
+    for (start, text, answer) in rows {
+        assert_eq!(rt; text_is(bytes, start, text), answer, "{text} at {start}");
+    }
+    assert_eq!(rt; text_is(b"", 0, ""), (false, 0));
+    assert_eq!(rt; text_at(bytes, 4), Err(ElfError::TextUtf8));
+}
