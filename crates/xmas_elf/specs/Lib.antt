@@ -42,5 +42,7 @@ pub mod ProgramHeader
 pub mod ProgramList
 pub mod SegmentData
 pub mod SegmentText
+pub mod Symbol
+pub mod HashTable
 pub mod Checks
 pub mod Report
