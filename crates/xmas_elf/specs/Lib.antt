@@ -10,8 +10,14 @@ pub use Rattle.elf_base.specs.HeaderText
 pub use Rattle.elf_base.specs.Lent
 pub use Rattle.elf_base.specs.Text
 pub use Rattle.elf_base.specs.TextCompared
+pub use Rattle.elf_base.specs.Table
 pub use Rattle.elf_records.specs.SectionNumbers
 pub use Rattle.elf_records.specs.ProgramNumbers
+pub use Rattle.elf_records.specs.SymbolNumbers
+pub use Rattle.elf_records.specs.HashNumber
+pub use Rattle.elf_records.specs.Relocation
+pub use Rattle.elf_records.specs.Tag
+pub use Rattle.elf_records.specs.Note
 pub use Rattle.elf_base.specs.declared.error.ElfError
 pub use Rattle.elf_base.specs.declared.bytes.Order
 pub use Rattle.elf_base.specs.declared.header.Header
@@ -44,5 +50,7 @@ pub mod SegmentData
 pub mod SegmentText
 pub mod Symbol
 pub mod HashTable
+pub mod Content
+pub mod SectionContent
 pub mod Checks
 pub mod Report

@@ -5,12 +5,14 @@ ghost use Rattle.std.specs.Iterator.{YieldsFirst, item_count};
 ghost use Rattle.xmas_elf.specs.SectionHeader.{HasSectionEntry, HasSectionHeader, section_at, section_check, section_entry, section_header_of};
 ghost use Rattle.xmas_elf.specs.SectionList.{SectionStep, section_rest};
 
+mod data;
 mod printed;
 mod records;
 mod section_header;
 
 use crate::header::{Class, Header};
 use crate::ranges::entry_at;
+pub use crate::sections::data::SectionData;
 pub(crate) use crate::sections::printed::SectionType;
 pub use crate::sections::records::SectionHeader_;
 pub use crate::sections::section_header::SectionHeader;
