@@ -1,6 +1,6 @@
 -- What the data of a section or a segment is taken for (gABI, "Sections": what a section of each type
 -- holds; how data is refused that does not fit is this project's own).
-use Rattle.std.specs.Prelude.{ℕ, ◌%◌, ◌==◌, not, nat_lt, List, [], ◌∷◌, length, drop, take, Result, Err, if◌then◌else◌}
+use Rattle.std.specs.Prelude.{◌≡◌, ℕ, ◌%◌, ◌==◌, not, nat_lt, List, [], ◌∷◌, length, drop, take, Result, Err, if◌then◌else◌}
 use Rattle.elf_base.specs.Number.{number}
 use Rattle.elf_base.specs.Refusal.{unless}
 use Rattle.elf_base.specs.declared.bytes.Order.{Order}
@@ -59,3 +59,44 @@ note_of class order bytes = unless (
 -- a hash table, which begins with its two counts and a bucket
 abbrev pub hash_table_of : Order → List ℕ → Result Content ElfError
 hash_table_of order bytes = unless ((nat_lt (length bytes) 12, ShortData) ∷ []) (hash_table order bytes)
+
+-- the bytes of a table have the property, and its numbers this order
+abbrev pub HoldsTable : (List ℕ → Type 0) → Order → Order → List ℕ → Type 0
+HoldsTable Is order own bytes = (own ≡ order) × Is bytes
+
+-- a group stands in bytes with the property
+pub record HoldsGroup (Is : List ℕ → Type 0) (order own : Order) (flags : ℕ) (indices : List ℕ) : Type 0 where
+  pub whole : List ℕ
+  pub is : Is whole
+  pub flags_are : flags ≡ number order 4 0 whole
+  pub indices_are : indices ≡ drop 4 whole
+  pub order_is : own ≡ order
+
+-- a note stands in bytes with the property
+pub record HoldsNote (Is : List ℕ → Type 0) (order : Order) (header : NoteHeader) (body : List ℕ) : Type 0 where
+  pub whole : List ℕ
+  pub is : Is whole
+  pub header_is : header ≡ note_header order (take 12 whole)
+  pub body_is : body ≡ drop 12 whole
+
+-- what is there stands in bytes with the property, its numbers in this order
+abbrev pub Holds : (List ℕ → Type 0) → Order → Content → Type 0
+Holds Is order empty = Unit {0}
+Holds Is order (undefined bytes) = Is bytes
+Holds Is order (strings bytes) = Is bytes
+Holds Is order (group flags own indices) = HoldsGroup Is order own flags indices
+Holds Is order (note_64 header body) = HoldsNote Is order header body
+Holds Is order (symbols_32 own bytes) = HoldsTable Is order own bytes
+Holds Is order (symbols_64 own bytes) = HoldsTable Is order own bytes
+Holds Is order (dyn_symbols_32 own bytes) = HoldsTable Is order own bytes
+Holds Is order (dyn_symbols_64 own bytes) = HoldsTable Is order own bytes
+Holds Is order (functions_32 own bytes) = HoldsTable Is order own bytes
+Holds Is order (functions_64 own bytes) = HoldsTable Is order own bytes
+Holds Is order (rela_32 own bytes) = HoldsTable Is order own bytes
+Holds Is order (rela_64 own bytes) = HoldsTable Is order own bytes
+Holds Is order (rel_32 own bytes) = HoldsTable Is order own bytes
+Holds Is order (rel_64 own bytes) = HoldsTable Is order own bytes
+Holds Is order (dynamic_32 own bytes) = HoldsTable Is order own bytes
+Holds Is order (dynamic_64 own bytes) = HoldsTable Is order own bytes
+Holds Is order (section_indices own bytes) = HoldsTable Is order own bytes
+Holds Is order (hash_table own bytes) = HoldsTable Is order own bytes

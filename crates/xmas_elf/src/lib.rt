@@ -19,6 +19,7 @@ pub mod bytes;
 pub mod dynamic;
 pub mod hash;
 pub mod header;
+mod notes;
 pub mod program;
 mod ranges;
 pub mod report;
