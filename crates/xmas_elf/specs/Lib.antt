@@ -47,6 +47,7 @@ pub mod SectionText
 pub mod ProgramHeader
 pub mod ProgramList
 pub mod SegmentData
+pub mod SegmentContent
 pub mod SegmentText
 pub mod Symbol
 pub mod HashTable
