@@ -42,6 +42,10 @@ pub mod Counts
 pub mod SectionList
 pub mod Range
 pub mod SectionData
+pub mod Symbol
+pub mod HashTable
+pub mod Content
+pub mod SectionContent
 pub mod NameTable
 pub mod SectionText
 pub mod ProgramHeader
@@ -49,9 +53,5 @@ pub mod ProgramList
 pub mod SegmentData
 pub mod SegmentContent
 pub mod SegmentText
-pub mod Symbol
-pub mod HashTable
-pub mod Content
-pub mod SectionContent
 pub mod Checks
 pub mod Report

@@ -16,7 +16,7 @@ use crate::{ElfError, ElfFile, P32, P64};
 use elf_base::header::byte_order;
 
 /// The data of a segment, by its type; the numbers in the names are the class.
-#[derive(Debug)]
+#[derive(Debug, Drop)]
 pub enum SegmentData<'a> {
     /// No bytes: type Null.
     Empty,

@@ -19,7 +19,7 @@ use elf_base::bytes::read_u32;
 use elf_base::header::byte_order;
 
 /// The data of a section, by its type; the numbers in the names are the class.
-#[derive(Debug)]
+#[derive(Debug, Drop)]
 pub enum SectionData<'a> {
     /// No bytes: type Null or NoBits.
     Empty,
