@@ -2,6 +2,7 @@
 
 mod checks;
 mod constants;
+mod data;
 mod files;
 mod headers;
 mod messages;
