@@ -3,6 +3,7 @@
 mod checks;
 mod compared;
 mod constants;
+mod data;
 mod files;
 mod headers;
 mod messages;

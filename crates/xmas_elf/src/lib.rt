@@ -16,11 +16,15 @@ ghost use Rattle.xmas_elf.specs.SectionHeader.{HasSectionEntry, HasSectionHeader
 ghost use Rattle.xmas_elf.specs.SectionList.{section_list, section_rest};
 
 pub mod bytes;
+pub mod dynamic;
+pub mod hash;
 pub mod header;
+mod notes;
 pub mod program;
 mod ranges;
 pub mod report;
 pub mod sections;
+pub mod symbol_table;
 
 use crate::bytes::{text_at, text_is};
 use crate::header::{Header, parse_header};

@@ -11,11 +11,13 @@ ghost use Rattle.xmas_elf.specs.HeaderTable.{is_known_class};
 ghost use Rattle.xmas_elf.specs.ProgramHeader.{HasProgramEntry, HasProgramHeader, program_at, program_entry, program_header_of, program_header_size, program_record};
 ghost use Rattle.xmas_elf.specs.ProgramList.{ProgramStep, program_rest};
 
+mod data;
 mod printed;
 mod program_header;
 mod records;
 
 use crate::header::{Class, Header};
+pub use crate::program::data::SegmentData;
 pub(crate) use crate::program::printed::SegmentType;
 pub use crate::program::program_header::ProgramHeader;
 pub use crate::program::records::{ProgramHeader32, ProgramHeader64};

@@ -9,12 +9,14 @@ ghost use Rattle.xmas_elf.specs.HeaderTable.{is_known_class};
 ghost use Rattle.xmas_elf.specs.SectionHeader.{section_header_size, section_record, HasSectionEntry, HasSectionHeader, section_at, section_check, section_entry, section_header_of};
 ghost use Rattle.xmas_elf.specs.SectionList.{SectionStep, section_rest};
 
+mod data;
 mod printed;
 mod records;
 mod section_header;
 
 use crate::header::{Class, Header};
 use crate::ranges::entry_at;
+pub use crate::sections::data::SectionData;
 pub(crate) use crate::sections::printed::SectionType;
 pub use crate::sections::records::SectionHeader_;
 pub use crate::sections::section_header::SectionHeader;
@@ -22,11 +24,11 @@ use crate::{ElfError, ElfFile, P32, P64};
 use elf_base::bytes::{Order, Record};
 use elf_base::header::byte_order;
 pub use elf_records::sections::{
-    GRP_COMDAT, GRP_MASKOS, GRP_MASKPROC, SHF_ALLOC, SHF_COMPRESSED, SHF_EXECINSTR, SHF_GROUP,
-    SHF_INFO_LINK, SHF_LINK_ORDER, SHF_MASKOS, SHF_MASKPROC, SHF_MERGE, SHF_OS_NONCONFORMING,
-    SHF_STRINGS, SHF_TLS, SHF_WRITE, SHN_ABS, SHN_COMMON, SHN_HIOS, SHN_HIPROC, SHN_HIRESERVE,
-    SHN_LOOS, SHN_LOPROC, SHN_LORESERVE, SHN_UNDEF, SHN_XINDEX, SHT_HIOS, SHT_HIPROC, SHT_HIUSER,
-    SHT_LOOS, SHT_LOPROC, SHT_LOUSER, ShType, ShType_,
+    GRP_COMDAT, GRP_MASKOS, GRP_MASKPROC, NoteHeader, Rel, Rela, SHF_ALLOC, SHF_COMPRESSED,
+    SHF_EXECINSTR, SHF_GROUP, SHF_INFO_LINK, SHF_LINK_ORDER, SHF_MASKOS, SHF_MASKPROC, SHF_MERGE,
+    SHF_OS_NONCONFORMING, SHF_STRINGS, SHF_TLS, SHF_WRITE, SHN_ABS, SHN_COMMON, SHN_HIOS,
+    SHN_HIPROC, SHN_HIRESERVE, SHN_LOOS, SHN_LOPROC, SHN_LORESERVE, SHN_UNDEF, SHN_XINDEX,
+    SHT_HIOS, SHT_HIPROC, SHT_HIUSER, SHT_LOOS, SHT_LOPROC, SHT_LOUSER, ShType, ShType_,
 };
 
 /// The section header at this index of the section header table.

@@ -1,0 +1,87 @@
+//! Callers that read the data of sections and segments by their types.
+
+ghost use Rattle.std.specs.Prelude.{◌≡◌, ◌*◌, ◌+◌, ◌≤◌, IfSome, IsTrue, Ok, Some, length, take, drop};
+ghost use Rattle.xmas_elf.specs.FileHeader.{file_class, file_order};
+ghost use Rattle.xmas_elf.specs.Number.{number};
+ghost use Rattle.xmas_elf.specs.ProgramHeader.{program_fields, segment_type};
+ghost use Rattle.xmas_elf.specs.SectionHeader.{section_fields, section_type};
+
+use xmas_elf::program::{ProgramHeader, SegmentData, Type};
+use xmas_elf::sections::{SectionData, SectionHeader, ShType};
+use xmas_elf::{ElfError, ElfFile};
+
+/// How many symbols a section of class 64 has: as many as 24 goes into its size.
+pub fn symbol_count(file: &ElfFile<'_>, section: SectionHeader) -> Option<usize>
+    ensures { IfSome result (λ count. count * 24 ≡ (section_fields section).size) }
+{
+    match section.get_data(file) {
+        Ok(SectionData::SymbolTable64(table)) => Some(table.len()),
+        _ => None,
+    }
+}
+
+/// The place that the second relocation with an addend of class 64 changes: the number of eight bytes
+/// that stands 24 behind the section's offset.
+pub fn second_relocation(file: &ElfFile<'_>, section: SectionHeader) -> Option<u64>
+    ensures { IfSome result (λ place. place
+        ≡ number (file_order file.now.header) 8 0
+        (take 24 (drop 24 (take (section_fields section).size (drop (section_fields section).offset file.now.input.now))))) }
+{
+    match section.get_data(file) {
+        Ok(SectionData::Rela64(table)) => Some(table.get(1)?.get_offset()),
+        _ => None,
+    }
+}
+
+/// The number of buckets of a hash table, which stands at the front of its section.
+pub fn bucket_count(file: &ElfFile<'_>, section: SectionHeader) -> Option<u32>
+    ensures { IfSome result (λ count. count ≡ number (file_order file.now.header) 4 0
+        (take (section_fields section).size (drop (section_fields section).offset file.now.input.now))) }
+{
+    match section.get_data(file) {
+        Ok(SectionData::HashTable(table)) => Some(table.bucket_count()),
+        _ => None,
+    }
+}
+
+/// Why the symbols of a file of no known class can't be read, where they are all there.
+#[tactic(auto, unfolding(xmas_elf::specs::SectionContent::section_content_of))]
+pub fn unknown_symbols(file: &ElfFile<'_>, section: SectionHeader) -> Option<ElfError>
+    requires typed { section_type section ≡ Ok ShType.SymTab }
+    requires class { file_class file.now.header ≡ 7 }
+    requires there { (section_fields section).offset + (section_fields section).size ≤ length file.now.input.now }
+    ensures { result ≡ Some ElfError.UnknownClass }
+{
+    section.get_data(file).err()
+}
+
+/// A section that has no bytes in the file is empty, wherever its bytes would lie.
+#[tactic(auto, unfolding(xmas_elf::specs::SectionContent::section_content_of))]
+pub fn is_empty(file: &ElfFile<'_>, section: SectionHeader) -> bool
+    requires { section_type section ≡ Ok ShType.NoBits }
+    ensures { IsTrue result }
+{
+    matches!(section.get_data(file), Ok(SectionData::Empty))
+}
+
+/// Notes of class 32 are not read.
+#[tactic(auto, unfolding(xmas_elf::specs::SegmentContent::segment_content_of, xmas_elf::specs::SegmentData::segment_data_of))]
+pub fn note_32(file: &ElfFile<'_>, segment: ProgramHeader) -> Option<ElfError>
+    requires typed { segment_type (program_fields segment) ≡ Ok Type.Note }
+    requires class { file_class file.now.header ≡ 1 }
+    requires bare { (program_fields segment).file_size ≡ 0 }
+    ensures { result ≡ Some ElfError.Note32 }
+{
+    segment.get_data(file).err()
+}
+
+/// How many bytes the dynamic section has: as many as its segment.
+pub fn dynamic_bytes(file: &ElfFile<'_>, segment: ProgramHeader) -> Option<usize>
+    ensures { IfSome result (λ count. count ≡ (program_fields segment).file_size) }
+{
+    match segment.get_data(file) {
+        Ok(SegmentData::Dynamic32(table)) => Some(table.bytes().len()),
+        Ok(SegmentData::Dynamic64(table)) => Some(table.bytes().len()),
+        _ => None,
+    }
+}

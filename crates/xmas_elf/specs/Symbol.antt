@@ -1,0 +1,65 @@
+-- Symbols: what their bytes say (gABI, "Symbol Table": Elf32_Sym and Elf64_Sym).
+use Rattle.std.specs.Prelude.{ℕ, List}
+use Rattle.elf_base.specs.Number.{byte_at, number}
+use Rattle.elf_base.specs.declared.bytes.Order.{Order}
+use Rattle.xmas_elf.specs.declared.symbol_table.entries.DynEntry32.{DynEntry32}
+use Rattle.xmas_elf.specs.declared.symbol_table.entries.DynEntry64.{DynEntry64}
+use Rattle.xmas_elf.specs.declared.symbol_table.entries.Entry32.{Entry32}
+use Rattle.xmas_elf.specs.declared.symbol_table.entries.Entry64.{Entry64}
+
+-- what a symbol says, in numbers
+pub record SymbolFields : Type 0 where
+  pub name : ℕ
+  pub info : ℕ
+  pub other : ℕ
+  pub shndx : ℕ
+  pub value : ℕ
+  pub size : ℕ
+
+-- the 16 bytes of class 32
+abbrev pub symbol_32 : Order → List ℕ → SymbolFields
+symbol_32 order bytes = record {
+  name = number order 4 0 bytes;
+  value = number order 4 4 bytes;
+  size = number order 4 8 bytes;
+  info = byte_at 12 bytes;
+  other = byte_at 13 bytes;
+  shndx = number order 2 14 bytes;
+}
+
+-- the 24 bytes of class 64
+abbrev pub symbol_64 : Order → List ℕ → SymbolFields
+symbol_64 order bytes = record {
+  name = number order 4 0 bytes;
+  info = byte_at 4 bytes;
+  other = byte_at 5 bytes;
+  shndx = number order 2 6 bytes;
+  value = number order 8 8 bytes;
+  size = number order 8 16 bytes;
+}
+
+-- the entries that keep these bytes
+abbrev pub entry_32 : Order → List ℕ → Entry32
+entry_32 order bytes = record { bytes = bytes; order = order }
+
+abbrev pub entry_64 : Order → List ℕ → Entry64
+entry_64 order bytes = record { bytes = bytes; order = order }
+
+abbrev pub dyn_entry_32 : Order → List ℕ → DynEntry32
+dyn_entry_32 order bytes = record { bytes = bytes; order = order }
+
+abbrev pub dyn_entry_64 : Order → List ℕ → DynEntry64
+dyn_entry_64 order bytes = record { bytes = bytes; order = order }
+
+-- what they say
+unfoldable pub entry_32_fields : Entry32 → SymbolFields
+entry_32_fields entry = symbol_32 entry.order entry.bytes
+
+unfoldable pub entry_64_fields : Entry64 → SymbolFields
+entry_64_fields entry = symbol_64 entry.order entry.bytes
+
+unfoldable pub dyn_entry_32_fields : DynEntry32 → SymbolFields
+dyn_entry_32_fields entry = symbol_32 entry.order entry.bytes
+
+unfoldable pub dyn_entry_64_fields : DynEntry64 → SymbolFields
+dyn_entry_64_fields entry = symbol_64 entry.order entry.bytes

@@ -1,0 +1,40 @@
+//! The first note of a section or a segment (gABI, "Note Section").
+
+ghost use Rattle.std.specs.Prelude.{◌≡◌, Ok, Err, IfOk, MatchResult, drop, take};
+ghost use Rattle.elf_base.specs.FileHeader.{file_class, file_order};
+ghost use Rattle.elf_records.specs.Note.{note_header};
+ghost use Rattle.xmas_elf.specs.Content.{note_64, note_of};
+
+use crate::bytes::Record;
+use crate::header::Class::{SixtyFour, ThirtyTwo};
+use crate::sections::NoteHeader;
+use crate::{ElfError, ElfFile};
+use elf_base::header::byte_order;
+
+/// The header of the note at the front of these bytes, and all bytes that follow it.
+///
+/// Refused with `Note32` in class 1, with `UnknownClass` where the class is not 2, and with
+/// `ShortData` below 12 bytes.
+pub(crate) fn first_note<'a>(
+    file: &ElfFile<'_>,
+    bytes: &'a [u8],
+) -> Result<(NoteHeader, &'a [u8]), ElfError>
+    ensures header { IfOk result (λ note. note.0 ≡ note_header (file_order file.now.header) (take 12 bytes.now)) }
+    ensures body { IfOk result (λ note. note.1.now ≡ drop 12 bytes.now) }
+    ensures exact { MatchResult result
+        (λ note. note_of (file_class file.now.header) (file_order file.now.header) bytes.now ≡ Ok (note_64 note.0 note.1.now))
+        (λ e. note_of (file_class file.now.header) (file_order file.now.header) bytes.now ≡ Err e) }
+{
+    match file.header.pt1.class() {
+        ThirtyTwo => Err(ElfError::Note32),
+        SixtyFour => {
+            if bytes.len() < NoteHeader::SIZE {
+                return Err(ElfError::ShortData);
+            }
+            let (front, body) = bytes.split_at(NoteHeader::SIZE);
+            let order = byte_order(file.header.pt1.encoding);
+            Ok((NoteHeader::decode(front, order), body))
+        }
+        _ => Err(ElfError::UnknownClass),
+    }
+}

@@ -1,0 +1,6 @@
+//! Symbol tables (gABI, "Symbol Table").
+
+mod entries;
+
+pub use crate::symbol_table::entries::{DynEntry32, DynEntry64, Entry32, Entry64};
+pub use elf_records::symbol_table::{Binding, Binding_, Type, Type_, Visibility, Visibility_};
