@@ -9,6 +9,7 @@ mod headers;
 mod messages;
 mod names;
 mod places;
+mod records;
 mod reports;
 mod sections;
 mod segments;

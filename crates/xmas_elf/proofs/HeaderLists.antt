@@ -1,5 +1,5 @@
 -- Lists of headers, as they are computed and as they are meant.
-use Rattle.std.proofs.Common.{◌≡◌, ◌≢◌, ℕ, zero, suc, ◌+◌, ◌-◌, ◌*◌, ◌≤◌, ◌<◌, List, [], ◌∷◌, ◌⊎◌, inl, inr, Bool, true, false, length, slice_get, slice_index_or, Some, Result, Ok, Err, IsOk, refl, sym, ap, ◌∙◌, subst, arith, add-zero}
+use Rattle.std.proofs.Common.{◌≡◌, ◌≢◌, ℕ, zero, suc, ◌+◌, ◌-◌, ◌*◌, ◌≤◌, ◌<◌, List, [], ◌∷◌, inl, inr, Bool, true, false, length, slice_get, slice_index_or, Some, Result, Ok, Err, IsOk, refl, sym, ap, ◌∙◌, subst, arith, add-zero}
 use Rattle.elf_base.specs.Refusal.{unless}
 use Rattle.elf_base.specs.declared.error.ElfError.{ElfError}
 use Rattle.elf_base.specs.declared.header.HeaderPt2.{HeaderPt2}

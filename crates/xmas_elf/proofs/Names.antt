@@ -1,5 +1,5 @@
 -- The section with a name, in the list and by its index.
-use Rattle.std.proofs.Common.{◌≡◌, ◌≢◌, ℕ, suc, ◌<◌, ◌≤◌, nat_lt, Bool, true, false, Result, Err, drop, List, [], ◌∷◌, refl, length, slice_index_or, Ok, Option, None, Some, IfSome, IfNone, MatchOption, ap, sym, subst, ◌∙◌, arith}
+use Rattle.std.proofs.Common.{◌≡◌, ◌≢◌, ℕ, ◌≤◌, nat_lt, Bool, true, false, Result, Err, drop, List, [], ◌∷◌, refl, length, Ok, Option, None, Some, IfSome, IfNone, MatchOption, ap, sym, subst, ◌∙◌, arith}
 use Rattle.std.proofs.lemmas.Bool.{ltb-false}
 use Rattle.elf_base.specs.Refusal.{and_then, unless}
 use Rattle.elf_base.specs.Text.{IsText}

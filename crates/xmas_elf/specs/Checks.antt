@@ -1,6 +1,6 @@
 -- What the checks of headers look at (this project's own, after the Rust crate; that of a section header
 -- is in `SectionHeader`).
-use Rattle.std.specs.Prelude.{ℕ, ◌+◌, ◌%◌, ◌==◌, ◌&&◌, not, nat_eq, nat_lt, nat_le, is_err, Bool, true, false, List, [], ◌∷◌, length, Result, Ok}
+use Rattle.std.specs.Prelude.{ℕ, ◌+◌, ◌%◌, ◌==◌, ◌&&◌, not, nat_eq, nat_lt, nat_le, is_err, Bool, true, false, [], ◌∷◌, length, Result, Ok}
 use lib.Pointwise.{pointwise}
 use Rattle.elf_base.specs.Refusal.{unless}
 use Rattle.elf_base.specs.HeaderNumbers.{encoding_number, version_number}

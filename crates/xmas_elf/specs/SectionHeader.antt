@@ -1,6 +1,6 @@
 -- Section headers: what they say, where they lie, and which can be read (gABI, "Section Header":
 -- Elf32_Shdr and Elf64_Shdr).
-use Rattle.std.specs.Prelude.{◌≡◌, ℕ, ◌+◌, ◌<◌, ◌≤◌, ◌==◌, not, nat_le, nat_lt, List, [], ◌∷◌, length, Ok, Err, Result, if◌then◌else◌}
+use Rattle.std.specs.Prelude.{ℕ, ◌+◌, ◌<◌, ◌≤◌, ◌==◌, not, nat_le, nat_lt, List, [], ◌∷◌, length, Ok, Err, Result, if◌then◌else◌}
 use Rattle.elf_base.specs.Number.{number}
 use Rattle.elf_base.specs.Refusal.{and_then, unless}
 use Rattle.elf_base.specs.FileHeader.{file_class, file_order}

@@ -1,4 +1,4 @@
-use Rattle.std.proofs.Common.{◌∙◌, length, subst, sym}
+use Rattle.std.proofs.Common.{◌∙◌, subst, sym}
 use Rattle.elf_base.proofs.TextComparisons.{Answers, answers, has_no_zero}
 use Rattle.elf_base.proofs.bytes.text.text_is.Goals as goal
 

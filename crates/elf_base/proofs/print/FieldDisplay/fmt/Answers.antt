@@ -1,4 +1,3 @@
-use Rattle.std.proofs.Common.{◌∙◌}
 use Rattle.elf_base.proofs.PrintedLines.{field_line_of}
 use Rattle.elf_base.proofs.print.FieldDisplay.fmt.Goals as goal
 
