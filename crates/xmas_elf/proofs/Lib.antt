@@ -4,3 +4,4 @@ pub mod SectionLists
 pub mod ProgramLists
 pub mod ReportLines
 pub mod Names
+pub mod StringRuns

@@ -9,6 +9,7 @@ mod data;
 mod printed;
 mod records;
 mod section_header;
+mod strings;
 
 use crate::header::{Class, Header};
 use crate::ranges::entry_at;
@@ -16,6 +17,7 @@ pub use crate::sections::data::SectionData;
 pub(crate) use crate::sections::printed::SectionType;
 pub use crate::sections::records::SectionHeader_;
 pub use crate::sections::section_header::SectionHeader;
+pub use crate::sections::strings::SectionStrings;
 use crate::{ElfError, ElfFile, P32, P64};
 use elf_base::bytes::Record;
 use elf_base::header::byte_order;
