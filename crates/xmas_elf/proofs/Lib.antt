@@ -5,3 +5,4 @@ pub mod ProgramLists
 pub mod ReportLines
 pub mod Names
 pub mod StringRuns
+pub mod StringItems

@@ -16,12 +16,14 @@ pub struct SectionStrings<'a> {
 
 impl<'a> SectionData<'a> {
     ghost use Rattle.xmas_elf.specs.SectionContent.{content};
-    ghost use Rattle.xmas_elf.specs.Strings.{string_data, strings_bytes};
+    ghost use Rattle.xmas_elf.specs.Strings.{Strings, string_data, strings_bytes, strings_left};
 
     /// The texts of a string table; an error for all other data.
     ///
     /// An ordinary string table begins with an empty text, and gives no item.
+    #[tactic(auto, using(crate::proofs::StringItems::strings_are))]
     pub fn strings(&self) -> Result<SectionStrings<'a>, ()>
+        ensures items { IfOk result (λ s. Strings (strings_bytes s) (strings_left s)) }
         ensures exact { MatchResult result
             (λ s. string_data (content self.now) ≡ Some (strings_bytes s))
             (λ e. string_data (content self.now) ≡ None) }
