@@ -4,3 +4,5 @@ pub mod SectionLists
 pub mod ProgramLists
 pub mod ReportLines
 pub mod Names
+pub mod StringRuns
+pub mod StringItems

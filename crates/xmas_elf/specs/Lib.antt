@@ -46,6 +46,7 @@ pub mod Symbol
 pub mod HashTable
 pub mod Content
 pub mod SectionContent
+pub mod Strings
 pub mod NameTable
 pub mod SectionText
 pub mod ProgramHeader

@@ -13,6 +13,7 @@ mod data;
 mod printed;
 mod records;
 mod section_header;
+mod strings;
 
 use crate::header::{Class, Header};
 use crate::ranges::entry_at;
@@ -20,6 +21,7 @@ pub use crate::sections::data::SectionData;
 pub(crate) use crate::sections::printed::SectionType;
 pub use crate::sections::records::SectionHeader_;
 pub use crate::sections::section_header::SectionHeader;
+pub use crate::sections::strings::SectionStrings;
 use crate::{ElfError, ElfFile, P32, P64};
 use elf_base::bytes::{Order, Record};
 use elf_base::header::byte_order;

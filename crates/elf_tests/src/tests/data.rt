@@ -364,3 +364,47 @@ fn reads_the_data_of_a_string_table(rt: HostRuntime) -> Result<(), Fail> {
     }
     Ok(())
 }
+
+#[test]
+fn lists_the_texts_of_a_string_table(rt: HostRuntime) -> Result<(), Fail> {
+    let Ok(mut texts) = SectionData::StrArray(b"ab\0cd").strings() else {
+        return Ok(assert!(rt; false));
+    };
+    assert_eq!(rt; texts.next(), Some(Ok("ab")));
+    assert_eq!(rt; texts.next(), Some(Err(ElfError::TextEnd)));
+    assert_eq!(rt; texts.next(), None);
+    assert_eq!(rt; texts.next(), None);
+    let Ok(mut texts) = SectionData::StrArray(b"a\0\xff\0b\0").strings() else {
+        return Ok(assert!(rt; false));
+    };
+    assert_eq!(rt; texts.next(), Some(Ok("a")));
+    assert_eq!(rt; texts.next(), Some(Err(ElfError::TextUtf8)));
+    assert_eq!(rt; texts.next(), None);
+    let Ok(mut texts) = SectionData::StrArray(b"a\0b\0\0c\0").strings() else {
+        return Ok(assert!(rt; false));
+    };
+    assert_eq!(rt; texts.next(), Some(Ok("a")));
+    assert_eq!(rt; texts.next(), Some(Ok("b")));
+    assert_eq!(rt; texts.next(), None);
+    assert_eq!(rt; texts.next(), None);
+    let Ok(mut texts) = SectionData::StrArray(b"a\0").strings() else {
+        return Ok(assert!(rt; false));
+    };
+    assert_eq!(rt; texts.next(), Some(Ok("a")));
+    assert_eq!(rt; texts.next(), None);
+    Ok(())
+}
+
+#[test]
+fn an_ordinary_string_table_gives_no_text(rt: HostRuntime) -> Result<(), Fail> {
+    let input = strtab_file(LITTLE);
+    let file = ElfFile::new(&input)?;
+    let Ok(mut texts) = file.section_header(1)?.get_data(&file)?.strings() else {
+        return Ok(assert!(rt; false));
+    };
+    assert_eq!(rt; texts.next(), None);
+    assert_eq!(rt; texts.next(), None);
+    assert!(rt; SectionData::Empty.strings().is_err());
+    assert!(rt; SectionData::Undefined(b"ab\0").strings().is_err());
+    Ok(())
+}
