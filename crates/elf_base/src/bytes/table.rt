@@ -161,18 +161,3 @@ impl<'a, T: Record> IntoIterator for Table<'a, T> {
         self.iter()
     }
 }
-
-impl<'a, T: Record> IntoIterator for &Table<'a, T> {
-    ghost use Rattle.elf_base.specs.Table.{table_items, table_rest};
-
-    type Item = T;
-
-    type IntoIter = TableIter<'a, T>;
-
-    ghost into_iter_gives = { λ t it. (table_rest it ≡ t.now) × (length (table_items (table_rest it)) < 2 ^ 64) };
-
-    #[inline(always)]
-    fn into_iter(self) -> TableIter<'a, T> {
-        self.iter()
-    }
-}

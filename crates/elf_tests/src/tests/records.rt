@@ -106,7 +106,7 @@ fn reads_tables_of_words(rt: HostRuntime) -> Result<(), Fail> {
         let table = Table::<u32>::new(&bytes, order)?;
         let copy = table;
         let mut index = 0usize;
-        for word in &table {
+        for word in table {
             assert_eq!(rt; words.get(index).copied(), Some(word), "{index}");
             index = index.wrapping_add(1);
         }
