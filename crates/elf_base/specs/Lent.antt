@@ -3,7 +3,7 @@ use Rattle.std.specs.Prelude.{◌≡◌, ℕ, List, Result, Ok, Err, IfOk, IsOkA
 use Rattle.std.specs.Borrow.{Bor}
 use Rattle.elf_base.specs.declared.error.ElfError.{ElfError}
 
--- what is lent has the property
+-- what is lent, if anything is, has the property
 abbrev pub Lends : (List ℕ → Type 0) → Result (Bor (List ℕ)) ElfError → Type 0
 Lends Is result = IfOk result (λ part. Is part.now)
 

@@ -17,7 +17,8 @@ pub enum ElfError {
     InvalidClass,
     /// The input ends before the ELF header of its class does.
     ShortHeaders,
-    /// A section index from 0xff00 on, which names no section header.
+    /// A 16-bit section index from 0xff00 on, which has a meaning of its own; or, as the index of the
+    /// section of the names, 0xffff where section header 0 can't be read.
     ReservedIndex,
     /// An entry of the section header table passes the end of the input.
     ShortSectionHeader,
@@ -81,7 +82,7 @@ pub enum ElfError {
     ExpectedShIndex,
     /// An index of a symbol is not below the number of symbols.
     SymbolIndex,
-    /// A section index does not fit in 16 bits.
+    /// A section index does not fit in 16 bits. No call answers it, since wide indices are read.
     WideIndex,
     /// The header does not begin with `MAGIC`.
     BadMagic,

@@ -77,13 +77,14 @@ pub struct HeaderPt2_<P> {
     pub header_size: u16,
     /// How many bytes one entry of the program header table has.
     pub ph_entry_size: u16,
-    /// How many entries the program header table has.
+    /// How many entries the program header table has; 0xffff where section header 0 says it.
     pub ph_count: u16,
     /// How many bytes one entry of the section header table has.
     pub sh_entry_size: u16,
-    /// How many entries the section header table has.
+    /// How many entries the section header table has; 0 where section header 0 says it.
     pub sh_count: u16,
-    /// The index of the section that holds the names of the sections.
+    /// The index of the section that holds the names of the sections; 0xffff where section header 0
+    /// says it.
     pub sh_str_index: u16,
 }
 
@@ -208,7 +209,7 @@ impl HeaderPt2 {
         }
     }
 
-    /// How many entries the program header table has.
+    /// How many entries the program header table has; 0xffff where section header 0 says it.
     pub fn ph_count(&self) -> u16
         ensures { result ≡ (header_fields self.now).ph_count }
     {
@@ -228,7 +229,7 @@ impl HeaderPt2 {
         }
     }
 
-    /// How many entries the section header table has.
+    /// How many entries the section header table has; 0 where section header 0 says it.
     pub fn sh_count(&self) -> u16
         ensures { result ≡ (header_fields self.now).sh_count }
     {
@@ -238,7 +239,8 @@ impl HeaderPt2 {
         }
     }
 
-    /// The index of the section that holds the names of the sections.
+    /// The index of the section that holds the names of the sections; 0xffff where section header 0
+    /// says it.
     pub fn sh_str_index(&self) -> u16
         ensures { result ≡ (header_fields self.now).sh_str_index }
     {

@@ -1,5 +1,6 @@
 -- How many sections and segments a file has, and which section holds the names (gABI, "ELF Header",
--- e_shnum, e_phnum and e_shstrndx): numbers that need more than 16 bits stand in section header 0.
+-- e_shnum, e_phnum and e_shstrndx): numbers that need more than 16 bits stand in section header 0. What
+-- holds where that can't be read is this project's own.
 use Rattle.std.specs.Prelude.{ℕ, ◌==◌, nat_le, Option, None, Result, Ok, Err, option_map, if◌then◌else◌}
 use Rattle.std.specs.Option.{ok_or, option_map_or}
 use Rattle.std.specs.Result.{result_ok}

@@ -9,7 +9,7 @@ use Rattle.elf_base.specs.declared.error.ElfError.{ElfError}
 abbrev pub entry_place : ℕ → ℕ → ℕ → ℕ
 entry_place offset entry_size index = offset + index * entry_size
 
--- a class whose records are known: 32 or 64
+-- a class whose records are known: 1, of 32 bits, or 2, of 64
 abbrev pub IsKnownClass : ℕ → Type 0
 IsKnownClass class = (class ≡ 1) ⊎ (class ≡ 2)
 

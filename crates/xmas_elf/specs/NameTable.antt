@@ -1,5 +1,5 @@
 -- The names of sections, and the section with a name (gABI, "String Table" and "ELF Header",
--- e_shstrndx).
+-- e_shstrndx; that the table goes on past its section, of whatever type, is this project's own).
 use Rattle.std.specs.Prelude.{◌≡◌, ◌≢◌, ℕ, ◌<◌, ◌≤◌, nat_lt, Bool, false, List, [], ◌∷◌, length, drop, Result, Ok, Err, if◌then◌else◌}
 use Rattle.std.specs.List.{AllWithin, HoldsAt}
 use Rattle.elf_base.specs.Refusal.{and_then, unless}

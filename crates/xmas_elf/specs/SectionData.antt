@@ -1,4 +1,5 @@
--- The bytes of a section in its file (gABI, "Section Header", sh_offset and sh_size).
+-- The bytes of a section in its file (gABI, "Section Header", sh_offset and sh_size; that type NoBits is
+-- no exception is this project's own).
 use Rattle.std.specs.Prelude.{◌≡◌, ◌≢◌, ℕ, ◌+◌, ◌≤◌, Bool, true, false, List, length, Result, Ok, Err, if◌then◌else◌}
 use Rattle.elf_base.specs.Refusal.{and_then}
 use Rattle.elf_base.specs.declared.error.ElfError.{ElfError}

@@ -118,12 +118,13 @@ section_entry input header index = unless (
     ∷ (nat_lt (header_fields header.pt2).sh_entry_size (section_header_size (file_class header)), SmallEntry)
     ∷ []) (section_at input header index)
 
--- the same where the index is none of those with a meaning of their own (SHN_LORESERVE to
--- SHN_HIRESERVE)
+-- the same by a 16-bit index, where that is none of those with a meaning of their own (gABI, "Sections",
+-- special section indexes: SHN_LORESERVE to SHN_HIRESERVE)
 pub record HasSectionHeader (input : List ℕ) (header : Header) (index : ℕ) : Type 0 where
   pub unreserved : index < 0xff00
   pub entry : HasSectionEntry input header index
 
+-- the header by a 16-bit index, or the first reason why it can't be read
 unfoldable pub section_header_of : List ℕ → Header → ℕ → Result SectionHeader ElfError
 section_header_of input header index =
     if nat_le 0xff00 index then Err ReservedIndex else section_entry input header index

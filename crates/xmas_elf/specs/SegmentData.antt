@@ -1,4 +1,5 @@
--- The bytes of a segment in its file (gABI, "Program Header", p_offset and p_filesz).
+-- The bytes of a segment in its file (gABI, "Program Header", p_offset and p_filesz; the rule for an
+-- empty segment is this project's own).
 use Rattle.std.specs.Prelude.{◌≡◌, ◌≢◌, ℕ, ◌+◌, ◌≤◌, ◌==◌, Bool, true, false, List, [], length, Result, Ok, Err, if◌then◌else◌}
 use Rattle.elf_base.specs.Refusal.{and_then}
 use Rattle.elf_base.specs.declared.error.ElfError.{ElfError}

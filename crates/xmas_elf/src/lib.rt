@@ -1,7 +1,8 @@
 //! A reader of ELF files that lie in a byte slice.
 //!
 //! Field values are those of the file, and every slice and text that is handed out is a part of the
-//! input. No call takes memory, and each returns on every input.
+//! input, but for the empty slice of an empty segment. No call takes memory, and each returns on every
+//! input.
 #![tactic(auto)]
 
 ghost use Rattle.std.specs.Prelude.{◌≡◌, ◌↔◌, ◌+◌, ◌*◌, ◌≤◌, ◌<◌, ◌^◌, Err, IfErr, IfNone, IfOk, IfSome, IsOk, IsTrue, MatchOption, Ok, length, ℕ};

@@ -190,7 +190,8 @@ impl Display for FileReport<'_, '_> {
 /// Writes the report of the file that these bytes are.
 ///
 /// `Elf` where `ElfFile::new` refuses the bytes, and `Write` where the writer failed; how much was
-/// written then is left open.
+/// written then is left open. What was written is known of a writer that tells its bytes, as one over
+/// memory does.
 pub fn report<W: io::Write>(input: &[u8], w: &mut W) -> Result<(), ReportFault>
     ensures written { OnOk result (WritesReport input.entry (W.contents w.old) (W.contents w.new)) }
     ensures refused { RefusesExactly input.now result }

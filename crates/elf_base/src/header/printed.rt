@@ -130,7 +130,7 @@ impl Display for FirstPart<'_> {
 
 impl HeaderPt2_<P32> {
     // The same numbers, in the types of class 64, so that one text serves both.
-    fn widened(&self) -> HeaderPt2_<P64>
+    fn to_64(&self) -> HeaderPt2_<P64>
         ensures { result ≡ self.now }
     {
         HeaderPt2_ {
@@ -155,7 +155,7 @@ impl Display for HeaderPt2_<P32> {
     ghost output = { λ part. Some (second_part_text part) };
 
     fn fmt<W: fmt::Write>(&self, f: &mut fmt::Formatter<W>) -> fmt::Result {
-        self.widened().fmt(f)
+        self.to_64().fmt(f)
     }
 }
 
