@@ -5,10 +5,10 @@ ghost use Rattle.xmas_elf.specs.ElfError.{ElfError};
 ghost use Rattle.elf_tests.specs.Refusals.{is_short};
 
 use xmas_elf::ElfError;
-use xmas_elf::bytes::text_at;
-use xmas_elf::header::{Class_, Header};
+use xmas_elf::bytes::{Order, text_at};
+use xmas_elf::header::{Class, Class_, Header};
 use xmas_elf::program::{Flags, ProgramHeader64, Type_};
-use xmas_elf::sections::{SectionHeader, ShType_};
+use xmas_elf::sections::{SectionHeader, ShType, ShType_};
 
 /// A text refused for its start: exactly where that is past the end.
 pub fn starts_past_the_end(bytes: &[u8], start: usize) -> bool
@@ -67,4 +67,32 @@ pub fn back_and_there(class: Class_, flags: Flags) -> (Class_, Flags)
     ensures { (result.0 ≡ class) × (result.1 ≡ flags) }
 {
     (Class_::from_raw(class.raw()), Flags::from_raw(flags.raw()))
+}
+
+/// Equal numbers and equal meanings are the same.
+pub fn same_values(one: (Class_, Flags), other: (Class_, Flags)) -> bool
+    ensures { IsTrue result ↔ ((one.0 ≡ other.0) × (one.1 ≡ other.1)) }
+{
+    one.0 == other.0 && one.1 == other.1
+}
+
+/// Equal orders are the same.
+pub fn same_order(one: Order, other: Order) -> bool
+    ensures { IsTrue result ↔ (one ≡ other) }
+{
+    one == other
+}
+
+/// Equal classes are the same, by their number too where they have one.
+pub fn same_class(one: Class, other: Class) -> bool
+    ensures { IsTrue result ↔ (one ≡ other) }
+{
+    one == other
+}
+
+/// Whether a section holds what the program defines.
+pub fn is_prog_bits(kind: ShType) -> bool
+    ensures { IsTrue result ↔ (kind ≡ ShType.ProgBits) }
+{
+    kind == ShType::ProgBits
 }
