@@ -1,4 +1,5 @@
--- Notes: a header, and after it a name and a description (gABI, "Note Section").
+-- Notes: a header, and after it a name and a description (gABI, "Note Section"; the words of four bytes
+-- in both classes, and so the rounding to four, are what files of class 64 have).
 use Rattle.std.specs.Prelude.{◌≡◌, ◌≢◌, ℕ, ◌+◌, ◌*◌, ◌/◌, ◌≤◌, nat_eq, nat_lt, not, List, [], ◌∷◌, length, drop, take, Result}
 use Rattle.elf_base.specs.Number.{number}
 use Rattle.elf_base.specs.Refusal.{and_then, unless}

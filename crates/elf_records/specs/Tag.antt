@@ -1,4 +1,5 @@
--- The dynamic section (gABI, "Dynamic Section": Elf32_Dyn, Elf64_Dyn and the table of tags).
+-- The dynamic section (gABI, "Dynamic Section": Elf32_Dyn, Elf64_Dyn and the table of tags; `Flags1` and
+-- where the tags of the operating system end are the Rust crate's).
 use Rattle.std.specs.Prelude.{ℕ, nat_le, ◌&&◌, List, [], ◌∷◌, Result, Ok, Err, if◌then◌else◌}
 use Rattle.elf_base.specs.Named.{named_or}
 use Rattle.elf_base.specs.Number.{number}

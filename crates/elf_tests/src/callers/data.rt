@@ -6,6 +6,7 @@ ghost use Rattle.xmas_elf.specs.Number.{number};
 ghost use Rattle.xmas_elf.specs.ProgramHeader.{program_fields, segment_type};
 ghost use Rattle.xmas_elf.specs.SectionHeader.{section_fields, section_type};
 
+use xmas_elf::bytes::text_at;
 use xmas_elf::program::{ProgramHeader, SegmentData, Type};
 use xmas_elf::sections::{SectionData, SectionHeader, ShType};
 use xmas_elf::{ElfError, ElfFile};
@@ -82,6 +83,31 @@ pub fn dynamic_bytes(file: &ElfFile<'_>, segment: ProgramHeader) -> Option<usize
     match segment.get_data(file) {
         Ok(SegmentData::Dynamic32(table)) => Some(table.bytes().len()),
         Ok(SegmentData::Dynamic64(table)) => Some(table.bytes().len()),
+        _ => None,
+    }
+}
+
+/// How many relocations of a section of a 64-bit file name this symbol, among those with addends.
+pub fn uses_of_symbol(
+    file: &ElfFile<'_>,
+    section: SectionHeader,
+    symbol: u32,
+) -> Result<u64, ElfError> {
+    let mut uses = 0u64;
+    if let SectionData::Rela64(table) = section.get_data(file)? {
+        for rela in table.iter() {
+            if rela.get_symbol_table_index() == symbol {
+                uses = uses.saturating_add(1);
+            }
+        }
+    }
+    Ok(uses)
+}
+
+/// The text at an index of a string table, which lives as long as the input.
+pub fn text_in<'a>(file: &ElfFile<'a>, section: SectionHeader, index: usize) -> Option<&'a str> {
+    match section.get_data(file) {
+        Ok(SectionData::StrArray(bytes)) => text_at(bytes, index).ok(),
         _ => None,
     }
 }
