@@ -71,7 +71,8 @@ pub fn empty_sections(file: &ElfFile<'_>) -> usize
 pub fn section_at(file: &ElfFile<'_>, offset: u64) -> Option<usize>
     ensures { let sections = section_list file.now in MatchOption result
         (AllWithin (λ section. (section_fields section).offset ≢ offset) sections 0 (length sections))
-        (λ i. (i < length sections) × HoldsAt (λ section. (section_fields section).offset ≡ offset) sections i
+        (λ i. (i < length sections) × HoldsAt
+        (λ section. (section_fields section).offset ≡ offset) sections i
         × AllWithin (λ section. (section_fields section).offset ≢ offset) sections 0 i) }
 {
     file.section_iter()
@@ -165,7 +166,8 @@ pub fn name_of<'a>(file: &ElfFile<'a>, section: SectionHeader) -> Result<&'a str
 /// A name, which outlives the `ElfFile` that it was read by.
 pub fn name_in<'a>(input: &'a [u8], index: u32) -> Result<&'a str, ElfError>
     ensures { IfOk result (λ name. IfOk (header_of input.now) (λ header.
-        let file : ElfFile = record { input = input.entry; header = header } in shstr_of file index ≡ Ok name.now)) }
+        let file : ElfFile = record { input = input.entry; header = header } in shstr_of file index
+        ≡ Ok name.now)) }
 {
     let file = ElfFile::new(input)?;
     file.get_shstr(index)

@@ -21,14 +21,17 @@ pub fn have_their_values()
     ensures section_indices { (SHN_UNDEF ≡ 0) × (SHN_LORESERVE ≡ 0xff00) × (SHN_LOPROC ≡ 0xff00)
         × (SHN_HIPROC ≡ 0xff1f) × (SHN_LOOS ≡ 0xff20) × (SHN_HIOS ≡ 0xff3f) × (SHN_ABS ≡ 0xfff1)
         × (SHN_COMMON ≡ 0xfff2) × (SHN_XINDEX ≡ 0xffff) × (SHN_HIRESERVE ≡ 0xffff) }
-    ensures section_types { (SHT_LOOS ≡ 0x60000000) × (SHT_HIOS ≡ 0x6fffffff) × (SHT_LOPROC ≡ 0x70000000)
+    ensures section_types { (SHT_LOOS ≡ 0x60000000) × (SHT_HIOS ≡ 0x6fffffff)
+        × (SHT_LOPROC ≡ 0x70000000)
         × (SHT_HIPROC ≡ 0x7fffffff) × (SHT_LOUSER ≡ 0x80000000) × (SHT_HIUSER ≡ 0xffffffff) }
-    ensures section_flags { (SHF_WRITE ≡ 1) × (SHF_ALLOC ≡ 2) × (SHF_EXECINSTR ≡ 4) × (SHF_MERGE ≡ 0x10)
+    ensures section_flags { (SHF_WRITE ≡ 1) × (SHF_ALLOC ≡ 2) × (SHF_EXECINSTR ≡ 4)
+        × (SHF_MERGE ≡ 0x10)
         × (SHF_STRINGS ≡ 0x20) × (SHF_INFO_LINK ≡ 0x40) × (SHF_LINK_ORDER ≡ 0x80)
         × (SHF_OS_NONCONFORMING ≡ 0x100) × (SHF_GROUP ≡ 0x200) × (SHF_TLS ≡ 0x400)
         × (SHF_COMPRESSED ≡ 0x800) × (SHF_MASKOS ≡ 0x0ff00000) × (SHF_MASKPROC ≡ 0xf0000000)
         × (GRP_COMDAT ≡ 1) × (GRP_MASKOS ≡ 0x0ff00000) × (GRP_MASKPROC ≡ 0xf0000000) }
-    ensures segments { (TYPE_LOOS ≡ 0x60000000) × (TYPE_HIOS ≡ 0x6fffffff) × (TYPE_LOPROC ≡ 0x70000000)
+    ensures segments { (TYPE_LOOS ≡ 0x60000000) × (TYPE_HIOS ≡ 0x6fffffff)
+        × (TYPE_LOPROC ≡ 0x70000000)
         × (TYPE_HIPROC ≡ 0x7fffffff) × (TYPE_GNU_RELRO ≡ 0x6474e552) × (FLAG_X ≡ 1)
         × (FLAG_W ≡ 2) × (FLAG_R ≡ 4) × (FLAG_MASKOS ≡ 0x0ff00000)
         × (FLAG_MASKPROC ≡ 0xf0000000) }

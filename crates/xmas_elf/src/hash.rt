@@ -24,7 +24,8 @@ impl<'a> HashTable<'a> {
     /// The hash table that these bytes are; `ShortData` below 12 bytes.
     pub fn read(bytes: &'a [u8], order: Order) -> Result<HashTable<'a>, ElfError>
         ensures { MatchResult result
-            (λ table. (12 ≤ length bytes.now) × (hash_data table ≡ bytes.now) × (hash_order table ≡ order))
+            (λ table. (12 ≤ length bytes.now) × (hash_data table ≡ bytes.now)
+            × (hash_order table ≡ order))
             (λ e. (length bytes.now < 12) × (e ≡ ElfError.ShortData)) }
     {
         if bytes.len() < 12 {

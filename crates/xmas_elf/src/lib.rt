@@ -127,7 +127,8 @@ impl<'a> ElfFile<'a> {
     #[inline(always)]
     pub fn section_header(&self, index: u16) -> Result<SectionHeader, ElfError>
         ensures readable { IsOk result ↔ HasSectionHeader self.now.input.now self.now.header index }
-        ensures value { IfOk result (λ section. section ≡ section_at self.now.input.now self.now.header index) }
+        ensures value { IfOk result (λ section. section
+            ≡ section_at self.now.input.now self.now.header index) }
         ensures exact { result ≡ section_header_of self.now.input.now self.now.header index }
     {
         parse_section_header(self.input, self.header, index)
@@ -141,7 +142,8 @@ impl<'a> ElfFile<'a> {
     #[inline(always)]
     pub fn section_header_at(&self, index: u64) -> Result<SectionHeader, ElfError>
         ensures readable { IsOk result ↔ HasSectionEntry self.now.input.now self.now.header index }
-        ensures value { IfOk result (λ section. section ≡ section_at self.now.input.now self.now.header index) }
+        ensures value { IfOk result (λ section. section
+            ≡ section_at self.now.input.now self.now.header index) }
         ensures exact { result ≡ section_of self.now index }
     {
         section_entry(self.input, &self.header, index)
@@ -167,7 +169,8 @@ impl<'a> ElfFile<'a> {
     #[inline(always)]
     pub fn program_header(&self, index: u16) -> Result<ProgramHeader, ElfError>
         ensures readable { IsOk result ↔ HasProgramHeader self.now.input.now self.now.header index }
-        ensures value { IfOk result (λ program. program ≡ program_at self.now.input.now self.now.header index) }
+        ensures value { IfOk result (λ program. program
+            ≡ program_at self.now.input.now self.now.header index) }
         ensures exact { result ≡ program_header_of self.now.input.now self.now.header index }
     {
         parse_program_header(self.input, self.header, index)
@@ -180,7 +183,8 @@ impl<'a> ElfFile<'a> {
     #[inline(always)]
     pub fn program_header_at(&self, index: u32) -> Result<ProgramHeader, ElfError>
         ensures readable { IsOk result ↔ HasSegment self.now index }
-        ensures value { IfOk result (λ program. program ≡ program_at self.now.input.now self.now.header index) }
+        ensures value { IfOk result (λ program. program
+            ≡ program_at self.now.input.now self.now.header index) }
         ensures exact { result ≡ segment_of self.now index }
     {
         program_entry(self.input, &self.header, self.program_count(), index)
@@ -262,7 +266,8 @@ impl<'a> ElfFile<'a> {
         ensures list { MatchOption result
             (NoneBears self.now name.now (length (section_list self.now)))
             (IsFirstInList self.now name.now) }
-        ensures found { IfSome result (λ section. (index : ℕ) × IsFirstNamed self.now name.now index section) }
+        ensures found { IfSome result (λ section. (index : ℕ)
+            × IsFirstNamed self.now name.now index section) }
         ensures missing { IfNone result (EachBelow (section_of self.now)
             (λ section. ¬ Bears self.now section name.now) (length (section_list self.now))) }
     {

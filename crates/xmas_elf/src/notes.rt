@@ -19,10 +19,12 @@ pub(crate) fn first_note<'a>(
     file: &ElfFile<'_>,
     bytes: &'a [u8],
 ) -> Result<(NoteHeader, &'a [u8]), ElfError>
-    ensures header { IfOk result (λ note. note.0 ≡ note_header (file_order file.now.header) (take 12 bytes.now)) }
+    ensures header { IfOk result (λ note. note.0
+        ≡ note_header (file_order file.now.header) (take 12 bytes.now)) }
     ensures body { IfOk result (λ note. note.1.now ≡ drop 12 bytes.now) }
     ensures exact { MatchResult result
-        (λ note. note_of (file_class file.now.header) (file_order file.now.header) bytes.now ≡ Ok (note_64 note.0 note.1.now))
+        (λ note. note_of (file_class file.now.header) (file_order file.now.header) bytes.now
+        ≡ Ok (note_64 note.0 note.1.now))
         (λ e. note_of (file_class file.now.header) (file_order file.now.header) bytes.now ≡ Err e) }
 {
     match file.header.pt1.class() {

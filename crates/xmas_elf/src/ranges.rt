@@ -43,7 +43,8 @@ pub(crate) fn range_at(input: &[u8], start: u64, count: u64) -> Result<&[u8], El
 #[inline(always)]
 pub(crate) fn entry_at(input: &[u8], offset: u64, entry_size: u16, index: u64) -> Option<usize>
     ensures { MatchOption result (length input.now < entry_place offset entry_size (index + 1))
-        (λ place. (place ≡ entry_place offset entry_size index) × (place + entry_size ≤ length input.now)) }
+        (λ place. (place ≡ entry_place offset entry_size index)
+        × (place + entry_size ≤ length input.now)) }
 {
     // 128 bits hold the place of any entry.
     let size = u128::from(entry_size);

@@ -38,7 +38,8 @@ impl<'a, T: Record> Table<'a, T> {
     #[inline(always)]
     pub fn new(bytes: &'a [u8], order: Order) -> Result<Self, ElfError>
         ensures { MatchResult result
-            (λ t. (length bytes.now % T.SIZE ≡ 0) × (table_data t ≡ bytes.now) × (table_order t ≡ order))
+            (λ t. (length bytes.now % T.SIZE ≡ 0) × (table_data t ≡ bytes.now)
+            × (table_order t ≡ order))
             (λ e. (length bytes.now % T.SIZE ≢ 0) × (e ≡ ElfError.NotMultiple)) }
     {
         if bytes.len() % T::SIZE != 0 {
@@ -96,7 +97,8 @@ impl<'a, T: Record> Table<'a, T> {
     fn split_first(&self) -> Option<(T, Table<'a, T>)>
         ensures { MatchOption result
             (table_items self.now ≡ [])
-            (λ p. (table_order p.1 ≡ table_order self.now) × (table_items self.now ≡ p.0 ∷ table_items p.1)) }
+            (λ p. (table_order p.1 ≡ table_order self.now)
+            × (table_items self.now ≡ p.0 ∷ table_items p.1)) }
     {
         let Some(first) = self.get(0) else {
             return None;
@@ -154,7 +156,8 @@ impl<'a, T: Record> IntoIterator for Table<'a, T> {
 
     type IntoIter = TableIter<'a, T>;
 
-    ghost into_iter_gives = { λ t it. (table_rest it ≡ t) × (length (table_items (table_rest it)) < 2 ^ 64) };
+    ghost into_iter_gives = { λ t it. (table_rest it ≡ t)
+        × (length (table_items (table_rest it)) < 2 ^ 64) };
 
     #[inline(always)]
     fn into_iter(self) -> TableIter<'a, T> {

@@ -63,12 +63,14 @@ impl NoteHeader {
     #[tactic(auto, unfolding(crate::specs::Note::note_name_of))]
     pub fn name<'a>(&self, body: &'a [u8]) -> Result<&'a str, ElfError>
         ensures text { IfOk result (λ t. IsNoteName body.now (note_name_size self.now) t.now) }
-        ensures only { (t : List ℕ) → IsNoteName body.now (note_name_size self.now) t → IsOkAnd result (λ s. s.now ≡ t) }
+        ensures only { (t : List ℕ) → IsNoteName body.now (note_name_size self.now) t
+            → IsOkAnd result (λ s. s.now ≡ t) }
         ensures refused { IfErr result (λ error. NoteNameRefused body.now (note_name_size self.now) error) }
 
         // the same, for callers that go on with what the name is
         ensures ok { IfOk result (λ t. note_name_of body.now (note_name_size self.now) ≡ Ok t.now) }
-        ensures err { IfErr result (λ error. note_name_of body.now (note_name_size self.now) ≡ Err error) }
+        ensures err { IfErr result (λ error. note_name_of body.now (note_name_size self.now)
+            ≡ Err error) }
     {
         let text = text_at(body, 0)?;
         if text.len() as u64 + 1 != u64::from(self.name_size()) {

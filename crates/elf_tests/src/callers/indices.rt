@@ -25,7 +25,8 @@ pub fn executable_place(file: &ElfFile<'_>) -> Option<usize>
 #[tactic(auto, using(xmas_elf::proofs::lemmas::HeaderList::found_segment))]
 pub fn first_executable(file: &ElfFile<'_>) -> Option<usize>
     ensures { MatchOption result
-        (EachBelow (segment_of file.now) (λ program. ¬ IsExecutable program) (length (program_list file.now)))
+        (EachBelow (segment_of file.now)
+        (λ program. ¬ IsExecutable program) (length (program_list file.now)))
         (λ i. IsOkAnd (segment_of file.now i) IsExecutable
         × EachBelow (segment_of file.now) (λ program. ¬ IsExecutable program) i) }
 {
@@ -35,7 +36,8 @@ pub fn first_executable(file: &ElfFile<'_>) -> Option<usize>
 /// The first executable segment with its index, by a loop.
 pub fn executable_with_index(file: &ElfFile<'_>) -> Option<(u64, ProgramHeader)>
     ensures { MatchOption result
-        (EachBelow (segment_of file.now) (λ program. ¬ IsExecutable program) (length (program_list file.now)))
+        (EachBelow (segment_of file.now)
+        (λ program. ¬ IsExecutable program) (length (program_list file.now)))
         (λ p. (segment_of file.now p.0 ≡ Ok p.1) × IsExecutable p.1
         × EachBelow (segment_of file.now) (λ program. ¬ IsExecutable program) p.0) }
 {

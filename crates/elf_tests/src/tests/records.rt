@@ -3,8 +3,8 @@
 ghost use Rattle.std.specs.Prelude.{◌≡◌, slice_index};
 ghost use Rattle.std.proofs.Common.{lit<};
 
+use std::test::Fail;
 use xmas_elf::bytes::{Order, Record, Table};
-use xmas_elf::{ElfError, P32, P64};
 use xmas_elf::dynamic::{
     Dynamic, FLAG_1_CONFALT, FLAG_1_DIRECT, FLAG_1_DISPRELDNE, FLAG_1_DISPRELPND, FLAG_1_EDITED,
     FLAG_1_ENDFILTEE, FLAG_1_GLOBAL, FLAG_1_GLOBAUDIT, FLAG_1_GROUP, FLAG_1_IGNMULDEF,
@@ -16,7 +16,7 @@ use xmas_elf::dynamic::{
 use xmas_elf::hash::hash;
 use xmas_elf::sections::{NoteHeader, Rel, Rela};
 use xmas_elf::symbol_table::{Binding, Binding_, Type, Type_, Visibility, Visibility_};
-use std::test::Fail;
+use xmas_elf::{ElfError, P32, P64};
 
 const LITTLE: Order = Order::Little;
 

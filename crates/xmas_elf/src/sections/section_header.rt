@@ -151,7 +151,8 @@ impl SectionHeader {
     // Whether the section bears this name, where `names` is the name table of a file.
     #[inline(always)]
     pub(crate) fn bears(&self, names: &[u8], name: &str) -> bool
-        ensures { (file : ElfFile) → name_table_of file ≡ Ok names.now → (IsTrue result ↔ Bears file self.now name.now) }
+        ensures { (file : ElfFile) → name_table_of file ≡ Ok names.now
+            → (IsTrue result ↔ Bears file self.now name.now) }
     {
         match self.get_type() {
             Err(_) | Ok(ShType::Null) => false,
