@@ -86,7 +86,7 @@ fn write_flushed<W: Write + Drop>(
     buffered: &mut BufWriter<W>,
 ) -> Result<(), ReportFault>
     requires { writer_buffer buffered.old ≡ [] }
-    ensures { OnOk result (WritesReport input.now
+    ensures { OnOk result (WritesReport input.entry
         (W.contents (writer_inner buffered.old)) (W.contents (writer_inner buffered.new))) }
 {
     report(input, buffered)?;
