@@ -1,7 +1,7 @@
 -- Comparisons of a text with the bytes at a place.
-use Rattle.std.proofs.Common.{◌≡◌, ℕ, zero, suc, ◌-◌, ◌≤◌, ◌<◌, inl, inr, Bool, true, false, Option, None, Some, IsTrue, is_some, List, [], ◌∷◌, ◌++◌, length, take, drop, slice_index, refl, sym, ap, ◌∙◌, subst, arith}
+use Rattle.std.proofs.Common.{◌≡◌, ℕ, zero, suc, ◌-◌, ◌≤◌, ◌<◌, inl, inr, Bool, true, false, Option, None, Some, IsTrue, ◌↔◌, is_some, not, List, [], ◌∷◌, ◌++◌, length, take, drop, slice_index, refl, sym, ap, ◌∙◌, subst, arith}
 use Rattle.std.proofs.Math.Seq.{drop-cons}
-use Rattle.std.proofs.lemmas.Bool.{eq-eqb}
+use Rattle.std.proofs.lemmas.Bool.{eq-eqb, eqb-true}
 use Rattle.std.proofs.lemmas.List.{ext_get_or, get_or-take, length-take-le, take-append-drop}
 use Rattle.std.specs.Str.{IsUtf8}
 use Rattle.memchr.specs.Find.{IsFirstByte, is_byte}
@@ -66,3 +66,13 @@ at_rest bytes start text false count there utf8 none front = record {
 pub answers : (bytes : List ℕ) (start : ℕ) (text : List ℕ) (b : Bool) (count : ℕ) → start ≤ length bytes → IsUtf8 text → (HasZero text → ⊥) → FrontCompared (take (length bytes - start) (drop start bytes)) text b count → Answers bytes start text b count
 answers bytes start text b count there utf8 none front =
     at_rest bytes start text b count there utf8 none (subst (λ ys. FrontCompared ys text b count) (rest start bytes) front)
+
+-- where the bytes agree with a text and a zero byte, the text stands there unless it has a zero byte
+pub stands : (bytes : List ℕ) (start : ℕ) (text : List ℕ) (b none : Bool) (count : ℕ) (zero_at : Option ℕ) → start ≤ length bytes → IsUtf8 text → not b ≡ false → FrontCompared (take (length bytes - start) (drop start bytes)) text b count → IsFirstByte (is_byte 0) text zero_at → is_some zero_at ≡ not none → IsTrue none ↔ IsText bytes start text
+stands bytes start text false none count zero_at there utf8 agree front first is_none = cc
+stands bytes start text true true count None there utf8 agree front first is_none =
+    ((λ _. (answers bytes start text true count there utf8 (has_no_zero text None first refl) front).yes refl), λ _. refl)
+stands bytes start text true false count None there utf8 agree front first is_none = cc
+stands bytes start text true true count (Some k) there utf8 agree front first is_none = cc
+stands bytes start text true false count (Some k) there utf8 agree front first is_none =
+    ((λ none. cc), λ stood. absurd (stood.ended.no_zero k first.0.high (eqb-true (slice_index text k) 0 first.1)))

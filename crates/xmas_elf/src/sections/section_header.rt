@@ -8,11 +8,11 @@ ghost use Rattle.xmas_elf.specs.SectionData.{HasSectionData, IsSectionData, sect
 ghost use Rattle.xmas_elf.specs.SectionHeader.{section_fields, section_type};
 ghost use Rattle.xmas_elf.specs.declared.ElfFile.{ElfFile};
 
-use crate::bytes::text_is;
 use crate::ranges::range_at;
 use crate::sections::records::SectionHeader_;
 use crate::sections::{ShType, ShType_};
 use crate::{ElfError, ElfFile, P32, P64};
+use elf_base::bytes::stands_at;
 
 /// A section header of either width.
 #[derive(Clone, Copy, Debug)]
@@ -156,7 +156,7 @@ impl SectionHeader {
     {
         match self.get_type() {
             Err(_) | Ok(ShType::Null) => false,
-            Ok(_) => text_is(names, self.name() as usize, name).0,
+            Ok(_) => stands_at(names, self.name() as usize, name),
         }
     }
 

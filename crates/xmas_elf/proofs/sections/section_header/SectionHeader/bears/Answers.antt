@@ -12,6 +12,6 @@ returns-in-Ok c = λ file table.
     let kind = c.in-Ok.field-0 in
     let typed : section_type section ≡ Ok kind = sym c.get_type.ensures ∙ c.in-Ok.is in
     let not_null : kind ≢ Null = search rules in (
-      λ yes. bears_text file section kind names name table typed not_null (rw (← c.name.ensures) (c.text_is.ensures.is.0 yes)),
-      λ bears. c.text_is.ensures.is.1 (rw c.name.ensures (text_borne file section names name table bears)),
+      λ yes. bears_text file section kind names name table typed not_null (rw (← c.name.ensures) (c.stands_at.ensures.0 yes)),
+      λ bears. c.stands_at.ensures.1 (rw c.name.ensures (text_borne file section names name table bears)),
     )
