@@ -5,6 +5,8 @@ pub mod bytes;
 mod error;
 pub mod header;
 pub mod print;
+#[cfg(test)]
+mod tests;
 
 pub use crate::error::ElfError;
 

@@ -6,3 +6,5 @@ pub mod hash;
 pub mod program;
 pub mod sections;
 pub mod symbol_table;
+#[cfg(test)]
+mod tests;

@@ -4,8 +4,8 @@ use crate::tests::files::{strtab_file, wide_strtab_file};
 use crate::tests::places::{header_32, put, section_32, set};
 use std::process::Abort;
 use std::test::Fail;
-use xmas_elf::bytes::{Order, text_at, text_is};
-use xmas_elf::{ElfError, ElfFile};
+use xmas_elf::ElfFile;
+use xmas_elf::bytes::Order;
 
 const LITTLE: Order = Order::Little;
 
@@ -79,36 +79,4 @@ fn a_section_is_found_by_its_type_too(rt: HostRuntime) -> Result<(), Fail> {
         assert_eq!(rt; found.is_some(), is_found, "type {kind}");
     }
     Ok(())
-}
-
-#[test]
-fn texts_are_compared_in_place(rt: HostRuntime) {
-    let bytes = b"\0ab\0\xff\0cd";
-    let rows = [
-        (0, "", (true, 1)),
-        (0, "a", (false, 1)),
-        (1, "ab", (true, 3)),
-        (1, "", (false, 1)),
-        (1, "a", (false, 2)),
-        (1, "ac", (false, 2)),
-        (1, "abc", (false, 3)),
-        (1, "ab\0", (false, 0)),
-        (1, "\0", (false, 0)),
-        (2, "b", (true, 2)),
-        (4, "\u{ff}", (false, 1)),
-        (5, "", (true, 1)),
-        (6, "", (false, 1)),
-        (6, "c", (false, 2)),
-        (6, "cd", (false, 2)),
-        (6, "cde", (false, 2)),
-        (8, "", (false, 0)),
-        (8, "ab", (false, 0)),
-        (9, "", (false, 0)),
-        (usize::MAX, "ab", (false, 0)),
-    ];
-    for (start, text, answer) in rows {
-        assert_eq!(rt; text_is(bytes, start, text), answer, "{text} at {start}");
-    }
-    assert_eq!(rt; text_is(b"", 0, ""), (false, 0));
-    assert_eq!(rt; text_at(bytes, 4), Err(ElfError::TextUtf8));
 }
