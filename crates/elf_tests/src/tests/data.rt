@@ -135,18 +135,38 @@ fn reads_the_data_of_each_type_in_each_class(rt: HostRuntime) -> Result<(), Fail
         let wide = ElfFile::new(&wide)?;
         let unknown = with_class(&wide, 7);
         for (kind, name_32, count_32, name_64, count_64) in BY_CLASS {
-            assert_eq!(rt; data_of(&narrow, kind, 48), Ok((name_32, count_32)));
-            assert_eq!(rt; data_of(&wide, kind, 48), Ok((name_64, count_64)));
-            assert_eq!(rt; data_of(&unknown, kind, 48), Err(ElfError::UnknownClass));
+            let found = [
+                data_of(&narrow, kind, 48),
+                data_of(&wide, kind, 48),
+                data_of(&unknown, kind, 48),
+            ];
+            let wanted = [
+                Ok((name_32, count_32)),
+                Ok((name_64, count_64)),
+                Err(ElfError::UnknownClass),
+            ];
+            assert_eq!(rt; found, wanted);
         }
         for (kind, name, count) in ALIKE {
-            assert_eq!(rt; data_of(&narrow, kind, 48), Ok((name, count)));
-            assert_eq!(rt; data_of(&wide, kind, 48), Ok((name, count)));
-            assert_eq!(rt; data_of(&unknown, kind, 48), Ok((name, count)));
+            let found = [
+                data_of(&narrow, kind, 48),
+                data_of(&wide, kind, 48),
+                data_of(&unknown, kind, 48),
+            ];
+            let wanted = [Ok((name, count)), Ok((name, count)), Ok((name, count))];
+            assert_eq!(rt; found, wanted);
         }
-        assert_eq!(rt; data_of(&narrow, 7, 48), Err(ElfError::Note32));
-        assert_eq!(rt; data_of(&wide, 7, 48), Ok(("Note64", 36)));
-        assert_eq!(rt; data_of(&unknown, 7, 48), Err(ElfError::UnknownClass));
+        let found = [
+            data_of(&narrow, 7, 48),
+            data_of(&wide, 7, 48),
+            data_of(&unknown, 7, 48),
+        ];
+        let wanted = [
+            Err(ElfError::Note32),
+            Ok(("Note64", 36)),
+            Err(ElfError::UnknownClass),
+        ];
+        assert_eq!(rt; found, wanted);
     }
     Ok(())
 }
@@ -159,19 +179,37 @@ fn refuses_tables_that_are_cut(rt: HostRuntime) -> Result<(), Fail> {
     let wide = ElfFile::new(&wide)?;
     let unknown = with_class(&wide, 0);
     for (kind, name_32, _count_32, name_64, _count_64) in BY_CLASS {
-        assert_eq!(rt; data_of(&narrow, kind, 0), Ok((name_32, 0)));
-        assert_eq!(rt; data_of(&wide, kind, 0), Ok((name_64, 0)));
+        let found = [data_of(&narrow, kind, 0), data_of(&wide, kind, 0)];
+        let wanted = [Ok((name_32, 0)), Ok((name_64, 0))];
+        assert_eq!(rt; found, wanted);
         for size in [1, 47, 49] {
-            assert_eq!(rt; data_of(&narrow, kind, size), Err(ElfError::NotMultiple));
-            assert_eq!(rt; data_of(&wide, kind, size), Err(ElfError::NotMultiple));
-            assert_eq!(rt; data_of(&unknown, kind, size), Err(ElfError::UnknownClass));
+            let found = [
+                data_of(&narrow, kind, size),
+                data_of(&wide, kind, size),
+                data_of(&unknown, kind, size),
+            ];
+            let wanted = [
+                Err(ElfError::NotMultiple),
+                Err(ElfError::NotMultiple),
+                Err(ElfError::UnknownClass),
+            ];
+            assert_eq!(rt; found, wanted);
         }
         assert_eq!(rt; data_of(&unknown, kind, 61), Err(ElfError::DataRange));
     }
-    assert_eq!(rt; data_of(&unknown, 18, 0), Ok(("SymTabShIndex", 0)));
-    assert_eq!(rt; data_of(&unknown, 18, 47), Err(ElfError::NotMultiple));
-    assert_eq!(rt; data_of(&unknown, 18, 60), Ok(("SymTabShIndex", 15)));
-    assert_eq!(rt; data_of(&unknown, 18, 61), Err(ElfError::DataRange));
+    let found = [
+        data_of(&unknown, 18, 0),
+        data_of(&unknown, 18, 47),
+        data_of(&unknown, 18, 60),
+        data_of(&unknown, 18, 61),
+    ];
+    let wanted = [
+        Ok(("SymTabShIndex", 0)),
+        Err(ElfError::NotMultiple),
+        Ok(("SymTabShIndex", 15)),
+        Err(ElfError::DataRange),
+    ];
+    assert_eq!(rt; found, wanted);
     Ok(())
 }
 
@@ -185,18 +223,43 @@ fn refuses_groups_notes_and_hash_tables_that_are_short(rt: HostRuntime) -> Resul
     for size in [0, 1, 3] {
         assert_eq!(rt; data_of(&unknown, 17, size), Err(ElfError::ShortData));
     }
-    assert_eq!(rt; data_of(&unknown, 17, 4), Ok(("Group", 0)));
-    assert_eq!(rt; data_of(&unknown, 17, 5), Err(ElfError::NotMultiple));
-    assert_eq!(rt; data_of(&unknown, 17, 8), Ok(("Group", 1)));
+    let found = [
+        data_of(&unknown, 17, 4),
+        data_of(&unknown, 17, 5),
+        data_of(&unknown, 17, 8),
+    ];
+    let wanted = [
+        Ok(("Group", 0)),
+        Err(ElfError::NotMultiple),
+        Ok(("Group", 1)),
+    ];
+    assert_eq!(rt; found, wanted);
     for size in [0, 11] {
-        assert_eq!(rt; data_of(&unknown, 5, size), Err(ElfError::ShortData));
-        assert_eq!(rt; data_of(&narrow, 7, size), Err(ElfError::Note32));
-        assert_eq!(rt; data_of(&wide, 7, size), Err(ElfError::ShortData));
-        assert_eq!(rt; data_of(&unknown, 7, size), Err(ElfError::UnknownClass));
+        let found = [
+            data_of(&unknown, 5, size),
+            data_of(&narrow, 7, size),
+            data_of(&wide, 7, size),
+            data_of(&unknown, 7, size),
+        ];
+        let wanted = [
+            Err(ElfError::ShortData),
+            Err(ElfError::Note32),
+            Err(ElfError::ShortData),
+            Err(ElfError::UnknownClass),
+        ];
+        assert_eq!(rt; found, wanted);
     }
-    assert_eq!(rt; data_of(&unknown, 5, 12), Ok(("HashTable", 0)));
-    assert_eq!(rt; data_of(&wide, 7, 12), Ok(("Note64", 0)));
-    assert_eq!(rt; data_of(&narrow, 7, 61), Err(ElfError::DataRange));
+    let found = [
+        data_of(&unknown, 5, 12),
+        data_of(&wide, 7, 12),
+        data_of(&narrow, 7, 61),
+    ];
+    let wanted = [
+        Ok(("HashTable", 0)),
+        Ok(("Note64", 0)),
+        Err(ElfError::DataRange),
+    ];
+    assert_eq!(rt; found, wanted);
     Ok(())
 }
 
@@ -208,8 +271,9 @@ fn refuses_data_past_the_input_and_unknown_types(rt: HostRuntime) -> Result<(), 
         if kind == 0 || kind == 8 {
             assert_eq!(rt; data_of(&file, kind, u64::MAX), Ok(("Empty", 0)));
         } else {
-            assert_eq!(rt; data_of(&file, kind, 61), Err(ElfError::DataRange));
-            assert_eq!(rt; data_of(&file, kind, u64::MAX), Err(ElfError::DataRange));
+            let found = [data_of(&file, kind, 61), data_of(&file, kind, u64::MAX)];
+            let wanted = [Err(ElfError::DataRange), Err(ElfError::DataRange)];
+            assert_eq!(rt; found, wanted);
         }
     }
     for kind in [12, 13, 19, 0x5fff_ffff] {
@@ -291,12 +355,23 @@ fn reads_the_link_to_debug_information_as_a_group(rt: HostRuntime) -> Result<(),
         }
         _ => assert!(rt; false),
     }
-    assert_eq!(rt; link_refusal(17, 11)?, Some(ElfError::NotMultiple));
-    assert_eq!(rt; link_refusal(17, 3)?, Some(ElfError::ShortData));
-    assert_eq!(rt; link_refusal(2, 12)?, Some(ElfError::NotMultiple));
-    assert_eq!(rt; link_refusal(12, 12)?, Some(ElfError::InvalidShType));
-    assert_eq!(rt; link_refusal(8, u64::MAX)?, None);
-    assert_eq!(rt; link_refusal(0, u64::MAX)?, None);
+    let found = [
+        link_refusal(17, 11)?,
+        link_refusal(17, 3)?,
+        link_refusal(2, 12)?,
+        link_refusal(12, 12)?,
+        link_refusal(8, u64::MAX)?,
+        link_refusal(0, u64::MAX)?,
+    ];
+    let wanted = [
+        Some(ElfError::NotMultiple),
+        Some(ElfError::ShortData),
+        Some(ElfError::NotMultiple),
+        Some(ElfError::InvalidShType),
+        None,
+        None,
+    ];
+    assert_eq!(rt; found, wanted);
     Ok(())
 }
 
@@ -324,30 +399,51 @@ fn reads_the_data_of_segments(rt: HostRuntime) -> Result<(), Fail> {
     let wide = ElfFile::new(&wide)?;
     let unknown = with_class(&wide, 9);
     for kind in [1, 3, 5, 6, 7, 0x6474_e552, 0x6000_0000, 0x7000_0000] {
-        assert_eq!(rt; segment_data_of(&narrow, kind, 47), Ok(("Undefined", 47)));
-        assert_eq!(rt; segment_data_of(&unknown, kind, 60), Ok(("Undefined", 60)));
-        assert_eq!(rt; segment_data_of(&wide, kind, 61), Err(ElfError::DataRange));
+        let found = [
+            segment_data_of(&narrow, kind, 47),
+            segment_data_of(&unknown, kind, 60),
+            segment_data_of(&wide, kind, 61),
+        ];
+        let wanted = [
+            Ok(("Undefined", 47)),
+            Ok(("Undefined", 60)),
+            Err(ElfError::DataRange),
+        ];
+        assert_eq!(rt; found, wanted);
     }
-    assert_eq!(rt; segment_data_of(&wide, 0, 61), Ok(("Empty", 0)));
-    assert_eq!(rt; segment_data_of(&wide, 8, 61), Err(ElfError::InvalidPhType));
-    assert_eq!(rt; segment_data_of(&narrow, 2, 48), Ok(("Dynamic32", 6)));
-    assert_eq!(rt; segment_data_of(&wide, 2, 48), Ok(("Dynamic64", 3)));
-    assert_eq!(rt; segment_data_of(&narrow, 2, 47), Err(ElfError::NotMultiple));
-    assert_eq!(rt; segment_data_of(&wide, 2, 56), Err(ElfError::NotMultiple));
-    assert_eq!(rt;
+    let found = [
+        segment_data_of(&wide, 0, 61),
+        segment_data_of(&wide, 8, 61),
+        segment_data_of(&narrow, 2, 48),
+        segment_data_of(&wide, 2, 48),
+        segment_data_of(&narrow, 2, 47),
+        segment_data_of(&wide, 2, 56),
         segment_data_of(&unknown, 2, 47),
-        Err(ElfError::UnknownClass)
-    );
-    assert_eq!(rt; segment_data_of(&unknown, 2, 61), Err(ElfError::DataRange));
-    assert_eq!(rt; segment_data_of(&narrow, 4, 11), Err(ElfError::Note32));
-    assert_eq!(rt; segment_data_of(&wide, 4, 11), Err(ElfError::ShortData));
-    assert_eq!(rt; segment_data_of(&wide, 4, 12), Ok(("Note64", 0)));
-    assert_eq!(rt; segment_data_of(&wide, 4, 48), Ok(("Note64", 36)));
-    assert_eq!(rt;
+        segment_data_of(&unknown, 2, 61),
+        segment_data_of(&narrow, 4, 11),
+        segment_data_of(&wide, 4, 11),
+        segment_data_of(&wide, 4, 12),
+        segment_data_of(&wide, 4, 48),
         segment_data_of(&unknown, 4, 11),
-        Err(ElfError::UnknownClass)
-    );
-    assert_eq!(rt; segment_data_of(&narrow, 4, 61), Err(ElfError::DataRange));
+        segment_data_of(&narrow, 4, 61),
+    ];
+    let wanted = [
+        Ok(("Empty", 0)),
+        Err(ElfError::InvalidPhType),
+        Ok(("Dynamic32", 6)),
+        Ok(("Dynamic64", 3)),
+        Err(ElfError::NotMultiple),
+        Err(ElfError::NotMultiple),
+        Err(ElfError::UnknownClass),
+        Err(ElfError::DataRange),
+        Err(ElfError::Note32),
+        Err(ElfError::ShortData),
+        Ok(("Note64", 0)),
+        Ok(("Note64", 36)),
+        Err(ElfError::UnknownClass),
+        Err(ElfError::DataRange),
+    ];
+    assert_eq!(rt; found, wanted);
     Ok(())
 }
 
@@ -370,28 +466,27 @@ fn lists_the_texts_of_a_string_table(rt: HostRuntime) -> Result<(), Fail> {
     let Ok(mut texts) = SectionData::StrArray(b"ab\0cd").strings() else {
         return Ok(assert!(rt; false));
     };
-    assert_eq!(rt; texts.next(), Some(Ok("ab")));
-    assert_eq!(rt; texts.next(), Some(Err(ElfError::TextEnd)));
-    assert_eq!(rt; texts.next(), None);
-    assert_eq!(rt; texts.next(), None);
+    let found = [texts.next(), texts.next(), texts.next(), texts.next()];
+    let wanted = [Some(Ok("ab")), Some(Err(ElfError::TextEnd)), None, None];
+    assert_eq!(rt; found, wanted);
     let Ok(mut texts) = SectionData::StrArray(b"a\0\xff\0b\0").strings() else {
         return Ok(assert!(rt; false));
     };
-    assert_eq!(rt; texts.next(), Some(Ok("a")));
-    assert_eq!(rt; texts.next(), Some(Err(ElfError::TextUtf8)));
-    assert_eq!(rt; texts.next(), None);
+    let found = [texts.next(), texts.next(), texts.next()];
+    let wanted = [Some(Ok("a")), Some(Err(ElfError::TextUtf8)), None];
+    assert_eq!(rt; found, wanted);
     let Ok(mut texts) = SectionData::StrArray(b"a\0b\0\0c\0").strings() else {
         return Ok(assert!(rt; false));
     };
-    assert_eq!(rt; texts.next(), Some(Ok("a")));
-    assert_eq!(rt; texts.next(), Some(Ok("b")));
-    assert_eq!(rt; texts.next(), None);
-    assert_eq!(rt; texts.next(), None);
+    let found = [texts.next(), texts.next(), texts.next(), texts.next()];
+    let wanted = [Some(Ok("a")), Some(Ok("b")), None, None];
+    assert_eq!(rt; found, wanted);
     let Ok(mut texts) = SectionData::StrArray(b"a\0").strings() else {
         return Ok(assert!(rt; false));
     };
-    assert_eq!(rt; texts.next(), Some(Ok("a")));
-    assert_eq!(rt; texts.next(), None);
+    let found = [texts.next(), texts.next()];
+    let wanted = [Some(Ok("a")), None];
+    assert_eq!(rt; found, wanted);
     Ok(())
 }
 
@@ -402,8 +497,9 @@ fn an_ordinary_string_table_gives_no_text(rt: HostRuntime) -> Result<(), Fail> {
     let Ok(mut texts) = file.section_header(1)?.get_data(&file)?.strings() else {
         return Ok(assert!(rt; false));
     };
-    assert_eq!(rt; texts.next(), None);
-    assert_eq!(rt; texts.next(), None);
+    let found = [texts.next(), texts.next()];
+    let wanted = [None, None];
+    assert_eq!(rt; found, wanted);
     assert!(rt; SectionData::Empty.strings().is_err());
     assert!(rt; SectionData::Undefined(b"ab\0").strings().is_err());
     Ok(())

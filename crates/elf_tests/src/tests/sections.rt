@@ -40,11 +40,21 @@ fn check_strtab_file(rt: &impl Abort, input: &[u8]) -> Result<(), ElfError> {
         .find_section_by_name(".strtab")
         .expect(rt, "the section");
     assert_eq!(rt; found.offset(), 132);
-    assert_eq!(rt; file.get_shstr(0), Ok(""));
-    assert_eq!(rt; file.get_shstr(1), Ok(".strtab"));
-    assert_eq!(rt; file.get_shstr(9), Ok("ab"));
-    assert_eq!(rt; file.get_shstr(12), Err(ElfError::TextEnd));
-    assert_eq!(rt; file.get_shstr(13), Err(ElfError::TextStart));
+    let found = [
+        file.get_shstr(0),
+        file.get_shstr(1),
+        file.get_shstr(9),
+        file.get_shstr(12),
+        file.get_shstr(13),
+    ];
+    let wanted = [
+        Ok(""),
+        Ok(".strtab"),
+        Ok("ab"),
+        Err(ElfError::TextEnd),
+        Err(ElfError::TextStart),
+    ];
+    assert_eq!(rt; found, wanted);
     Ok(())
 }
 
@@ -58,20 +68,27 @@ fn reads_the_strtab_file_in_both_orders(rt: HostRuntime) -> Result<(), Fail> {
     Ok(())
 }
 
+// The getters of a section header, in the order of the layout.
+fn numbers(section: &SectionHeader) -> [u64; 10] {
+    [
+        u64::from(section.name()),
+        u64::from(section.type_().raw()),
+        section.flags(),
+        section.address(),
+        section.offset(),
+        section.size(),
+        u64::from(section.link()),
+        u64::from(section.info()),
+        section.align(),
+        section.entry_size(),
+    ]
+}
+
 #[test]
 fn reads_each_field_of_a_section_header(rt: HostRuntime) -> Result<(), Fail> {
     let file = strtab_file(LITTLE);
     let section = ElfFile::new(&file)?.section_header(1)?;
-    assert_eq!(rt; section.name(), 1);
-    assert_eq!(rt; section.type_().raw(), 3);
-    assert_eq!(rt; section.flags(), 0);
-    assert_eq!(rt; section.address(), 0);
-    assert_eq!(rt; section.offset(), 132);
-    assert_eq!(rt; section.size(), 12);
-    assert_eq!(rt; section.link(), 0);
-    assert_eq!(rt; section.info(), 0);
-    assert_eq!(rt; section.align(), 1);
-    assert_eq!(rt; section.entry_size(), 0);
+    assert_eq!(rt; numbers(&section), [1, 3, 0, 0, 132, 12, 0, 0, 1, 0]);
     Ok(())
 }
 
@@ -85,29 +102,33 @@ const ASCENDING: [u8; 64] = [
 #[test]
 fn decodes_each_field_at_its_place(rt: HostRuntime) {
     let record = SectionHeader_::<P32>::decode(&ASCENDING[..40], Order::Big);
-    let section = SectionHeader::Sh32(record);
-    assert_eq!(rt; section.name(), 0x0001_0203);
-    assert_eq!(rt; section.type_().raw(), 0x0405_0607);
-    assert_eq!(rt; section.flags(), 0x0809_0a0b);
-    assert_eq!(rt; section.address(), 0x0c0d_0e0f);
-    assert_eq!(rt; section.offset(), 0x1011_1213);
-    assert_eq!(rt; section.size(), 0x1415_1617);
-    assert_eq!(rt; section.link(), 0x1819_1a1b);
-    assert_eq!(rt; section.info(), 0x1c1d_1e1f);
-    assert_eq!(rt; section.align(), 0x2021_2223);
-    assert_eq!(rt; section.entry_size(), 0x2425_2627);
+    let narrow = [
+        0x0001_0203,
+        0x0405_0607,
+        0x0809_0a0b,
+        0x0c0d_0e0f,
+        0x1011_1213,
+        0x1415_1617,
+        0x1819_1a1b,
+        0x1c1d_1e1f,
+        0x2021_2223,
+        0x2425_2627,
+    ];
+    assert_eq!(rt; numbers(&SectionHeader::Sh32(record)), narrow);
     let record = SectionHeader_::<P64>::decode(&ASCENDING[..64], Order::Little);
-    let section = SectionHeader::Sh64(record);
-    assert_eq!(rt; section.name(), 0x0302_0100);
-    assert_eq!(rt; section.type_().raw(), 0x0706_0504);
-    assert_eq!(rt; section.flags(), 0x0f0e_0d0c_0b0a_0908);
-    assert_eq!(rt; section.address(), 0x1716_1514_1312_1110);
-    assert_eq!(rt; section.offset(), 0x1f1e_1d1c_1b1a_1918);
-    assert_eq!(rt; section.size(), 0x2726_2524_2322_2120);
-    assert_eq!(rt; section.link(), 0x2b2a_2928);
-    assert_eq!(rt; section.info(), 0x2f2e_2d2c);
-    assert_eq!(rt; section.align(), 0x3736_3534_3332_3130);
-    assert_eq!(rt; section.entry_size(), 0x3f3e_3d3c_3b3a_3938);
+    let wide = [
+        0x0302_0100,
+        0x0706_0504,
+        0x0f0e_0d0c_0b0a_0908,
+        0x1716_1514_1312_1110,
+        0x1f1e_1d1c_1b1a_1918,
+        0x2726_2524_2322_2120,
+        0x2b2a_2928,
+        0x2f2e_2d2c,
+        0x3736_3534_3332_3130,
+        0x3f3e_3d3c_3b3a_3938,
+    ];
+    assert_eq!(rt; numbers(&SectionHeader::Sh64(record)), wide);
 }
 
 #[test]

@@ -27,6 +27,19 @@ const PRINTED: &str = "Program header:
     align:            0x1
 ";
 
+// The getters of a program header but that of its type, in the order of class 64.
+fn numbers(program: &ProgramHeader) -> [u64; 7] {
+    [
+        u64::from(program.flags().0),
+        program.offset(),
+        program.virtual_addr(),
+        program.physical_addr(),
+        program.file_size(),
+        program.mem_size(),
+        program.align(),
+    ]
+}
+
 #[test]
 fn reads_a_segment(rt: HostRuntime) -> Result<(), Fail> {
     let bytes = segment_file();
@@ -34,13 +47,7 @@ fn reads_a_segment(rt: HostRuntime) -> Result<(), Fail> {
     assert_eq!(rt; header::sanity_check(&file), Ok(()));
     let program = file.program_header(0)?;
     assert_eq!(rt; program.get_type(), Ok(Type::Load));
-    assert_eq!(rt; program.flags(), Flags(5));
-    assert_eq!(rt; program.offset(), 0);
-    assert_eq!(rt; program.virtual_addr(), 0);
-    assert_eq!(rt; program.physical_addr(), 0);
-    assert_eq!(rt; program.file_size(), 83);
-    assert_eq!(rt; program.mem_size(), 83);
-    assert_eq!(rt; program.align(), 1);
+    assert_eq!(rt; numbers(&program), [5, 0, 0, 0, 83, 83, 1]);
     assert_eq!(rt; sanity_check(program, &file), Ok(()));
     assert_eq!(rt; program.to_string(rt.alloc())?.as_str(), PRINTED);
     let record = ProgramHeader32::decode(&bytes[52..84], LITTLE);
@@ -272,13 +279,16 @@ fn decodes_each_field_at_its_place(rt: HostRuntime) {
     }
     let program = ProgramHeader::Ph64(ProgramHeader64::decode(&bytes, Order::Big));
     assert_eq!(rt; program.get_type(), Ok(Type::GnuRelro));
-    assert_eq!(rt; program.flags(), Flags(6));
-    assert_eq!(rt; program.offset(), 0x0102_0304_0506_0708);
-    assert_eq!(rt; program.virtual_addr(), 0x1112_1314_1516_1718);
-    assert_eq!(rt; program.physical_addr(), 0x2122_2324_2526_2728);
-    assert_eq!(rt; program.file_size(), 0x3132_3334_3536_3738);
-    assert_eq!(rt; program.mem_size(), 0x4142_4344_4546_4748);
-    assert_eq!(rt; program.align(), 0x5152_5354_5556_5758);
+    let wanted = [
+        6,
+        0x0102_0304_0506_0708,
+        0x1112_1314_1516_1718,
+        0x2122_2324_2526_2728,
+        0x3132_3334_3536_3738,
+        0x4142_4344_4546_4748,
+        0x5152_5354_5556_5758,
+    ];
+    assert_eq!(rt; numbers(&program), wanted);
 }
 
 // The two hexadecimal forms of flags.
