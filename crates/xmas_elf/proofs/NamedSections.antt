@@ -1,8 +1,6 @@
 -- The first section with a name, as it is computed.
 use Rattle.std.proofs.Common.{◌≡◌, ◌≢◌, ℕ, zero, suc, ◌<◌, Bool, true, false, Decides, List, [], ◌∷◌, length, Option, None, Some, MatchOption, Result, Ok, Err, if◌then◌else◌, refl, sym, ap, ◌∙◌, subst, arith}
 use Rattle.std.specs.List.{AllWithin, HoldsAt, find}
-use Rattle.std.specs.Str.{bytes_eq}
-use Rattle.std.proofs.lemmas.Bool.{le-ltb}
 use Rattle.std.proofs.lemmas.Slice.Eq.{bytes_eq-Decides}
 use Rattle.elf_base.specs.Refusal.{and_then}
 use Rattle.elf_base.specs.Text.{text_of}
@@ -11,7 +9,7 @@ use Rattle.elf_base.specs.declared.error.ElfError.TheVariants.{NullName}
 use Rattle.elf_base.proofs.lemmas.TextLemmas.{is-text_of, text_of-is}
 use Rattle.elf_records.specs.declared.sections.ShType.{ShType}
 use Rattle.elf_records.specs.declared.sections.ShType.TheVariants.{Null}
-use Rattle.xmas_elf.specs.NameTable.{Bears, IsFirstInList, IsNameAt, IsNameTable, NoneBears, is_name, name_of, name_table_of, section_named, shstr_of}
+use Rattle.xmas_elf.specs.NameTable.{Bears, IsFirstInList, IsNameAt, NoneBears, is_name, name_of, name_table_of, section_named, shstr_of}
 use Rattle.xmas_elf.specs.SectionData.{is_null}
 use Rattle.xmas_elf.specs.SectionHeader.{section_fields, section_type}
 use Rattle.xmas_elf.specs.SectionList.{section_list}

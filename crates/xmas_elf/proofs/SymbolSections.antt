@@ -1,9 +1,7 @@
 -- The section of a symbol, by the index that it has.
-use Rattle.std.proofs.Common.{◌≡◌, ◌≢◌, ℕ, ◌*◌, ◌%◌, ◌≤◌, ◌<◌, ◌⊎◌, inl, inr, Bool, true, false, nat_le, List, length, take, drop, Option, None, Some, MatchOption, Result, Ok, Err, IfOk, if◌then◌else◌, refl, sym, ap, ◌∙◌, arith}
+use Rattle.std.proofs.Common.{◌≡◌, ◌≢◌, ℕ, ◌*◌, ◌≤◌, ◌<◌, ◌⊎◌, inl, inr, Bool, true, false, nat_le, Option, None, Some, MatchOption, Result, Ok, Err, IfOk, if◌then◌else◌, refl, sym, ap, ◌∙◌, arith}
 use Rattle.std.specs.Option.{ok_or}
 use Rattle.std.proofs.lemmas.Bool.{lt-leb, leb-false}
-use Rattle.elf_base.specs.FileHeader.{file_order}
-use Rattle.elf_base.specs.Number.{number}
 use Rattle.elf_base.specs.declared.error.ElfError.{ElfError}
 use Rattle.elf_base.specs.declared.error.ElfError.TheVariants.{ReservedIndex}
 use Rattle.xmas_elf.specs.SectionHeader.{section_header_of, section_of}

@@ -1,4 +1,4 @@
-use Rattle.std.proofs.Common.{◌≡◌, ◌≢◌, ℕ, ◌∙◌, ap, sym}
+use Rattle.std.proofs.Common.{◌≡◌, ◌≢◌, ◌∙◌, ap, sym}
 use Rattle.xmas_elf.specs.SectionHeader.{section_header_of, section_of}
 use Rattle.xmas_elf.proofs.SymbolSections.{has_own_index, own_section, refused_never, same_value, wide_one}
 use Rattle.xmas_elf.proofs.symbol_table.entry.Entry.get_section_header.Goals as goal
