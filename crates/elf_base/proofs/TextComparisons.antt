@@ -68,7 +68,7 @@ answers bytes start text b count there utf8 none front =
     at_rest bytes start text b count there utf8 none (subst (λ ys. FrontCompared ys text b count) (rest start bytes) front)
 
 -- where the bytes agree with a text and a zero byte, the text stands there unless it has a zero byte
-pub stands : (bytes : List ℕ) (start : ℕ) (text : List ℕ) (b none : Bool) (count : ℕ) (zero_at : Option ℕ) → start ≤ length bytes → IsUtf8 text → not b ≡ false → FrontCompared (take (length bytes - start) (drop start bytes)) text b count → IsFirstByte (is_byte 0) text zero_at → is_some zero_at ≡ not none → IsTrue none ↔ IsText bytes start text
+pub stands : (bytes : List ℕ) (start : ℕ) (text : List ℕ) (b none : Bool) (count : ℕ) (zero_at : Option ℕ) → start ≤ length bytes → IsUtf8 text → IsTrue b → FrontCompared (take (length bytes - start) (drop start bytes)) text b count → IsFirstByte (is_byte 0) text zero_at → is_some zero_at ≡ not none → IsTrue none ↔ IsText bytes start text
 stands bytes start text false none count zero_at there utf8 agree front first is_none = cc
 stands bytes start text true true count None there utf8 agree front first is_none =
     ((λ _. (answers bytes start text true count there utf8 (has_no_zero text None first refl) front).yes refl), λ _. refl)

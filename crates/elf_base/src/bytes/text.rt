@@ -54,17 +54,21 @@ pub fn text_is(data: &[u8], start: usize, text: &str) -> (bool, usize)
 }
 
 /// Whether the text from `start`, which is in bytes, up to the first zero byte is this one: as by
-/// `text_is`, without the number. So a search over many places looks for a zero byte in `text` only
-/// where all else agrees.
+/// `text_is`, without the number. The zero byte behind the text is looked for first, as it tells most
+/// texts of other lengths apart, and one within `text` only where all else agrees.
 #[inline(always)]
 pub fn stands_at(data: &[u8], start: usize, text: &str) -> bool
     ensures { IsTrue result ↔ IsText «data».now start text.now }
 {
     let wanted = text.as_bytes();
-    if start > data.len() || !front_is(&data[start..], wanted).0 {
+    if start > data.len() {
         return false;
     }
-    memchr(0, wanted).is_none()
+    let rest = &data[start..];
+    if wanted.len() >= rest.len() || rest[wanted.len()] != 0 {
+        return false;
+    }
+    front_is(rest, wanted).0 && memchr(0, wanted).is_none()
 }
 
 // Whether the bytes begin with these and a zero byte, and how many were compared.
