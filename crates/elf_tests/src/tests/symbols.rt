@@ -1,8 +1,8 @@
 //! Symbols: their numbers, names and printed forms.
 
 use crate::callers::symbols::{
-    dyn_name_or_refusal, name_in, name_or_refusal, own_is_named, own_section, symbol_strings,
-    value_at,
+    dyn_name_or_refusal, first_name, name_by_table, name_bytes, name_or_refusal, own_is_named,
+    own_section, value_at,
 };
 use crate::own::Numbered;
 use crate::tests::files::{dynstr_file, strtab_file};
@@ -138,7 +138,8 @@ fn symbols_have_names(rt: HostRuntime) -> Result<(), Fail> {
         assert_eq!(rt; narrow_symbol.get_name(&file), answer, "name {name}");
         let wide_symbol = symbol::<Entry64>(&wide, LITTLE)?;
         assert_eq!(rt; name_or_refusal(&wide_symbol, &file), answer);
-        assert_eq!(rt; name_in(symbol_strings(&file)?, &wide_symbol), answer);
+        assert_eq!(rt; name_by_table(&file, &wide_symbol), answer);
+        assert_eq!(rt; first_name(&strtab, &wide, LITTLE), answer);
         assert_eq!(rt; wide_symbol.get_name(&dyn_file), Err(ElfError::NoStrtab));
         let narrow_symbol = symbol::<DynEntry32>(&narrow, LITTLE)?;
         assert_eq!(rt; dyn_name_or_refusal(&narrow_symbol, &dyn_file), answer);
@@ -146,6 +147,18 @@ fn symbols_have_names(rt: HostRuntime) -> Result<(), Fail> {
         let wide_symbol = symbol::<DynEntry64>(&wide, LITTLE)?;
         assert_eq!(rt; wide_symbol.get_name(&dyn_file), answer, "name {name}");
     }
+    Ok(())
+}
+
+#[test]
+fn the_fast_way_sums_up_names(rt: HostRuntime) -> Result<(), Fail> {
+    let bytes = strtab_file(LITTLE);
+    let file = ElfFile::new(&bytes)?;
+    let mut symbols = [0; 72];
+    set(&mut symbols, 24, symbol_64::NAME, 9, LITTLE);
+    set(&mut symbols, 48, symbol_64::NAME, 1, LITTLE);
+    let table = Table::<Entry64>::new(&symbols, LITTLE)?;
+    assert_eq!(rt; name_bytes(&file, table), Ok(9));
     Ok(())
 }
 
