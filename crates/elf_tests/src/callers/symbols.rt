@@ -14,7 +14,7 @@ ghost use Rattle.xmas_elf.specs.declared.ElfFile.{ElfFile};
 ghost use Rattle.xmas_elf.specs.declared.sections.section_header.SectionHeader.{SectionHeader};
 
 use crate::own::Numbered;
-use xmas_elf::bytes::{Table, text_at};
+use xmas_elf::bytes::{Order, Table, text_at};
 use xmas_elf::sections::{SectionHeader, ShType};
 use xmas_elf::symbol_table::{DynEntry32, Entry, Entry64};
 use xmas_elf::{ElfError, ElfFile};
@@ -99,6 +99,14 @@ pub fn name_in<'a>(strings: &'a [u8], symbol: &Entry64) -> Result<&'a str, ElfEr
     text_at(strings, symbol.name() as usize)
 }
 
+/// The two together answer what `get_name` does.
+#[tactic(auto, unfolding(xmas_elf::specs::StringTable::string_of))]
+pub fn name_by_table<'a>(file: &ElfFile<'a>, symbol: &Entry64) -> Result<&'a str, ElfError>
+    ensures { Answers (string_of file.now (entry_64_fields symbol.now).name) result }
+{
+    name_in(symbol_strings(file)?, symbol)
+}
+
 /// How many bytes the names of all symbols have together, or the greatest number if that is less.
 pub fn name_bytes(file: &ElfFile<'_>, symbols: Table<'_, Entry64>) -> Result<u64, ElfError> {
     let strings = symbol_strings(file)?;
@@ -107,6 +115,14 @@ pub fn name_bytes(file: &ElfFile<'_>, symbols: Table<'_, Entry64>) -> Result<u64
         total = total.saturating_add(name_in(strings, &symbol)?.len() as u64);
     }
     Ok(total)
+}
+
+/// The name of the first symbol in some bytes, which outlives the symbol and the `ElfFile`.
+pub fn first_name<'a>(input: &'a [u8], symbols: &[u8], order: Order) -> Result<&'a str, ElfError> {
+    let file = ElfFile::new(input)?;
+    let table = Table::<Entry64>::new(symbols, order)?;
+    let symbol = table.get(0).ok_or(ElfError::SymbolIndex)?;
+    symbol.get_name(&file)
 }
 
 /// A symbol of one's own, through the function for any.
