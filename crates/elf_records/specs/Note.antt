@@ -57,6 +57,7 @@ rounded_up n = (n + 3) / 4 * 4
 pub record IsNoteDescription (body : List ℕ) (name_size desc_size : ℕ) (desc : List ℕ) : Type 0 where
   pub fits : rounded_up name_size + desc_size ≤ length body
   pub bytes : desc ≡ take desc_size (drop (rounded_up name_size) body)
+  pub count_is : length desc ≡ desc_size
 
 -- the description as it is computed, or that it passes the end
 unfoldable pub note_desc_of : List ℕ → ℕ → ℕ → Result (List ℕ) ElfError

@@ -5,7 +5,7 @@
 //! input.
 #![tactic(auto)]
 
-ghost use Rattle.std.specs.Prelude.{◌≡◌, ◌↔◌, ◌+◌, ◌*◌, ◌≤◌, ◌<◌, ◌^◌, Err, IfErr, IfNone, IfOk, IfSome, IsOk, IsTrue, MatchOption, Ok, length, ℕ};
+ghost use Rattle.std.specs.Prelude.{◌≡◌, ◌↔◌, ◌+◌, ◌*◌, ◌≤◌, ◌<◌, ◌^◌, Err, IfErr, IfNone, IfOk, IfSome, IsOk, IsTrue, MatchOption, Ok, Some, length, ℕ};
 ghost use Rattle.elf_base.specs.FileHeader.{IsAccepted, file_header, header_of};
 ghost use Rattle.elf_base.specs.Lent.{Answers, Lends, LendsOnly};
 ghost use Rattle.xmas_elf.specs.Counts.{first_section, program_count_of, section_count_of, shstr_index_of};
@@ -15,9 +15,11 @@ ghost use Rattle.xmas_elf.specs.ProgramHeader.{HasProgramHeader, HasSegment, pro
 ghost use Rattle.xmas_elf.specs.ProgramList.{program_list, program_rest};
 ghost use Rattle.xmas_elf.specs.SectionHeader.{HasSectionEntry, HasSectionHeader, section_at, section_header_of, section_of};
 ghost use Rattle.xmas_elf.specs.SectionList.{section_list, section_rest};
+ghost use Rattle.xmas_elf.specs.declared.sections.section_header.SectionHeader.{SectionHeader};
 
 pub mod bytes;
 pub mod dynamic;
+mod extensions;
 pub mod hash;
 pub mod header;
 mod notes;
@@ -28,6 +30,7 @@ pub mod sections;
 pub mod symbol_table;
 
 use crate::bytes::{text_at, text_is};
+pub use crate::extensions::Extensions;
 use crate::header::{Header, parse_header};
 use crate::program::{ProgramHeader, ProgramIter, parse_program_header, program_entry};
 use crate::sections::{
@@ -268,6 +271,8 @@ impl<'a> ElfFile<'a> {
             (IsFirstInList self.now name.now) }
         ensures found { IfSome result (λ section. (index : ℕ)
             × IsFirstNamed self.now name.now index section) }
+        ensures only { (index : ℕ) (section : SectionHeader)
+            → IsFirstNamed self.now name.now index section → result ≡ Some section }
         ensures missing { IfNone result (EachBelow (section_of self.now)
             (λ section. ¬ Bears self.now section name.now) (length (section_list self.now))) }
     {

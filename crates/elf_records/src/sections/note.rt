@@ -1,8 +1,9 @@
 //! Notes (gABI, "Note Section").
 
-ghost use Rattle.std.specs.Prelude.{◌≡◌, ◌<◌, ◌+◌, length, IfErr, IsErrOf};
+ghost use Rattle.std.specs.Prelude.{◌≡◌, ◌≢◌, ◌<◌, ◌+◌, ℕ, List, length, IfErr, IsErrOf};
 ghost use Rattle.std.proofs.Common.{lit<};
 ghost use Rattle.elf_base.specs.Lent.{Answers, Lends, LendsOnly};
+ghost use Rattle.elf_base.specs.Text.{IsText};
 ghost use Rattle.elf_base.specs.declared.error.ElfError.{ElfError};
 ghost use Rattle.elf_records.specs.Note.{IsNoteDescription, IsNoteName, NoteNameRefused, note_desc_of, note_desc_size, note_header, note_name_of, note_name_size, note_type, rounded_up};
 
@@ -69,6 +70,8 @@ impl NoteHeader {
         ensures refused { IfErr result (NoteNameRefused body.now (note_name_size self.now)) }
         ensures refuses { (why : ElfError) → NoteNameRefused body.now (note_name_size self.now) why
             → IsErrOf result why }
+        ensures wrong_size { (text : List ℕ) → IsText body.now 0 text
+            → length text + 1 ≢ note_name_size self.now → IsErrOf result ElfError.NoteName }
         ensures exact { Answers (note_name_of body.now (note_name_size self.now)) result }
     {
         let text = text_at(body, 0)?;

@@ -41,3 +41,12 @@ returns-clause-refuses c why refused =
     let texts = c.in_ok-text.ensures in
     let wrong = wrong_size _ _ why c.in_ok-text.text.now texts.only (λ w other. cc (texts.refuses w other)) refused in
     absurd (wrong.1 (c.if-text-from.false ∙ c.from.ensures ∙ c.name_size.ensures))
+
+pub returns-then-text-from-clause-wrong_size : goal.returns-then-text-from-clause-wrong_size
+returns-then-text-from-clause-wrong_size c t is other = returns-then-text-from-clause-refuses c NoteName (t, is, other)
+
+pub returns-clause-wrong_size : goal.returns-clause-wrong_size
+returns-clause-wrong_size c t is other = returns-clause-refuses c NoteName (t, is, other)
+
+pub returns-in_err-text-clause-wrong_size : goal.returns-in_err-text-clause-wrong_size
+returns-in_err-text-clause-wrong_size c t is other = absurd (c.in_err-text.ensures.only t is)
