@@ -17,7 +17,7 @@ const NT_GNU_BUILD_ID: u32 = 3;
 
 /// What GNU's tools write into a file beside the gABI. Each part lives as long as the input.
 ///
-/// A call answers `None` where the section is missing, its data is refused, or it isn't well formed.
+/// A call answers `None` where the section is missing, its data is refused, or isn't well formed.
 pub trait Extensions<'a> {
     /// What these parts are: the build id, the link with its checksum, and the alternate link.
     ghost BuildId: { Self → List ℕ → Type 0 };
@@ -33,15 +33,15 @@ pub trait Extensions<'a> {
         ensures only { (id : List ℕ) → BuildId self.now id
             → IsSomeAnd result (λ lent. lent.now ≡ id) };
 
-    /// The name of the file with the debug information and the CRC of its bytes, which stands behind
-    /// the name at a multiple of four: section `.gnu_debuglink`, of whatever type.
+    /// The name of the file with the debug information, and the CRC of its bytes, which stands
+    /// behind the name at a multiple of four: section `.gnu_debuglink`, of whatever type.
     fn get_gnu_debuglink(&self) -> Option<(&'a str, u32)>
         ensures found { IfSome result (λ link. DebugLink self.now link.0.now link.1) }
         ensures only { (text : List ℕ) (checksum : ℕ) → DebugLink self.now text checksum
             → IsSomeAnd result (λ link. (link.0.now ≡ text) × (link.1 ≡ checksum)) };
 
-    /// The name of the file with debug information that several files share, and its build id, which is
-    /// all that follows the name: section `.gnu_debugaltlink`, of whatever type.
+    /// The name of the file with debug information that several files share, and its build id,
+    /// which is all that follows the name: section `.gnu_debugaltlink`, of whatever type.
     fn get_gnu_debugaltlink(&self) -> Option<(&'a str, &'a [u8])>
         ensures found { IfSome result (λ link. AlternateLink self.now link.0.now link.1.now) }
         ensures only { (text rest : List ℕ) → AlternateLink self.now text rest
