@@ -25,6 +25,12 @@ note_desc_size header = number header.order 4 4 header.bytes
 unfoldable pub note_type : NoteHeader → ℕ
 note_type header = number header.order 4 8 header.bytes
 
+-- bytes are a note: its header is their first twelve, and its body all that follow
+pub record IsNote (order : Order) (bytes : List ℕ) (header : NoteHeader) (body : List ℕ) : Type 0 where
+  pub enough : 12 ≤ length bytes
+  pub header_is : header ≡ note_header order (take 12 bytes)
+  pub body_is : body ≡ drop 12 bytes
+
 -- the name of a note, in the bytes that follow its header: the text at their front, which with its zero byte has
 -- the size that the header says
 pub record IsNoteName (body : List ℕ) (name_size : ℕ) (text : List ℕ) : Type 0 where
@@ -51,6 +57,7 @@ rounded_up n = (n + 3) / 4 * 4
 pub record IsNoteDescription (body : List ℕ) (name_size desc_size : ℕ) (desc : List ℕ) : Type 0 where
   pub fits : rounded_up name_size + desc_size ≤ length body
   pub bytes : desc ≡ take desc_size (drop (rounded_up name_size) body)
+  pub count_is : length desc ≡ desc_size
 
 -- the description as it is computed, or that it passes the end
 unfoldable pub note_desc_of : List ℕ → ℕ → ℕ → Result (List ℕ) ElfError

@@ -4,6 +4,7 @@ mod checks;
 mod compared;
 mod constants;
 mod data;
+mod extensions;
 mod files;
 mod headers;
 mod messages;

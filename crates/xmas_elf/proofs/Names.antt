@@ -1,6 +1,6 @@
 -- The section with a name, in the list and by its index.
-use Rattle.std.proofs.Common.{◌≡◌, ◌≢◌, ℕ, ◌≤◌, nat_lt, Bool, true, false, Result, Err, drop, List, [], ◌∷◌, refl, length, Ok, Option, None, Some, IfSome, IfNone, MatchOption, ap, sym, subst, ◌∙◌, arith}
-use Rattle.std.proofs.lemmas.Bool.{le-ltb, ltb-false}
+use Rattle.std.proofs.Common.{◌≡◌, ◌≢◌, ℕ, ◌<◌, ◌≤◌, nat_lt, Bool, true, false, Result, Err, drop, List, [], ◌∷◌, refl, length, Ok, Option, None, Some, IfSome, IfNone, MatchOption, ap, sym, subst, ◌∙◌, arith}
+use Rattle.std.proofs.lemmas.Bool.{le-ltb, ltb-false, ltb-true}
 use Rattle.elf_base.specs.Refusal.{and_then, unless}
 use Rattle.elf_base.specs.Text.{IsText}
 use Rattle.elf_base.specs.declared.error.ElfError.{ElfError}
@@ -15,6 +15,7 @@ use Rattle.xmas_elf.specs.SectionList.{section_list}
 use Rattle.xmas_elf.specs.declared.ElfFile.{ElfFile}
 use Rattle.xmas_elf.specs.declared.sections.section_header.SectionHeader.{SectionHeader}
 use Rattle.xmas_elf.proofs.HeaderLists.{header_list-longest}
+use Rattle.xmas_elf.proofs.SectionLists.{section_in_list}
 use Rattle.xmas_elf.proofs.lemmas.HeaderList.{sections_within}
 
 -- an answer that isn't refused for its place
@@ -94,3 +95,27 @@ found_named file name (Some section) found = first_named file name section found
 pub missing_named : (file : ElfFile) (name : List ℕ) (r : Option SectionHeader) → MatchOption r (NoneBears file name (length (section_list file))) (IsFirstInList file name) → IfNone r (EachBelow (section_of file) (λ section. ¬ Bears file section name) (length (section_list file)))
 missing_named file name None found = none_named file name found
 missing_named file name (Some section) found = tt
+
+-- no section bears the name below the first that does
+one_first_below : (file : ElfFile) (name : List ℕ) (i j : ℕ) (g h : SectionHeader) → i < j → IsFirstNamed file name i g → IsFirstNamed file name j h → ⊥
+one_first_below file name i j g h below one other = other.first i g below one.is_header one.bears
+
+-- there is at most one first section with a name
+one_first : (file : ElfFile) (name : List ℕ) (i j : ℕ) (g h : SectionHeader) (before after : Bool) → nat_lt i j ≡ before → nat_lt j i ≡ after → IsFirstNamed file name i g → IsFirstNamed file name j h → g ≡ h
+one_first file name i j g h true after below _ one other = absurd (one_first_below file name i j g h (ltb-true _ _ below) one other)
+one_first file name i j g h false true not_below above one other = absurd (one_first_below file name j i h g (ltb-true _ _ above) other one)
+one_first file name i j g h false false not_below not_above one other =
+    let low : i ≤ j = ltb-false _ _ not_above in
+    let high : j ≤ i = ltb-false _ _ not_below in
+    let same : i ≡ j = omega (arith, low, high) in
+    let a = one.is_header in
+    let b = other.is_header in
+    cc
+
+-- it is the answer of a search
+pub only_named : (file : ElfFile) (name : List ℕ) (r : Option SectionHeader) → MatchOption r (NoneBears file name (length (section_list file))) (IsFirstInList file name) → (index : ℕ) (section : SectionHeader) → IsFirstNamed file name index section → r ≡ Some section
+only_named file name None found index section first =
+    absurd (none_named file name found index section (section_in_list file index section first.below first.is_header) first.is_header first.bears)
+only_named file name (Some other) found index section first =
+    let (i, is) = first_named file name other found in
+    ap Some (one_first file name i index other section (nat_lt i index) (nat_lt index i) refl refl is first)

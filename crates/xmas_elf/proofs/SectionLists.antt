@@ -1,6 +1,6 @@
 -- When every section of a file can be read, and how many can.
-use Rattle.std.proofs.Common.{◌≡◌, ℕ, suc, ◌+◌, ◌*◌, ◌≤◌, ◌==◌, Bool, true, false, nat_lt, not, List, [], ◌∷◌, length, Ok, IsOk, if◌then◌else◌, refl, arith}
-use Rattle.std.proofs.lemmas.Bool.{le-ltb, ltb-false}
+use Rattle.std.proofs.Common.{◌≡◌, ℕ, suc, ◌+◌, ◌*◌, ◌≤◌, ◌<◌, ◌==◌, Bool, true, false, nat_lt, not, List, [], ◌∷◌, length, Ok, IsOk, if◌then◌else◌, refl, arith}
+use Rattle.std.proofs.lemmas.Bool.{le-ltb, ltb-false, ltb-true}
 use Rattle.elf_base.specs.FileHeader.{file_class}
 use Rattle.elf_base.specs.HeaderLayout.{header_fields}
 use Rattle.elf_base.specs.declared.error.ElfError.TheVariants.{ShortSectionHeader, UnknownClass, SmallEntry}
@@ -11,7 +11,7 @@ use Rattle.xmas_elf.specs.SectionHeader.{HasSectionEntry, section_at, section_en
 use Rattle.xmas_elf.specs.SectionList.{section_list}
 use Rattle.xmas_elf.specs.declared.ElfFile.{ElfFile}
 use Rattle.xmas_elf.specs.declared.sections.section_header.SectionHeader.{SectionHeader}
-use Rattle.xmas_elf.proofs.HeaderLists.{entries_fit, entry_place-within, header_list-fits, header_list-whole, is_known_class-known, unless-passed}
+use Rattle.xmas_elf.proofs.HeaderLists.{entries_fit, entry_place-within, header_list-fits, header_list-longest, header_list-whole, is_known_class-known, unless-passed}
 
 section_entry-has : (input : List ℕ) (header : Header) (index : ℕ) → HasSectionEntry input header index → IsOk (section_entry input header index)
 unfolding section_entry
@@ -56,3 +56,29 @@ section_entry-ends input header index h is =
 -- so there are no more than there is room for
 pub section_list-fits : (file : ElfFile) → length (section_list file) * 40 ≤ length file.input.now
 section_list-fits file = header_list-fits (section_of file) (section_count_of file) 40 (length file.input.now) (λ i h is. section_entry-ends file.input.now file.header i h is)
+
+-- a section before one that can be read can be read
+section_entry-before : (input : List ℕ) (header : Header) (i j : ℕ) (h : SectionHeader) → i ≤ j → section_entry input header j ≡ Ok h → section_entry input header i ≡ Ok (section_at input header i)
+unfolding section_entry
+section_entry-before input header i j h before is =
+    let part = header_fields header.pt2 in
+    let passed = unless-passed (
+    (nat_lt (length input) (section_place header (j + 1)), ShortSectionHeader)
+    ∷ (not (is_known_class (file_class header)), UnknownClass)
+    ∷ (nat_lt part.sh_entry_size (section_header_size (file_class header)), SmallEntry)
+    ∷ []) (section_at input header j) h is in
+    let ends : section_place header (j + 1) ≤ length input = ltb-false _ _ passed.0 in
+    let within : nat_lt (length input) (section_place header (i + 1)) ≡ false =
+    le-ltb _ _ (entry_place-within part.sh_offset part.sh_entry_size (j + 1) (length input) i ends (omega arith)) in
+    rw (within, passed.1.0, passed.1.1.0) refl
+
+-- so a section below the count that can be read stands in the list
+section_stands : (file : ElfFile) (i : ℕ) (h : SectionHeader) (below : Bool) → nat_lt i (length (section_list file)) ≡ below → i < section_count_of file → section_of file i ≡ Ok h → i < length (section_list file)
+section_stands file i h true is counted readable = ltb-true _ _ is
+section_stands file i h false is counted readable =
+    let sections = header_list-longest (section_of file) (section_count_of file) in
+    let past : length (section_list file) ≤ i = ltb-false _ _ is in
+    absurd (sections.longest (section_at file.input.now file.header (length (section_list file))) (omega (arith, past, counted)) (section_entry-before file.input.now file.header (length (section_list file)) i h past readable))
+
+pub section_in_list : (file : ElfFile) (i : ℕ) (h : SectionHeader) → i < section_count_of file → section_of file i ≡ Ok h → i < length (section_list file)
+section_in_list file i h counted readable = section_stands file i h (nat_lt i (length (section_list file))) refl counted readable

@@ -1,10 +1,10 @@
 -- The items that are computed are those of the bytes.
-use Rattle.std.proofs.Common.{◌≡◌, ◌≢◌, ℕ, zero, suc, ◌+◌, ◌≤◌, ◌<◌, ◌==◌, if◌then◌else◌, Bool, true, false, Result, Ok, Err, List, [], ◌∷◌, ◌++◌, append_assoc, length, slice_index, refl, sym, ap, ◌∙◌, subst, arith}
+use Rattle.std.proofs.Common.{◌≡◌, ◌≢◌, ℕ, zero, suc, ◌+◌, ◌≤◌, ◌<◌, ◌==◌, if◌then◌else◌, Bool, true, false, Result, Ok, Err, List, [], ◌∷◌, ◌++◌, append_assoc, length, length-append, slice_index, refl, sym, subst, arith}
 use Rattle.std.proofs.lemmas.List.{append-nil}
 use Rattle.std.proofs.lemmas.Bool.{eqb-true, eqb-false}
-use Rattle.std.specs.Str.{IsUtf8, is_utf8}
+use Rattle.std.specs.Str.{is_utf8}
 use Rattle.std.proofs.lemmas.Str.{IsUtf8-nil, IsUtf8-from_is_utf8, is_utf8-from_IsUtf8}
-use Rattle.elf_base.specs.Text.{EndsInZero, IsText, NoZeroFrom, TextRefused}
+use Rattle.elf_base.specs.Text.{EndsInZero}
 use Rattle.elf_base.specs.declared.error.ElfError.{ElfError}
 use Rattle.elf_base.specs.declared.error.ElfError.TheVariants.{TextEnd, TextUtf8}
 use Rattle.xmas_elf.specs.Strings.{Strings, at_end, at_empty, refused, text, run_ended, run_open, strings_after, strings_of}
@@ -56,3 +56,33 @@ after_is (byte ∷ bytes) run none =
 
 pub strings_are : (bytes : List ℕ) → Strings bytes (strings_of bytes)
 strings_are bytes = after_is bytes [] (λ k below. absurd (omega (arith, below)))
+
+-- there are no more items than bytes
+open_fit : (run : List ℕ) → length (run_open run) ≤ length run
+open_fit [] = omega arith
+open_fit (byte ∷ run) = omega arith
+
+utf8_fit : (byte : ℕ) (run : List ℕ) (items : List (Result (List ℕ) ElfError)) (good : Bool) → length (if good then Ok (byte ∷ run) ∷ items else Err TextUtf8 ∷ []) ≤ suc (length items)
+utf8_fit byte run items true = omega arith
+utf8_fit byte run items false = omega arith
+
+ended_fit : (run : List ℕ) (items : List (Result (List ℕ) ElfError)) → length (run_ended run items) ≤ length run + length items
+ended_fit [] items = omega arith
+ended_fit (byte ∷ run) items = let few = utf8_fit byte run items (is_utf8 (byte ∷ run)) in omega (arith, few)
+
+byte_fit : (run bytes : List ℕ) (byte : ℕ) (zero_byte : Bool) → length (strings_of bytes) ≤ length bytes → length (strings_after (run ++ (byte ∷ [])) bytes) ≤ length (run ++ (byte ∷ [])) + length bytes
+    → length (if zero_byte then run_ended run (strings_of bytes) else strings_after (run ++ (byte ∷ [])) bytes) ≤ length run + suc (length bytes)
+byte_fit run bytes byte true rest later =
+    let few = ended_fit run (strings_of bytes) in omega (arith, few, rest)
+byte_fit run bytes byte false rest later =
+    let len = length-append run (byte ∷ []) in omega (arith, len, later)
+
+after_fit : (bytes run : List ℕ) → length (strings_after run bytes) ≤ length run + length bytes
+unfolding strings_after
+after_fit [] run = let few = open_fit run in omega (arith, few)
+after_fit (byte ∷ bytes) run =
+    let rest = after_fit bytes [] in
+    byte_fit run bytes byte (byte == 0) (omega (arith, rest)) (after_fit bytes (run ++ (byte ∷ [])))
+
+pub strings_fit : (bytes : List ℕ) → length (strings_of bytes) ≤ length bytes
+strings_fit bytes = let few = after_fit bytes [] in omega (arith, few)

@@ -32,6 +32,7 @@ pub use Rattle.elf_base.specs.declared.header.kinds.OsAbi
 pub use Rattle.elf_base.specs.declared.header.kinds.Type as HeaderType
 pub use Rattle.elf_base.specs.declared.header.kinds.Machine
 pub use Rattle.elf_records.specs.declared.sections.ShType
+pub use Rattle.elf_records.specs.declared.sections.note.NoteHeader
 pub use Rattle.elf_records.specs.declared.sections.TheConstants as SectionConstants
 pub use Rattle.elf_records.specs.declared.program.Type as SegmentType
 pub use Rattle.elf_records.specs.declared.program.Flags
@@ -58,4 +59,6 @@ pub mod SegmentData
 pub mod SegmentContent
 pub mod SegmentText
 pub mod Checks
+pub mod BuildId
+pub mod Link
 pub mod Report

@@ -19,6 +19,7 @@ ghost use Rattle.xmas_elf.specs.declared.sections.section_header.SectionHeader.{
 
 pub mod bytes;
 pub mod dynamic;
+mod extensions;
 pub mod hash;
 pub mod header;
 mod notes;
@@ -30,6 +31,7 @@ mod string_tables;
 pub mod symbol_table;
 
 use crate::bytes::{text_at, text_is};
+pub use crate::extensions::Extensions;
 use crate::header::{Header, parse_header};
 use crate::program::{ProgramHeader, ProgramIter, parse_program_header, program_entry};
 use crate::sections::{
@@ -270,11 +272,11 @@ impl<'a> ElfFile<'a> {
             (IsFirstInList self.now name.now) }
         ensures found { IfSome result (λ section. (index : ℕ)
             × IsFirstNamed self.now name.now index section) }
+        ensures only { (index : ℕ) (section : SectionHeader)
+            → IsFirstNamed self.now name.now index section → result ≡ Some section }
         ensures missing { IfNone result (EachBelow (section_of self.now)
             (λ section. ¬ Bears self.now section name.now) (length (section_list self.now))) }
-        ensures only { (section : SectionHeader) → IsFirstInList self.now name.now section
-            → result ≡ Some section }
-        ensures computed { result ≡ section_named self.now name.now }
+        ensures exact { result ≡ section_named self.now name.now }
     {
         self.first_named(name)
     }

@@ -1,6 +1,6 @@
 //! The first note of a section or a segment (gABI, "Note Section").
 
-ghost use Rattle.std.specs.Prelude.{◌≡◌, Ok, Err, IfOk, MatchResult, drop, take};
+ghost use Rattle.std.specs.Prelude.{◌≡◌, ◌↔◌, ◌≤◌, Ok, Err, IfOk, IsOk, MatchResult, drop, length, take};
 ghost use Rattle.elf_base.specs.FileHeader.{file_class, file_order};
 ghost use Rattle.elf_records.specs.Note.{note_header};
 ghost use Rattle.xmas_elf.specs.Content.{note_64, note_of};
@@ -19,6 +19,8 @@ pub(crate) fn first_note<'a>(
     file: &ElfFile<'_>,
     bytes: &'a [u8],
 ) -> Result<(NoteHeader, &'a [u8]), ElfError>
+    ensures readable { IsOk result
+        ↔ ((file_class file.now.header ≡ 2) × (12 ≤ length bytes.now)) }
     ensures header { IfOk result (λ note. note.0
         ≡ note_header (file_order file.now.header) (take 12 bytes.now)) }
     ensures body { IfOk result (λ note. note.1.now ≡ drop 12 bytes.now) }

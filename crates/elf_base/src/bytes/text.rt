@@ -61,7 +61,7 @@ pub fn stands_at(data: &[u8], start: usize, text: &str) -> bool
     ensures { IsTrue result ↔ IsText «data».now start text.now }
 {
     let wanted = text.as_bytes();
-    if start > data.len() {
+    if data.len() < start {
         return false;
     }
     let rest = &data[start..];

@@ -1,7 +1,10 @@
 //! Notes (gABI, "Note Section").
 
-ghost use Rattle.std.specs.Prelude.{◌≡◌, ◌<◌, ◌+◌, ℕ, List, length, Ok, Err, IfErr, IfOk, IsOkAnd};
+ghost use Rattle.std.specs.Prelude.{◌≡◌, ◌≢◌, ◌<◌, ◌+◌, ℕ, List, length, IfErr, IsErrOf};
 ghost use Rattle.std.proofs.Common.{lit<};
+ghost use Rattle.elf_base.specs.Lent.{Answers, Lends, LendsOnly};
+ghost use Rattle.elf_base.specs.Text.{IsText};
+ghost use Rattle.elf_base.specs.declared.error.ElfError.{ElfError};
 ghost use Rattle.elf_records.specs.Note.{IsNoteDescription, IsNoteName, NoteNameRefused, note_desc_of, note_desc_size, note_header, note_name_of, note_name_size, note_type, rounded_up};
 
 use elf_base::ElfError;
@@ -58,19 +61,18 @@ impl NoteHeader {
 }
 
 impl NoteHeader {
-    /// The name of the note: `TextEnd` and `TextUtf8` as `text_at`, and `NoteName` where the text with
-    /// its zero byte has not the size that the header says.
+    /// The name of the note, without its zero byte: `TextEnd` and `TextUtf8` as `text_at`, and
+    /// `NoteName` where the text with its zero byte has not the size that the header says.
     #[tactic(auto, unfolding(crate::specs::Note::note_name_of))]
     pub fn name<'a>(&self, body: &'a [u8]) -> Result<&'a str, ElfError>
-        ensures text { IfOk result (λ t. IsNoteName body.now (note_name_size self.now) t.now) }
-        ensures only { (t : List ℕ) → IsNoteName body.now (note_name_size self.now) t
-            → IsOkAnd result (λ s. s.now ≡ t) }
-        ensures refused { IfErr result (λ error. NoteNameRefused body.now (note_name_size self.now) error) }
-
-        // the same, for callers that go on with what the name is
-        ensures ok { IfOk result (λ t. note_name_of body.now (note_name_size self.now) ≡ Ok t.now) }
-        ensures err { IfErr result (λ error. note_name_of body.now (note_name_size self.now)
-            ≡ Err error) }
+        ensures text { Lends (IsNoteName body.now (note_name_size self.now)) result }
+        ensures only { LendsOnly (IsNoteName body.now (note_name_size self.now)) result }
+        ensures refused { IfErr result (NoteNameRefused body.now (note_name_size self.now)) }
+        ensures refuses { (why : ElfError) → NoteNameRefused body.now (note_name_size self.now) why
+            → IsErrOf result why }
+        ensures wrong_size { (text : List ℕ) → IsText body.now 0 text
+            → length text + 1 ≢ note_name_size self.now → IsErrOf result ElfError.NoteName }
+        ensures exact { Answers (note_name_of body.now (note_name_size self.now)) result }
     {
         let text = text_at(body, 0)?;
         if text.len() as u64 + 1 != u64::from(self.name_size()) {
@@ -82,15 +84,17 @@ impl NoteHeader {
     /// The description of the note; `NoteDesc` where it passes the end of `body`.
     #[tactic(auto, unfolding(crate::specs::Note::note_desc_of))]
     pub fn desc<'a>(&self, body: &'a [u8]) -> Result<&'a [u8], ElfError>
-        ensures desc { IfOk result (λ d. IsNoteDescription body.now (note_name_size self.now) (note_desc_size self.now) d.now) }
-        ensures only { (d : List ℕ) → IsNoteDescription body.now (note_name_size self.now) (note_desc_size self.now) d
-            → IsOkAnd result (λ s. s.now ≡ d) }
+        ensures desc { Lends (IsNoteDescription body.now (note_name_size self.now)
+            (note_desc_size self.now)) result }
+        ensures only { LendsOnly (IsNoteDescription body.now (note_name_size self.now)
+            (note_desc_size self.now)) result }
         ensures refused { IfErr result (λ error. (error ≡ ElfError.NoteDesc)
             × (length body.now < rounded_up (note_name_size self.now) + note_desc_size self.now)) }
-
-        // the same, for callers that go on with what the description is
-        ensures ok { IfOk result (λ d. note_desc_of body.now (note_name_size self.now) (note_desc_size self.now) ≡ Ok d.now) }
-        ensures err { IfErr result (λ error. note_desc_of body.now (note_name_size self.now) (note_desc_size self.now) ≡ Err error) }
+        ensures refuses { length body.now
+            < rounded_up (note_name_size self.now) + note_desc_size self.now
+            → IsErrOf result ElfError.NoteDesc }
+        ensures exact { Answers (note_desc_of body.now (note_name_size self.now)
+            (note_desc_size self.now)) result }
     {
         let start = (u64::from(self.name_size()) + 3) / 4 * 4;
         let end = start + u64::from(self.desc_size());

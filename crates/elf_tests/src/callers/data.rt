@@ -4,7 +4,9 @@ ghost use Rattle.std.specs.Prelude.{◌≡◌, ◌*◌, ◌+◌, ◌≤◌, IfSo
 ghost use Rattle.xmas_elf.specs.FileHeader.{file_class, file_order};
 ghost use Rattle.xmas_elf.specs.Number.{number};
 ghost use Rattle.xmas_elf.specs.ProgramHeader.{program_fields, segment_type};
+ghost use Rattle.xmas_elf.specs.SectionContent.{content};
 ghost use Rattle.xmas_elf.specs.SectionHeader.{section_fields, section_type};
+ghost use Rattle.xmas_elf.specs.Strings.{string_data, strings_of};
 
 use xmas_elf::bytes::text_at;
 use xmas_elf::program::{ProgramHeader, SegmentData, Type};
@@ -110,4 +112,13 @@ pub fn text_in<'a>(file: &ElfFile<'a>, section: SectionHeader, index: usize) -> 
         Ok(SectionData::StrArray(bytes)) => text_at(bytes, index).ok(),
         _ => None,
     }
+}
+
+/// How many items the texts of a string table come to, with a fault as the last.
+pub fn text_count(part: &SectionData<'_>) -> Option<usize>
+    ensures { IfSome result (λ count. IfSome (string_data (content part.now))
+        (λ bytes. count ≡ length (strings_of bytes))) }
+{
+    let texts = part.strings().ok()?;
+    Some(texts.count())
 }

@@ -3,7 +3,7 @@
 ghost use Rattle.std.specs.Prelude.{◌≤◌};
 
 use crate::tests::places::{
-    Place, header_32, header_64, program_32, put, section_32, section_64, set,
+    Place, WORD, header_32, header_64, program_32, put, section_32, section_64, set,
 };
 use std::alloc::{AllocError, Global};
 use xmas_elf::ElfFile;
@@ -123,20 +123,29 @@ pub fn shndx_file(order: Order) -> [u8; 203] {
 
 /// Class 64: the names, a link to debug information and a build id.
 pub fn debug_link_file() -> [u8; 397] {
+    debug_link_file_in(LITTLE)
+}
+
+/// The same in either order.
+pub fn debug_link_file_in(order: Order) -> [u8; 397] {
     let mut file = [0; 397];
-    put(&mut file, 0, &[0x7f, b'E', b'L', b'F', 2, 1, 1]);
-    set(&mut file, 0, header_64::SH_OFFSET, 64, LITTLE);
-    set(&mut file, 0, header_64::HEADER_SIZE, 64, LITTLE);
-    set(&mut file, 0, header_64::SH_ENTRY_SIZE, 64, LITTLE);
-    set(&mut file, 0, header_64::SH_COUNT, 4, LITTLE);
-    set(&mut file, 0, header_64::SH_STR_INDEX, 1, LITTLE);
+    put(
+        &mut file,
+        0,
+        &[0x7f, b'E', b'L', b'F', 2, data_byte(order), 1],
+    );
+    set(&mut file, 0, header_64::SH_OFFSET, 64, order);
+    set(&mut file, 0, header_64::HEADER_SIZE, 64, order);
+    set(&mut file, 0, header_64::SH_ENTRY_SIZE, 64, order);
+    set(&mut file, 0, header_64::SH_COUNT, 4, order);
+    set(&mut file, 0, header_64::SH_STR_INDEX, 1, order);
     let sections = [(1, 3, 320, 45), (11, 1, 365, 12), (26, 7, 377, 20)];
     let mut start = 128;
     for (name, kind, offset, size) in sections {
-        set(&mut file, start, section_64::NAME, name, LITTLE);
-        set(&mut file, start, section_64::TYPE, kind, LITTLE);
-        set(&mut file, start, section_64::OFFSET, offset, LITTLE);
-        set(&mut file, start, section_64::SIZE, size, LITTLE);
+        set(&mut file, start, section_64::NAME, name, order);
+        set(&mut file, start, section_64::TYPE, kind, order);
+        set(&mut file, start, section_64::OFFSET, offset, order);
+        set(&mut file, start, section_64::SIZE, size, order);
         start = start.wrapping_add(64);
     }
     put(
@@ -144,12 +153,33 @@ pub fn debug_link_file() -> [u8; 397] {
         320,
         b"\0.shstrtab\0.gnu_debuglink\0.note.gnu.build-id\0",
     );
-    put(&mut file, 365, b"a.debug\0\x78\x56\x34\x12");
-    put(
-        &mut file,
-        377,
-        b"\x04\0\0\0\x04\0\0\0\x03\0\0\0GNU\0\xde\xad\xbe\xef",
-    );
+    put(&mut file, 365, b"a.debug\0");
+    set(&mut file, 373, WORD, 0x1234_5678, order);
+    set(&mut file, 377, WORD, 4, order);
+    set(&mut file, 381, WORD, 4, order);
+    set(&mut file, 385, WORD, 3, order);
+    put(&mut file, 389, b"GNU\0\xde\xad\xbe\xef");
+    file
+}
+
+/// Class 32: the names, and a link to debug information that several files share.
+pub fn alternate_link_file() -> [u8; 197] {
+    let mut file = [0; 197];
+    put(&mut file, 0, &[0x7f, b'E', b'L', b'F', 1, 1, 1]);
+    set(&mut file, 0, header_32::SH_OFFSET, 52, LITTLE);
+    set(&mut file, 0, header_32::HEADER_SIZE, 52, LITTLE);
+    set(&mut file, 0, header_32::SH_ENTRY_SIZE, 40, LITTLE);
+    set(&mut file, 0, header_32::SH_COUNT, 3, LITTLE);
+    set(&mut file, 0, header_32::SH_STR_INDEX, 1, LITTLE);
+    set(&mut file, 92, section_32::TYPE, 3, LITTLE);
+    set(&mut file, 92, section_32::OFFSET, 172, LITTLE);
+    set(&mut file, 92, section_32::SIZE, 19, LITTLE);
+    set(&mut file, 132, section_32::NAME, 1, LITTLE);
+    set(&mut file, 132, section_32::TYPE, 1, LITTLE);
+    set(&mut file, 132, section_32::OFFSET, 191, LITTLE);
+    set(&mut file, 132, section_32::SIZE, 6, LITTLE);
+    put(&mut file, 172, b"\0.gnu_debugaltlink\0");
+    put(&mut file, 191, b"x\0\x01\x02\x03\x04");
     file
 }
 

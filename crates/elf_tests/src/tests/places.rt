@@ -7,6 +7,9 @@ use xmas_elf::bytes::Order;
 #[derive(Clone, Copy)]
 pub struct Place(pub usize, pub usize);
 
+/// A word of four bytes.
+pub const WORD: Place = Place(0, 4);
+
 /// Places that are the same in both classes.
 pub const CLASS: Place = Place(4, 1);
 

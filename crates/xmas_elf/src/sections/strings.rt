@@ -1,6 +1,6 @@
 //! The texts of a string table in order (gABI, "String Table").
 
-ghost use Rattle.std.specs.Prelude.{◌≡◌, None, Some, IfOk, MatchResult};
+ghost use Rattle.std.specs.Prelude.{◌≡◌, ◌<◌, ◌^◌, None, Some, IfOk, MatchResult, length};
 
 use crate::ElfError;
 use crate::bytes::text_at;
@@ -21,15 +21,19 @@ impl<'a> SectionData<'a> {
     /// The texts of a string table; an error for all other data.
     ///
     /// An ordinary string table begins with an empty text, and gives no item.
-    #[tactic(auto, using(crate::proofs::StringItems::strings_are))]
+    #[tactic(auto, using(crate::proofs::StringItems::strings_are, crate::proofs::StringItems::strings_fit))]
     pub fn strings(&self) -> Result<SectionStrings<'a>, ()>
         ensures items { IfOk result (λ s. Strings (strings_bytes s) (strings_left s)) }
+        ensures fits { IfOk result (λ s. length (strings_left s) < 2 ^ 64) }
         ensures exact { MatchResult result
             (λ s. string_data (content self.now) ≡ Some (strings_bytes s))
             (λ e. string_data (content self.now) ≡ None) }
     {
         match self {
-            SectionData::StrArray(bytes) => Ok(SectionStrings { rest: bytes }),
+            SectionData::StrArray(bytes) => {
+                prove!(bytes.len() <= usize::MAX);
+                Ok(SectionStrings { rest: bytes })
+            }
             _ => Err(()),
         }
     }

@@ -1,4 +1,4 @@
-use Rattle.std.proofs.Common.{◌≡◌, ◌<◌, length, subst, sym, ◌∙◌}
+use Rattle.std.proofs.Common.{◌≡◌, subst, sym, ◌∙◌}
 use Rattle.xmas_elf.specs.ElfError.TheVariants.{TextStart}
 use Rattle.xmas_elf.specs.Text.{TextRefused}
 use Rattle.xmas_elf.proofs.lemmas.Equality.{error_same, same_error}

@@ -1,0 +1,11 @@
+use Rattle.std.proofs.Common.{◌≡◌, subst, sym}
+use Rattle.xmas_elf.specs.Link.{IsTextAndRest}
+use Rattle.xmas_elf.proofs.extensions.ElfFileExtensions.get_gnu_debugaltlink.Goals as goal
+
+pub returns-in_err-bytes-clause-only : goal.returns-in_err-bytes-clause-only
+returns-in_err-bytes-clause-only c text rest is = absurd (c.in_err-bytes.ensures.only is.bytes is.is_data)
+
+pub returns-clause-only : goal.returns-clause-only
+returns-clause-only c text rest is =
+    let same : c.in_ok-bytes.bytes.now ≡ is.bytes = c.in_ok-bytes.ensures.only is.bytes is.is_data in
+    c.alternate_link.ensures.only text rest (subst (λ b. IsTextAndRest b text rest) (sym same) is.is_link)

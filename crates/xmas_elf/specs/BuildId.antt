@@ -1,0 +1,36 @@
+-- Build ids (gABI, "Note Section"; the names and the type are those of GNU's linker, and that only files
+-- of class 64 have one is this project's own).
+use Rattle.std.specs.Prelude.{◌≡◌, ℕ, List, Ok, codes}
+use Rattle.elf_base.specs.FileHeader.{file_class, file_order}
+use Rattle.elf_records.specs.Note.{IsNote, IsNoteDescription, IsNoteName, note_desc_size, note_name_size, note_type}
+use Rattle.elf_records.specs.declared.sections.ShType.TheVariants as sh_type
+use Rattle.elf_records.specs.declared.sections.note.NoteHeader.{NoteHeader}
+use Rattle.xmas_elf.specs.NameTable.{IsFirstNamed}
+use Rattle.xmas_elf.specs.SectionData.{IsSectionData}
+use Rattle.xmas_elf.specs.SectionHeader.{section_type}
+use Rattle.xmas_elf.specs.declared.ElfFile.{ElfFile}
+use Rattle.xmas_elf.specs.declared.sections.section_header.SectionHeader.{SectionHeader}
+
+-- a section of type Note, in a file of class 64, whose data is a note
+pub record IsNoteSection (file : ElfFile) (section : SectionHeader) (header : NoteHeader) (body : List ℕ) : Type 0 where
+  pub class : file_class file.header ≡ 2
+  pub typed : section_type section ≡ Ok sh_type.Note
+  pub bytes : List ℕ
+  pub bytes_are : IsSectionData file section bytes
+  pub note : IsNote (file_order file.header) bytes header body
+
+-- the note is of type 3 (NT_GNU_BUILD_ID), its name is `GNU`, and its description is this
+pub record IsBuildIdNote (header : NoteHeader) (body id : List ℕ) : Type 0 where
+  pub type_is : note_type header ≡ 3
+  pub name_is : IsNoteName body (note_name_size header) (codes "GNU")
+  pub desc_is : IsNoteDescription body (note_name_size header) (note_desc_size header) id
+
+-- the build id of a file: the description of such a note, in the first section with this name
+pub record IsBuildId (file : ElfFile) (id : List ℕ) : Type 0 where
+  pub index : ℕ
+  pub section : SectionHeader
+  pub header : NoteHeader
+  pub body : List ℕ
+  pub named : IsFirstNamed file (codes ".note.gnu.build-id") index section
+  pub in_section : IsNoteSection file section header body
+  pub is_id : IsBuildIdNote header body id

@@ -1,0 +1,47 @@
+-- Links to debug information in another file (a convention of GNU's tools; that the type of the section
+-- doesn't matter is this project's own).
+use Rattle.std.specs.Prelude.{◌≡◌, ℕ, ◌+◌, ◌≤◌, List, codes, length, drop}
+use Rattle.elf_base.specs.FileHeader.{file_order}
+use Rattle.elf_base.specs.Number.{number}
+use Rattle.elf_base.specs.Text.{IsText}
+use Rattle.elf_base.specs.declared.bytes.Order.{Order}
+use Rattle.elf_records.specs.Note.{rounded_up}
+use Rattle.xmas_elf.specs.NameTable.{IsFirstNamed}
+use Rattle.xmas_elf.specs.SectionData.{HasSectionData, IsSectionData}
+use Rattle.xmas_elf.specs.declared.ElfFile.{ElfFile}
+use Rattle.xmas_elf.specs.declared.sections.section_header.SectionHeader.{SectionHeader}
+
+-- the bytes are the data of the first section with this name
+pub record IsNamedData (file : ElfFile) (name bytes : List ℕ) : Type 0 where
+  pub index : ℕ
+  pub section : SectionHeader
+  pub named : IsFirstNamed file name index section
+  pub has_data : HasSectionData file section
+  pub bytes_are : IsSectionData file section bytes
+
+-- where the checksum of a link stands: behind the text and its zero byte, at a multiple of four
+abbrev pub checksum_place : List ℕ → ℕ
+checksum_place text = rounded_up (length text + 1)
+
+-- bytes are a link: a text at their front, and its checksum, a number of four bytes
+pub record IsLink (order : Order) (bytes text : List ℕ) (checksum : ℕ) : Type 0 where
+  pub front : IsText bytes 0 text
+  pub within : checksum_place text + 4 ≤ length bytes
+  pub checksum_is : checksum ≡ number order 4 (checksum_place text) bytes
+
+-- the link to debug information in a file: the name of another file, and the checksum of its bytes
+pub record IsDebugLink (file : ElfFile) (text : List ℕ) (checksum : ℕ) : Type 0 where
+  pub bytes : List ℕ
+  pub is_data : IsNamedData file (codes ".gnu_debuglink") bytes
+  pub is_link : IsLink (file_order file.header) bytes text checksum
+
+-- bytes are an alternate link: a text at their front, and all bytes behind its zero byte
+pub record IsTextAndRest (bytes text rest : List ℕ) : Type 0 where
+  pub front : IsText bytes 0 text
+  pub rest_is : rest ≡ drop (length text + 1) bytes
+
+-- the alternate link in a file, to what several files share: the name of that file, and its build id
+pub record IsAlternateLink (file : ElfFile) (text rest : List ℕ) : Type 0 where
+  pub bytes : List ℕ
+  pub is_data : IsNamedData file (codes ".gnu_debugaltlink") bytes
+  pub is_link : IsTextAndRest bytes text rest

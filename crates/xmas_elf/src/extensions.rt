@@ -1,0 +1,143 @@
+//! Build ids and links to debug information, which GNU's tools write beside the gABI.
+
+ghost use Rattle.std.specs.Prelude.{◌≡◌, IfSome, IsSomeAnd, List, ℕ};
+ghost use Rattle.elf_records.specs.declared.sections.note.NoteHeader.{NoteHeader};
+ghost use Rattle.xmas_elf.specs.BuildId.{IsBuildId, IsBuildIdNote, IsNoteSection};
+ghost use Rattle.xmas_elf.specs.Link.{IsAlternateLink, IsDebugLink, IsLink, IsNamedData, IsTextAndRest};
+
+use crate::ElfFile;
+use crate::bytes::{Order, text_at};
+use crate::notes::first_note;
+use crate::sections::{NoteHeader, SectionHeader, ShType};
+use elf_base::bytes::read_u32;
+use elf_base::header::byte_order;
+
+// The type of notes that are build ids.
+const NT_GNU_BUILD_ID: u32 = 3;
+
+/// What GNU's tools write into a file beside the gABI. Each part lives as long as the input.
+///
+/// A call answers `None` where the section is missing, its data is refused, or isn't well formed.
+pub trait Extensions<'a> {
+    /// What these parts are: the build id, the link with its checksum, and the alternate link.
+    ghost BuildId: { Self → List ℕ → Type 0 };
+
+    ghost DebugLink: { Self → List ℕ → ℕ → Type 0 };
+
+    ghost AlternateLink: { Self → List ℕ → List ℕ → Type 0 };
+
+    /// What tells this build from all others: the description of the note of type 3 named `GNU` in
+    /// section `.note.gnu.build-id`. Files of class 32 have none here (gABI, "Note Section").
+    fn get_gnu_buildid(&self) -> Option<&'a [u8]>
+        ensures found { IfSome result (λ id. BuildId self.now id.now) }
+        ensures only { (id : List ℕ) → BuildId self.now id
+            → IsSomeAnd result (λ lent. lent.now ≡ id) };
+
+    /// The name of the file with the debug information, and the CRC of its bytes, which stands
+    /// behind the name at a multiple of four: section `.gnu_debuglink`, of whatever type.
+    fn get_gnu_debuglink(&self) -> Option<(&'a str, u32)>
+        ensures found { IfSome result (λ link. DebugLink self.now link.0.now link.1) }
+        ensures only { (text : List ℕ) (checksum : ℕ) → DebugLink self.now text checksum
+            → IsSomeAnd result (λ link. (link.0.now ≡ text) × (link.1 ≡ checksum)) };
+
+    /// The name of the file with debug information that several files share, and its build id,
+    /// which is all that follows the name: section `.gnu_debugaltlink`, of whatever type.
+    fn get_gnu_debugaltlink(&self) -> Option<(&'a str, &'a [u8])>
+        ensures found { IfSome result (λ link. AlternateLink self.now link.0.now link.1.now) }
+        ensures only { (text rest : List ℕ) → AlternateLink self.now text rest
+            → IsSomeAnd result (λ link. (link.0.now ≡ text) × (link.1.now ≡ rest)) };
+}
+
+impl<'a> Extensions<'a> for ElfFile<'a> {
+    ghost BuildId = { IsBuildId };
+
+    ghost DebugLink = { IsDebugLink };
+
+    ghost AlternateLink = { IsAlternateLink };
+
+    fn get_gnu_buildid(&self) -> Option<&'a [u8]> {
+        let section = self.find_section_by_name(".note.gnu.build-id")?;
+        let (header, body) = section_note(self, &section)?;
+        build_id(&header, body)
+    }
+
+    fn get_gnu_debuglink(&self) -> Option<(&'a str, u32)> {
+        let bytes = named_data(self, ".gnu_debuglink")?;
+        debug_link(bytes, byte_order(self.header.pt1.encoding))
+    }
+
+    fn get_gnu_debugaltlink(&self) -> Option<(&'a str, &'a [u8])> {
+        let bytes = named_data(self, ".gnu_debugaltlink")?;
+        alternate_link(bytes)
+    }
+}
+
+// The note at the front of a section of type Note.
+fn section_note<'a>(file: &ElfFile<'a>, section: &SectionHeader) -> Option<(NoteHeader, &'a [u8])>
+    ensures found { IfSome result (λ note. IsNoteSection file.now section.now note.0 note.1.now) }
+    ensures only { (header : NoteHeader) (body : List ℕ)
+        → IsNoteSection file.now section.now header body
+        → IsSomeAnd result (λ note. (note.0 ≡ header) × (note.1.now ≡ body)) }
+{
+    match section.get_type() {
+        Ok(ShType::Note) => first_note(file, section.raw_data(file).ok()?).ok(),
+        _ => None,
+    }
+}
+
+// The description of this note, if it is a build id.
+fn build_id<'a>(header: &NoteHeader, body: &'a [u8]) -> Option<&'a [u8]>
+    ensures found { IfSome result (λ id. IsBuildIdNote header.now body.now id.now) }
+    ensures only { (id : List ℕ) → IsBuildIdNote header.now body.now id
+        → IsSomeAnd result (λ lent. lent.now ≡ id) }
+{
+    let Ok(name) = header.name(body) else {
+        return None;
+    };
+    if header.type_() != NT_GNU_BUILD_ID || name != "GNU" {
+        return None;
+    }
+    header.desc(body).ok()
+}
+
+// The data of the first section with this name.
+fn named_data<'a>(file: &ElfFile<'a>, name: &str) -> Option<&'a [u8]>
+    ensures found { IfSome result (λ bytes. IsNamedData file.now name.now bytes.now) }
+    ensures only { (bytes : List ℕ) → IsNamedData file.now name.now bytes
+        → IsSomeAnd result (λ lent. lent.now ≡ bytes) }
+{
+    match file.find_section_by_name(name) {
+        Some(section) => section.raw_data(file).ok(),
+        None => None,
+    }
+}
+
+// The text at the front of these bytes, and the number behind it at a multiple of four.
+fn debug_link(bytes: &[u8], order: Order) -> Option<(&str, u32)>
+    ensures found { IfSome result (λ link. IsLink order bytes.now link.0.now link.1) }
+    ensures only { (text : List ℕ) (checksum : ℕ) → IsLink order bytes.now text checksum
+        → IsSomeAnd result (λ link. (link.0.now ≡ text) × (link.1 ≡ checksum)) }
+{
+    let Ok(text) = text_at(bytes, 0) else {
+        return None;
+    };
+    // The zero byte behind the text and three more, down to a multiple of four.
+    let place = text.len().checked_add(4)? / 4 * 4;
+    let end = place.checked_add(4)?;
+    if end > bytes.len() {
+        return None;
+    }
+    Some((text, read_u32(bytes, place, order)))
+}
+
+// The text at the front of these bytes, and all bytes behind its zero byte.
+fn alternate_link(bytes: &[u8]) -> Option<(&str, &[u8])>
+    ensures found { IfSome result (λ link. IsTextAndRest bytes.now link.0.now link.1.now) }
+    ensures only { (text rest : List ℕ) → IsTextAndRest bytes.now text rest
+        → IsSomeAnd result (λ link. (link.0.now ≡ text) × (link.1.now ≡ rest)) }
+{
+    let Ok(text) = text_at(bytes, 0) else {
+        return None;
+    };
+    Some((text, &bytes[text.len() + 1..]))
+}
