@@ -44,7 +44,7 @@ def ends():
 def main() -> int:
     came = []
     for request, (status, output, said) in ends():
-        print(f"request {request} refused: status {status}, {said or 'the report'}")
+        print(f"request {request} refused: status {status}, {said or 'the report'}", flush=True)
         came.append((status, output, said))
     refused, last = came[:-1], came[-1]
     faults = [FAULTS.index(said) if said in FAULTS else -1 for _, _, said in refused]
