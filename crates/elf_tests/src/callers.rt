@@ -19,6 +19,7 @@ ghost use Rattle.xmas_elf.specs.declared.sections.section_header.SectionHeader.{
 
 pub mod data;
 pub mod indices;
+pub mod printed;
 pub mod values;
 
 use std::alloc::{AllocError, Global};
