@@ -1,5 +1,5 @@
 -- Printed forms that several items share (this project's own).
-use Rattle.std.specs.Prelude.{ℕ, false, List, [], ◌∷◌, ◌++◌, ◌-◌, Option, Some, Result, Ok, Err, codes, decimal, length, replicate}
+use Rattle.std.specs.Prelude.{ℕ, true, false, List, [], ◌∷◌, ◌++◌, ◌-◌, Option, Some, Result, Ok, Err, codes, decimal, length, replicate}
 use Rattle.std.specs.Fmt.{◌++?◌, digits}
 use Rattle.elf_base.specs.Message.{message_of}
 use Rattle.elf_base.specs.declared.error.ElfError.{ElfError}
@@ -11,6 +11,10 @@ numbered name n = name ++ (codes "(" ++ (decimal n ++ codes ")"))
 -- a number in hexadecimal, as `0x7f`
 abbrev pub hex_text : ℕ → List ℕ
 hex_text n = codes "0x" ++ digits 16 false n
+
+-- the same with capital letters, as `0x7F`
+abbrev pub upper_hex_text : ℕ → List ℕ
+upper_hex_text n = codes "0x" ++ digits 16 true n
 
 -- the bytes behind the first one, each after a comma and a space
 abbrev pub more_bytes : List ℕ → List ℕ

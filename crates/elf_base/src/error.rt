@@ -190,6 +190,8 @@ impl ElfError {
 impl fmt::Display for ElfError {
     ghost output = { λ error. Some (message_of error) };
 
+    ghost styled_output = { λ error spec. Some (message_of error) };
+
     fn fmt<W: fmt::Write>(&self, f: &mut fmt::Formatter<W>) -> fmt::Result {
         f.write_str(self.message())
     }

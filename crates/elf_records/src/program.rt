@@ -1,7 +1,9 @@
 //! The numbers of segments that have names (gABI, "Program Header").
 
 ghost use Rattle.std.specs.Prelude.{◌≡◌, ◌↔◌, IsTrue, Some};
+ghost use Rattle.std.specs.Fmt.{WritesOnOk};
 ghost use Rattle.std.specs.Int.{IsBitSet};
+ghost use Rattle.elf_base.specs.Printed.{hex_text, upper_hex_text};
 ghost use Rattle.elf_records.specs.ProgramNumbers.{flags_text, ph_type_number, ph_type_of, ph_type_raw, ph_type_text};
 
 use elf_base::ElfError;
@@ -183,13 +185,17 @@ impl Display for Flags {
 }
 
 impl fmt::LowerHex for Flags {
-    fn fmt<W: fmt::Write>(&self, f: &mut fmt::Formatter<W>) -> fmt::Result {
-        write!(f, "{:#x}", self.0)
+    fn fmt<W: fmt::Write>(&self, f: &mut fmt::Formatter<W>) -> fmt::Result
+        ensures { WritesOnOk W.write_str_gives f.old result (hex_text self.now.0) f.new }
+    {
+        write!(f, "0x{:x}", self.0)
     }
 }
 
 impl fmt::UpperHex for Flags {
-    fn fmt<W: fmt::Write>(&self, f: &mut fmt::Formatter<W>) -> fmt::Result {
-        write!(f, "{:#X}", self.0)
+    fn fmt<W: fmt::Write>(&self, f: &mut fmt::Formatter<W>) -> fmt::Result
+        ensures { WritesOnOk W.write_str_gives f.old result (upper_hex_text self.now.0) f.new }
+    {
+        write!(f, "0x{:X}", self.0)
     }
 }

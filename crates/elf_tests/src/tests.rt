@@ -3,6 +3,7 @@
 mod checks;
 mod compared;
 mod constants;
+mod damaged;
 mod data;
 mod extensions;
 mod files;

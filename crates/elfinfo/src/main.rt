@@ -20,6 +20,8 @@ mod tests;
 /// Why the program ends with status 1, and what it says then.
 #[derive(Debug, Drop, Error)]
 enum Fault<'a> {
+    #[error("elfinfo: cannot read the arguments")]
+    Arguments,
     #[error("usage: elfinfo <binary_path>")]
     Usage,
     #[error("elfinfo: cannot read {path}")]
@@ -43,15 +45,17 @@ pub fn run<R: Read + Drop, W: Write, E: Write>(
 ) -> u8 {
     match print_report(alloc, path, file, out) {
         Ok(()) => 0,
-        Err(Fault::Usage) => {
-            let _ = writeln!(out, "{}", Fault::Usage);
-            1
-        }
-        Err(fault) => {
-            let _ = writeln!(err, "{fault}");
-            1
-        }
+        Err(Fault::Usage) => say(&Fault::Usage, out),
+        Err(fault) => say(&fault, err),
     }
+}
+
+// Says why the program ends with status 1, as far as the writer takes it.
+fn say<W: Write>(fault: &Fault<'_>, to: &mut W) -> u8
+    ensures { result ≡ 1 }
+{
+    let _ = writeln!(to, "{fault}");
+    1
 }
 
 fn print_report<'a, R: Read + Drop, W: Write>(
@@ -94,12 +98,15 @@ fn write_flushed<W: Write + Drop>(
 }
 
 fn main(rt: HostRuntime) -> ExitCode {
-    match run_on_arguments(&rt) {
-        Ok(status) => ExitCode::from(status),
-        Err(_) => ExitCode::FAILURE,
-    }
+    let status = match run_on_arguments(&rt) {
+        Ok(status) => status,
+        Err(_) => say(&Fault::Arguments, &mut rt.stderr()),
+    };
+    ExitCode::from(status)
 }
 
+// The status; it is refused where the arguments can't be read: for want of memory, or since one is not
+// UTF-8.
 fn run_on_arguments(rt: &HostRuntime) -> io::Result<u8> {
     let mut arguments = env::args(rt)?;
     let _program = arguments.next();

@@ -83,12 +83,14 @@ impl Read for FailingReader {
     }
 }
 
-// Holds up to 2048 bytes without an allocator, passes some calls, and fails the next and all after it.
+// Holds up to 2048 bytes without an allocator, passes some calls and fails the next. After that it fails
+// each call, or works again.
 #[derive(Drop)]
 struct ShortWriter {
     held: [u8; 2048],
     len: usize,
     passes: u32,
+    recovers: bool,
     flushes: bool,
 }
 
@@ -98,6 +100,7 @@ impl ShortWriter {
             held: [0; 2048],
             len: 0,
             passes,
+            recovers: false,
             flushes: true,
         }
     }
@@ -110,6 +113,9 @@ impl ShortWriter {
 impl Write for ShortWriter {
     fn write(&mut self, buf: &[u8]) -> io::Result<usize> {
         if self.passes == 0 {
+            if self.recovers {
+                self.passes = u32::MAX;
+            }
             return Err(io::Error::from(io::ErrorKind::Other));
         }
         self.passes -= 1;
@@ -201,6 +207,30 @@ fn says_that_it_cannot_write(rt: HostRuntime) {
         assert!(rt; out.len < REPORT.len());
     }
     assert!(rt; succeeded);
+}
+
+// Not even where the writer works again once it has failed.
+#[test]
+fn writes_nothing_after_a_fault(rt: HostRuntime) {
+    let file = strtab_file();
+    for passes in 0..2 {
+        let mut out = ShortWriter::new(passes);
+        out.recovers = true;
+        let mut err = ShortWriter::new(100);
+        let status = run(
+            rt.alloc(),
+            Some("a.elf"),
+            Some(&file[..]),
+            &mut out,
+            &mut err,
+        );
+        assert_eq!(rt; status, 1, "after {passes} calls");
+        assert_eq!(rt; out.passes, u32::MAX, "after {passes} calls");
+        let written = REPORT.as_bytes().get(..out.len).unwrap_or(b"");
+        assert_eq!(rt; out.text(), written);
+        assert_eq!(rt; out.len, (passes as usize) * 300);
+        assert_eq!(rt; err.text(), CANNOT_WRITE.as_bytes());
+    }
 }
 
 #[test]

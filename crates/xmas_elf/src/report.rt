@@ -24,6 +24,8 @@ pub enum ReportFault {
 impl Display for ReportFault {
     ghost output = { λ fault. Some (fault_text fault) };
 
+    ghost styled_output = { λ fault spec. Some (fault_text fault) };
+
     fn fmt<W: fmt::Write>(&self, f: &mut fmt::Formatter<W>) -> fmt::Result {
         f.write_str(match self {
             ReportFault::Elf(error) => error.message(),
@@ -191,7 +193,8 @@ impl Display for FileReport<'_, '_> {
 ///
 /// `Elf` where `ElfFile::new` refuses the bytes, and `Write` where the writer failed; how much was
 /// written then is left open. What was written is known of a writer that tells its bytes, as one over
-/// memory does.
+/// memory does. A call of the writer that was interrupted is made again, and one that takes no byte of
+/// some has failed, as std's `write_all` has it.
 pub fn report<W: io::Write>(input: &[u8], w: &mut W) -> Result<(), ReportFault>
     ensures written { OnOk result (WritesReport input.entry (W.contents w.old) (W.contents w.new)) }
     ensures refused { RefusesExactly input.now result }
