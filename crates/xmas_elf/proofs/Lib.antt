@@ -6,3 +6,8 @@ pub mod ReportLines
 pub mod Names
 pub mod StringRuns
 pub mod StringItems
+pub mod ChainPaths
+pub mod ChainStarts
+pub mod ChainFinds
+pub mod ChainOnce
+pub mod ChainChecks

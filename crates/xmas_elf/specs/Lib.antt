@@ -44,6 +44,9 @@ pub mod Range
 pub mod SectionData
 pub mod Symbol
 pub mod HashTable
+pub mod Symbols
+pub mod Chain
+pub mod Good
 pub mod Content
 pub mod SectionContent
 pub mod Strings

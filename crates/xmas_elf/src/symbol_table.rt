@@ -1,6 +1,8 @@
 //! Symbol tables (gABI, "Symbol Table").
 
 mod entries;
+mod entry;
 
 pub use crate::symbol_table::entries::{DynEntry32, DynEntry64, Entry32, Entry64};
+pub use crate::symbol_table::entry::Entry;
 pub use elf_records::symbol_table::{Binding, Binding_, Type, Type_, Visibility, Visibility_};
