@@ -38,7 +38,7 @@ pub absent_past : {X : Type 0} (xs : List X) (i : ℕ) → length xs ≤ i → s
 absent_past xs i past = absent xs i past (slice_get_cases xs i).1
   where
     absent : {X : Type 0} (xs : List X) (i : ℕ) → length xs ≤ i → ((x : X) × (i < length xs) × (slice_get xs i ≡ Some x) × (get_or xs i x ≡ x)) ⊎ ((length xs ≤ i) × (slice_get xs i ≡ None)) → slice_get xs i ≡ None
-    absent xs i past (inl (x, below, _)) = absurd (omega arith)
+    absent xs i past (inl (x, below, _, _)) = absurd (omega arith)
     absent xs i past (inr (_, none)) = none
 
 module _ {E : Type 0} (P : E → Type 0) (chains : Chains E) where
