@@ -1,7 +1,12 @@
 -- Symbols: what their bytes say (gABI, "Symbol Table": Elf32_Sym and Elf64_Sym).
-use Rattle.std.specs.Prelude.{ℕ, List}
+use Rattle.std.specs.Prelude.{ℕ, ◌/◌, ◌%◌, List, Result}
 use Rattle.elf_base.specs.Number.{byte_at, number}
 use Rattle.elf_base.specs.declared.bytes.Order.{Order}
+use Rattle.elf_base.specs.declared.error.ElfError.{ElfError}
+use Rattle.elf_records.specs.SymbolNumbers.{binding_of, symbol_type_of, visibility_of}
+use Rattle.elf_records.specs.declared.symbol_table.Binding.{Binding}
+use Rattle.elf_records.specs.declared.symbol_table.Type as symbol_types
+use Rattle.elf_records.specs.declared.symbol_table.Visibility.{Visibility}
 use Rattle.xmas_elf.specs.declared.symbol_table.entries.DynEntry32.{DynEntry32}
 use Rattle.xmas_elf.specs.declared.symbol_table.entries.DynEntry64.{DynEntry64}
 use Rattle.xmas_elf.specs.declared.symbol_table.entries.Entry32.{Entry32}
@@ -63,3 +68,14 @@ dyn_entry_32_fields entry = symbol_32 entry.order entry.bytes
 
 unfoldable pub dyn_entry_64_fields : DynEntry64 → SymbolFields
 dyn_entry_64_fields entry = symbol_64 entry.order entry.bytes
+
+-- how files share a symbol, what it stands for, and who sees it (gABI, "Symbol Table": ELF32_ST_BIND,
+-- ELF32_ST_TYPE and ELF32_ST_VISIBILITY)
+abbrev pub symbol_binding : SymbolFields → Result Binding ElfError
+symbol_binding symbol = binding_of (symbol.info / 16)
+
+abbrev pub symbol_type : SymbolFields → Result symbol_types.Type ElfError
+symbol_type symbol = symbol_type_of (symbol.info % 16)
+
+abbrev pub symbol_visibility : SymbolFields → Visibility
+symbol_visibility symbol = visibility_of symbol.other

@@ -1,24 +1,79 @@
-//! What every symbol says (gABI, "Symbol Table").
+//! What the entries of all symbol tables have in common (gABI, "Symbol Table").
 
 ghost use Rattle.std.specs.Prelude.{◌≡◌, ℕ, List, Option, Some, None, MatchResult};
-ghost use Rattle.xmas_elf.specs.Symbol.{SymbolFields};
+ghost use Rattle.std.proofs.Common.{rules};
+ghost use Rattle.elf_records.specs.SymbolNumbers.{visibility_raw};
+ghost use Rattle.xmas_elf.specs.Symbol.{SymbolFields, symbol_binding, symbol_type, symbol_visibility};
 ghost use Rattle.xmas_elf.specs.declared.ElfFile.{ElfFile};
 
+use crate::symbol_table::{Binding, Binding_, Type, Type_, Visibility, Visibility_};
 use crate::{ElfError, ElfFile};
 
-/// A symbol.
+/// A symbol: an entry of a symbol table, of whatever layout (gABI, "Symbol Table").
+///
+/// The ghost members of an implementation say which numbers it has, and which text it bears in a file.
 pub trait Entry {
+    /// What the symbol says, in numbers.
     ghost fields: { Self → SymbolFields };
 
+    /// The text that it bears in a file, if any.
     ghost text_in: { Self → ElfFile → Option (List ℕ) };
 
-    /// The number of its binding and its type.
+    /// The index of the symbol's name in its string table, in bytes; 0 if it has none (st_name).
+    fn name(&self) -> u32
+        ensures { result ≡ (fields self.now).name };
+
+    /// The symbol's binding and type in one number (st_info).
     fn info(&self) -> u8
         ensures { result ≡ (fields self.now).info };
 
-    /// Its name in a file.
+    /// Who sees the symbol (st_other).
+    fn other(&self) -> Visibility_
+        ensures { result ≡ visibility_raw (fields self.now).other };
+
+    /// The index of the section that the symbol belongs to, or one with a meaning of its own
+    /// (st_shndx).
+    fn shndx(&self) -> u16
+        ensures { result ≡ (fields self.now).shndx };
+
+    /// The symbol's address or offset, as the type of the file and the section have it (st_value).
+    fn value(&self) -> u64
+        ensures { result ≡ (fields self.now).value };
+
+    /// How many bytes what it stands for has, or 0 (st_size).
+    fn size(&self) -> u64
+        ensures { result ≡ (fields self.now).size };
+
+    /// The text that the symbol bears in a file, which lives as long as the input. An implementation
+    /// says why there is none.
     fn get_name<'a>(&self, file: &ElfFile<'a>) -> Result<&'a str, ElfError>
         ensures { MatchResult result
             (λ text. text_in self.now file.now ≡ Some text.now)
             (λ _. text_in self.now file.now ≡ None) };
+
+    /// Who sees the symbol: `other` by its remainder by four (ELF32_ST_VISIBILITY).
+    fn get_other(&self) -> Visibility
+        ensures { result ≡ symbol_visibility (fields self.now) }
+    {
+        self.other().as_visibility()
+    }
+
+    /// How files share the symbol: `info` divided by 16, or `InvalidBinding` (ELF32_ST_BIND).
+    fn get_binding(&self) -> Result<Binding, ElfError>
+        ensures { result ≡ symbol_binding (fields self.now) }
+    {
+        Binding_::from_raw(self.info() / 16).as_binding()
+    }
+
+    /// What the symbol stands for: `info` by its remainder by 16, or `InvalidSymbolType`
+    /// (ELF32_ST_TYPE).
+    fn get_type(&self) -> Result<Type, ElfError>
+        ensures { result ≡ symbol_type (fields self.now) }
+    {
+        Type_::from_raw(self.info() % 16).as_type()
+    }
+
+    /// An entry bears at most one text in a file.
+    ghost one_text: { (entry : Self) (file : ElfFile) (one other : List ℕ) → text_in entry file ≡ Some one
+        → text_in entry file ≡ Some other → one ≡ other } = { λ entry file one other a b. Prim.search rules };
 }
