@@ -1,6 +1,6 @@
 -- What passes the check of a hash table, and what doesn't.
-use Rattle.std.proofs.Common.{◌≡◌, ◌≢◌, ◌<◌, ◌+◌, ◌/◌, ℕ, List, Option, Some, None, Result, Ok, Err, slice_get, subst, below_more, refl, sym, arith}
-use Rattle.std.specs.Prelude.{IsOk, ◌↔◌}
+use Rattle.std.proofs.Common.{◌≡◌, ◌≢◌, ◌<◌, ◌+◌, ◌/◌, ℕ, List, Some, None, Result, slice_get, subst, below_more, refl}
+use Rattle.std.specs.Prelude.{IsOk}
 use Rattle.elf_base.specs.declared.error.ElfError.{ElfError}
 use Rattle.xmas_elf.specs.Good.{IsReached, IsGood, IsCheck, good, faulty, missing}
 use Rattle.xmas_elf.specs.Symbols.{IsGlobal, Symbols}

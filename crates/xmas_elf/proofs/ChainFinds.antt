@@ -7,7 +7,7 @@ use Rattle.elf_base.specs.declared.error.ElfError.TheVariants.{SymbolIndex, Chai
 use Rattle.elf_records.specs.HashNumber.{hash_number}
 use Rattle.xmas_elf.specs.Chain.{Chains, Stops, at_end, past_chains, past_symbols, found, refused, Links, Path, here, step, Reaches, LooksFrom, no_bucket, bad_bucket, reaches, endless, chains_of}
 use Rattle.xmas_elf.specs.HashTable.{bucket_count_of, bucket_of, start_of}
-use Rattle.xmas_elf.specs.Good.{Nothing, Ends, EndsBelow, IsAtFault, IsGood, MustBeFound, FindsAll}
+use Rattle.xmas_elf.specs.Good.{Nothing, Ends, EndsBelow, IsAtFault, IsGood, FindsAll}
 use Rattle.xmas_elf.specs.Symbols.{Symbols}
 use Rattle.xmas_elf.specs.declared.hash.HashTable.{HashTable}
 use Rattle.xmas_elf.proofs.ChainPaths.{link_once, stop_once, Same}

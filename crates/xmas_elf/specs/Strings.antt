@@ -1,8 +1,8 @@
 -- The texts of a string table in order (gABI, "String Table"; where they end is this project's own).
-use Rattle.std.specs.Prelude.{◌≡◌, ◌≢◌, ℕ, ◌==◌, List, [], ◌∷◌, ◌++◌, Option, None, Some, Result, Ok, Err, if◌then◌else◌}
+use Rattle.std.specs.Prelude.{◌≢◌, ℕ, ◌==◌, List, [], ◌∷◌, ◌++◌, Option, None, Some, Result, Ok, Err, if◌then◌else◌}
 use Rattle.std.specs.Borrow.{Bor}
 use Rattle.std.specs.Str.{is_utf8}
-use Rattle.elf_base.specs.Text.{IsText, NoZeroFrom, TextRefused}
+use Rattle.elf_base.specs.Text.{IsText, TextRefused}
 use Rattle.elf_base.specs.declared.error.ElfError.{ElfError}
 use Rattle.elf_base.specs.declared.error.ElfError.TheVariants.{TextEnd, TextUtf8}
 use Rattle.xmas_elf.specs.Content.{Content, strings}

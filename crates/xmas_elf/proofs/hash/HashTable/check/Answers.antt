@@ -1,5 +1,5 @@
 use Rattle.std.proofs.Common.{refl}
-use Rattle.xmas_elf.specs.Good.{IsGood, good, faulty, missing}
+use Rattle.xmas_elf.specs.Good.{good, faulty, missing}
 use Rattle.xmas_elf.specs.Symbols.{symbols_of}
 use Rattle.xmas_elf.proofs.ChainChecks.{good_is_ok, ok_is_good}
 use Rattle.xmas_elf.proofs.hash.HashTable.check.Goals as goal

@@ -1,6 +1,6 @@
-use Rattle.std.proofs.Common.{arith, true, false, ◌≡◌, ◌≤◌, ◌+◌, ◌⊎◌, inl, inr, length, Err, sym, ◌∙◌, subst}
+use Rattle.std.proofs.Common.{arith, ◌≤◌, ◌+◌, ◌⊎◌, inl, inr, length, Err, sym, ◌∙◌, subst}
 use Rattle.elf_base.specs.Table.{table_items}
-use Rattle.xmas_elf.specs.Chain.{StandsAt, Links, refused, Path, chains_of}
+use Rattle.xmas_elf.specs.Chain.{Links, refused, Path, chains_of}
 use Rattle.xmas_elf.specs.Good.{Nothing}
 use Rattle.xmas_elf.specs.HashTable.{chain_count_of}
 use Rattle.xmas_elf.proofs.ChainPaths.{Walked, walked_first, walked_next, leaves_chains, leaves_past_symbols, looks_standing, looks_endless, stands_below}
