@@ -1,6 +1,6 @@
 //! The check of a hash table (this project's own).
 
-ghost use Rattle.std.specs.Prelude.{◌≡◌, ◌≢◌, ◌<◌, ◌/◌, ◌↔◌, ℕ, Err, IsOk, IsTrue, List, MatchResult, Ok, Some, false, length};
+ghost use Rattle.std.specs.Prelude.{◌≡◌, ◌≢◌, ◌<◌, ◌/◌, ◌↔◌, ℕ, Err, IsOk, IsTrue, List, MatchResult, Ok, Result, Some, false};
 ghost use Rattle.elf_base.specs.Table.{table_items};
 ghost use Rattle.xmas_elf.specs.Symbols.{IsGlobal, symbols_of};
 
@@ -34,6 +34,9 @@ impl<'a> HashTable<'a> {
         ensures accepts { IsOk result
             ↔ IsGood self.now (symbols_of E.fields E.text_in symbols.now file.now) }
         ensures exact { IsCheck self.now (symbols_of E.fields E.text_in symbols.now file.now) result }
+        ensures only { (other : Result (Unit {0}) ElfError)
+            → IsCheck self.now (symbols_of E.fields E.text_in symbols.now file.now) other
+            → other ≡ result }
     {
         match self.check_buckets(symbols) {
             Ok(()) if self.holds_all(symbols, file) => Ok(()),
