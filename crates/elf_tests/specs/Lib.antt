@@ -1,2 +1,3 @@
 pub mod Executable
 pub mod Refusals
+pub mod Numbered

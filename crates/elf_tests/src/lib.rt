@@ -3,5 +3,6 @@
 
 pub mod callers;
 pub mod constants;
+pub mod own;
 #[cfg(test)]
 mod tests;

@@ -1,16 +1,19 @@
 //! Expected values are worked out by hand from the format, and never taken from the program's output.
 
+mod chains;
 mod checks;
 mod compared;
 mod constants;
 mod data;
 mod files;
+mod hash;
 mod headers;
 mod messages;
 mod names;
 mod places;
 mod records;
 mod reports;
+mod reports_of_hash;
 mod sections;
 mod segments;
 mod wide;

@@ -1,6 +1,6 @@
 //! Callers that look symbols up by their names, as a model of a dynamic linker would.
 
-ghost use Rattle.std.specs.Prelude.{◌≡◌, ◌↔◌, ◌<◌, ◌≤◌, ℕ, IsTrue, MatchOption, Some, slice_get};
+ghost use Rattle.std.specs.Prelude.{◌≡◌, ◌↔◌, ◌<◌, ◌≤◌, ℕ, IsTrue, MatchOption, Some, slice_get, true};
 ghost use Rattle.xmas_elf.specs.Symbols.{IsGlobal, symbols_of};
 ghost use Rattle.xmas_elf.specs.Good.{IsGood};
 ghost use Rattle.xmas_elf.specs.HashTable.{chain_count_of};
@@ -24,6 +24,7 @@ pub fn finds_all<E: Entry + Record>(
 
 /// The symbol with this name, by a table that passes the check: a symbol that bears it, or none where
 /// no symbol does but local ones.
+#[tactic(auto, using(xmas_elf::proofs::lemmas::HashTables::none_global))]
 pub fn symbol_with_name<E: Entry + Record>(
     table: &HashTable<'_>,
     name: &str,
@@ -43,7 +44,8 @@ pub fn symbol_with_name<E: Entry + Record>(
             ensures { result ≡ true }
         { true },
     ) {
-        Ok(found) => found,
+        Ok(Some(found)) => Some(found),
+        Ok(None) => None,
         Err(_) => unreachable!(),
     }
 }

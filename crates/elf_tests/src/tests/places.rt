@@ -173,6 +173,23 @@ pub mod program_64 {
     pub const ALIGN: Place = Place(48, 8);
 }
 
+/// A symbol of class 32.
+pub mod symbol_32 {
+    use super::Place;
+
+    pub const NAME: Place = Place(0, 4);
+
+    pub const VALUE: Place = Place(4, 4);
+
+    pub const SIZE: Place = Place(8, 4);
+
+    pub const INFO: Place = Place(12, 1);
+
+    pub const OTHER: Place = Place(13, 1);
+
+    pub const SHNDX: Place = Place(14, 2);
+}
+
 /// Writes a number into the field of the header that begins at `start`, as far as it lies in the file.
 pub fn set(file: &mut [u8], start: usize, place: Place, number: u64, order: Order) {
     let mut rest = number;
