@@ -20,6 +20,7 @@ ghost use Rattle.xmas_elf.specs.declared.sections.section_header.SectionHeader.{
 pub mod data;
 pub mod hash;
 pub mod indices;
+pub mod symbols;
 pub mod values;
 
 use std::alloc::{AllocError, Global};

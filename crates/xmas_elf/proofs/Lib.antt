@@ -4,6 +4,9 @@ pub mod SectionLists
 pub mod ProgramLists
 pub mod ReportLines
 pub mod Names
+pub mod NamedSections
+pub mod StringTables
+pub mod SymbolSections
 pub mod StringRuns
 pub mod StringItems
 pub mod ChainPaths

@@ -1,6 +1,6 @@
 -- The section with a name, in the list and by its index.
 use Rattle.std.proofs.Common.{◌≡◌, ◌≢◌, ℕ, ◌≤◌, nat_lt, Bool, true, false, Result, Err, drop, List, [], ◌∷◌, refl, length, Ok, Option, None, Some, IfSome, IfNone, MatchOption, ap, sym, subst, ◌∙◌, arith}
-use Rattle.std.proofs.lemmas.Bool.{ltb-false}
+use Rattle.std.proofs.lemmas.Bool.{le-ltb, ltb-false}
 use Rattle.elf_base.specs.Refusal.{and_then, unless}
 use Rattle.elf_base.specs.Text.{IsText}
 use Rattle.elf_base.specs.declared.error.ElfError.{ElfError}
@@ -35,9 +35,16 @@ table_of_section file (Ok section) t names is =
     }
 table_of_section file (Err error) t names is = cc
 
-name_table-is : (file : ElfFile) (t : List ℕ) → name_table_of file ≡ Ok t → IsNameTable file t
+pub name_table-is : (file : ElfFile) (t : List ℕ) → name_table_of file ≡ Ok t → IsNameTable file t
 unfolding name_table_of
 name_table-is file t is = table_of_section file (names_section_of file) t refl is
+
+pub is-name_table : (file : ElfFile) (t : List ℕ) → IsNameTable file t → name_table_of file ≡ Ok t
+unfolding name_table_of
+is-name_table file t is =
+    let names = is.names in
+    let within : nat_lt (length file.input.now) (section_fields is.section).offset ≡ false = le-ltb _ _ is.within in
+    rw (names, within) (ap Ok (sym is.table_is))
 
 -- there is at most one
 one_table : (file : ElfFile) (s t : List ℕ) → IsNameTable file s → IsNameTable file t → s ≡ t

@@ -51,6 +51,9 @@ pub mod Content
 pub mod SectionContent
 pub mod Strings
 pub mod NameTable
+pub mod StringTable
+pub mod SymbolSection
+pub mod SymbolText
 pub mod SectionText
 pub mod ProgramHeader
 pub mod ProgramList

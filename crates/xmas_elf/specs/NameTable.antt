@@ -1,7 +1,8 @@
 -- The names of sections, and the section with a name (gABI, "String Table" and "ELF Header",
 -- e_shstrndx; that the table goes on past its section, of whatever type, is this project's own).
-use Rattle.std.specs.Prelude.{◌≡◌, ◌≢◌, ℕ, ◌<◌, ◌≤◌, nat_lt, Bool, false, List, [], ◌∷◌, length, drop, Result, Ok, Err, if◌then◌else◌}
-use Rattle.std.specs.List.{AllWithin, HoldsAt}
+use Rattle.std.specs.Prelude.{◌≡◌, ◌≢◌, ℕ, ◌<◌, ◌≤◌, nat_lt, Bool, false, List, [], ◌∷◌, length, drop, Option, Result, Ok, Err, if◌then◌else◌}
+use Rattle.std.specs.List.{AllWithin, HoldsAt, find}
+use Rattle.std.specs.Str.{bytes_eq}
 use Rattle.elf_base.specs.Refusal.{and_then, unless}
 use Rattle.elf_base.specs.Text.{IsText, text_of}
 use Rattle.elf_base.specs.TextCompared.{TextCompared}
@@ -78,3 +79,12 @@ NoneBears file name high = AllWithin (λ section. ¬ Bears file section name) (s
 abbrev pub IsFirstInList : ElfFile → List ℕ → SectionHeader → Type 0
 IsFirstInList file name section = Bears file section name
     × ((i : ℕ) × (i < length (section_list file)) × HoldsAt (λ item. item ≡ section) (section_list file) i × NoneBears file name i)
+
+-- the name of a section is this one, as a test
+abbrev pub is_name : List ℕ → Result (List ℕ) ElfError → Bool
+is_name name (Ok text) = bytes_eq text name
+is_name name (Err error) = false
+
+-- the first section of the list that bears the name, as it is computed
+unfoldable pub section_named : ElfFile → List ℕ → Option SectionHeader
+section_named file name = find (λ section. is_name name (name_of file section)) (section_list file)

@@ -5,16 +5,17 @@
 //! input.
 #![tactic(auto)]
 
-ghost use Rattle.std.specs.Prelude.{◌≡◌, ◌↔◌, ◌+◌, ◌*◌, ◌≤◌, ◌<◌, ◌^◌, Err, IfErr, IfNone, IfOk, IfSome, IsOk, IsTrue, MatchOption, Ok, length, ℕ};
+ghost use Rattle.std.specs.Prelude.{◌≡◌, ◌↔◌, ◌+◌, ◌*◌, ◌≤◌, ◌<◌, ◌^◌, Err, IfErr, IfNone, IfOk, IfSome, IsOk, IsTrue, MatchOption, Ok, Some, length, ℕ};
 ghost use Rattle.elf_base.specs.FileHeader.{IsAccepted, file_header, header_of};
 ghost use Rattle.elf_base.specs.Lent.{Answers, Lends, LendsOnly};
 ghost use Rattle.xmas_elf.specs.Counts.{first_section, program_count_of, section_count_of, shstr_index_of};
 ghost use Rattle.xmas_elf.specs.HeaderTable.{EachBelow, IsLongest};
-ghost use Rattle.xmas_elf.specs.NameTable.{Bears, IsFirstInList, IsFirstNamed, IsNameAt, IsNameTable, NameCompared, NoneBears, name_table_of, names_section_of, shstr_of};
+ghost use Rattle.xmas_elf.specs.NameTable.{Bears, IsFirstInList, IsFirstNamed, IsNameAt, IsNameTable, NameCompared, NoneBears, name_table_of, names_section_of, section_named, shstr_of};
 ghost use Rattle.xmas_elf.specs.ProgramHeader.{HasProgramHeader, HasSegment, program_at, program_header_of, segment_of};
 ghost use Rattle.xmas_elf.specs.ProgramList.{program_list, program_rest};
 ghost use Rattle.xmas_elf.specs.SectionHeader.{HasSectionEntry, HasSectionHeader, section_at, section_header_of, section_of};
 ghost use Rattle.xmas_elf.specs.SectionList.{section_list, section_rest};
+ghost use Rattle.xmas_elf.specs.declared.sections.section_header.SectionHeader.{SectionHeader};
 
 pub mod bytes;
 pub mod dynamic;
@@ -25,6 +26,7 @@ pub mod program;
 mod ranges;
 pub mod report;
 pub mod sections;
+mod string_tables;
 pub mod symbol_table;
 
 use crate::bytes::{text_at, text_is};
@@ -270,6 +272,9 @@ impl<'a> ElfFile<'a> {
             × IsFirstNamed self.now name.now index section) }
         ensures missing { IfNone result (EachBelow (section_of self.now)
             (λ section. ¬ Bears self.now section name.now) (length (section_list self.now))) }
+        ensures only { (section : SectionHeader) → IsFirstInList self.now name.now section
+            → result ≡ Some section }
+        ensures computed { result ≡ section_named self.now name.now }
     {
         self.first_named(name)
     }

@@ -2,6 +2,7 @@
 
 mod entries;
 mod entry;
+mod wide_index;
 
 pub use crate::symbol_table::entries::{DynEntry32, DynEntry64, Entry32, Entry64};
 pub use crate::symbol_table::entry::Entry;

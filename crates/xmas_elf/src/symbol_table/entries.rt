@@ -4,6 +4,9 @@ ghost use Rattle.std.specs.Prelude.{◌≡◌};
 ghost use Rattle.std.proofs.Common.{lit<};
 ghost use Rattle.xmas_elf.specs.Symbol.{dyn_entry_32, dyn_entry_64, entry_32, entry_64};
 
+mod printed;
+mod symbols;
+
 use crate::bytes::{Order, Record};
 
 /// A symbol of class 32, whose name stands in `.strtab`.

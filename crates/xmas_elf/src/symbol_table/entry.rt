@@ -1,11 +1,15 @@
 //! What the entries of all symbol tables have in common (gABI, "Symbol Table").
 
-ghost use Rattle.std.specs.Prelude.{◌≡◌, ℕ, List, Option, Some, None, MatchResult};
+ghost use Rattle.std.specs.Prelude.{◌≡◌, ℕ, IfOk, List, MatchResult, None, Ok, Option, Some};
 ghost use Rattle.std.proofs.Common.{rules};
 ghost use Rattle.elf_records.specs.SymbolNumbers.{visibility_raw};
+ghost use Rattle.xmas_elf.specs.SectionHeader.{section_of};
 ghost use Rattle.xmas_elf.specs.Symbol.{SymbolFields, symbol_binding, symbol_type, symbol_visibility};
+ghost use Rattle.xmas_elf.specs.SymbolSection.{IsSectionIndex, symbol_section_of};
 ghost use Rattle.xmas_elf.specs.declared.ElfFile.{ElfFile};
 
+use crate::sections::{SHN_ABS, SHN_COMMON, SHN_UNDEF, SHN_XINDEX, SectionHeader};
+use crate::symbol_table::wide_index::wide_index;
 use crate::symbol_table::{Binding, Binding_, Type, Type_, Visibility, Visibility_};
 use crate::{ElfError, ElfFile};
 
@@ -71,6 +75,40 @@ pub trait Entry {
         ensures { result ≡ symbol_type (fields self.now) }
     {
         Type_::from_raw(self.info() % 16).as_type()
+    }
+
+    /// The header of the section that the symbol belongs to, which is symbol `self_index` of its table.
+    ///
+    /// Refused with `ReservedSymbolIndex` for a symbol that belongs to none, and else as
+    /// `ElfFile::section_header` of `shndx` is. For `SHN_XINDEX` it is that at the index in word
+    /// `self_index` of `.symtab_shndx`: refused with `NoShIndex` where no section bears that name, with
+    /// `ExpectedShIndex` where the first that does has another type than SymTabShIndex, as
+    /// `SectionHeader::get_data` is, with `SymbolIndex` where it has no such word, with
+    /// `ReservedSymbolIndex` for 0, and as `ElfFile::section_header_at` is.
+    #[tactic(auto, unfolding(crate::specs::SymbolSection::symbol_section_of))]
+    fn get_section_header(
+        &self,
+        file: &ElfFile<'_>,
+        self_index: usize,
+    ) -> Result<SectionHeader, ElfError>
+        ensures value { IfOk result (λ section. (index : ℕ)
+            × IsSectionIndex file.now (fields self.now) self_index index
+            × (section_of file.now index ≡ Ok section)) }
+        ensures only { (index : ℕ) → IsSectionIndex file.now (fields self.now) self_index index
+            → result ≡ section_of file.now index }
+        ensures exact { result ≡ symbol_section_of file.now (fields self.now) self_index }
+    {
+        let index = self.shndx();
+        if index == SHN_UNDEF || index == SHN_ABS || index == SHN_COMMON {
+            return Err(ElfError::ReservedSymbolIndex);
+        }
+        if index != SHN_XINDEX {
+            return file.section_header(index);
+        }
+        match wide_index(file, self_index)? {
+            0 => Err(ElfError::ReservedSymbolIndex),
+            index => file.section_header_at(u64::from(index)),
+        }
     }
 
     /// An entry bears at most one text in a file.

@@ -1,0 +1,69 @@
+//! The string tables of symbols, by name, and the texts there (gABI, "String Table").
+
+ghost use Rattle.elf_base.specs.Lent.{Answers, Lends, LendsOnly};
+ghost use Rattle.xmas_elf.specs.StringTable.{IsDynString, IsDynstr, IsString, IsStrtab, dyn_string_of, dynstr_of, string_of, strtab_of};
+
+use crate::bytes::text_at;
+use crate::sections::ShType;
+use crate::{ElfError, ElfFile};
+
+impl<'a> ElfFile<'a> {
+    /// The text at an index of `.strtab`, in bytes: up to the next zero byte of that section. It lives
+    /// as long as the input.
+    ///
+    /// Refused with `NoStrtab` where no section bears that name, with `StrtabType` where the first that
+    /// does has another type than StrTab, as `SectionHeader::raw_data` is, and as `bytes::text_at` is.
+    ///
+    /// Each call looks for the section by its name, in one pass over the section headers. For many
+    /// texts, take `raw_data` of the section once, and then `bytes::text_at` of it.
+    #[tactic(auto, unfolding(crate::specs::StringTable::string_of))]
+    pub fn get_string(&self, index: u32) -> Result<&'a str, ElfError>
+        ensures text { Lends (IsString self.now index) result }
+        ensures only { LendsOnly (IsString self.now index) result }
+        ensures exact { Answers (string_of self.now index) result }
+    {
+        text_at(self.strtab()?, index as usize)
+    }
+
+    /// The text at an index of `.dynstr`, as `get_string` gives that of `.strtab`.
+    ///
+    /// Refused with `NoDynstr` where no section bears that name, as `SectionHeader::raw_data` of the
+    /// first that does is, whatever its type, and as `bytes::text_at` is.
+    #[tactic(auto, unfolding(crate::specs::StringTable::dyn_string_of))]
+    pub fn get_dyn_string(&self, index: u32) -> Result<&'a str, ElfError>
+        ensures text { Lends (IsDynString self.now index) result }
+        ensures only { LendsOnly (IsDynString self.now index) result }
+        ensures exact { Answers (dyn_string_of self.now index) result }
+    {
+        text_at(self.dynstr()?, index as usize)
+    }
+
+    // The data of `.strtab`.
+    #[tactic(auto, unfolding(crate::specs::StringTable::strtab_of))]
+    fn strtab(&self) -> Result<&'a [u8], ElfError>
+        ensures table { Lends (IsStrtab self.now) result }
+        ensures only { LendsOnly (IsStrtab self.now) result }
+        ensures exact { Answers (strtab_of self.now) result }
+    {
+        let Some(section) = self.find_section_by_name(".strtab") else {
+            return Err(ElfError::NoStrtab);
+        };
+        match section.get_type() {
+            Ok(ShType::StrTab) => section.raw_data(self),
+            _ => Err(ElfError::StrtabType),
+        }
+    }
+
+    // The data of `.dynstr`, of whatever type.
+    #[tactic(auto, unfolding(crate::specs::StringTable::dynstr_of))]
+    fn dynstr(&self) -> Result<&'a [u8], ElfError>
+        ensures table { Lends (IsDynstr self.now) result }
+        ensures only { LendsOnly (IsDynstr self.now) result }
+        ensures exact { Answers (dynstr_of self.now) result }
+    {
+        let Some(section) = self.find_section_by_name(".dynstr") else {
+            return Err(ElfError::NoDynstr);
+        };
+        section.raw_data(self)
+    }
+}

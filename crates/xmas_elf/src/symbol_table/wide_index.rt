@@ -1,0 +1,38 @@
+//! Section indices of symbols that need more than 16 bits (gABI, "Sections", SHT_SYMTAB_SHNDX).
+
+ghost use Rattle.std.specs.Prelude.{◌≡◌, ℕ, IfOk, Ok};
+ghost use Rattle.elf_base.specs.Lent.{Answers, Lends, LendsOnly};
+ghost use Rattle.xmas_elf.specs.SymbolSection.{IsIndexTable, IsWideIndex, index_table_of, wide_index_of};
+
+use crate::bytes::Table;
+use crate::sections::ShType;
+use crate::{ElfError, ElfFile};
+use elf_base::header::byte_order;
+
+// The word of `.symtab_shndx` that belongs to the symbol at this place of its table.
+#[tactic(auto, unfolding(crate::specs::SymbolSection::wide_index_of))]
+pub(crate) fn wide_index(file: &ElfFile<'_>, place: usize) -> Result<u32, ElfError>
+    ensures is { IfOk result (IsWideIndex file.now place) }
+    ensures only { (index : ℕ) → IsWideIndex file.now place index → result ≡ Ok index }
+    ensures exact { result ≡ wide_index_of file.now place }
+{
+    let order = byte_order(file.header.pt1.encoding);
+    let words = Table::<u32>::new(index_table(file)?, order)?;
+    words.get(place).ok_or(ElfError::SymbolIndex)
+}
+
+// The data of `.symtab_shndx`.
+#[tactic(auto, unfolding(crate::specs::SymbolSection::index_table_of))]
+fn index_table<'a>(file: &ElfFile<'a>) -> Result<&'a [u8], ElfError>
+    ensures table { Lends (IsIndexTable file.now) result }
+    ensures only { LendsOnly (IsIndexTable file.now) result }
+    ensures exact { Answers (index_table_of file.now) result }
+{
+    let Some(section) = file.find_section_by_name(".symtab_shndx") else {
+        return Err(ElfError::NoShIndex);
+    };
+    match section.get_type() {
+        Ok(ShType::SymTabShIndex) => section.raw_data(file),
+        _ => Err(ElfError::ExpectedShIndex),
+    }
+}
