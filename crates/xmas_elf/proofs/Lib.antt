@@ -14,3 +14,4 @@ pub mod ChainStarts
 pub mod ChainFinds
 pub mod ChainOnce
 pub mod ChainChecks
+pub mod HashSections

@@ -28,10 +28,10 @@ pub data Stops {E : Type 0} (P : E → Type 0) (chains : Chains E) : ℕ → Res
   at_end : Stops P chains 0 (Ok None)
   past_chains : (i : ℕ) → 0 < i → chains.count ≤ i → Stops P chains i (Err ChainIndex)
   past_symbols : (i : ℕ) → 0 < i → i < chains.count → slice_get chains.symbols i ≡ None
-    → Stops P chains i (Err SymbolIndex)
+      → Stops P chains i (Err SymbolIndex)
   found : (i : ℕ) (e : E) → StandsAt chains i e → P e → Stops P chains i (Ok (Some (i, e)))
   refused : (i : ℕ) (e : E) (error : ElfError) → StandsAt chains i e → (P e → ⊥)
-    → chains.chain i ≡ Err error → Stops P chains i (Err error)
+      → chains.chain i ≡ Err error → Stops P chains i (Err error)
 
 -- a walk that looks for P goes on from i to j
 pub record Links {E : Type 0} (P : E → Type 0) (chains : Chains E) (i j : ℕ) : Type 0 where
@@ -59,11 +59,11 @@ pub data LooksFrom {E : Type 0} (P : E → Type 0) (chains : Chains E) : Option 
   no_bucket : LooksFrom P chains None (Ok None) 0
   bad_bucket : (error : ElfError) → LooksFrom P chains (Some (Err error)) (Err error) 0
   reaches : (first last : ℕ) (is : List ℕ) (answer : Result (Option (ℕ × E)) ElfError)
-    → Path P chains first is last → Stops P chains last answer
-    → LooksFrom P chains (Some (Ok first)) answer (count_by (is_compared chains) is)
+      → Path P chains first is last → Stops P chains last answer
+      → LooksFrom P chains (Some (Ok first)) answer (count_by (is_compared chains) is)
   endless : (first n : ℕ)
-    → ((last : ℕ) (answer : Result (Option (ℕ × E)) ElfError) → Reaches P chains first last → Stops P chains last answer → ⊥)
-    → LooksFrom P chains (Some (Ok first)) (Err HashCycle) n
+      → ((last : ℕ) (answer : Result (Option (ℕ × E)) ElfError) → Reaches P chains first last → Stops P chains last answer → ⊥)
+      → LooksFrom P chains (Some (Ok first)) (Err HashCycle) n
 
 -- the answer of a look-up for P, which begins at the bucket of the name
 abbrev pub Looks : {E : Type 0} → (E → Type 0) → HashTable → List E → List ℕ → Result (Option (ℕ × E)) ElfError → ℕ → Type 0

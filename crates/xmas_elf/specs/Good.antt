@@ -30,7 +30,7 @@ IsReached table symbols name i = (first : ℕ)
 pub record IsGood {E : Type 0} (table : HashTable) (symbols : Symbols E) : Type 0 where
   pub ends : EndsBelow table symbols.items (bucket_count_of table)
   pub holds : (i : ℕ) (e : E) (name : List ℕ) → IsGlobal symbols i e name
-    → IsReached table symbols.items name i
+      → IsReached table symbols.items name i
 
 -- bucket k is at fault: it can't be read, or its chain doesn't end, and this is why
 abbrev pub IsAtFault : {E : Type 0} → HashTable → List E → ℕ → ElfError → Type 0
@@ -41,10 +41,10 @@ IsAtFault {E} table symbols k error = (n : ℕ)
 pub data IsCheck {E : Type 0} (table : HashTable) (symbols : Symbols E) : Result (Unit {0}) ElfError → Type 0 where
   good : IsGood table symbols → IsCheck table symbols (Ok tt)
   faulty : (k : ℕ) (error : ElfError) → k < bucket_count_of table → EndsBelow table symbols.items k
-    → IsAtFault table symbols.items k error → IsCheck table symbols (Err error)
+      → IsAtFault table symbols.items k error → IsCheck table symbols (Err error)
   missing : (i : ℕ) (e : E) (name : List ℕ) → EndsBelow table symbols.items (bucket_count_of table)
-    → IsGlobal symbols i e name → ¬ IsReached table symbols.items name i
-    → IsCheck table symbols (Err HashMissing)
+      → IsGlobal symbols i e name → ¬ IsReached table symbols.items name i
+      → IsCheck table symbols (Err HashMissing)
 
 -- a search of all symbols for the name and P finds one
 abbrev pub MustBeFound : {E : Type 0} → Symbols E → List ℕ → (E → Type 0) → Type 0

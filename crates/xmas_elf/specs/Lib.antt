@@ -61,4 +61,5 @@ pub mod SegmentData
 pub mod SegmentContent
 pub mod SegmentText
 pub mod Checks
+pub mod HashReport
 pub mod Report

@@ -95,7 +95,13 @@ fn a_ring_never_ends(rt: HostRuntime) -> Result<(), Fail> {
     assert!(rt; none.number <= 5);
     assert_eq!(rt; none.calls_counted, none.number);
     assert_eq!(rt; none.calls, none.number);
-    want(&rt, &look_up(&RING, &SAME_NAME, "ab", true)?, Ok(Some(1)), 1, 1);
+    want(
+        &rt,
+        &look_up(&RING, &SAME_NAME, "ab", true)?,
+        Ok(Some(1)),
+        1,
+        1,
+    );
     Ok(())
 }
 
@@ -109,7 +115,13 @@ fn a_chain_is_followed_to_its_stop(rt: HostRuntime) -> Result<(), Fail> {
     let leaves = [1, 5, 1, 0, 2, 3, 4, 5];
     let none = look_up(&leaves, &SAME_NAME, "ab", false)?;
     want(&rt, &none, Err(ElfError::ChainIndex), 4, 4);
-    want(&rt, &look_up(&leaves, &SAME_NAME, "ab", true)?, Ok(Some(1)), 1, 1);
+    want(
+        &rt,
+        &look_up(&leaves, &SAME_NAME, "ab", true)?,
+        Ok(Some(1)),
+        1,
+        1,
+    );
     let short = [1, 5, 1, 0, 2, 3];
     let none = look_up(&short, &SAME_NAME, "ab", false)?;
     want(&rt, &none, Err(ElfError::HashData), 3, 3);
@@ -131,8 +143,20 @@ fn a_name_has_its_bucket(rt: HostRuntime) -> Result<(), Fail> {
     want(&rt, &other_bucket, Ok(None), 0, 0);
     let three = [(0, 0), (9, 0x12), (1, 0x12)];
     let words = [2, 3, 1, 1, 0, 2, 0];
-    want(&rt, &look_up(&words, &three, "ab", true)?, Ok(Some(1)), 1, 1);
-    want(&rt, &look_up(&words, &three, ".strtab", true)?, Ok(Some(2)), 2, 1);
+    want(
+        &rt,
+        &look_up(&words, &three, "ab", true)?,
+        Ok(Some(1)),
+        1,
+        1,
+    );
+    want(
+        &rt,
+        &look_up(&words, &three, ".strtab", true)?,
+        Ok(Some(2)),
+        2,
+        1,
+    );
     Ok(())
 }
 

@@ -147,12 +147,24 @@ fn checks_tables_of_two_symbols(rt: HostRuntime) -> Result<(), Fail> {
     let symbols = [(0, 0), (9, 0x12)];
     let missing = Err(ElfError::HashMissing);
     assert_eq!(rt; check(&[1, 2, 1, 0, 0], &symbols)?, Ok(()));
-    assert_eq!(rt; check(&[1, 2, 1, 0, 1], &symbols)?, Err(ElfError::HashCycle));
-    assert_eq!(rt; check(&[1, 2, 2, 0, 0], &symbols)?, Err(ElfError::ChainIndex));
+    assert_eq!(rt;
+        check(&[1, 2, 1, 0, 1], &symbols)?,
+        Err(ElfError::HashCycle)
+    );
+    assert_eq!(rt;
+        check(&[1, 2, 2, 0, 0], &symbols)?,
+        Err(ElfError::ChainIndex)
+    );
     assert_eq!(rt; check(&[1, 2, 0, 0, 0], &symbols)?, missing);
-    assert_eq!(rt; check(&[1, 2, 1, 0, 0], &[(0, 0)])?, Err(ElfError::SymbolIndex));
+    assert_eq!(rt;
+        check(&[1, 2, 1, 0, 0], &[(0, 0)])?,
+        Err(ElfError::SymbolIndex)
+    );
     assert_eq!(rt; check(&[0, 0, 0], &symbols)?, missing);
-    assert_eq!(rt; check(&[0xffff_ffff, 2, 0], &symbols)?, Err(ElfError::HashData));
+    assert_eq!(rt;
+        check(&[0xffff_ffff, 2, 0], &symbols)?,
+        Err(ElfError::HashData)
+    );
     assert_eq!(rt; check(&[2, 2, 0, 1, 0], &symbols)?, Err(ElfError::HashData));
     Ok(())
 }

@@ -29,7 +29,11 @@ fn reports_a_hash_table(rt: HostRuntime) {
 // Wants this last line of `hash_file` with another word in its hash table.
 fn check_word(rt: &impl Abort, alloc: Global, place: usize, word: u32, want: &str) {
     let mut file = hash_file();
-    put_words(&mut file, 224usize.wrapping_add(place.wrapping_mul(4)), &[word]);
+    put_words(
+        &mut file,
+        224usize.wrapping_add(place.wrapping_mul(4)),
+        &[word],
+    );
     check_end(rt, alloc, &file, want);
 }
 
@@ -49,9 +53,19 @@ fn reports_what_is_wrong_with_a_hash_table(rt: HostRuntime) {
 #[test]
 fn reports_a_hash_table_without_symbols(rt: HostRuntime) {
     let lines = [
-        (172, section_32::SIZE, 16, "\nhash: ! Symbol index is out of range\n"),
+        (
+            172,
+            section_32::SIZE,
+            16,
+            "\nhash: ! Symbol index is out of range\n",
+        ),
         (132, section_32::SIZE, 11, "\nhash: ! Data is too short\n"),
-        (132, section_32::SIZE, 53, "\nhash: ! Data is out of range\n"),
+        (
+            132,
+            section_32::SIZE,
+            53,
+            "\nhash: ! Data is out of range\n",
+        ),
         (132, section_32::LINK, 1, "\nhash: no symbols\n"),
         (132, section_32::LINK, 2, "\nhash: no symbols\n"),
         (132, section_32::LINK, 0x1_0000, "\nhash: no symbols\n"),

@@ -41,7 +41,7 @@ impl<'a> HashTable<'a> {
         match self.check_buckets(symbols) {
             Ok(()) if self.holds_all(symbols, file) => Ok(()),
             Ok(()) => Err(ElfError::HashMissing),
-            Err(error) => Err(error),
+            Err(fault) => Err(fault),
         }
     }
 

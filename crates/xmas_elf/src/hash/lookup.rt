@@ -24,12 +24,7 @@ fn bears<E: Entry>(entry: &E, name: &str, file: &ElfFile<'_>) -> bool
 
 // Whether the symbol bears the name and passes the test, which is put to those that bear it alone.
 #[inline(always)]
-fn passes<E: Entry, F: Fn(&E) -> bool>(
-    entry: &E,
-    name: &str,
-    file: &ElfFile<'_>,
-    f: &F,
-) -> bool
+fn passes<E: Entry, F: Fn(&E) -> bool>(entry: &E, name: &str, file: &ElfFile<'_>, f: &F) -> bool
     requires { (e : Bor E) → e.now ≡ entry.now → F.pre f.now e }
     ensures yes { IsTrue result → (E.text_in entry.now file.now ≡ Some name.now)
         × FnReturnsAt F.Fn f.now entry.now true }

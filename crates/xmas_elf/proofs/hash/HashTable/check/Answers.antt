@@ -30,7 +30,7 @@ returns-in-Ok-2-clause-only g c = λ other h. check_once _ _ _ _ h (returns-in-O
 pub returns-in-Err-clause-exact : goal.returns-in-Err-clause-exact
 returns-in-Err-clause-exact g c =
     let (k, below, before, fault) = c.in-Err.ensures in
-    faulty k c.in-Err.error below before fault
+    faulty k c.in-Err.fault below before fault
 
 pub returns-in-Err-clause-accepts : goal.returns-in-Err-clause-accepts
 returns-in-Err-clause-accepts g c =

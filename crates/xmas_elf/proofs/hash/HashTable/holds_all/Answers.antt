@@ -8,9 +8,13 @@ use Rattle.xmas_elf.proofs.hash.HashTable.holds_all.Goals.{in-Some+else-not-hold
 
 pub returns-then-not-holds-clause-no : goal.returns-then-not-holds-clause-no
 returns-then-not-holds-clause-no g c = λ _ ends.
-    let lost = c.holds.ensures.no c.if-not-holds.true ends in
-    (c.loop-index.index, c.in-Some.entry, lost.0,
-    record { not_first = omega arith; stands = sym c.get.ensures.item ∙ c.in-Some.is; binding = lost.1; named = lost.2 }, lost.3)
+    let lost = c.holds.ensures.no c.if-not-holds.true ends in (
+      c.loop-index.index,
+      c.in-Some.entry,
+      lost.0,
+      record { not_first = omega arith; stands = sym c.get.ensures.item ∙ c.in-Some.is; binding = lost.1; named = lost.2 },
+      lost.3,
+    )
 
 pub loop-index-preserved : goal.loop-index-preserved
 loop-index-preserved g c = λ ends.

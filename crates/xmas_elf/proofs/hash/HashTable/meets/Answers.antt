@@ -18,8 +18,8 @@ returns-then-index-eq0 g c =
       λ no. cc,
       λ _. (
         (walked.list, subst (λ x. Path Nothing chains c.args.first walked.list x) c.if-index-eq0.true walked.path),
-        λ r. end_reaches Nothing chains c.loop-index.index c.args.target c.if-index-eq0.true c.loop-index-test.true (c.loop-index.invariant.ahead r)
-      )
+        λ r. end_reaches Nothing chains c.loop-index.index c.args.target c.if-index-eq0.true c.loop-index-test.true (c.loop-index.invariant.ahead r),
+      ),
     )
 
 pub returns-then-index-chain_count : goal.returns-then-index-chain_count
