@@ -1,17 +1,20 @@
-//! A symbol type of one's own, which names its symbols itself.
+//! A symbol of one's own, to which what `xmas_elf` says of every `Entry` applies.
 
+ghost use Rattle.std.specs.Prelude.{◌≡◌};
 ghost use Rattle.std.proofs.Common.{lit<};
-ghost use Rattle.xmas_elf.specs.Number.{number};
 ghost use Rattle.elf_tests.specs.Numbered.{numbered_fields, numbered_name};
+ghost use Rattle.xmas_elf.specs.Number.{number};
 
 use xmas_elf::bytes::{Order, Record};
 use xmas_elf::symbol_table::{Entry, Visibility_};
 use xmas_elf::{ElfError, ElfFile};
 
-/// A symbol of four bytes, which hold a number.
-#[derive(Clone, Copy, Debug)]
+/// A symbol of four bytes, which are its number. Number 1 is named `ab`, number 2 `zz`, and the others
+/// have no name; its value is the number.
+#[derive(Clone, Copy, Debug, PartialEq, Eq)]
 pub struct Numbered {
-    number: u32,
+    /// Which symbol it is.
+    pub number: u32,
 }
 
 impl Record for Numbered {
@@ -31,9 +34,9 @@ impl Record for Numbered {
 }
 
 impl Entry for Numbered {
-    ghost fields = { numbered_fields };
+    ghost fields = { λ symbol. numbered_fields symbol.number };
 
-    ghost text_in = { λ entry file. numbered_name entry.number };
+    ghost text_in = { λ symbol _. numbered_name symbol.number };
 
     fn name(&self) -> u32 {
         0
@@ -59,6 +62,7 @@ impl Entry for Numbered {
         0
     }
 
+    /// The name of this number, in every file; `TextEnd` for one that has none.
     fn get_name<'a>(&self, _file: &ElfFile<'a>) -> Result<&'a str, ElfError> {
         match self.number {
             1 => Ok("ab"),

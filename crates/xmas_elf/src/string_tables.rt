@@ -8,11 +8,12 @@ use crate::sections::ShType;
 use crate::{ElfError, ElfFile};
 
 impl<'a> ElfFile<'a> {
-    /// The text at an index of `.strtab`, in bytes: up to the next zero byte of that section. It lives
-    /// as long as the input.
+    /// The text at an index of `.strtab`, in bytes: up to the next zero byte of that section. It
+    /// lives as long as the input.
     ///
-    /// Refused with `NoStrtab` where no section bears that name, with `StrtabType` where the first that
-    /// does has another type than StrTab, as `SectionHeader::raw_data` is, and as `bytes::text_at` is.
+    /// Refused with `NoStrtab` where no section bears that name, with `StrtabType` where the first
+    /// that does has another type than StrTab, as `SectionHeader::raw_data` is, and as
+    /// `bytes::text_at` is.
     ///
     /// Each call looks for the section by its name, in one pass over the section headers. For many
     /// texts, take `raw_data` of the section once, and then `bytes::text_at` of it.

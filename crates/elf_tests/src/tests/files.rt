@@ -3,7 +3,7 @@
 ghost use Rattle.std.specs.Prelude.{◌≤◌};
 
 use crate::tests::places::{
-    header_32, header_64, program_32, put, section_32, section_64, set, symbol_32,
+    Place, header_32, header_64, program_32, put, section_32, section_64, set, symbol_32,
 };
 use std::alloc::{AllocError, Global};
 use xmas_elf::ElfFile;
@@ -11,6 +11,9 @@ use xmas_elf::bytes::Order;
 use xmas_elf::header::{Class_, Header};
 
 const LITTLE: Order = Order::Little;
+
+/// A word of four bytes.
+pub const WORD: Place = Place(0, 4);
 
 /// The first seven bytes of a header of this class, and zeros, in room for the longest header.
 pub fn plain_header(class: u8) -> [u8; 64] {
@@ -79,6 +82,42 @@ pub fn wide_strtab_file(order: Order) -> [u8; 204] {
     set(&mut file, 128, section_64::SIZE, 12, order);
     set(&mut file, 128, section_64::ALIGN, 1, order);
     put(&mut file, 192, b"\0.strtab\0ab\0");
+    file
+}
+
+/// `strtab_file` with the names `.dynstr` and `ab`.
+pub fn dynstr_file(order: Order) -> [u8; 144] {
+    let mut file = strtab_file(order);
+    put(&mut file, 133, b".dynstr");
+    file
+}
+
+/// Class 32, in either order: section 1, `.strtab`, holds the names, and section 2, `.symtab_shndx`,
+/// the words 0 and 1, from 195 on.
+pub fn shndx_file(order: Order) -> [u8; 203] {
+    let mut file = [0; 203];
+    put(
+        &mut file,
+        0,
+        &[0x7f, b'E', b'L', b'F', 1, data_byte(order), 1],
+    );
+    set(&mut file, 0, header_32::SH_OFFSET, 52, order);
+    set(&mut file, 0, header_32::HEADER_SIZE, 52, order);
+    set(&mut file, 0, header_32::SH_ENTRY_SIZE, 40, order);
+    set(&mut file, 0, header_32::SH_COUNT, 3, order);
+    set(&mut file, 0, header_32::SH_STR_INDEX, 1, order);
+    set(&mut file, 92, section_32::NAME, 1, order);
+    set(&mut file, 92, section_32::TYPE, 3, order);
+    set(&mut file, 92, section_32::OFFSET, 172, order);
+    set(&mut file, 92, section_32::SIZE, 23, order);
+    set(&mut file, 92, section_32::ALIGN, 1, order);
+    set(&mut file, 132, section_32::NAME, 9, order);
+    set(&mut file, 132, section_32::TYPE, 18, order);
+    set(&mut file, 132, section_32::OFFSET, 195, order);
+    set(&mut file, 132, section_32::SIZE, 8, order);
+    put(&mut file, 172, b"\0.strtab\0.symtab_shndx\0");
+    set(&mut file, 195, WORD, 0, order);
+    set(&mut file, 199, WORD, 1, order);
     file
 }
 

@@ -1,4 +1,5 @@
-//! Where the fields of the headers lie (gABI, "ELF Header", "Section Header", "Program Header").
+//! Where the fields of headers and symbols lie (gABI, "ELF Header", "Section Header", "Program Header",
+//! "Symbol Table").
 
 use xmas_elf::bytes::Order;
 
@@ -188,6 +189,23 @@ pub mod symbol_32 {
     pub const OTHER: Place = Place(13, 1);
 
     pub const SHNDX: Place = Place(14, 2);
+}
+
+/// A symbol of class 64.
+pub mod symbol_64 {
+    use super::Place;
+
+    pub const NAME: Place = Place(0, 4);
+
+    pub const INFO: Place = Place(4, 1);
+
+    pub const OTHER: Place = Place(5, 1);
+
+    pub const SHNDX: Place = Place(6, 2);
+
+    pub const VALUE: Place = Place(8, 8);
+
+    pub const SIZE: Place = Place(16, 8);
 }
 
 /// Writes a number into the field of the header that begins at `start`, as far as it lies in the file.

@@ -15,7 +15,8 @@ use crate::{ElfError, ElfFile};
 
 /// A symbol: an entry of a symbol table, of whatever layout (gABI, "Symbol Table").
 ///
-/// The ghost members of an implementation say which numbers it has, and which text it bears in a file.
+/// The ghost members of an implementation say which numbers it has, and which text it bears in a
+/// file.
 pub trait Entry {
     /// What the symbol says, in numbers.
     ghost fields: { Self → SymbolFields };
@@ -48,8 +49,12 @@ pub trait Entry {
     fn size(&self) -> u64
         ensures { result ≡ (fields self.now).size };
 
-    /// The text that the symbol bears in a file, which lives as long as the input. An implementation
-    /// says why there is none.
+    /// The text that the symbol bears in a file. It lives as long as the input, and an
+    /// implementation says why there is none.
+    ///
+    /// The four types of this crate look for their string table by its name at each call, in one
+    /// pass over the section headers. For many symbols, take `raw_data` of that section once, and
+    /// then `bytes::text_at` of it at `name`.
     fn get_name<'a>(&self, file: &ElfFile<'a>) -> Result<&'a str, ElfError>
         ensures { MatchResult result
             (λ text. text_in self.now file.now ≡ Some text.now)
@@ -77,12 +82,13 @@ pub trait Entry {
         Type_::from_raw(self.info() % 16).as_type()
     }
 
-    /// The header of the section that the symbol belongs to, which is symbol `self_index` of its table.
+    /// The header of the section that the symbol belongs to, which is symbol `self_index` of its
+    /// table.
     ///
-    /// Refused with `ReservedSymbolIndex` for a symbol that belongs to none, and else as
+    /// Refused with `ReservedSymbolIndex` for `SHN_UNDEF`, `SHN_ABS` and `SHN_COMMON`, and else as
     /// `ElfFile::section_header` of `shndx` is. For `SHN_XINDEX` it is that at the index in word
-    /// `self_index` of `.symtab_shndx`: refused with `NoShIndex` where no section bears that name, with
-    /// `ExpectedShIndex` where the first that does has another type than SymTabShIndex, as
+    /// `self_index` of `.symtab_shndx`: refused with `NoShIndex` where no section bears that name,
+    /// with `ExpectedShIndex` where the first that does has another type than SymTabShIndex, as
     /// `SectionHeader::get_data` is, with `SymbolIndex` where it has no such word, with
     /// `ReservedSymbolIndex` for 0, and as `ElfFile::section_header_at` is.
     #[tactic(auto, unfolding(crate::specs::SymbolSection::symbol_section_of))]
@@ -112,6 +118,6 @@ pub trait Entry {
     }
 
     /// An entry bears at most one text in a file.
-    ghost one_text: { (entry : Self) (file : ElfFile) (one other : List ℕ) → text_in entry file ≡ Some one
-        → text_in entry file ≡ Some other → one ≡ other } = { λ entry file one other a b. Prim.search rules };
+    ghost one_text: { (entry : Self) (file : ElfFile) (one other : List ℕ)
+        → text_in entry file ≡ Some one → text_in entry file ≡ Some other → one ≡ other } = { λ entry file one other a b. Prim.search rules };
 }

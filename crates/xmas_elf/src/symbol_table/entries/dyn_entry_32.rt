@@ -1,0 +1,57 @@
+//! What a dynamic symbol of class 32 says, read from its bytes (gABI, "Symbol Table": Elf32_Sym).
+
+ghost use Rattle.std.specs.Result.{result_ok};
+ghost use Rattle.elf_base.specs.Lent.{Answers, Lends, LendsOnly};
+ghost use Rattle.xmas_elf.specs.StringTable.{IsDynString, dyn_string_of};
+ghost use Rattle.xmas_elf.specs.Symbol.{dyn_entry_32_fields};
+
+use crate::symbol_table::entries::DynEntry32;
+use crate::symbol_table::{Entry, Visibility_};
+use crate::{ElfError, ElfFile};
+use elf_base::bytes::{read_u16, read_u32};
+
+#[tactic(auto, unfolding(crate::specs::Symbol::dyn_entry_32_fields))]
+impl Entry for DynEntry32 {
+    ghost fields = { dyn_entry_32_fields };
+
+    ghost text_in = { λ entry file. result_ok (dyn_string_of file (dyn_entry_32_fields entry).name) };
+
+    #[inline(always)]
+    fn name(&self) -> u32 {
+        read_u32(&self.bytes, 0, self.order)
+    }
+
+    #[inline(always)]
+    fn info(&self) -> u8 {
+        self.bytes[12]
+    }
+
+    #[inline(always)]
+    fn other(&self) -> Visibility_ {
+        Visibility_::from_raw(self.bytes[13])
+    }
+
+    #[inline(always)]
+    fn shndx(&self) -> u16 {
+        read_u16(&self.bytes, 14, self.order)
+    }
+
+    #[inline(always)]
+    fn value(&self) -> u64 {
+        u64::from(read_u32(&self.bytes, 4, self.order))
+    }
+
+    #[inline(always)]
+    fn size(&self) -> u64 {
+        u64::from(read_u32(&self.bytes, 8, self.order))
+    }
+
+    /// The text at the symbol's name in `.dynstr`, with the answer of `ElfFile::get_dyn_string`.
+    fn get_name<'a>(&self, file: &ElfFile<'a>) -> Result<&'a str, ElfError>
+        ensures text { Lends (IsDynString file.now (dyn_entry_32_fields self.now).name) result }
+        ensures only { LendsOnly (IsDynString file.now (dyn_entry_32_fields self.now).name) result }
+        ensures exact { Answers (dyn_string_of file.now (dyn_entry_32_fields self.now).name) result }
+    {
+        file.get_dyn_string(self.name())
+    }
+}
