@@ -29,7 +29,6 @@ pub fn finds_all<E: Entry + Record>(
 
 /// The symbol with this name, by a table that passes the check: a symbol that bears it, or none where
 /// no symbol does but local ones.
-#[tactic(auto, using(xmas_elf::proofs::lemmas::HashTables::none_global))]
 pub fn symbol_with_name<E: Entry + Record>(
     table: &HashTable<'_>,
     name: &str,
