@@ -24,6 +24,7 @@ const SAME_NAME: [(u64, u64); 5] = [(0, 0), (9, 0x12), (9, 0x12), (9, 0x12), (9,
 
 // What both calls answer, with a test that counts its calls and passes all or none of the symbols:
 // the index found, or why there is none; the number; and how often the test was called by each.
+#[derive(Clone, Copy, Debug)]
 struct Answers {
     index: Result<Option<u32>, ElfError>,
     same: bool,
