@@ -1,3 +1,4 @@
 pub mod Executable
 pub mod Refusals
 pub mod Numbered
+pub mod Linked

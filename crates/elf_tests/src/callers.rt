@@ -18,6 +18,7 @@ ghost use Rattle.xmas_elf.specs.declared.ElfFile.{ElfFile};
 ghost use Rattle.xmas_elf.specs.declared.sections.section_header.SectionHeader.{SectionHeader};
 
 pub mod data;
+pub mod hash;
 pub mod indices;
 pub mod notes;
 pub mod printed;

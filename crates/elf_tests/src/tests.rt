@@ -1,5 +1,6 @@
 //! Expected values are worked out by hand from the format, and never taken from the program's output.
 
+mod chains;
 mod checks;
 mod compared;
 mod constants;
@@ -7,6 +8,7 @@ mod damaged;
 mod data;
 mod extensions;
 mod files;
+mod hash;
 mod headers;
 mod messages;
 mod names;
@@ -14,6 +16,7 @@ mod object_symbols;
 mod places;
 mod records;
 mod reports;
+mod reports_of_hash;
 mod sections;
 mod segments;
 mod string_tables;

@@ -33,6 +33,7 @@ sections
 1 Ok(StrTab) = .strtab
 
 program headers
+hash: none
 ";
 
 const USAGE: &str = "usage: elfinfo <binary_path>\n";

@@ -9,3 +9,9 @@ pub mod StringTables
 pub mod SymbolSections
 pub mod StringRuns
 pub mod StringItems
+pub mod ChainPaths
+pub mod ChainStarts
+pub mod ChainFinds
+pub mod ChainOnce
+pub mod ChainChecks
+pub mod HashSections

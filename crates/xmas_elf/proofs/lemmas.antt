@@ -1,2 +1,3 @@
 pub mod HeaderList
 pub mod Equality
+pub mod HashTables

@@ -45,6 +45,9 @@ pub mod Range
 pub mod SectionData
 pub mod Symbol
 pub mod HashTable
+pub mod Symbols
+pub mod Chain
+pub mod Good
 pub mod Content
 pub mod SectionContent
 pub mod Strings
@@ -61,4 +64,5 @@ pub mod SegmentText
 pub mod Checks
 pub mod BuildId
 pub mod Link
+pub mod HashReport
 pub mod Report

@@ -9,6 +9,7 @@ use Rattle.elf_base.specs.FileHeader.{header_of}
 use Rattle.elf_base.specs.declared.error.ElfError.{ElfError}
 use Rattle.elf_records.specs.ProgramNumbers.{ph_type_number}
 use Rattle.xmas_elf.specs.Checks.{header_check, program_check}
+use Rattle.xmas_elf.specs.HashReport.{IsHashVerdict}
 use Rattle.xmas_elf.specs.NameTable.{name_of}
 use Rattle.xmas_elf.specs.ProgramHeader.{program_fields}
 use Rattle.xmas_elf.specs.ProgramList.{program_list}
@@ -20,6 +21,8 @@ use Rattle.xmas_elf.specs.declared.ElfFile.{ElfFile}
 use Rattle.xmas_elf.specs.declared.program.program_header.ProgramHeader.{ProgramHeader}
 use Rattle.xmas_elf.specs.declared.report.ReportFault.{ReportFault}
 use Rattle.xmas_elf.specs.declared.report.ReportFault.TheVariants.{Elf, Write}
+use Rattle.xmas_elf.specs.declared.report.hash.HashVerdict.{HashVerdict}
+use Rattle.xmas_elf.specs.declared.report.hash.HashVerdict.TheVariants.{NoTable, NoSymbols, Checked}
 use Rattle.xmas_elf.specs.declared.sections.section_header.SectionHeader.{SectionHeader}
 
 -- how a fault is printed
@@ -66,9 +69,15 @@ section_lines file = lines_from (section_line file) 1 (drop 1 (section_list file
 abbrev pub segment_lines : ElfFile → List ℕ
 segment_lines file = lines_from (segment_line file) 0 (program_list file)
 
--- the report of a file, item after item
-unfoldable pub report_text : ElfFile → List ℕ
-report_text file = joined (
+-- the line of the hash table
+abbrev pub hash_line : HashVerdict → List ℕ
+hash_line NoTable = codes "hash: none\n"
+hash_line NoSymbols = codes "hash: no symbols\n"
+hash_line (Checked answer) = codes "hash:" ++ (verdict_text answer ++ codes "\n")
+
+-- the report of a file with this hash line, item after item
+unfoldable pub report_text : ElfFile → HashVerdict → List ℕ
+report_text file verdict = joined (
     header_text file.header
     ∷ check_line file
     ∷ codes "sections\n"
@@ -76,12 +85,18 @@ report_text file = joined (
     ∷ codes "\n"
     ∷ codes "program headers\n"
     ∷ segment_lines file
+    ∷ hash_line verdict
     ∷ [])
 
--- the input is accepted, and the bytes that were written have grown by the report of the file that it is
+-- what was written has grown by the report of the file
+abbrev pub AppendsReport : ElfFile → Option (List ℕ) → Option (List ℕ) → Type 0
+AppendsReport file old new = (verdict : HashVerdict) × IsHashVerdict file verdict
+    × Appends old new (report_text file verdict)
+
+-- the input is accepted, and what was written has grown by the report of the file that it is
 abbrev pub WritesReport : Bor (List ℕ) → Option (List ℕ) → Option (List ℕ) → Type 0
 WritesReport input old new = IsOkAnd (header_of input.now)
-    (λ header. Appends old new (report_text (record { input = input; header = header })))
+    (λ header. AppendsReport (record { input = input; header = header }) old new)
 
 -- the answer is `Elf(error)` exactly where the bytes are refused with that error
 abbrev pub RefusesExactly : List ℕ → Result (Unit {0}) ReportFault → Type 0

@@ -1,6 +1,9 @@
 //! Hash tables of symbols (gABI, "Hash Table").
 
-ghost use Rattle.std.specs.Prelude.{◌≡◌, ◌<◌, ◌≤◌, length, MatchResult};
+ghost use Rattle.std.specs.Prelude.{◌≡◌, ◌↔◌, ◌+◌, ◌^◌, ◌<◌, ◌≤◌, length, IfOk, IsOk, MatchResult};
+
+mod check;
+mod lookup;
 
 use crate::ElfError;
 use crate::bytes::Order;
@@ -19,7 +22,7 @@ pub struct HashTable<'a> {
 }
 
 impl<'a> HashTable<'a> {
-    ghost use Rattle.xmas_elf.specs.HashTable.{bucket_count_of, chain_count_of, hash_data, hash_order};
+    ghost use Rattle.xmas_elf.specs.HashTable.{HasBucket, HasChain, bucket_count_of, bucket_of, chain_count_of, chain_of, hash_data, hash_order, hash_word, word_of};
 
     /// The hash table that these bytes are; `ShortData` below 12 bytes.
     pub fn read(bytes: &'a [u8], order: Order) -> Result<HashTable<'a>, ElfError>
@@ -46,5 +49,57 @@ impl<'a> HashTable<'a> {
         ensures { result ≡ chain_count_of self.now }
     {
         read_u32(self.bytes, 4, self.order)
+    }
+
+    /// The word of a bucket: the index of the first symbol on its chain, or 0.
+    ///
+    /// Refused with `BucketIndex` where the index isn't below `bucket_count`, and with `HashData` where
+    /// the word doesn't lie whole in the data.
+    #[tactic(auto, unfolding(crate::specs::HashTable::bucket_of, crate::specs::HashTable::word_of))]
+    pub fn get_bucket(&self, index: u32) -> Result<u32, ElfError>
+        ensures readable { IsOk result ↔ HasBucket self.now index }
+        ensures value { IfOk result (λ word. word ≡ hash_word self.now (2 + index)) }
+        ensures exact { result ≡ bucket_of self.now index }
+    {
+        if index >= self.bucket_count() {
+            return Err(ElfError::BucketIndex);
+        }
+        self.word(2 + u64::from(index))
+    }
+
+    /// The word of a chain: the index of the symbol that follows that of this index, or 0.
+    ///
+    /// Refused with `ChainIndex` where the index isn't below `chain_count`, with `ChainSum` where
+    /// `bucket_count` and the index add up to 2 to the 32 or more, and with `HashData` where the word
+    /// doesn't lie whole in the data.
+    #[tactic(auto, unfolding(crate::specs::HashTable::chain_of, crate::specs::HashTable::word_of))]
+    pub fn get_chain(&self, index: u32) -> Result<u32, ElfError>
+        ensures readable { IsOk result ↔ HasChain self.now index }
+        ensures value { IfOk result (λ word. word
+            ≡ hash_word self.now (2 + bucket_count_of self.now + index)) }
+        ensures exact { result ≡ chain_of self.now index }
+    {
+        if index >= self.chain_count() {
+            return Err(ElfError::ChainIndex);
+        }
+        let place = u64::from(self.bucket_count()) + u64::from(index);
+        if place > u64::from(u32::MAX) {
+            return Err(ElfError::ChainSum);
+        }
+        self.word(2 + place)
+    }
+
+    // The word at this place, in words.
+    #[tactic(auto, unfolding(crate::specs::HashTable::word_of))]
+    #[inline(always)]
+    fn word(&self, place: u64) -> Result<u32, ElfError>
+        requires { place < 2 ^ 33 }
+        ensures { result ≡ word_of self.now place }
+    {
+        let start = 4 * place as usize;
+        if self.bytes.len() < start + 4 {
+            return Err(ElfError::HashData);
+        }
+        Ok(read_u32(self.bytes, start, self.order))
     }
 }

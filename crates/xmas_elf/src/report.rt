@@ -1,11 +1,13 @@
 //! The report: what `elfinfo` tells of a file, as text.
 
 ghost use Rattle.std.specs.Prelude.{◌≡◌, Some, OnOk, IfErr};
-ghost use Rattle.std.specs.Io.KnownBytes.{Appends};
 ghost use Rattle.xmas_elf.specs.NameTable.{name_of};
-ghost use Rattle.xmas_elf.specs.Report.{RefusesExactly, WritesNothing, WritesReport, check_line, fault_text, name_text, report_text, section_line, section_lines, segment_line, segment_lines, verdict_text};
+ghost use Rattle.xmas_elf.specs.Report.{AppendsReport, RefusesExactly, WritesNothing, WritesReport, check_line, fault_text, hash_line, name_text, report_text, section_line, section_lines, segment_line, segment_lines, verdict_text};
+
+mod hash;
 
 use crate::program::{ProgramHeader, SegmentType};
+use crate::report::hash::{HashVerdict, hash_verdict};
 use crate::sections::{SectionHeader, SectionType};
 use crate::{ElfError, ElfFile, header, program};
 use std::error::Error;
@@ -169,22 +171,39 @@ impl Display for SegmentLines<'_, '_> {
     }
 }
 
-// The report of an accepted file.
+// The line of the hash table.
 #[derive(Clone, Copy)]
-struct FileReport<'b, 'a>(&'b ElfFile<'a>);
+struct HashLine(HashVerdict);
+
+impl Display for HashLine {
+    ghost output = { λ line. Some (hash_line line.0) };
+
+    fn fmt<W: fmt::Write>(&self, f: &mut fmt::Formatter<W>) -> fmt::Result {
+        match self.0 {
+            HashVerdict::NoTable => f.write_str("hash: none\n"),
+            HashVerdict::NoSymbols => f.write_str("hash: no symbols\n"),
+            HashVerdict::Checked(answer) => writeln!(f, "hash:{}", Verdict(answer)),
+        }
+    }
+}
+
+// The report of an accepted file, whose hash table was looked at before.
+#[derive(Clone, Copy)]
+struct FileReport<'b, 'a>(&'b ElfFile<'a>, HashVerdict);
 
 impl Display for FileReport<'_, '_> {
-    ghost output = { λ report. Some (report_text report.0.now) };
+    ghost output = { λ report. Some (report_text report.0.now report.1) };
 
     #[tactic(auto, unfolding(crate::specs::Report::report_text))]
     fn fmt<W: fmt::Write>(&self, f: &mut fmt::Formatter<W>) -> fmt::Result {
         write!(
             f,
-            "{}{}sections\n{}\nprogram headers\n{}",
+            "{}{}sections\n{}\nprogram headers\n{}{}",
             self.0.header,
             CheckLine(self.0),
             SectionLines(self.0),
-            SegmentLines(self.0)
+            SegmentLines(self.0),
+            HashLine(self.1)
         )
     }
 }
@@ -208,8 +227,9 @@ pub fn report<W: io::Write>(input: &[u8], w: &mut W) -> Result<(), ReportFault>
 
 // Writes the report of an accepted file.
 fn write_file<W: io::Write>(file: &ElfFile<'_>, w: &mut W) -> Result<(), ReportFault>
-    ensures written { OnOk result (Appends (W.contents w.old) (W.contents w.new) (report_text file.now)) }
+    ensures written { OnOk result (AppendsReport file.now (W.contents w.old) (W.contents w.new)) }
     ensures fault { IfErr result (λ fault. fault ≡ ReportFault.Write) }
 {
-    write!(w, "{}", FileReport(file)).map_err(|_| ReportFault::Write)
+    let verdict = hash_verdict(file);
+    write!(w, "{}", FileReport(file, verdict)).map_err(|_| ReportFault::Write)
 }

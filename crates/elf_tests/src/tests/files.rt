@@ -3,7 +3,7 @@
 ghost use Rattle.std.specs.Prelude.{◌≤◌};
 
 use crate::tests::places::{
-    Place, WORD, header_32, header_64, program_32, put, section_32, section_64, set,
+    Place, WORD, header_32, header_64, program_32, put, section_32, section_64, set, symbol_32,
 };
 use std::alloc::{AllocError, Global};
 use xmas_elf::ElfFile;
@@ -224,6 +224,49 @@ pub fn many_sections_file(alloc: Global) -> Result<Vec<u8>, AllocError> {
     put(file, 2_800_052, b"\0.strtab\0.symtab_shndx\0");
     put(file, 2_800_075, b"\0\0\0\0\x01\0\0\0");
     Ok(bytes)
+}
+
+/// Class 32: section 2 is a hash table, whose link is section 3, its two symbols; one is called `ab`.
+pub fn hash_file() -> [u8; 276] {
+    let mut file = [0; 276];
+    put(&mut file, 0, &[0x7f, b'E', b'L', b'F', 1, 1, 1]);
+    set(&mut file, 0, header_32::SH_OFFSET, 52, LITTLE);
+    set(&mut file, 0, header_32::HEADER_SIZE, 52, LITTLE);
+    set(&mut file, 0, header_32::SH_ENTRY_SIZE, 40, LITTLE);
+    set(&mut file, 0, header_32::SH_COUNT, 4, LITTLE);
+    set(&mut file, 0, header_32::SH_STR_INDEX, 1, LITTLE);
+    let sections = [(1, 3, 212, 12, 0), (9, 5, 224, 20, 3), (9, 2, 244, 32, 1)];
+    let mut start = 92;
+    for (name, kind, offset, size, link) in sections {
+        set(&mut file, start, section_32::NAME, name, LITTLE);
+        set(&mut file, start, section_32::TYPE, kind, LITTLE);
+        set(&mut file, start, section_32::OFFSET, offset, LITTLE);
+        set(&mut file, start, section_32::SIZE, size, LITTLE);
+        set(&mut file, start, section_32::LINK, link, LITTLE);
+        start = start.wrapping_add(40);
+    }
+    set(&mut file, 92, section_32::ALIGN, 1, LITTLE);
+    put(&mut file, 212, b"\0.strtab\0ab\0");
+    put_words(&mut file, 224, &[1, 2, 1, 0, 0]);
+    put_symbols(&mut file, 244, &[(0, 0), (9, 0x12)]);
+    file
+}
+
+/// Writes words of four bytes from a place on.
+pub fn put_words(file: &mut [u8], start: usize, words: &[u32]) {
+    for (k, word) in words.iter().enumerate() {
+        let place = start.wrapping_add(k.wrapping_mul(4));
+        put(file, place, &word.to_le_bytes());
+    }
+}
+
+/// Writes symbols of class 32 from a place on, by name and info; all else of them is 0.
+pub fn put_symbols(file: &mut [u8], start: usize, symbols: &[(u64, u64)]) {
+    for (k, symbol) in symbols.iter().enumerate() {
+        let place = start.wrapping_add(k.wrapping_mul(16));
+        set(file, place, symbol_32::NAME, symbol.0, LITTLE);
+        set(file, place, symbol_32::INFO, symbol.1, LITTLE);
+    }
 }
 
 /// `strtab_file` with two program headers that lie over its section headers.

@@ -36,6 +36,7 @@ sections
 1 Ok(StrTab) = .strtab
 
 program headers
+hash: none
 ";
 
 const DEBUG_LINK_LINES: &str = "check: ok
@@ -45,6 +46,7 @@ sections
 3 Ok(Note) = .note.gnu.build-id
 
 program headers
+hash: none
 ";
 
 const WIDE_REPORT: &str = "ELF header:
@@ -72,6 +74,7 @@ check: ! header_size does not match size of header
 sections
 
 program headers
+hash: none
 ";
 
 const BIG_ENDIAN_REPORT: &str = "ELF header:
@@ -99,6 +102,7 @@ check: ! header_size does not match size of header
 sections
 
 program headers
+hash: none
 ";
 
 // Wants this report of the input.
@@ -195,7 +199,10 @@ fn reports_refused_names(rt: HostRuntime) {
     let mut want = Vec::new(rt.alloc());
     for (len, line) in lines {
         want.clear();
-        let joined = write!(want, "check: ok\nsections\n{line}\nprogram headers\n");
+        let joined = write!(
+            want,
+            "check: ok\nsections\n{line}\nprogram headers\nhash: none\n"
+        );
         assert!(rt; joined.is_ok());
         let mut text = Vec::new(rt.alloc());
         let input = file.get(..len).unwrap_or(b"");
@@ -212,6 +219,7 @@ fn reports_refused_names(rt: HostRuntime) {
 3 Ok(Null) ! Attempt to get name of null section
 
 program headers
+hash: none
 ";
     check_end(&rt, rt.alloc(), &file, want);
 }

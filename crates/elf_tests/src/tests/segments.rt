@@ -62,7 +62,7 @@ fn reads_a_segment(rt: HostRuntime) -> Result<(), Fail> {
         &rt,
         rt.alloc(),
         &bytes,
-        "check: ok\nsections\n\nprogram headers\n0 Ok(Load) ok\n",
+        "check: ok\nsections\n\nprogram headers\n0 Ok(Load) ok\nhash: none\n",
     );
     Ok(())
 }
@@ -91,23 +91,29 @@ fn says_what_is_wrong_with_a_segment(rt: HostRuntime) -> Result<(), Fail> {
         &rt,
         alloc,
         &bytes,
-        "\n0 Ok(Load) ! entry point out of range\n",
+        "\n0 Ok(Load) ! entry point out of range\nhash: none\n",
     );
     let bytes = with_program(program_32::TYPE, 5);
-    check_end(&rt, alloc, &bytes, "\n0 Ok(ShLib) ! Shouldn't use ShLib\n");
+    check_end(
+        &rt,
+        alloc,
+        &bytes,
+        "\n0 Ok(ShLib) ! Shouldn't use ShLib\nhash: none\n",
+    );
     let bytes = with_program(program_32::TYPE, 8);
     check_end(
         &rt,
         alloc,
         &bytes,
-        "\n0 Err(\"Invalid type\") ! Invalid type\n",
+        "\n0 Err(\"Invalid type\") ! Invalid type\nhash: none\n",
     );
     let mut bytes = with_program(program_32::ALIGN, 4);
     set(&mut bytes, 52, program_32::VIRTUAL_ADDR, 1, LITTLE);
-    let want = "\n0 Ok(Load) ! Invalid combination of virtual_addr, offset, and align\n";
+    let want =
+        "\n0 Ok(Load) ! Invalid combination of virtual_addr, offset, and align\nhash: none\n";
     check_end(&rt, alloc, &bytes, want);
     set(&mut bytes, 52, program_32::VIRTUAL_ADDR, 8, LITTLE);
-    check_end(&rt, alloc, &bytes, "\n0 Ok(Load) ok\n");
+    check_end(&rt, alloc, &bytes, "\n0 Ok(Load) ok\nhash: none\n");
     Ok(())
 }
 
@@ -361,6 +367,7 @@ sections
 program headers
 0 Ok(Null) ok
 1 Ok(Null) ! Invalid combination of virtual_addr, offset, and align
+hash: none
 ";
     check_end(&rt, rt.alloc(), &overlaid_file(), want);
 }

@@ -265,6 +265,7 @@ sections
 program headers
 0 Ok(Null) ok
 1 Ok(Null) ! Invalid combination of virtual_addr, offset, and align
+hash: none
 ";
         check_end(&rt, rt.alloc(), &bytes, want);
         set(&mut bytes, 52, section_32::INFO, 0xffff_ffff, order);
@@ -449,19 +450,20 @@ fn finds_a_section_among_many(rt: HostRuntime) -> Result<(), Fail> {
     Ok(())
 }
 
-// 21 lines of the ELF header, the check, the two headings, the empty line, and a line for each section
-// but the first.
+// 21 lines of the ELF header, the check, the two headings, the empty line, a line for each section but
+// the first, and that of the hash table.
 #[test]
 fn reports_many_sections(rt: HostRuntime) -> Result<(), Fail> {
     let bytes = many_sections_file(rt.alloc())?;
     let mut text = Vec::new(rt.alloc());
     assert_eq!(rt; report(bytes.as_slice(), &mut text), Ok(()));
     let lines = text.iter().filter(|byte| **byte == b'\n').count();
-    assert_eq!(rt; lines, 25 + 69_999);
+    assert_eq!(rt; lines, 26 + 69_999);
     let want = "69998 Ok(Null) ! Attempt to get name of null section
 69999 Ok(ProgBits) = 
 
 program headers
+hash: none
 ";
     assert!(rt; text.as_slice().ends_with(want.as_bytes()));
     Ok(())

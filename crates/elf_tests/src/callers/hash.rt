@@ -1,0 +1,111 @@
+//! Callers that look symbols up by their names, as a model of a dynamic linker would.
+
+ghost use Rattle.std.specs.Prelude.{◌≡◌, ◌↔◌, ◌≤◌, ℕ, IfOk, IfSome, IsTrue, MatchOption, Some, slice_get, true};
+ghost use Rattle.elf_tests.specs.Linked.{AreLinked, IsFileValueOf};
+ghost use Rattle.xmas_elf.specs.FileHeader.{header_of};
+ghost use Rattle.xmas_elf.specs.Good.{IsGood};
+ghost use Rattle.xmas_elf.specs.HashTable.{chain_count_of};
+ghost use Rattle.xmas_elf.specs.Symbols.{IsGlobal, symbols_of};
+ghost use Rattle.xmas_elf.specs.Table.{table_data, table_order};
+ghost use Rattle.xmas_elf.specs.declared.ElfFile.{ElfFile};
+
+use xmas_elf::bytes::{Record, Table};
+use xmas_elf::hash::HashTable;
+use xmas_elf::sections::SectionData;
+use xmas_elf::symbol_table::{DynEntry64, Entry};
+use xmas_elf::{ElfError, ElfFile};
+
+/// Whether look-ups in a hash table find each symbol that they should: all chains come to an end, and
+/// each symbol that isn't local and has a name is on the chain of that name.
+pub fn finds_all<E: Entry + Record>(
+    table: &HashTable<'_>,
+    symbols: &Table<'_, E>,
+    file: &ElfFile<'_>,
+) -> bool
+    ensures { IsTrue result ↔ IsGood table.now (symbols_of E.fields E.text_in symbols.now file.now) }
+{
+    table.check(symbols, file).is_ok()
+}
+
+/// The symbol with this name, by a table that passes the check: a symbol that bears it, or none where
+/// no symbol does but local ones.
+pub fn symbol_with_name<E: Entry + Record>(
+    table: &HashTable<'_>,
+    name: &str,
+    symbols: &Table<'_, E>,
+    file: &ElfFile<'_>,
+) -> Option<(u32, E)>
+    requires good { IsGood table.now (symbols_of E.fields E.text_in symbols.now file.now) }
+    ensures { let all = symbols_of E.fields E.text_in symbols.now file.now in MatchOption result
+        ((i : ℕ) (e : E) → ¬ IsGlobal all i e name.now)
+        (λ found. (slice_get all.items found.0 ≡ Some found.1) × (all.text found.1 ≡ Some name.now)) }
+{
+    match table.lookup(
+        name,
+        symbols,
+        file,
+        |_| -> bool
+            ensures { result ≡ true }
+        { true },
+    ) {
+        Ok(Some(found)) => Some(found),
+        Ok(None) => None,
+        Err(_) => unreachable!(),
+    }
+}
+
+/// How many symbols a look-up compares with the name, of which there are never more than chains.
+pub fn comparisons<E: Entry + Record>(
+    table: &HashTable<'_>,
+    name: &str,
+    symbols: &Table<'_, E>,
+    file: &ElfFile<'_>,
+) -> u32
+    ensures { result ≤ chain_count_of table.now }
+{
+    table.lookup_counted(name, symbols, file, |_| true).1
+}
+
+/// The hash table of a file of class 64 for the dynamic linker, and the symbols that it is linked to.
+pub fn linked_tables<'a>(file: &ElfFile<'a>) -> Option<(HashTable<'a>, Table<'a, DynEntry64>)>
+    ensures { IfSome result (λ tables.
+        AreLinked file.now tables.0 (table_order tables.1) (table_data tables.1)) }
+{
+    let section = file.find_section_by_name(".hash")?;
+    let Ok(SectionData::HashTable(table)) = section.get_data(file) else {
+        return None;
+    };
+    let link = file.section_header_at(u64::from(section.link())).ok()?;
+    match link.get_data(file) {
+        Ok(SectionData::DynSymbolTable64(symbols)) => Some((table, symbols)),
+        _ => None,
+    }
+}
+
+/// The value of the symbol with this name in some file, as a dynamic linker finds it: by the hash table
+/// and the symbols that it is linked to, once the check has passed. None where there is no such symbol,
+/// and a refusal where the file has no such tables or they don't pass.
+pub fn value_of_name(file: &ElfFile<'_>, name: &str) -> Result<Option<u64>, ElfError>
+    ensures { IfOk result (IsFileValueOf file.now name.now) }
+{
+    let Some((table, symbols)) = linked_tables(file) else {
+        return Err(ElfError::ShortData);
+    };
+    match table.check(&symbols, file) {
+        Ok(()) => match symbol_with_name(&table, name, &symbols, file) {
+            Some((_index, symbol)) => Ok(Some(symbol.value())),
+            None => Ok(None),
+        },
+        Err(error) => Err(error),
+    }
+}
+
+/// The same, from the bytes of the file.
+pub fn value_in_bytes(input: &[u8], name: &str) -> Result<Option<u64>, ElfError>
+    ensures { IfOk result (λ found. IfOk (header_of input.now) (λ header.
+        let file : ElfFile = record { input = input.entry; header = header } in
+        IsFileValueOf file name.now found)) }
+{
+    let file = ElfFile::new(input)?;
+    value_of_name(&file, name)
+}

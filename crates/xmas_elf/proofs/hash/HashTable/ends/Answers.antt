@@ -1,0 +1,12 @@
+use Rattle.std.proofs.Common.{Some, Err, sym, ◌∙◌, subst}
+use Rattle.elf_base.specs.Table.{table_items}
+use Rattle.xmas_elf.specs.Chain.{LooksFrom, bad_bucket, chains_of}
+use Rattle.xmas_elf.specs.Good.{Nothing}
+use Rattle.xmas_elf.proofs.hash.HashTable.ends.Goals as goal
+
+pub returns-in-Err : goal.returns-in-Err
+returns-in-Err g c = (
+  0,
+  subst (λ b. LooksFrom Nothing (chains_of c.args.self.now (table_items c.args.symbols.now)) (Some b) (Err c.in-Err.error) 0)
+      (sym c.in-Err.is ∙ c.get_bucket.ensures.exact) (bad_bucket c.in-Err.error),
+)

@@ -1,0 +1,18 @@
+use Rattle.std.proofs.Common.{◌≤◌, ◌-◌}
+use Rattle.elf_base.specs.Table.{table_items}
+use Rattle.xmas_elf.specs.Chain.{Reaches, chains_of}
+use Rattle.xmas_elf.specs.Good.{Nothing}
+use Rattle.xmas_elf.proofs.ChainPaths.{Walked}
+use Rattle.xmas_elf.proofs.hash.HashTable.meets.Given as goal
+
+abbrev pub invariant-loop-index : goal.invariant-loop-index
+invariant-loop-index g l =
+    let chains = chains_of l.self (table_items l.symbols) in
+    record {
+      in_chains : l.count ≤ l.chain_count;
+      walked : Walked Nothing chains l.first l.index l.count;
+      ahead : Reaches Nothing chains l.first l.target → Reaches Nothing chains l.index l.target;
+    }
+
+abbrev pub decreases-loop-index : goal.decreases-loop-index
+decreases-loop-index g l = l.chain_count - l.count

@@ -1,0 +1,70 @@
+-- The chains of a hash table: where a walk along one stops, what it goes on to, and what it reaches
+-- (gABI, "Hash Table"; how a walk is refused is this project's own).
+use Rattle.std.specs.Prelude.{◌≡◌, ◌<◌, ◌≤◌, ℕ, List, [], ◌∷◌, Option, Some, None, Result, Ok, Err, Bool, nat_lt, ◌&&◌, count_by, slice_get, length}
+use Rattle.elf_base.specs.declared.error.ElfError.{ElfError}
+use Rattle.elf_base.specs.declared.error.ElfError.TheVariants.{ChainIndex, HashCycle, SymbolIndex}
+use Rattle.xmas_elf.specs.HashTable.{chain_count_of, chain_of, start_of}
+use Rattle.xmas_elf.specs.declared.hash.HashTable.{HashTable}
+
+-- what a walk reads: how many chains there are, each chain or why it can't be read, the symbols
+pub record Chains (E : Type 0) : Type 0 where
+  pub count : ℕ
+  pub chain : ℕ → Result ℕ ElfError
+  pub symbols : List E
+
+-- the chains of a hash table, with the symbols that it is for
+abbrev pub chains_of : {E : Type 0} → HashTable → List E → Chains E
+chains_of table symbols =
+    record { count = chain_count_of table; chain = chain_of table; symbols = symbols }
+
+-- index i is not the end (STN_UNDEF), it is below the number of chains, and symbol e stands there
+pub record StandsAt {E : Type 0} (chains : Chains E) (i : ℕ) (e : E) : Type 0 where
+  pub not_end : 0 < i
+  pub below : i < chains.count
+  pub symbol : slice_get chains.symbols i ≡ Some e
+
+-- a walk that looks for P stops at an index with an answer
+pub data Stops {E : Type 0} (P : E → Type 0) (chains : Chains E) : ℕ → Result (Option (ℕ × E)) ElfError → Type 0 where
+  at_end : Stops P chains 0 (Ok None)
+  past_chains : (i : ℕ) → 0 < i → chains.count ≤ i → Stops P chains i (Err ChainIndex)
+  past_symbols : (i : ℕ) → 0 < i → i < chains.count → slice_get chains.symbols i ≡ None
+      → Stops P chains i (Err SymbolIndex)
+  found : (i : ℕ) (e : E) → StandsAt chains i e → P e → Stops P chains i (Ok (Some (i, e)))
+  refused : (i : ℕ) (e : E) (error : ElfError) → StandsAt chains i e → (P e → ⊥)
+      → chains.chain i ≡ Err error → Stops P chains i (Err error)
+
+-- a walk that looks for P goes on from i to j
+pub record Links {E : Type 0} (P : E → Type 0) (chains : Chains E) (i j : ℕ) : Type 0 where
+  pub entry : E
+  pub stands : StandsAt chains i entry
+  pub misses : P entry → ⊥
+  pub next : chains.chain i ≡ Ok j
+
+-- the list begins with the first index and ends with the last, and each member links to the next
+pub data Path {E : Type 0} (P : E → Type 0) (chains : Chains E) : ℕ → List ℕ → ℕ → Type 0 where
+  here : (i : ℕ) → Path P chains i (i ∷ []) i
+  step : (i j k : ℕ) (is : List ℕ) → Links P chains i j → Path P chains j is k → Path P chains i (i ∷ is) k
+
+-- a walk that looks for P comes from one index to the other
+abbrev pub Reaches : {E : Type 0} → (E → Type 0) → Chains E → ℕ → ℕ → Type 0
+Reaches P chains first last = (is : List ℕ) × Path P chains first is last
+
+-- a symbol is compared at an index
+abbrev pub is_compared : {E : Type 0} → Chains E → ℕ → Bool
+is_compared chains i = nat_lt 0 i && nat_lt i chains.count && nat_lt i (length chains.symbols)
+
+-- the answer of a walk that begins at a bucket, and how many symbols it compares: that of the stop
+-- that it reaches, or HashCycle where it reaches none
+pub data LooksFrom {E : Type 0} (P : E → Type 0) (chains : Chains E) : Option (Result ℕ ElfError) → Result (Option (ℕ × E)) ElfError → ℕ → Type 0 where
+  no_bucket : LooksFrom P chains None (Ok None) 0
+  bad_bucket : (error : ElfError) → LooksFrom P chains (Some (Err error)) (Err error) 0
+  reaches : (first last : ℕ) (is : List ℕ) (answer : Result (Option (ℕ × E)) ElfError)
+      → Path P chains first is last → Stops P chains last answer
+      → LooksFrom P chains (Some (Ok first)) answer (count_by (is_compared chains) is)
+  endless : (first n : ℕ)
+      → ((last : ℕ) (answer : Result (Option (ℕ × E)) ElfError) → Reaches P chains first last → Stops P chains last answer → ⊥)
+      → LooksFrom P chains (Some (Ok first)) (Err HashCycle) n
+
+-- the answer of a look-up for P, which begins at the bucket of the name
+abbrev pub Looks : {E : Type 0} → (E → Type 0) → HashTable → List E → List ℕ → Result (Option (ℕ × E)) ElfError → ℕ → Type 0
+Looks P table symbols name = LooksFrom P (chains_of table symbols) (start_of table name)

@@ -1,0 +1,59 @@
+-- Hash tables whose chains end and hold every symbol that a search must find (this project's own, by
+-- the gABI's "Hash Table").
+use Rattle.std.specs.Prelude.{◌≡◌, ◌<◌, ℕ, List, Option, Some, Result, Ok, Err, slice_get, MatchResult, MatchOption}
+use Rattle.elf_base.specs.declared.error.ElfError.{ElfError}
+use Rattle.elf_base.specs.declared.error.ElfError.TheVariants.{HashMissing}
+use Rattle.xmas_elf.specs.Chain.{LooksFrom, Reaches, chains_of}
+use Rattle.xmas_elf.specs.HashTable.{bucket_count_of, bucket_of, start_of}
+use Rattle.xmas_elf.specs.Symbols.{IsGlobal, Symbols}
+use Rattle.xmas_elf.specs.declared.hash.HashTable.{HashTable}
+
+-- what a walk looks for that goes along the whole chain
+abbrev pub Nothing : {E : Type 0} → E → Type 0
+Nothing e = ⊥
+
+-- the chain of bucket k comes to its end
+abbrev pub Ends : {E : Type 0} → HashTable → List E → ℕ → Type 0
+Ends table symbols k =
+    (first : ℕ) × (bucket_of table k ≡ Ok first) × Reaches Nothing (chains_of table symbols) first 0
+
+-- the chains of all buckets below n do
+abbrev pub EndsBelow : {E : Type 0} → HashTable → List E → ℕ → Type 0
+EndsBelow table symbols n = (k : ℕ) → k < n → Ends table symbols k
+
+-- index i is on the chain of the bucket of the name
+abbrev pub IsReached : {E : Type 0} → HashTable → List E → List ℕ → ℕ → Type 0
+IsReached table symbols name i = (first : ℕ)
+    × (start_of table name ≡ Some (Ok first)) × Reaches Nothing (chains_of table symbols) first i
+
+-- each chain ends, and each symbol that is not local and has a name is on the chain of that name
+pub record IsGood {E : Type 0} (table : HashTable) (symbols : Symbols E) : Type 0 where
+  pub ends : EndsBelow table symbols.items (bucket_count_of table)
+  pub holds : (i : ℕ) (e : E) (name : List ℕ) → IsGlobal symbols i e name
+      → IsReached table symbols.items name i
+
+-- bucket k is at fault: it can't be read, or its chain doesn't end, and this is why
+abbrev pub IsAtFault : {E : Type 0} → HashTable → List E → ℕ → ElfError → Type 0
+IsAtFault {E} table symbols k error = (n : ℕ)
+    × LooksFrom (Nothing {E = E}) (chains_of table symbols) (Some (bucket_of table k)) (Err error) n
+
+-- the answer of the check: why the least bucket at fault is; or else whether a symbol is missing
+pub data IsCheck {E : Type 0} (table : HashTable) (symbols : Symbols E) : Result (Unit {0}) ElfError → Type 0 where
+  good : IsGood table symbols → IsCheck table symbols (Ok tt)
+  faulty : (k : ℕ) (error : ElfError) → k < bucket_count_of table → EndsBelow table symbols.items k
+      → IsAtFault table symbols.items k error → IsCheck table symbols (Err error)
+  missing : (i : ℕ) (e : E) (name : List ℕ) → EndsBelow table symbols.items (bucket_count_of table)
+      → IsGlobal symbols i e name → ¬ IsReached table symbols.items name i
+      → IsCheck table symbols (Err HashMissing)
+
+-- a search of all symbols for the name and P finds one
+abbrev pub MustBeFound : {E : Type 0} → Symbols E → List ℕ → (E → Type 0) → Type 0
+MustBeFound {E} symbols name P = (i : ℕ) × (e : E) × IsGlobal symbols i e name × P e
+
+-- no refusal: what is found stands among the symbols and has P, and where nothing is found such a
+-- search finds nothing either
+abbrev pub FindsAll : {E : Type 0} → Symbols E → List ℕ → (E → Type 0) → Result (Option (ℕ × E)) ElfError → Type 0
+FindsAll {E} symbols name P answer = MatchResult answer
+    (λ found. MatchOption found (¬ MustBeFound symbols name P)
+    (λ (p : ℕ × E). (0 < p.0) × (slice_get symbols.items p.0 ≡ Some p.1) × P p.1))
+    (λ error. ⊥)

@@ -1,0 +1,168 @@
+//! Look-ups in hash tables (gABI, "Hash Table").
+
+ghost use Rattle.std.specs.Borrow.{Bor};
+ghost use Rattle.std.specs.Fn.{FnReturnsAt};
+ghost use Rattle.std.specs.Prelude.{◌≡◌, ◌≢◌, ◌≤◌, ◌↔◌, ℕ, Bool, true, false, Contains, IsTrue, List, Option, Result, Ok, Err, Some, length};
+ghost use Rattle.elf_base.specs.Table.{table_items};
+ghost use Rattle.xmas_elf.specs.Symbols.{Decides, IsMatch, symbols_of};
+
+use crate::bytes::{Record, Table};
+use crate::hash::{HashTable, hash};
+use crate::symbol_table::Entry;
+use crate::{ElfError, ElfFile};
+
+// Whether the symbol bears the name.
+#[inline(always)]
+fn bears<E: Entry>(entry: &E, name: &str, file: &ElfFile<'_>) -> bool
+    ensures { IsTrue result ↔ (E.text_in entry.now file.now ≡ Some name.now) }
+{
+    match entry.get_name(file) {
+        Ok(text) => text == name,
+        Err(_) => false,
+    }
+}
+
+// Whether the symbol bears the name and passes the test, which is put to those that bear it alone.
+#[inline(always)]
+fn passes<E: Entry, F: Fn(&E) -> bool>(entry: &E, name: &str, file: &ElfFile<'_>, f: &F) -> bool
+    requires { (e : Bor E) → e.now ≡ entry.now → F.pre f.now e }
+    ensures yes { IsTrue result → (E.text_in entry.now file.now ≡ Some name.now)
+        × FnReturnsAt F.Fn f.now entry.now true }
+    ensures no { result ≡ false
+        → (FnReturnsAt F.Fn f.now entry.now true → FnReturnsAt F.Fn f.now entry.now false → ⊥)
+        → (E.text_in entry.now file.now ≡ Some name.now) × FnReturnsAt F.Fn f.now entry.now true → ⊥ }
+{
+    bears(entry, name, file) && f(entry)
+}
+
+impl<'a> HashTable<'a> {
+    ghost use Rattle.xmas_elf.specs.Chain.{Looks, LooksFrom, chains_of};
+    ghost use Rattle.xmas_elf.specs.Good.{FindsAll, IsGood};
+    ghost use Rattle.xmas_elf.specs.HashTable.{chain_count_of, start_of};
+
+    /// The first symbol on the chain of a name that bears the name and passes the test, with its
+    /// index; `None` where the chain ends before one, or there are no buckets.
+    ///
+    /// Refused as the bucket of the name is by `get_bucket`; with `ChainIndex` or `SymbolIndex` where
+    /// the chain leads to an index from `chain_count` or from `symbols.len()` on; as `get_chain` is
+    /// where the chain can't be followed; and with `HashCycle` where it never comes to an end. It is
+    /// never refused, and misses no symbol, where `check` is Ok with the same symbols and file.
+    ///
+    /// What is promised of the answer holds for a test with one answer for each symbol. A closure
+    /// says its answer by a clause, as `|_| -> bool ensures { result ≡ true } { true }`.
+    pub fn lookup<E: Entry + Record, F: Fn(&E) -> bool>(
+        &self,
+        name: &str,
+        symbols: &Table<'_, E>,
+        file: &ElfFile<'_>,
+        f: F,
+    ) -> Result<Option<(u32, E)>, ElfError>
+        requires callable { (e : Bor E) → Contains (table_items symbols.now) e.now → F.pre f e }
+        ensures answer { let all = symbols_of E.fields E.text_in symbols.now file.now in
+            Decides all F.Fn f → (count : ℕ)
+            × Looks (IsMatch all F.Fn f name.now) self.now all.items name.now result count }
+        ensures only { let all = symbols_of E.fields E.text_in symbols.now file.now in
+            Decides all F.Fn f → (other : Result (Option (ℕ × E)) ElfError) (count : ℕ)
+            → Looks (IsMatch all F.Fn f name.now) self.now all.items name.now other count
+            → other ≡ result }
+        ensures good { let all = symbols_of E.fields E.text_in symbols.now file.now in
+            Decides all F.Fn f → IsGood self.now all
+            → FindsAll all name.now (IsMatch all F.Fn f name.now) result }
+    {
+        self.lookup_counted(name, symbols, file, f).0
+    }
+
+    /// The answer of `lookup`, and how many symbols were compared with the name: exact where the
+    /// answer isn't `HashCycle`, and never more than there are chains or symbols.
+    pub fn lookup_counted<E: Entry + Record, F: Fn(&E) -> bool>(
+        &self,
+        name: &str,
+        symbols: &Table<'_, E>,
+        file: &ElfFile<'_>,
+        f: F,
+    ) -> (Result<Option<(u32, E)>, ElfError>, u32)
+        requires callable { (e : Bor E) → Contains (table_items symbols.now) e.now → F.pre f e }
+        ensures in_chains { result.1 ≤ chain_count_of self.now }
+        ensures in_symbols { result.1 ≤ length (table_items symbols.now) }
+        ensures answer { let all = symbols_of E.fields E.text_in symbols.now file.now in
+            Decides all F.Fn f
+            → Looks (IsMatch all F.Fn f name.now) self.now all.items name.now result.0 result.1 }
+        ensures only { let all = symbols_of E.fields E.text_in symbols.now file.now in
+            Decides all F.Fn f → (other : Result (Option (ℕ × E)) ElfError) (count : ℕ)
+            → Looks (IsMatch all F.Fn f name.now) self.now all.items name.now other count
+            → (other ≡ result.0) × (other ≢ Err ElfError.HashCycle → count ≡ result.1) }
+        ensures good { let all = symbols_of E.fields E.text_in symbols.now file.now in
+            Decides all F.Fn f → IsGood self.now all
+            → FindsAll all name.now (IsMatch all F.Fn f name.now) result.0 }
+    {
+        self.search(name, symbols, file, &f)
+    }
+
+    // The look-up by a test that is lent: the walk from the bucket of the name on.
+    fn search<E: Entry + Record, F: Fn(&E) -> bool>(
+        &self,
+        name: &str,
+        symbols: &Table<'_, E>,
+        file: &ElfFile<'_>,
+        f: &F,
+    ) -> (Result<Option<(u32, E)>, ElfError>, u32)
+        requires { (e : Bor E) → Contains (table_items symbols.now) e.now → F.pre f.now e }
+        ensures in_chains { result.1 ≤ chain_count_of self.now }
+        ensures in_symbols { result.1 ≤ length (table_items symbols.now) }
+        ensures answer { let all = symbols_of E.fields E.text_in symbols.now file.now in
+            Decides all F.Fn f.now
+            → Looks (IsMatch all F.Fn f.now name.now) self.now all.items name.now result.0 result.1 }
+    {
+        let bucket_count = self.bucket_count();
+        if bucket_count == 0 {
+            return (Ok(None), 0);
+        }
+        match self.get_bucket(hash(name) % bucket_count) {
+            Ok(first) => self.walk(first, name, symbols, file, f),
+            Err(error) => (Err(error), 0),
+        }
+    }
+
+    // The walk from an index on.
+    fn walk<E: Entry + Record, F: Fn(&E) -> bool>(
+        &self,
+        first: u32,
+        name: &str,
+        symbols: &Table<'_, E>,
+        file: &ElfFile<'_>,
+        f: &F,
+    ) -> (Result<Option<(u32, E)>, ElfError>, u32)
+        requires { (e : Bor E) → Contains (table_items symbols.now) e.now → F.pre f.now e }
+        ensures in_chains { result.1 ≤ chain_count_of self.now }
+        ensures in_symbols { result.1 ≤ length (table_items symbols.now) }
+        ensures answer { let all = symbols_of E.fields E.text_in symbols.now file.now in
+            Decides all F.Fn f.now
+            → LooksFrom (IsMatch all F.Fn f.now name.now) (chains_of self.now all.items)
+            (Some (Ok first)) result.0 result.1 }
+    {
+        let chain_count = self.chain_count();
+        let symbol_count = symbols.len();
+        let mut index = first;
+        let mut count: u32 = 0;
+        while index != 0 {
+            if index >= chain_count {
+                return (Err(ElfError::ChainIndex), count);
+            }
+            let Some(entry) = symbols.get(index as usize) else {
+                return (Err(ElfError::SymbolIndex), count);
+            };
+            if count >= chain_count || count as usize >= symbol_count {
+                return (Err(ElfError::HashCycle), count);
+            }
+            count += 1;
+            if passes(&entry, name, file, f) {
+                return (Ok(Some((index, entry))), count);
+            }
+            index = match self.get_chain(index) {
+                Ok(next) => next,
+                Err(error) => return (Err(error), count),
+            };
+        }
+        (Ok(None), count)
+    }
+}

@@ -1,0 +1,70 @@
+//! What the report says of the hash table of a file.
+
+ghost use Rattle.std.specs.Prelude.{◌≡◌, MatchOption, length};
+ghost use Rattle.xmas_elf.specs.HashReport.{IsFirstHash, IsHashVerdict, IsLinkedVerdict, NoHash, content_at};
+ghost use Rattle.xmas_elf.specs.SectionList.{section_list};
+
+use crate::hash::HashTable;
+use crate::sections::{SectionData, SectionHeader, ShType};
+use crate::{ElfError, ElfFile};
+
+/// What is found of the hash table of a file.
+#[derive(Clone, Copy)]
+pub enum HashVerdict {
+    /// It has none.
+    NoTable,
+    /// Its link leads to no symbols.
+    NoSymbols,
+    /// The answer of its check, or why its data is refused.
+    Checked(Result<(), ElfError>),
+}
+
+/// What is found of the first hash table of a file, and the symbols that it is linked to.
+pub fn hash_verdict(file: &ElfFile<'_>) -> HashVerdict
+    ensures { IsHashVerdict file.now result }
+{
+    let Some(section) = hash_section(file) else {
+        return HashVerdict::NoTable;
+    };
+    let found = match section.get_data(file) {
+        Ok(found) => found,
+        Err(error) => return HashVerdict::Checked(Err(error)),
+    };
+    match found {
+        SectionData::HashTable(table) => linked_verdict(file, &table, section.link()),
+        _ => unreachable!(),
+    }
+}
+
+// The first section of type Hash.
+fn hash_section(file: &ElfFile<'_>) -> Option<SectionHeader>
+    ensures { MatchOption result
+        (NoHash file.now (length (section_list file.now))) (IsFirstHash file.now) }
+{
+    file.section_iter()
+        .find(|section| matches!(section.get_type(), Ok(ShType::Hash)))
+}
+
+// What is found of a hash table whose symbols are in the section with this index.
+fn linked_verdict(file: &ElfFile<'_>, table: &HashTable<'_>, link: u32) -> HashVerdict
+    ensures { IsLinkedVerdict file.now table.now (content_at file.now link) result }
+{
+    let Ok(section) = file.section_header_at(u64::from(link)) else {
+        return HashVerdict::NoSymbols;
+    };
+    match section.get_data(file) {
+        Ok(SectionData::SymbolTable32(symbols)) => HashVerdict::Checked(table.check(
+            &symbols, file,
+        )),
+        Ok(SectionData::SymbolTable64(symbols)) => HashVerdict::Checked(table.check(
+            &symbols, file,
+        )),
+        Ok(SectionData::DynSymbolTable32(symbols)) => {
+            HashVerdict::Checked(table.check(&symbols, file))
+        }
+        Ok(SectionData::DynSymbolTable64(symbols)) => {
+            HashVerdict::Checked(table.check(&symbols, file))
+        }
+        _ => HashVerdict::NoSymbols,
+    }
+}
