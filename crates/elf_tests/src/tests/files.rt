@@ -3,7 +3,7 @@
 ghost use Rattle.std.specs.Prelude.{◌≤◌};
 
 use crate::tests::places::{
-    Place, WORD, header_32, header_64, program_32, put, section_32, section_64, set, symbol_32,
+    WORD, header_32, header_64, program_32, put, section_32, section_64, set, symbol_32,
 };
 use std::alloc::{AllocError, Global};
 use xmas_elf::ElfFile;
@@ -11,9 +11,6 @@ use xmas_elf::bytes::Order;
 use xmas_elf::header::{Class_, Header};
 
 const LITTLE: Order = Order::Little;
-
-/// A word of four bytes.
-pub const WORD: Place = Place(0, 4);
 
 /// The first seven bytes of a header of this class, and zeros, in room for the longest header.
 pub fn plain_header(class: u8) -> [u8; 64] {
