@@ -105,8 +105,7 @@ fn main(rt: HostRuntime) -> ExitCode {
     ExitCode::from(status)
 }
 
-// The status; it is refused where the arguments can't be read: for want of memory, or since one is not
-// UTF-8.
+// The status, or why the arguments can't be read: for want of memory, or since one is not UTF-8.
 fn run_on_arguments(rt: &HostRuntime) -> io::Result<u8> {
     let mut arguments = env::args(rt)?;
     let _program = arguments.next();

@@ -84,8 +84,8 @@ impl Read for FailingReader {
     }
 }
 
-// Holds up to 2048 bytes without an allocator, passes some calls and fails the next. After that it fails
-// each call, or works again.
+// Holds up to 2048 bytes without an allocator, passes some calls and fails the next. After that it
+// fails each call, or works again.
 #[derive(Drop)]
 struct ShortWriter {
     held: [u8; 2048],

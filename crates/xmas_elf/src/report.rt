@@ -211,9 +211,9 @@ impl Display for FileReport<'_, '_> {
 /// Writes the report of the file that these bytes are.
 ///
 /// `Elf` where `ElfFile::new` refuses the bytes, and `Write` where the writer failed; how much was
-/// written then is left open. What was written is known of a writer that tells its bytes, as one over
-/// memory does. A call of the writer that was interrupted is made again, and one that takes no byte of
-/// some has failed, as std's `write_all` has it.
+/// written then is left open. What was written is known of a writer that tells its bytes, as one
+/// over memory does. A call that was interrupted is made again, and one that takes no byte of some
+/// has failed, as std's `write_all` has it.
 pub fn report<W: io::Write>(input: &[u8], w: &mut W) -> Result<(), ReportFault>
     ensures written { OnOk result (WritesReport input.entry (W.contents w.old) (W.contents w.new)) }
     ensures refused { RefusesExactly input.now result }
