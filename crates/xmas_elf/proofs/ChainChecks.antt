@@ -1,5 +1,5 @@
 -- What passes the check of a hash table, and what doesn't.
-use Rattle.std.proofs.Common.{◌≡◌, ◌≢◌, ◌<◌, ◌+◌, ◌/◌, ℕ, ◌⊎◌, inl, inr, List, Option, Some, None, Result, Ok, Err, slice_get, refl, ap, subst, below_more}
+use Rattle.std.proofs.Common.{◌≡◌, ◌≢◌, ◌<◌, ◌+◌, ◌/◌, ℕ, ◌⊎◌, inl, inr, List, Some, None, Result, Ok, Err, slice_get, refl, ap, subst, below_more}
 use Rattle.std.proofs.lemmas.Bool.{cases_order}
 use Rattle.std.specs.Prelude.{IsOk}
 use Rattle.elf_base.specs.declared.error.ElfError.{ElfError}

@@ -1,9 +1,8 @@
 -- What the report says of the hash table of a file (this project's own; gABI, "Section Header", sh_link
 -- of a section of type SHT_HASH, says which section holds the symbols).
-use Rattle.std.specs.Prelude.{◌≡◌, ◌≢◌, ℕ, ◌<◌, List, ◌++◌, length, codes, Result, Ok, Err}
+use Rattle.std.specs.Prelude.{◌≡◌, ◌≢◌, ℕ, ◌<◌, List, length, Result, Ok, Err}
 use Rattle.std.specs.List.{AllWithin, HoldsAt}
 use Rattle.std.specs.Result.{result_ok}
-use Rattle.elf_base.specs.Message.{message_of}
 use Rattle.elf_base.specs.Refusal.{and_then}
 use Rattle.elf_base.specs.Table.{records}
 use Rattle.elf_base.specs.declared.bytes.Order.{Order}
