@@ -1,6 +1,7 @@
 -- The section with a name, in the list and by its index.
-use Rattle.std.proofs.Common.{◌≡◌, ◌≢◌, ℕ, ◌<◌, ◌≤◌, nat_lt, Bool, true, false, Result, Err, drop, List, [], ◌∷◌, refl, length, Ok, Option, None, Some, IfSome, IfNone, MatchOption, ap, sym, subst, ◌∙◌, arith}
+use Rattle.std.proofs.Common.{◌≡◌, ◌≢◌, ℕ, ◌<◌, ◌≤◌, nat_lt, Bool, true, false, Result, Err, drop, List, [], ◌∷◌, refl, length, Ok, Option, None, Some, IfSome, IfNone, MatchOption, slice_index_or, ap, sym, subst, ◌∙◌, arith}
 use Rattle.std.proofs.lemmas.Bool.{le-ltb, ltb-false, ltb-true}
+use Rattle.std.specs.Result.{result_ok}
 use Rattle.elf_base.specs.Refusal.{and_then, unless}
 use Rattle.elf_base.specs.Text.{IsText}
 use Rattle.elf_base.specs.declared.error.ElfError.{ElfError}
@@ -9,14 +10,14 @@ use Rattle.elf_records.specs.declared.sections.ShType.{ShType}
 use Rattle.elf_records.specs.declared.sections.ShType.TheVariants.{Null}
 use Rattle.xmas_elf.specs.Counts.{section_count_of}
 use Rattle.xmas_elf.specs.HeaderTable.{EachBelow, IsLongest}
-use Rattle.xmas_elf.specs.NameTable.{Bears, IsFirstInList, IsFirstNamed, IsNameTable, NoneBears, name_table_of, names_section_of}
+use Rattle.xmas_elf.specs.NameTable.{Bears, IsFirstInList, IsFirstNamed, IsFirstPlace, IsNameTable, NoneBears, name_table_of, names_section_of}
 use Rattle.xmas_elf.specs.SectionHeader.{section_fields, section_of, section_type}
 use Rattle.xmas_elf.specs.SectionList.{section_list}
 use Rattle.xmas_elf.specs.declared.ElfFile.{ElfFile}
 use Rattle.xmas_elf.specs.declared.sections.section_header.SectionHeader.{SectionHeader}
 use Rattle.xmas_elf.proofs.HeaderLists.{header_list-longest}
 use Rattle.xmas_elf.proofs.SectionLists.{section_in_list}
-use Rattle.xmas_elf.proofs.lemmas.HeaderList.{sections_within}
+use Rattle.xmas_elf.proofs.lemmas.HeaderList.{first_item, sections_within}
 
 -- an answer that isn't refused for its place
 not_short : (short : Bool) (table t : List ℕ) → unless ((short, ShortSectionOffset) ∷ []) table ≡ Ok t → (short ≡ false) × (t ≡ table)
@@ -119,3 +120,14 @@ only_named file name None found index section first =
 only_named file name (Some other) found index section first =
     let (i, is) = first_named file name other found in
     ap Some (one_first file name i index other section (nat_lt i index) (nat_lt index i) refl refl is first)
+
+-- the section header at the first place in the list is the first of the list
+pub named_at : (file : ElfFile) (name : List ℕ) (i : ℕ) (r : Result SectionHeader ElfError) → section_of file i ≡ r → IsFirstPlace file name i → MatchOption (result_ok r) (NoneBears file name (length (section_list file))) (IsFirstInList file name)
+named_at file name i (Ok section) is (below, holds, none) =
+    let longest = header_list-longest (section_of file) (section_count_of file) in
+    let item : (d : SectionHeader) → slice_index_or (section_list file) i d ≡ section = λ d. let at = longest.each i below d in cc in
+    (subst (λ s. Bears file s name) (item section) (holds section), (i, below, item, none))
+named_at file name i (Err error) is (below, holds, none) =
+    let longest = header_list-longest (section_of file) (section_count_of file) in
+    let at = longest.each i below (first_item (section_list file) i below) in
+    cc

@@ -75,6 +75,11 @@ pub record IsFirstNamed (file : ElfFile) (name : List ℕ) (index : ℕ) (sectio
 abbrev pub NoneBears : ElfFile → List ℕ → ℕ → Type 0
 NoneBears file name high = AllWithin (λ section. ¬ Bears file section name) (section_list file) 0 high
 
+-- the section at place `i` of the list bears the name, and none before it does
+abbrev pub IsFirstPlace : ElfFile → List ℕ → ℕ → Type 0
+IsFirstPlace file name i = (i < length (section_list file))
+    × HoldsAt (λ section. Bears file section name) (section_list file) i × NoneBears file name i
+
 -- the section stands in the list and bears the name, and none before it does
 abbrev pub IsFirstInList : ElfFile → List ℕ → SectionHeader → Type 0
 IsFirstInList file name section = Bears file section name

@@ -10,7 +10,7 @@ ghost use Rattle.elf_base.specs.FileHeader.{IsAccepted, file_header, header_of};
 ghost use Rattle.elf_base.specs.Lent.{Answers, Lends, LendsOnly};
 ghost use Rattle.xmas_elf.specs.Counts.{first_section, program_count_of, section_count_of, shstr_index_of};
 ghost use Rattle.xmas_elf.specs.HeaderTable.{EachBelow, IsLongest};
-ghost use Rattle.xmas_elf.specs.NameTable.{Bears, IsFirstInList, IsFirstNamed, IsNameAt, IsNameTable, NameCompared, NoneBears, name_table_of, names_section_of, section_named, shstr_of};
+ghost use Rattle.xmas_elf.specs.NameTable.{Bears, IsFirstInList, IsFirstNamed, IsFirstPlace, IsNameAt, IsNameTable, NameCompared, NoneBears, name_table_of, names_section_of, section_named, shstr_of};
 ghost use Rattle.xmas_elf.specs.ProgramHeader.{HasProgramHeader, HasSegment, program_at, program_header_of, segment_of};
 ghost use Rattle.xmas_elf.specs.ProgramList.{program_list, program_rest};
 ghost use Rattle.xmas_elf.specs.SectionHeader.{HasSectionEntry, HasSectionHeader, section_at, section_header_of, section_of};
@@ -281,17 +281,28 @@ impl<'a> ElfFile<'a> {
         self.first_named(name)
     }
 
-    // The first section of the list that bears this name; the name table is found once.
+    // The first section of the list that bears this name. It is read whole only once it is found.
     #[inline(always)]
     fn first_named(&self, name: &str) -> Option<SectionHeader>
         ensures { MatchOption result
             (NoneBears self.now name.now (length (section_list self.now)))
             (IsFirstInList self.now name.now) }
     {
+        let place = self.place_of_name(name)?;
+        self.section_header_at(place as u64).ok()
+    }
+
+    // The place of that section in the list; the name table is found once.
+    #[inline(always)]
+    fn place_of_name(&self, name: &str) -> Option<usize>
+        ensures { MatchOption result
+            (NoneBears self.now name.now (length (section_list self.now)))
+            (IsFirstPlace self.now name.now) }
+    {
         let Ok(names) = self.name_table() else {
             return None;
         };
         self.section_iter()
-            .find(|section| section.bears(names, name))
+            .position(|section| section.bears(names, name))
     }
 }

@@ -16,7 +16,7 @@ use Rattle.xmas_elf.specs.declared.sections.section_header.SectionHeader.{Sectio
 use Rattle.xmas_elf.proofs.HeaderLists.{header_list-longest}
 
 -- some item of a list that isn't empty
-first_item : {H : Type 0} (items : List H) (i : ℕ) → i < length items → H
+pub first_item : {H : Type 0} (items : List H) (i : ℕ) → i < length items → H
 first_item [] i below = absurd (omega arith)
 first_item (h ∷ others) i below = h
 
