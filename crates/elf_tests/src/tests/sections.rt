@@ -40,21 +40,16 @@ fn check_strtab_file(rt: &impl Abort, input: &[u8]) -> Result<(), ElfError> {
         .find_section_by_name(".strtab")
         .expect(rt, "the section");
     assert_eq!(rt; found.offset(), 132);
-    let found = [
-        file.get_shstr(0),
-        file.get_shstr(1),
-        file.get_shstr(9),
-        file.get_shstr(12),
-        file.get_shstr(13),
+    let names = [
+        (0, Ok("")),
+        (1, Ok(".strtab")),
+        (9, Ok("ab")),
+        (12, Err(ElfError::TextEnd)),
+        (13, Err(ElfError::TextStart)),
     ];
-    let wanted = [
-        Ok(""),
-        Ok(".strtab"),
-        Ok("ab"),
-        Err(ElfError::TextEnd),
-        Err(ElfError::TextStart),
-    ];
-    assert_eq!(rt; found, wanted);
+    for (index, name) in names {
+        assert_eq!(rt; file.get_shstr(index), name, "{index}");
+    }
     Ok(())
 }
 
