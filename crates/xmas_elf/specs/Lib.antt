@@ -52,6 +52,7 @@ pub mod Content
 pub mod SectionContent
 pub mod Strings
 pub mod NameTable
+pub mod NamedData
 pub mod StringTable
 pub mod SymbolSection
 pub mod SymbolText

@@ -6,18 +6,8 @@ use Rattle.elf_base.specs.Number.{number}
 use Rattle.elf_base.specs.Text.{IsText}
 use Rattle.elf_base.specs.declared.bytes.Order.{Order}
 use Rattle.elf_records.specs.Note.{rounded_up}
-use Rattle.xmas_elf.specs.NameTable.{IsFirstNamed}
-use Rattle.xmas_elf.specs.SectionData.{HasSectionData, IsSectionData}
+use Rattle.xmas_elf.specs.NamedData.{IsDataNamed}
 use Rattle.xmas_elf.specs.declared.ElfFile.{ElfFile}
-use Rattle.xmas_elf.specs.declared.sections.section_header.SectionHeader.{SectionHeader}
-
--- the bytes are the data of the first section with this name
-pub record IsNamedData (file : ElfFile) (name bytes : List ℕ) : Type 0 where
-  pub index : ℕ
-  pub section : SectionHeader
-  pub named : IsFirstNamed file name index section
-  pub has_data : HasSectionData file section
-  pub bytes_are : IsSectionData file section bytes
 
 -- where the checksum of a link stands: behind the text and its zero byte, at a multiple of four
 abbrev pub checksum_place : List ℕ → ℕ
@@ -32,7 +22,7 @@ pub record IsLink (order : Order) (bytes text : List ℕ) (checksum : ℕ) : Typ
 -- the link to debug information in a file: the name of another file, and the checksum of its bytes
 pub record IsDebugLink (file : ElfFile) (text : List ℕ) (checksum : ℕ) : Type 0 where
   pub bytes : List ℕ
-  pub is_data : IsNamedData file (codes ".gnu_debuglink") bytes
+  pub is_data : IsDataNamed file (codes ".gnu_debuglink") bytes
   pub is_link : IsLink (file_order file.header) bytes text checksum
 
 -- bytes are an alternate link: a text at their front, and all bytes behind its zero byte
@@ -43,5 +33,5 @@ pub record IsTextAndRest (bytes text rest : List ℕ) : Type 0 where
 -- the alternate link in a file, to what several files share: the name of that file, and its build id
 pub record IsAlternateLink (file : ElfFile) (text rest : List ℕ) : Type 0 where
   pub bytes : List ℕ
-  pub is_data : IsNamedData file (codes ".gnu_debugaltlink") bytes
+  pub is_data : IsDataNamed file (codes ".gnu_debugaltlink") bytes
   pub is_link : IsTextAndRest bytes text rest

@@ -9,29 +9,23 @@ use Rattle.elf_base.specs.declared.error.ElfError.{ElfError}
 use Rattle.elf_base.specs.declared.error.ElfError.TheVariants.{NoDynstr, NoStrtab, StrtabType}
 use Rattle.elf_records.specs.declared.sections.ShType.{ShType}
 use Rattle.elf_records.specs.declared.sections.ShType.TheVariants.{StrTab}
-use Rattle.xmas_elf.specs.NameTable.{IsFirstNamed, section_named}
-use Rattle.xmas_elf.specs.SectionData.{HasSectionData, IsSectionData, section_data_of}
+use Rattle.xmas_elf.specs.NameTable.{section_named}
+use Rattle.xmas_elf.specs.NamedData.{IsNamedData}
+use Rattle.xmas_elf.specs.SectionData.{section_data_of}
 use Rattle.xmas_elf.specs.SectionHeader.{section_type}
 use Rattle.xmas_elf.specs.declared.ElfFile.{ElfFile}
 use Rattle.xmas_elf.specs.declared.sections.section_header.SectionHeader.{SectionHeader}
-
--- `bytes` are the data of the section, which is the first that bears the name
-pub record IsDataNamed (file : ElfFile) (name : List ℕ) (section : SectionHeader) (bytes : List ℕ) : Type 0 where
-  pub index : ℕ
-  pub first : IsFirstNamed file name index section
-  pub there : HasSectionData file section
-  pub is_data : IsSectionData file section bytes
 
 -- `table` is the string table of symbols: the data of .strtab, whose type is StrTab
 pub record IsStrtab (file : ElfFile) (table : List ℕ) : Type 0 where
   pub section : SectionHeader
   pub typed : section_type section ≡ Ok StrTab
-  pub named : IsDataNamed file (codes ".strtab") section table
+  pub named : IsNamedData file (codes ".strtab") section table
 
 -- `table` is that of the symbols of the dynamic linker: the data of .dynstr, of whatever type
 pub record IsDynstr (file : ElfFile) (table : List ℕ) : Type 0 where
   pub section : SectionHeader
-  pub named : IsDataNamed file (codes ".dynstr") section table
+  pub named : IsNamedData file (codes ".dynstr") section table
 
 -- `text` is the text at an index of a table, whose zero byte stands in the table too
 pub record IsTextIn (IsTable : List ℕ → Type 0) (index : ℕ) (text : List ℕ) : Type 0 where

@@ -12,7 +12,7 @@ use Rattle.elf_records.specs.declared.sections.ShType.TheVariants.{SymTabShIndex
 use Rattle.xmas_elf.specs.NameTable.{section_named}
 use Rattle.xmas_elf.specs.SectionData.{section_data_of}
 use Rattle.xmas_elf.specs.SectionHeader.{section_header_of, section_of, section_type}
-use Rattle.xmas_elf.specs.StringTable.{IsDataNamed}
+use Rattle.xmas_elf.specs.NamedData.{IsNamedData}
 use Rattle.xmas_elf.specs.Symbol.{SymbolFields}
 use Rattle.xmas_elf.specs.declared.ElfFile.{ElfFile}
 use Rattle.xmas_elf.specs.declared.sections.section_header.SectionHeader.{SectionHeader}
@@ -21,7 +21,7 @@ use Rattle.xmas_elf.specs.declared.sections.section_header.SectionHeader.{Sectio
 pub record IsIndexTable (file : ElfFile) (table : List ℕ) : Type 0 where
   pub section : SectionHeader
   pub typed : section_type section ≡ Ok SymTabShIndex
-  pub named : IsDataNamed file (codes ".symtab_shndx") section table
+  pub named : IsNamedData file (codes ".symtab_shndx") section table
 
 -- `index` is word `place` of it, of the words of four bytes that it has one of for each symbol
 pub record IsWideIndex (file : ElfFile) (place index : ℕ) : Type 0 where

@@ -3,7 +3,8 @@
 ghost use Rattle.std.specs.Prelude.{◌≡◌, IfSome, IsSomeAnd, List, ℕ};
 ghost use Rattle.elf_records.specs.declared.sections.note.NoteHeader.{NoteHeader};
 ghost use Rattle.xmas_elf.specs.BuildId.{IsBuildId, IsBuildIdNote, IsNoteSection};
-ghost use Rattle.xmas_elf.specs.Link.{IsAlternateLink, IsDebugLink, IsLink, IsNamedData, IsTextAndRest};
+ghost use Rattle.xmas_elf.specs.Link.{IsAlternateLink, IsDebugLink, IsLink, IsTextAndRest};
+ghost use Rattle.xmas_elf.specs.NamedData.{IsDataNamed};
 
 use crate::ElfFile;
 use crate::bytes::{Order, text_at};
@@ -102,8 +103,8 @@ fn build_id<'a>(header: &NoteHeader, body: &'a [u8]) -> Option<&'a [u8]>
 
 // The data of the first section with this name.
 fn named_data<'a>(file: &ElfFile<'a>, name: &str) -> Option<&'a [u8]>
-    ensures found { IfSome result (λ bytes. IsNamedData file.now name.now bytes.now) }
-    ensures only { (bytes : List ℕ) → IsNamedData file.now name.now bytes
+    ensures found { IfSome result (λ bytes. IsDataNamed file.now name.now bytes.now) }
+    ensures only { (bytes : List ℕ) → IsDataNamed file.now name.now bytes
         → IsSomeAnd result (λ lent. lent.now ≡ bytes) }
 {
     match file.find_section_by_name(name) {

@@ -3,7 +3,8 @@
 ghost use Rattle.std.specs.Prelude.{◌≡◌, ◌≢◌, ◌↔◌, ◌+◌, ◌≤◌, IfOk, IfSome, IsTrue, List, Some, ℕ, codes, length};
 ghost use Rattle.xmas_elf.specs.BuildId.{IsBuildId};
 ghost use Rattle.xmas_elf.specs.FileHeader.{file_class, file_order, header_of};
-ghost use Rattle.xmas_elf.specs.Link.{IsAlternateLink, IsNamedData};
+ghost use Rattle.xmas_elf.specs.Link.{IsAlternateLink};
+ghost use Rattle.xmas_elf.specs.NamedData.{IsDataNamed};
 ghost use Rattle.xmas_elf.specs.Note.{note_desc_size, note_name_size, note_type, rounded_up};
 ghost use Rattle.xmas_elf.specs.NoteHeader.{NoteHeader};
 ghost use Rattle.xmas_elf.specs.Number.{number};
@@ -78,7 +79,7 @@ pub fn build_id_in<'a>(input: &'a [u8]) -> Option<&'a [u8]>
 /// multiple of four behind the text.
 pub fn link_checksum(file: &ElfFile<'_>) -> Option<u32>
     ensures { IfSome result (λ checksum. (bytes text : List ℕ)
-        × IsNamedData file.now (codes ".gnu_debuglink") bytes × IsText bytes 0 text
+        × IsDataNamed file.now (codes ".gnu_debuglink") bytes × IsText bytes 0 text
         × (checksum ≡ number (file_order file.now.header) 4 (rounded_up (length text + 1)) bytes)) }
 {
     let (_name, checksum) = file.get_gnu_debuglink()?;
