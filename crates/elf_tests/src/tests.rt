@@ -19,6 +19,7 @@ mod reports;
 mod reports_of_hash;
 mod sections;
 mod segments;
+mod shared_object;
 mod string_tables;
 mod symbol_sections;
 mod symbols;

@@ -9,7 +9,7 @@ use xmas_elf::bytes::Order;
 use xmas_elf::header::{Header, sanity_check};
 use xmas_elf::report::{ReportFault, report};
 use xmas_elf::sections::ShType;
-use xmas_elf::{ElfError, ElfFile};
+use xmas_elf::{ElfError, ElfFile, Extensions};
 
 const LITTLE: Order = Order::Little;
 
@@ -100,6 +100,56 @@ fn prefixes_have_the_names_that_end_in_them(rt: HostRuntime) -> Result<(), Fail>
     Ok(())
 }
 
+// Wants this text at index 9 of the section that is named `.strtab`, in those prefixes.
+fn check_string(
+    rt: &impl Abort,
+    input: &[u8],
+    lengths: (usize, usize),
+    text: Result<&str, ElfError>,
+) -> Result<(), ElfError> {
+    for len in lengths.0..lengths.1 {
+        let file = ElfFile::new(input.get(..len).unwrap_or(input))?;
+        assert_eq!(rt; file.get_string(9), text, "{len} bytes");
+    }
+    Ok(())
+}
+
+#[test]
+fn prefixes_have_the_strings_that_lie_in_them(rt: HostRuntime) -> Result<(), Fail> {
+    let file = strtab_file(LITTLE);
+    check_string(&rt, &file, (132, 141), Err(ElfError::NoStrtab))?;
+    check_string(&rt, &file, (141, 144), Err(ElfError::DataRange))?;
+    check_string(&rt, &file, (144, 145), Ok("ab"))?;
+    Ok(())
+}
+
+// Wants this link to debug information and this build id of those prefixes.
+fn check_extensions(
+    rt: &impl Abort,
+    input: &[u8],
+    lengths: (usize, usize),
+    link: Option<(&str, u32)>,
+    build_id: Option<&[u8]>,
+) -> Result<(), ElfError> {
+    for len in lengths.0..lengths.1 {
+        let file = ElfFile::new(input.get(..len).unwrap_or(input))?;
+        assert_eq!(rt; file.get_gnu_debuglink(), link, "{len} bytes");
+        assert_eq!(rt; file.get_gnu_buildid(), build_id, "{len} bytes");
+    }
+    Ok(())
+}
+
+#[test]
+fn prefixes_have_the_links_that_lie_in_them(rt: HostRuntime) -> Result<(), Fail> {
+    let file = debug_link_file();
+    let link = Some(("a.debug", 0x1234_5678));
+    let build_id: &[u8] = &[0xde, 0xad, 0xbe, 0xef];
+    check_extensions(&rt, &file, (64, 377), None, None)?;
+    check_extensions(&rt, &file, (377, 397), link, None)?;
+    check_extensions(&rt, &file, (397, 398), link, Some(build_id))?;
+    Ok(())
+}
+
 // What the section's own numbers say of its data.
 fn data_of<'a>(input: &'a [u8], offset: u64, size: u64) -> Result<&'a [u8], ElfError> {
     let start = offset as usize;
@@ -162,6 +212,18 @@ fn a_name_that_is_no_text_is_no_name(rt: HostRuntime) -> Result<(), Fail> {
     let file = ElfFile::new(&bytes)?;
     assert_eq!(rt; file.get_shstr(1), Err(ElfError::TextUtf8));
     assert_eq!(rt; file.shstr_is(1, ".strtab"), (false, 1));
+    assert_eq!(rt; file.get_string(9), Err(ElfError::NoStrtab));
+    Ok(())
+}
+
+// The zero byte behind `ab` is another.
+#[test]
+fn a_name_without_its_end_is_no_name(rt: HostRuntime) -> Result<(), Fail> {
+    let mut bytes = strtab_file(LITTLE);
+    put(&mut bytes, 143, b"A");
+    let file = ElfFile::new(&bytes)?;
+    assert_eq!(rt; file.get_shstr(9), Err(ElfError::TextEnd));
+    assert_eq!(rt; file.get_string(9), Err(ElfError::TextEnd));
     Ok(())
 }
 

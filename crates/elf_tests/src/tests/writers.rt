@@ -1,6 +1,6 @@
 //! The report into writers that take little, nothing, or only some calls.
 
-use crate::tests::files::{debug_link_file, strtab_file};
+use crate::tests::files::{debug_link_file, hash_file, strtab_file};
 use std::alloc::Global;
 use std::io;
 use std::io::Write;
@@ -77,6 +77,7 @@ fn check_slow_writers(rt: &impl Abort, alloc: Global, input: &[u8]) -> Result<()
 fn writes_the_same_to_slow_writers(rt: HostRuntime) -> Result<(), Fail> {
     check_slow_writers(&rt, rt.alloc(), &strtab_file(Order::Little))?;
     check_slow_writers(&rt, rt.alloc(), &debug_link_file())?;
+    check_slow_writers(&rt, rt.alloc(), &hash_file())?;
     Ok(())
 }
 
@@ -109,6 +110,7 @@ fn fails_as_its_writer_does(rt: HostRuntime) -> Result<(), Fail> {
     for then in [Then::Fails, Then::TakesNothing] {
         check_faults(&rt, rt.alloc(), &strtab_file(Order::Little), then)?;
         check_faults(&rt, rt.alloc(), &debug_link_file(), then)?;
+        check_faults(&rt, rt.alloc(), &hash_file(), then)?;
     }
     Ok(())
 }
