@@ -154,6 +154,9 @@ impl<'a> ElfFile<'a> {
     }
 
     /// The section headers in order, from index 0 on.
+    ///
+    /// It ends before the first that is refused: with fewer items than `section_count`, some can't
+    /// be read. Section 0 is of type Null by the gABI, and `get_name` and `raw_data` refuse that.
     pub fn section_iter(&self) -> SectionIter<'_, 'a>
         ensures file { result.file.now ≡ self.now }
         ensures first { result.next_index ≡ 0 }
@@ -195,6 +198,9 @@ impl<'a> ElfFile<'a> {
     }
 
     /// The program headers in order, from index 0 on.
+    ///
+    /// It ends before the first that is refused: with fewer items than `program_count`, some can't
+    /// be read.
     pub fn program_iter(&self) -> ProgramIter<'_, 'a>
         ensures file { result.file.now ≡ self.now }
         ensures first { result.next_index ≡ 0 }
@@ -264,8 +270,8 @@ impl<'a> ElfFile<'a> {
         Ok(&self.input[offset as usize..])
     }
 
-    /// The first section that bears this name, in the order of `section_iter`; the names are compared
-    /// in place.
+    /// The first section that bears this name, in the order of `section_iter`; the names are
+    /// compared in place. A section of type Null, or of one that `get_type` refuses, bears none.
     pub fn find_section_by_name(&self, name: &str) -> Option<SectionHeader>
         ensures list { MatchOption result
             (NoneBears self.now name.now (length (section_list self.now)))

@@ -125,6 +125,9 @@ impl SectionHeader {
     }
 
     /// What the section holds, or `InvalidShType`.
+    ///
+    /// Refused as `ShType_::as_sh_type` is. Among the types refused is RELR, that of `.relr.dyn` in
+    /// recent C libraries; the other getters read such a section all the same.
     #[inline(always)]
     pub fn get_type(&self) -> Result<ShType, ElfError>
         ensures { result ≡ section_type self.now }
@@ -135,6 +138,7 @@ impl SectionHeader {
     /// The name of the section, which lives as long as the input.
     ///
     /// Refused with `InvalidShType`, with `NullName` for type Null, and as `ElfFile::get_shstr` is.
+    /// Whatever its type, RELR or Null too, `file.get_shstr(section.name())` reads the name.
     #[tactic(auto, unfolding(crate::specs::NameTable::name_of))]
     #[inline(always)]
     pub fn get_name<'a>(&self, file: &ElfFile<'a>) -> Result<&'a str, ElfError>
@@ -164,7 +168,8 @@ impl SectionHeader {
     /// bytes belong to other sections, or to none: such a section has no bytes in the file.
     ///
     /// Refused with `InvalidShType`, with `NullData` for type Null, and with `DataRange` where it
-    /// passes the end of the input, also for type NoBits and for an empty section.
+    /// passes the end of the input, also for type NoBits and for an empty section. Where the type
+    /// is refused, as RELR is, `offset` and `size` still say where the bytes lie.
     #[tactic(auto, unfolding(crate::specs::SectionData::section_data_of))]
     #[inline(always)]
     pub fn raw_data<'a>(&self, file: &ElfFile<'a>) -> Result<&'a [u8], ElfError>
