@@ -126,8 +126,9 @@ pub enum ElfError {
     /// The section `.symtab_shndx` is of another type than SymTabShIndex. Answered by
     /// `Entry::get_section_header`.
     ExpectedShIndex,
-    /// An index of a symbol is not below the number of symbols. Answered by
-    /// `Entry::get_section_header`, `HashTable::lookup`, `lookup_counted` and `check`.
+    /// An index of a symbol is not below the number of symbols, or of words in `.symtab_shndx`.
+    /// Answered by `HashTable::lookup`, `lookup_counted` and `check`, and for the words by
+    /// `Entry::get_section_header`.
     SymbolIndex,
     /// A section index does not fit in 16 bits. Answered by no call, since wide indices are read;
     /// it stays, with its text, for code that names it.
@@ -164,8 +165,8 @@ pub enum ElfError {
     /// A chain index is not below the number of chains. Answered by `HashTable::get_chain`,
     /// `lookup`, `lookup_counted` and `check`.
     ChainIndex,
-    /// The place of a chain is above 2 to the 32, less 1. Answered by `HashTable::get_chain`,
-    /// `lookup`, `lookup_counted` and `check`.
+    /// The number of buckets and a chain's index add up to 2 to the 32 or more. Answered by
+    /// `HashTable::get_chain`, `lookup`, `lookup_counted` and `check`.
     ChainSum,
     /// A word of a hash table does not lie whole in its data. Answered by `HashTable::get_bucket`,
     /// `get_chain`, `lookup`, `lookup_counted` and `check`.

@@ -1,4 +1,4 @@
--- What the numbers of sections mean (gABI, "Section Header", sh_type).
+-- What the numbers of sections mean (gABI, "Sections", sh_type).
 use Rattle.std.specs.Prelude.{ℕ, nat_le, ◌&&◌, List, [], ◌∷◌, Result, Ok, Err, codes, if◌then◌else◌}
 use Rattle.elf_base.specs.Named.{named_or}
 use Rattle.elf_base.specs.Printed.{numbered}

@@ -108,7 +108,7 @@ pub const GRP_MASKOS: u64 = 0x0ff0_0000;
 /// The flags of a group of the processor.
 pub const GRP_MASKPROC: u64 = 0xf000_0000;
 
-/// What a section holds, as a number (gABI, "Section Header", sh_type).
+/// What a section holds, as a number (gABI, "Sections", sh_type).
 #[derive(Clone, Copy, Debug)]
 pub struct ShType_(u32);
 
@@ -159,7 +159,7 @@ impl ShType_ {
     }
 }
 
-/// What a section holds (gABI, "Section Header", sh_type).
+/// What a section holds (gABI, "Sections", sh_type).
 #[derive(Clone, Copy, Debug, PartialEq, Eq)]
 pub enum ShType {
     /// No section: the other fields have no meaning.

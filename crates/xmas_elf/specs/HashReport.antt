@@ -1,4 +1,4 @@
--- What the report says of the hash table of a file (this project's own; gABI, "Section Header", sh_link
+-- What the report says of the hash table of a file (this project's own; gABI, "Sections", sh_link
 -- of a section of type SHT_HASH, says which section holds the symbols).
 use Rattle.std.specs.Prelude.{◌≡◌, ◌≢◌, ℕ, ◌<◌, List, length, Result, Ok, Err}
 use Rattle.std.specs.List.{AllWithin, HoldsAt}

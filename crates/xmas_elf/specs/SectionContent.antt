@@ -1,4 +1,4 @@
--- What the data of a section is taken for, by its type (gABI, "Section Header", sh_type, and
+-- What the data of a section is taken for, by its type (gABI, "Sections", sh_type, and
 -- "Sections").
 use Rattle.std.specs.Prelude.{ℕ, Bool, true, false, List, Result, Ok, if◌then◌else◌}
 use Rattle.elf_base.specs.FileHeader.{file_class, file_order}

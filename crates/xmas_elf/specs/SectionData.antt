@@ -1,4 +1,4 @@
--- The bytes of a section in its file (gABI, "Section Header", sh_offset and sh_size; that type NoBits is
+-- The bytes of a section in its file (gABI, "Sections", sh_offset and sh_size; that type NoBits is
 -- no exception is this project's own).
 use Rattle.std.specs.Prelude.{◌≡◌, ◌≢◌, ℕ, ◌+◌, ◌≤◌, Bool, true, false, List, length, Result, Ok, Err, if◌then◌else◌}
 use Rattle.elf_base.specs.Refusal.{and_then}

@@ -1,4 +1,4 @@
--- Section headers: what they say, where they lie, and which can be read (gABI, "Section Header":
+-- Section headers: what they say, where they lie, and which can be read (gABI, "Sections":
 -- Elf32_Shdr and Elf64_Shdr).
 use Rattle.std.specs.Prelude.{ℕ, ◌+◌, ◌<◌, ◌≤◌, ◌==◌, not, nat_le, nat_lt, List, [], ◌∷◌, length, Ok, Err, Result, if◌then◌else◌}
 use Rattle.elf_base.specs.Number.{number}

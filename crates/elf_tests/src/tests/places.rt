@@ -1,4 +1,4 @@
-//! Where the fields of headers and symbols lie (gABI, "ELF Header", "Section Header", "Program Header",
+//! Where the fields of headers and symbols lie (gABI, "ELF Header", "Sections", "Program Header",
 //! "Symbol Table").
 
 use xmas_elf::bytes::Order;

@@ -1,4 +1,4 @@
-//! Section headers as records in bytes (gABI, "Section Header": Elf32_Shdr and Elf64_Shdr).
+//! Section headers as records in bytes (gABI, "Sections": Elf32_Shdr and Elf64_Shdr).
 
 ghost use Rattle.std.specs.Prelude.{◌≡◌, ◌+◌, ◌≤◌, ◌<◌, length};
 ghost use Rattle.std.proofs.Common.{lit<};

@@ -1,4 +1,4 @@
-//! A section header of either width (gABI, "Section Header").
+//! A section header of either width (gABI, "Sections").
 
 ghost use Rattle.std.specs.Prelude.{◌≡◌, ◌↔◌, IsOk, IsTrue, Ok};
 ghost use Rattle.elf_base.specs.Lent.{Answers, Lends, LendsOnly};
