@@ -1,6 +1,6 @@
 //! Callers of `xmas_elf` in another crate, proved by its public contracts alone.
 
-ghost use Rattle.std.specs.Prelude.{◌≡◌, ◌≢◌, ◌+◌, ◌↔◌, ◌≤◌, ◌<◌, ◌==◌, IfOk, IsOkAnd, IsTrue, List, MatchOption, Ok, count_by, drop, length, ℕ};
+ghost use Rattle.std.specs.Prelude.{◌≡◌, ◌≢◌, ◌+◌, ◌↔◌, ◌≤◌, ◌<◌, ◌==◌, IfOk, IfSome, IsOkAnd, IsTrue, List, MatchOption, Ok, count_by, drop, length, ℕ};
 ghost use Rattle.std.specs.List.{AllWithin, HoldsAt};
 ghost use Rattle.xmas_elf.specs.Checks.{header_check};
 ghost use Rattle.xmas_elf.specs.Counts.{program_count_of, section_count_of};
@@ -11,6 +11,7 @@ ghost use Rattle.xmas_elf.specs.Number.{byte_at, number};
 ghost use Rattle.xmas_elf.specs.ProgramHeader.{program_fields, program_header_of};
 ghost use Rattle.xmas_elf.specs.ProgramList.{program_list};
 ghost use Rattle.xmas_elf.specs.Range.{IsRange};
+ghost use Rattle.xmas_elf.specs.SectionData.{IsSectionData};
 ghost use Rattle.xmas_elf.specs.SectionHeader.{section_fields, section_header_size, section_of, section_place, section_type};
 ghost use Rattle.xmas_elf.specs.SectionList.{section_list};
 ghost use Rattle.xmas_elf.specs.Text.{IsText};
@@ -110,6 +111,15 @@ pub fn data_len(file: &ElfFile<'_>, section: SectionHeader) -> Result<usize, Elf
 {
     let range = section.raw_data(file)?;
     Ok(range.len())
+}
+
+/// The data of the first section with this name, if the file holds them.
+pub fn data_named<'a>(file: &ElfFile<'a>, name: &str) -> Option<&'a [u8]>
+    ensures { IfSome result (λ bytes. (index : ℕ) × (section : SectionHeader)
+        × IsFirstNamed file.now name.now index section × IsSectionData file.now section bytes.now) }
+{
+    let section = file.find_section_by_name(name)?;
+    section.raw_data(file).ok()
 }
 
 /// Whether the bytes of a section that the program defines are all there.
