@@ -2,17 +2,17 @@
 -- refusal a loader gives is this project's own).
 use Rattle.std.specs.Prelude.{◌≡◌, ℕ, ◌≤◌, Bool, true, false, List, Result, Ok, IsTrue, All, drop, filter, length, map, take}
 use Rattle.elf_tests.specs.declared.callers.loader.LoadError.{LoadError}
-use Rattle.elf_tests.specs.declared.callers.loader.LoadError.TheVariants.{Header, Memory, OutOfMemory, Range}
+use Rattle.elf_tests.specs.declared.callers.loader.LoadError.TheVariants.{Header, OutOfMemory, Range, Size}
 use Rattle.elf_tests.specs.declared.callers.loader.Piece.{Piece}
 use Rattle.xmas_elf.specs.Counts.{program_count_of}
 use Rattle.xmas_elf.specs.ElfError.{ElfError}
 use Rattle.xmas_elf.specs.ProgramHeader.{program_fields, segment_type}
 use Rattle.xmas_elf.specs.ProgramList.{program_list}
 use Rattle.xmas_elf.specs.SegmentData.{HasSegmentData}
-use Rattle.xmas_elf.specs.declared.ElfFile.{ElfFile}
-use Rattle.xmas_elf.specs.declared.program.program_header.ProgramHeader.{ProgramHeader}
 use Rattle.xmas_elf.specs.SegmentType as segment_types
 use Rattle.xmas_elf.specs.SegmentType.TheVariants.{Load}
+use Rattle.xmas_elf.specs.declared.ElfFile.{ElfFile}
+use Rattle.xmas_elf.specs.declared.program.program_header.ProgramHeader.{ProgramHeader}
 
 -- the type is Load
 abbrev pub is_load_type : Result segment_types.Type ElfError → Bool
@@ -46,7 +46,7 @@ pub record IsLoadable (file : ElfFile) : Type 0 where
 -- why a file is refused
 abbrev pub IsRefused : ElfFile → LoadError → Type 0
 IsRefused file Header = ¬ AreRead file
-IsRefused file Memory = ¬ FitMemory file
+IsRefused file Size = ¬ FitMemory file
 IsRefused file Range = ¬ LieInFile file
 IsRefused file OutOfMemory = Unit {0}
 

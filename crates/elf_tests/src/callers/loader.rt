@@ -21,13 +21,13 @@ pub struct Piece<'a> {
     pub size: u64,
 }
 
-/// Why a file isn't loaded.
+/// Why a file isn't loaded: the first that holds of it, in this order.
 #[derive(Clone, Copy, Debug, PartialEq, Eq)]
 pub enum LoadError {
     /// Some program header can't be read, so that nobody knows what is to be loaded.
     Header,
     /// Some segment has more bytes in the file than in memory.
-    Memory,
+    Size,
     /// The bytes of some segment pass the end of the file.
     Range,
     /// There is no memory left for the list.
@@ -41,14 +41,14 @@ pub fn is_load(program: &ProgramHeader) -> bool
     matches!(program.get_type(), Ok(Type::Load))
 }
 
-/// Whether each program header can be read.
+// Whether each program header can be read.
 fn are_read(file: &ElfFile<'_>) -> bool
     ensures { IsTrue result ↔ AreRead file.now }
 {
     file.program_iter().count() == file.program_count() as usize
 }
 
-/// Whether no segment to be loaded has more bytes in the file than in memory.
+// Whether no segment to be loaded has more bytes in the file than in memory.
 fn fit_memory(file: &ElfFile<'_>) -> bool
     ensures { IsTrue result ↔ FitMemory file.now }
 {
@@ -56,7 +56,7 @@ fn fit_memory(file: &ElfFile<'_>) -> bool
         || program.file_size() <= program.mem_size())
 }
 
-/// Whether the bytes of each segment to be loaded lie in the file.
+// Whether the bytes of each segment to be loaded lie in the file.
 fn lie_in_file(file: &ElfFile<'_>) -> bool
     ensures { IsTrue result ↔ LieInFile file.now }
 {
@@ -72,7 +72,7 @@ pub fn check(file: &ElfFile<'_>) -> Result<(), LoadError>
         return Err(LoadError::Header);
     }
     if !fit_memory(file) {
-        return Err(LoadError::Memory);
+        return Err(LoadError::Size);
     }
     if !lie_in_file(file) {
         return Err(LoadError::Range);

@@ -68,8 +68,8 @@ fn files_are_refused_for_their_segments_to_be_loaded(rt: HostRuntime) -> Result<
     let size = (LAST, program_32::FILE_SIZE, 6);
     let rows = [
         ((LAST, program_32::MEM_SIZE, 6), Ok(())),
-        ((LAST, program_32::MEM_SIZE, 5), Err(LoadError::Memory)),
-        ((NOTE, program_32::TYPE, 1), Err(LoadError::Memory)),
+        ((LAST, program_32::MEM_SIZE, 5), Err(LoadError::Size)),
+        ((NOTE, program_32::TYPE, 1), Err(LoadError::Size)),
         ((LAST, program_32::OFFSET, 153), Err(LoadError::Range)),
         (
             (LAST, program_32::OFFSET, 0xffff_fffe),

@@ -20,14 +20,13 @@ loop-program-preserved-else-is_err c =
     let next = c.in-Some.ensures.steps in
     let so_far = c.loop-program.invariant in
     let pushed : c.push.new.self.items ≡ done ++ c.piece_of-piece.result ∷ [] = search rules in
-    let loaded : is_load c.in-Some.program ≡ true = search rules in
-    (
+    let loaded : is_load c.in-Some.program ≡ true = search rules in (
       ap (λ (pieces : List _). map image pieces ++ images input others) pushed
-      ∙ ap (λ (front : List Image). front ++ images input others) (map-append image done (c.piece_of-piece.result ∷ []))
-      ∙ append_assoc (map image done) (image c.piece_of-piece.result ∷ []) (images input others)
-      ∙ ap (λ (one : Image). map image done ++ one ∷ images input others) c.piece_of-piece.ensures
-      ∙ ap (λ (rest : List Image). map image done ++ rest) (sym (ap (images input) next ∙ images-cons input c.in-Some.program others true loaded))
-      ∙ so_far.0,
+          ∙ ap (λ (front : List Image). front ++ images input others) (map-append image done (c.piece_of-piece.result ∷ []))
+          ∙ append_assoc (map image done) (image c.piece_of-piece.result ∷ []) (images input others)
+          ∙ ap (λ (one : Image). map image done ++ one ∷ images input others) c.piece_of-piece.ensures
+          ∙ ap (λ (rest : List Image). map image done ++ rest) (sym (ap (images input) next ∙ images-cons input c.in-Some.program others true loaded))
+          ∙ so_far.0,
       All-tail (λ program. IsTrue (is_load program) → HasSegmentData c.args.file.now (program_fields program)) c.in-Some.program others (subst (All (λ program. IsTrue (is_load program) → HasSegmentData c.args.file.now (program_fields program))) next so_far.1),
     )
 
@@ -38,9 +37,8 @@ loop-program-preserved c =
     let done = c.loop-program.pieces.items in
     let next = c.in-Some.ensures.steps in
     let so_far = c.loop-program.invariant in
-    let passed : is_load c.in-Some.program ≡ false = search rules in
-    (
+    let passed : is_load c.in-Some.program ≡ false = search rules in (
       ap (λ (rest : List Image). map image done ++ rest) (sym (ap (images input) next ∙ images-cons input c.in-Some.program others false passed))
-      ∙ so_far.0,
+          ∙ so_far.0,
       All-tail (λ program. IsTrue (is_load program) → HasSegmentData c.args.file.now (program_fields program)) c.in-Some.program others (subst (All (λ program. IsTrue (is_load program) → HasSegmentData c.args.file.now (program_fields program))) next so_far.1),
     )
