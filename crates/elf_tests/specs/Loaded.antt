@@ -32,10 +32,13 @@ abbrev pub FitMemory : ElfFile → Type 0
 FitMemory file = All (λ program. IsTrue (is_load program)
     → (program_fields program).file_size ≤ (program_fields program).mem_size) (program_list file)
 
--- the bytes of each segment to be loaded lie in the file, if it has any there
+-- the bytes of a segment lie in the file, if it is to be loaded and has any there
+abbrev pub LiesInFile : ElfFile → ProgramHeader → Type 0
+LiesInFile file program = IsTrue (is_load program) → HasSegmentData file (program_fields program)
+
+-- those of each segment do
 abbrev pub LieInFile : ElfFile → Type 0
-LieInFile file = All (λ program. IsTrue (is_load program)
-    → HasSegmentData file (program_fields program)) (program_list file)
+LieInFile file = All (LiesInFile file) (program_list file)
 
 -- a file can be loaded
 pub record IsLoadable (file : ElfFile) : Type 0 where
@@ -43,12 +46,12 @@ pub record IsLoadable (file : ElfFile) : Type 0 where
   pub fit_memory : FitMemory file
   pub lie_in_file : LieInFile file
 
--- why a file is refused
+-- why a file is refused: the first that holds; memory for the list is asked for last
 abbrev pub IsRefused : ElfFile → LoadError → Type 0
 IsRefused file Header = ¬ AreRead file
-IsRefused file Size = ¬ FitMemory file
-IsRefused file Range = ¬ LieInFile file
-IsRefused file OutOfMemory = Unit {0}
+IsRefused file Size = AreRead file × (¬ FitMemory file)
+IsRefused file Range = AreRead file × FitMemory file × (¬ LieInFile file)
+IsRefused file OutOfMemory = IsLoadable file
 
 -- what is to be in memory: bytes from an address on, and zeros up to a size
 pub record Image : Type 0 where

@@ -1,8 +1,6 @@
-use Rattle.std.proofs.Common.{◌≡◌, ◌++◌, All, IsTrue, map}
-use Rattle.elf_tests.specs.Loaded.{image, images, is_load}
-use Rattle.xmas_elf.specs.ProgramHeader.{program_fields}
+use Rattle.std.proofs.Common.{◌≡◌, ◌++◌, All, map}
+use Rattle.elf_tests.specs.Loaded.{LiesInFile, image, images}
 use Rattle.xmas_elf.specs.ProgramList.{program_list, program_rest}
-use Rattle.xmas_elf.specs.SegmentData.{HasSegmentData}
 use Rattle.elf_tests.proofs.callers.loader.pieces.Given as goal
 
 -- the pieces so far and those of what is left make up all, and what is left lies in the file
@@ -10,4 +8,4 @@ abbrev pub invariant-loop-program : goal.invariant-loop-program
 invariant-loop-program l = let file = l.fn.file in
     let rest = program_rest l.program-iterator in
     (map image l.pieces.items ++ images file.input.now rest ≡ images file.input.now (program_list file))
-    × All (λ program. IsTrue (is_load program) → HasSegmentData file (program_fields program)) rest
+    × All (LiesInFile file) rest
