@@ -18,9 +18,11 @@ ghost use Rattle.xmas_elf.specs.Text.{IsText};
 ghost use Rattle.xmas_elf.specs.declared.ElfFile.{ElfFile};
 ghost use Rattle.xmas_elf.specs.declared.sections.section_header.SectionHeader.{SectionHeader};
 
+pub mod backtrace;
 pub mod data;
 pub mod hash;
 pub mod indices;
+pub mod loader;
 pub mod notes;
 pub mod printed;
 pub mod symbols;

@@ -1,5 +1,6 @@
 //! Expected values are worked out by hand from the format, and never taken from the program's output.
 
+mod backtrace;
 mod chains;
 mod checks;
 mod compared;
@@ -10,6 +11,7 @@ mod extensions;
 mod files;
 mod hash;
 mod headers;
+mod loader;
 mod messages;
 mod names;
 mod object_symbols;

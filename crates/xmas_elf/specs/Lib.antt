@@ -37,6 +37,7 @@ pub use Rattle.elf_records.specs.declared.sections.TheConstants as SectionConsta
 pub use Rattle.elf_records.specs.declared.program.Type as SegmentType
 pub use Rattle.elf_records.specs.declared.program.Flags
 pub use Rattle.elf_records.specs.declared.program.TheConstants as SegmentConstants
+pub use Rattle.elf_records.specs.declared.symbol_table.Type as SymbolType
 pub mod HeaderTable
 pub mod SectionHeader
 pub mod Counts

@@ -1,0 +1,47 @@
+-- The function that an address of memory lies in (gABI, "Symbol Table": STT_FUNC, st_value and st_size;
+-- that the first one counts is this project's own).
+use Rattle.std.specs.Prelude.{◌≡◌, ℕ, ◌+◌, ◌≤◌, ◌<◌, List, Option, None, Some, MatchOption, Ok, IsOkAnd, codes, length, slice_get}
+use Rattle.std.specs.Borrow.{Bor}
+use Rattle.std.specs.List.{AllWithin}
+use Rattle.xmas_elf.specs.Content.{Content, symbols_32, symbols_64}
+use Rattle.xmas_elf.specs.HashReport.{symbols_in_32, symbols_in_64}
+use Rattle.xmas_elf.specs.NameTable.{section_named}
+use Rattle.xmas_elf.specs.SectionContent.{section_content_of}
+use Rattle.xmas_elf.specs.Symbol.{SymbolFields, symbol_type}
+use Rattle.xmas_elf.specs.SymbolType.TheVariants.{Func}
+use Rattle.xmas_elf.specs.Symbols.{Symbols}
+use Rattle.xmas_elf.specs.declared.ElfFile.{ElfFile}
+
+-- the symbol is a function, whose range holds the address
+pub record HoldsAddress (symbol : SymbolFields) (address : ℕ) : Type 0 where
+  pub is_function : symbol_type symbol ≡ Ok Func
+  pub begins : symbol.value ≤ address
+  pub ends : address < symbol.value + symbol.size
+
+-- none of the symbols is one, below place `high`
+abbrev pub NoneHolds : {E : Type 0} → (E → SymbolFields) → List E → ℕ → ℕ → Type 0
+NoneHolds fields symbols address high = AllWithin (λ symbol. ¬ HoldsAddress (fields symbol) address) symbols 0 high
+
+-- symbol `index` is one, and none before it is
+pub record IsFunctionAt {E : Type 0} (fields : E → SymbolFields) (symbols : List E) (address index : ℕ) (symbol : E) : Type 0 where
+  pub stands : slice_get symbols index ≡ Some symbol
+  pub holds : HoldsAddress (fields symbol) address
+  pub first : NoneHolds fields symbols address index
+
+-- what is found is the name of that symbol, or nothing where there is none
+abbrev pub IsFunctionName : {E : Type 0} → Symbols E → ℕ → Option (Bor (List ℕ)) → Type 0
+IsFunctionName {E} symbols address found = MatchOption found
+    (NoneHolds symbols.fields symbols.items address (length symbols.items))
+    (λ name. (index : ℕ) × (symbol : E) × IsFunctionAt symbols.fields symbols.items address index symbol
+    × (symbols.text symbol ≡ Some name.now))
+
+-- the same for what the data of a section is taken for; other data has no symbols
+abbrev pub IsFunctionNameIn : ElfFile → Content → ℕ → Option (Bor (List ℕ)) → Type 0
+IsFunctionNameIn file (symbols_32 order bytes) = IsFunctionName (symbols_in_32 file order bytes)
+IsFunctionNameIn file (symbols_64 order bytes) = IsFunctionName (symbols_in_64 file order bytes)
+IsFunctionNameIn file _ = λ address found. found ≡ None
+
+-- the same for the first section that is called .symtab; a file without it has no symbols
+abbrev pub IsFunctionNameOf : ElfFile → ℕ → Option (Bor (List ℕ)) → Type 0
+IsFunctionNameOf file address found = MatchOption (section_named file (codes ".symtab")) (found ≡ None)
+    (λ section. IsOkAnd (section_content_of file section) (λ content. IsFunctionNameIn file content address found))
