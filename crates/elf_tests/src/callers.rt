@@ -22,6 +22,7 @@ pub mod hash;
 pub mod indices;
 pub mod notes;
 pub mod printed;
+pub mod size_report;
 pub mod symbols;
 pub mod values;
 

@@ -19,6 +19,7 @@ mod reports;
 mod reports_of_hash;
 mod sections;
 mod segments;
+mod sizes;
 mod string_tables;
 mod symbol_sections;
 mod symbols;
