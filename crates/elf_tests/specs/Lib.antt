@@ -4,3 +4,4 @@ pub mod Numbered
 pub mod Linked
 pub mod Loaded
 pub mod FunctionAt
+pub mod Sizes

@@ -25,6 +25,7 @@ pub mod indices;
 pub mod loader;
 pub mod notes;
 pub mod printed;
+pub mod size_report;
 pub mod symbols;
 pub mod values;
 

@@ -22,6 +22,7 @@ mod reports_of_hash;
 mod sections;
 mod segments;
 mod shared_object;
+mod sizes;
 mod string_tables;
 mod symbol_sections;
 mod symbols;
