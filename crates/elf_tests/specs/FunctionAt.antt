@@ -1,9 +1,10 @@
 -- The function that an address of memory lies in (gABI, "Symbol Table": STT_FUNC, st_value and st_size;
 -- that the first one counts is this project's own).
-use Rattle.std.specs.Prelude.{◌≡◌, ℕ, ◌+◌, ◌≤◌, ◌<◌, List, Option, None, Some, MatchOption, Ok, IsOkAnd, codes, length, slice_get}
+use Rattle.std.specs.Prelude.{◌≡◌, ℕ, ◌+◌, ◌≤◌, ◌<◌, List, Option, None, Some, MatchOption, MatchResult, Ok, IsOkAnd, IsSomeAnd, IsTrue, false, codes, length, slice_get}
 use Rattle.std.specs.Borrow.{Bor}
 use Rattle.std.specs.List.{AllWithin}
 use Rattle.xmas_elf.specs.Content.{Content, symbols_32, symbols_64}
+use Rattle.xmas_elf.specs.ElfError.{ElfError}
 use Rattle.xmas_elf.specs.HashReport.{symbols_in_32, symbols_in_64}
 use Rattle.xmas_elf.specs.NameTable.{section_named}
 use Rattle.xmas_elf.specs.SectionContent.{section_content_of}
@@ -12,17 +13,17 @@ use Rattle.xmas_elf.specs.SymbolType.TheVariants.{Func}
 use Rattle.xmas_elf.specs.Symbols.{Symbols}
 use Rattle.xmas_elf.specs.declared.ElfFile.{ElfFile}
 
--- the symbol is a function, whose range holds the address
+-- the range of this function symbol holds the address
 pub record HoldsAddress (symbol : SymbolFields) (address : ℕ) : Type 0 where
   pub is_function : symbol_type symbol ≡ Ok Func
   pub begins : symbol.value ≤ address
   pub ends : address < symbol.value + symbol.size
 
--- none of the symbols is one, below place `high`
+-- of the symbols below place `high` none is such a function
 abbrev pub NoneHolds : {E : Type 0} → (E → SymbolFields) → List E → ℕ → ℕ → Type 0
 NoneHolds fields symbols address high = AllWithin (λ symbol. ¬ HoldsAddress (fields symbol) address) symbols 0 high
 
--- symbol `index` is one, and none before it is
+-- the symbol at an index is such a function, and none before it is
 pub record IsFunctionAt {E : Type 0} (fields : E → SymbolFields) (symbols : List E) (address index : ℕ) (symbol : E) : Type 0 where
   pub stands : slice_get symbols index ≡ Some symbol
   pub holds : HoldsAddress (fields symbol) address
@@ -45,3 +46,20 @@ IsFunctionNameIn file _ = λ address found. found ≡ None
 abbrev pub IsFunctionNameOf : ElfFile → ℕ → Option (Bor (List ℕ)) → Type 0
 IsFunctionNameOf file address found = MatchOption (section_named file (codes ".symtab")) (found ≡ None)
     (λ section. IsOkAnd (section_content_of file section) (λ content. IsFunctionNameIn file content address found))
+
+-- the address lies in a function that has no name
+abbrev pub HasNoName : {E : Type 0} → Symbols E → ℕ → Type 0
+HasNoName {E} symbols address = (index : ℕ) × (symbol : E)
+    × IsFunctionAt symbols.fields symbols.items address index symbol × (symbols.text symbol ≡ None)
+
+-- the same for what the data of a section is taken for
+abbrev pub HasNoNameIn : ElfFile → Content → ℕ → Type 0
+HasNoNameIn file (symbols_32 order bytes) = HasNoName (symbols_in_32 file order bytes)
+HasNoNameIn file (symbols_64 order bytes) = HasNoName (symbols_in_64 file order bytes)
+HasNoNameIn file _ = λ address. IsTrue false
+
+-- why no name is given: the data of .symtab are refused, and so is this, or the function has no name
+abbrev pub IsNameRefused : ElfFile → ℕ → ElfError → Type 0
+IsNameRefused file address error = IsSomeAnd (section_named file (codes ".symtab"))
+    (λ section. MatchResult (section_content_of file section)
+    (λ content. HasNoNameIn file content address) (λ why. why ≡ error))

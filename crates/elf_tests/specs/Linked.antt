@@ -1,8 +1,12 @@
 -- A hash table and the symbols that it is linked to, in a file of class 64 that a program is linked to.
-use Rattle.std.specs.Prelude.{◌≡◌, ℕ, List, Option, Some, MatchOption, Ok, slice_get}
-use Rattle.xmas_elf.specs.Content.{dyn_symbols_64, hash_table}
+use Rattle.std.specs.Prelude.{◌≡◌, ℕ, List, Option, None, Some, MatchOption, Result, Ok, Err, codes, slice_get}
+use Rattle.xmas_elf.specs.Content.{Content, dyn_symbols_64, hash_table}
+use Rattle.xmas_elf.specs.ElfError.{ElfError}
+use Rattle.xmas_elf.specs.ElfError.TheVariants.{ShortData}
+use Rattle.xmas_elf.specs.Good.{IsCheck}
 use Rattle.xmas_elf.specs.HashReport.{content_at, dyn_symbols_in_64}
 use Rattle.xmas_elf.specs.HashTable.{hash_data, hash_order}
+use Rattle.xmas_elf.specs.NameTable.{section_named}
 use Rattle.xmas_elf.specs.Order.{Order}
 use Rattle.xmas_elf.specs.SectionContent.{section_content_of}
 use Rattle.xmas_elf.specs.SectionHeader.{section_fields}
@@ -12,11 +16,26 @@ use Rattle.xmas_elf.specs.declared.hash.HashTable.{HashTable}
 use Rattle.xmas_elf.specs.declared.sections.section_header.SectionHeader.{SectionHeader}
 use Rattle.xmas_elf.specs.declared.symbol_table.entries.DynEntry64.{DynEntry64}
 
--- some section is the hash table, and its link leads to the symbols
+-- the order and the bytes of a hash table, if that is what a section has
+abbrev pub table_in : Result Content ElfError → Option (Order × List ℕ)
+table_in (Ok (hash_table order bytes)) = Some (order, bytes)
+table_in _ = None
+
+-- those of the symbols for the dynamic linker, if that is what it has
+abbrev pub symbols_in : Result Content ElfError → Option (Order × List ℕ)
+symbols_in (Ok (dyn_symbols_64 order bytes)) = Some (order, bytes)
+symbols_in _ = None
+
+-- the first section that is called .hash is the hash table, and its link leads to the symbols
 pub record AreLinked (file : ElfFile) (table : HashTable) (order : Order) (bytes : List ℕ) : Type 0 where
   pub section : SectionHeader
-  pub is_table : section_content_of file section ≡ Ok (hash_table (hash_order table) (hash_data table))
-  pub are_symbols : content_at file (section_fields section).link ≡ Ok (dyn_symbols_64 order bytes)
+  pub named : section_named file (codes ".hash") ≡ Some section
+  pub is_table : table_in (section_content_of file section) ≡ Some (hash_order table, hash_data table)
+  pub are_symbols : symbols_in (content_at file (section_fields section).link) ≡ Some (order, bytes)
+
+-- the file has no such hash table and symbols
+abbrev pub NotLinked : ElfFile → Type 0
+NotLinked file = (table : HashTable) (order : Order) (bytes : List ℕ) → ¬ AreLinked file table order bytes
 
 -- the symbol found has this value: one of them bears the name and has it, or else none that isn't local
 -- bears the name
@@ -33,3 +52,10 @@ pub record IsFileValueOf (file : ElfFile) (name : List ℕ) (found : Option ℕ)
   pub bytes : List ℕ
   pub linked : AreLinked file table order bytes
   pub value : IsValueOf (dyn_symbols_in_64 file order bytes) name found
+
+-- why no symbol is looked for: the file has no such tables, or the check finds this fault in them
+pub data IsLinkRefused (file : ElfFile) : ElfError → Type 0 where
+  unlinked : NotLinked file → IsLinkRefused file ShortData
+  unchecked : (table : HashTable) (order : Order) (bytes : List ℕ) (error : ElfError)
+      → AreLinked file table order bytes
+      → IsCheck table (dyn_symbols_in_64 file order bytes) (Err error) → IsLinkRefused file error

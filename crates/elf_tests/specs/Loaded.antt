@@ -14,7 +14,7 @@ use Rattle.xmas_elf.specs.SegmentType.TheVariants.{Load}
 use Rattle.xmas_elf.specs.declared.ElfFile.{ElfFile}
 use Rattle.xmas_elf.specs.declared.program.program_header.ProgramHeader.{ProgramHeader}
 
--- the type is Load
+-- the type is Load (PT_LOAD)
 abbrev pub is_load_type : Result segment_types.Type ElfError → Bool
 is_load_type (Ok Load) = true
 is_load_type _ = false
@@ -63,7 +63,7 @@ pub record Image : Type 0 where
 abbrev pub image : Piece → Image
 image piece = record { bytes = piece.bytes.now; address = piece.address; size = piece.size }
 
--- what a segment of these bytes says
+-- what a segment says, in the bytes of its file
 abbrev pub image_of : List ℕ → ProgramHeader → Image
 image_of input program = let segment = program_fields program in record {
   bytes = take segment.file_size (drop segment.offset input);

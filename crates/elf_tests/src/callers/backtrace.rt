@@ -3,9 +3,9 @@
 //! An address is what the values of the symbols are: one of memory in a program, and an offset in some
 //! section in an object file.
 
-ghost use Rattle.std.specs.Prelude.{◌≡◌, ◌↔◌, ◌<◌, ℕ, None, IfErr, IfOk, IsTrue, MatchOption, length};
+ghost use Rattle.std.specs.Prelude.{◌≡◌, ◌↔◌, ◌<◌, ℕ, None, IfErr, IfOk, IsTrue, MatchOption, MatchResult, length};
 ghost use Rattle.std.specs.List.{HoldsAt};
-ghost use Rattle.elf_tests.specs.FunctionAt.{HoldsAddress, IsFunctionAt, IsFunctionName, IsFunctionNameOf, NoneHolds};
+ghost use Rattle.elf_tests.specs.FunctionAt.{HasNoName, HoldsAddress, IsFunctionAt, IsFunctionName, IsFunctionNameOf, IsNameRefused, NoneHolds};
 ghost use Rattle.xmas_elf.specs.FileHeader.{header_of};
 ghost use Rattle.xmas_elf.specs.Symbols.{symbols_of};
 ghost use Rattle.xmas_elf.specs.Table.{table_items};
@@ -62,9 +62,8 @@ pub fn function_name_at<'a, E: Entry + Record>(
     address: u64,
 ) -> Result<Option<&'a str>, ElfError>
     ensures found { IfOk result (IsFunctionName (symbols_of E.fields E.text_in symbols.now file.now) address) }
-    ensures nameless { IfErr result (λ _. (index : ℕ) × (symbol : E)
-        × IsFunctionAt E.fields (table_items symbols.now) address index symbol
-        × (E.text_in symbol file.now ≡ None)) }
+    ensures nameless { IfErr result (λ _.
+        HasNoName (symbols_of E.fields E.text_in symbols.now file.now) address) }
 {
     match function_at(symbols, address) {
         Some((_index, symbol)) => Ok(Some(symbol.get_name(file)?)),
@@ -76,7 +75,8 @@ pub fn function_name_at<'a, E: Entry + Record>(
 ///
 /// Refused as `SectionHeader::get_data` is for `.symtab`, and as `Entry::get_name` is.
 pub fn function_name<'a>(file: &ElfFile<'a>, address: u64) -> Result<Option<&'a str>, ElfError>
-    ensures { IfOk result (IsFunctionNameOf file.now address) }
+    ensures name { IfOk result (IsFunctionNameOf file.now address) }
+    ensures refused { IfErr result (IsNameRefused file.now address) }
 {
     let Some(section) = file.find_section_by_name(".symtab") else {
         return Ok(None);
@@ -90,9 +90,12 @@ pub fn function_name<'a>(file: &ElfFile<'a>, address: u64) -> Result<Option<&'a 
 
 /// The same, from the bytes of the file.
 pub fn function_name_in(input: &[u8], address: u64) -> Result<Option<&str>, ElfError>
-    ensures { IfOk result (λ found. IfOk (header_of input.now) (λ header.
+    ensures name { IfOk result (λ found. IfOk (header_of input.now) (λ header.
         let file : ElfFile = record { input = input.entry; header = header } in
         IsFunctionNameOf file address found)) }
+    ensures refused { IfErr result (λ error. MatchResult (header_of input.now) (λ header.
+        let file : ElfFile = record { input = input.entry; header = header } in
+        IsNameRefused file address error) (λ why. why ≡ error)) }
 {
     let file = ElfFile::new(input)?;
     function_name(&file, address)

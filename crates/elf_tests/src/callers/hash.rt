@@ -1,17 +1,19 @@
 //! Callers that look symbols up by their names, as a model of a dynamic linker would.
 
-ghost use Rattle.std.specs.Prelude.{◌≡◌, ◌↔◌, ◌≤◌, ℕ, IfOk, IfSome, IsTrue, MatchOption, Some, slice_get, true};
-ghost use Rattle.elf_tests.specs.Linked.{AreLinked, IsFileValueOf};
+ghost use Rattle.std.specs.Prelude.{◌≡◌, ◌↔◌, ◌≤◌, ℕ, IfErr, IfOk, IsTrue, MatchOption, MatchResult, None, Some, slice_get, true};
+ghost use Rattle.elf_tests.specs.Linked.{AreLinked, IsFileValueOf, IsLinkRefused, NotLinked, symbols_in, table_in};
 ghost use Rattle.xmas_elf.specs.FileHeader.{header_of};
 ghost use Rattle.xmas_elf.specs.Good.{IsGood};
-ghost use Rattle.xmas_elf.specs.HashTable.{chain_count_of};
+ghost use Rattle.xmas_elf.specs.HashReport.{content_at};
+ghost use Rattle.xmas_elf.specs.HashTable.{chain_count_of, hash_data, hash_order};
+ghost use Rattle.xmas_elf.specs.SectionContent.{section_content_of};
 ghost use Rattle.xmas_elf.specs.Symbols.{IsGlobal, symbols_of};
 ghost use Rattle.xmas_elf.specs.Table.{table_data, table_order};
 ghost use Rattle.xmas_elf.specs.declared.ElfFile.{ElfFile};
 
 use xmas_elf::bytes::{Record, Table};
 use xmas_elf::hash::HashTable;
-use xmas_elf::sections::SectionData;
+use xmas_elf::sections::{SectionData, SectionHeader};
 use xmas_elf::symbol_table::{DynEntry64, Entry};
 use xmas_elf::{ElfError, ElfFile};
 
@@ -66,27 +68,46 @@ pub fn comparisons<E: Entry + Record>(
     table.lookup_counted(name, symbols, file, |_| true).1
 }
 
+// The hash table that a section has, if it has one.
+fn table_in<'a>(file: &ElfFile<'a>, section: SectionHeader) -> Option<HashTable<'a>>
+    ensures { let found = table_in (section_content_of file.now section) in MatchOption result
+        (found ≡ None) (λ table. found ≡ Some (hash_order table, hash_data table)) }
+{
+    match section.get_data(file) {
+        Ok(SectionData::HashTable(table)) => Some(table),
+        _ => None,
+    }
+}
+
+// The symbols of class 64 that the section at an index has, if it has some.
+fn symbols_at<'a>(file: &ElfFile<'a>, index: u32) -> Option<Table<'a, DynEntry64>>
+    ensures { let found = symbols_in (content_at file.now index) in MatchOption result
+        (found ≡ None) (λ symbols. found ≡ Some (table_order symbols, table_data symbols)) }
+{
+    let section = file.section_header_at(u64::from(index)).ok()?;
+    match section.get_data(file) {
+        Ok(SectionData::DynSymbolTable64(symbols)) => Some(symbols),
+        _ => None,
+    }
+}
+
 /// The hash table of a file of class 64 for the dynamic linker, and the symbols that it is linked to.
 pub fn linked_tables<'a>(file: &ElfFile<'a>) -> Option<(HashTable<'a>, Table<'a, DynEntry64>)>
-    ensures { IfSome result (λ tables.
+    ensures { MatchOption result (NotLinked file.now) (λ tables.
         AreLinked file.now tables.0 (table_order tables.1) (table_data tables.1)) }
 {
     let section = file.find_section_by_name(".hash")?;
-    let Ok(SectionData::HashTable(table)) = section.get_data(file) else {
-        return None;
-    };
-    let link = file.section_header_at(u64::from(section.link())).ok()?;
-    match link.get_data(file) {
-        Ok(SectionData::DynSymbolTable64(symbols)) => Some((table, symbols)),
-        _ => None,
-    }
+    let table = table_in(file, section)?;
+    let symbols = symbols_at(file, section.link())?;
+    Some((table, symbols))
 }
 
 /// The value of the symbol with this name in some file, as a dynamic linker finds it: by the hash table
 /// and the symbols that it is linked to, once the check has passed. None where there is no such symbol,
 /// and a refusal where the file has no such tables or they don't pass.
 pub fn value_of_name(file: &ElfFile<'_>, name: &str) -> Result<Option<u64>, ElfError>
-    ensures { IfOk result (IsFileValueOf file.now name.now) }
+    ensures value { IfOk result (IsFileValueOf file.now name.now) }
+    ensures refused { IfErr result (IsLinkRefused file.now) }
 {
     let Some((table, symbols)) = linked_tables(file) else {
         return Err(ElfError::ShortData);
@@ -102,9 +123,12 @@ pub fn value_of_name(file: &ElfFile<'_>, name: &str) -> Result<Option<u64>, ElfE
 
 /// The same, from the bytes of the file.
 pub fn value_in_bytes(input: &[u8], name: &str) -> Result<Option<u64>, ElfError>
-    ensures { IfOk result (λ found. IfOk (header_of input.now) (λ header.
+    ensures value { IfOk result (λ found. IfOk (header_of input.now) (λ header.
         let file : ElfFile = record { input = input.entry; header = header } in
         IsFileValueOf file name.now found)) }
+    ensures refused { IfErr result (λ error. MatchResult (header_of input.now) (λ header.
+        let file : ElfFile = record { input = input.entry; header = header } in
+        IsLinkRefused file error) (λ why. why ≡ error)) }
 {
     let file = ElfFile::new(input)?;
     value_of_name(&file, name)

@@ -151,6 +151,9 @@ fn goes_from_bytes_and_a_name_to_a_value(rt: HostRuntime) -> Result<(), Fail> {
         assert_eq!(rt; value_in_bytes(WIDE, name), Ok(Some(value)), "{name}");
     }
     assert_eq!(rt; value_in_bytes(WIDE, "inner"), Ok(None));
+    // without the last header, that of the names, no section is found by its name
+    let cut = &WIDE[..1471];
+    assert_eq!(rt; value_in_bytes(cut, "first"), Err(ElfError::ShortData));
     Ok(())
 }
 

@@ -6,6 +6,7 @@ use Rattle.elf_tests.specs.FunctionAt.{HoldsAddress}
 use Rattle.xmas_elf.specs.Table.{table_items, table_rest}
 use Rattle.elf_tests.proofs.callers.backtrace.function_place.Goals as goal
 
+-- what `position` finds in a table; where the type of its symbols isn't a parameter, no answer is needed
 pub returns : goal.returns
 returns g c = IsFirst-from_position c.position.new.self _ _ (λ symbol. HoldsAddress (g.E.Entry.fields symbol) c.args.address)
     (λ symbol. ¬ HoldsAddress (g.E.Entry.fields symbol) c.args.address) c.position.ensures.ran
