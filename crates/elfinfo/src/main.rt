@@ -1,4 +1,4 @@
-//! Prints what an ELF file holds: `elfinfo <path>` writes the report of the file to standard output.
+//! Prints what an ELF file holds: `elfinfo PATH` writes the report of the file to standard output.
 #![tactic(auto)]
 
 ghost use Rattle.std.specs.Prelude.{◌≡◌, [], OnOk};
