@@ -3,6 +3,8 @@
 
 pub mod callers;
 pub mod constants;
+pub mod files;
 pub mod own;
+pub mod places;
 #[cfg(test)]
 mod tests;

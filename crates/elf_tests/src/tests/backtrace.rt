@@ -1,10 +1,8 @@
 //! The names of functions by addresses in them.
 
 use crate::callers::backtrace::{function_at, function_name_in};
-use crate::tests::files::strtab_file;
-use crate::tests::places::{
-    header_32, header_64, put, section_32, section_64, set, symbol_32, symbol_64,
-};
+use crate::files::strtab_file;
+use crate::places::{header_32, header_64, put, section_32, section_64, set, symbol_32, symbol_64};
 use std::test::Fail;
 use xmas_elf::ElfError;
 use xmas_elf::bytes::{Order, Table};

@@ -1,6 +1,6 @@
 //! Which inputs are accepted, and what their headers hold.
 
-use crate::tests::files::{debug_link_file, plain_header, plain_header_len, strtab_file};
+use crate::files::{debug_link_file, plain_header, plain_header_len, strtab_file};
 use std::test::Fail;
 use xmas_elf::bytes::Order;
 use xmas_elf::header::{

@@ -1,7 +1,7 @@
 //! Which bytes of a file are to be loaded where, and which files are refused.
 
 use crate::callers::loader::{LoadError, check, pieces};
-use crate::tests::places::{Place, header_32, program_32, put, set};
+use crate::places::{Place, header_32, program_32, put, set};
 use std::test::Fail;
 use xmas_elf::ElfFile;
 use xmas_elf::bytes::Order;

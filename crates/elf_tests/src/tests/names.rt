@@ -1,7 +1,7 @@
 //! Names and other texts.
 
-use crate::tests::files::strtab_file;
-use crate::tests::places::{ENCODING, header_32, put, section_32, set};
+use crate::files::strtab_file;
+use crate::places::{ENCODING, header_32, put, section_32, set};
 use std::test::Fail;
 use xmas_elf::bytes::{Order, text_at};
 use xmas_elf::{ElfError, ElfFile};

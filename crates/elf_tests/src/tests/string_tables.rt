@@ -1,7 +1,7 @@
 //! The texts of `.strtab` and `.dynstr`.
 
-use crate::tests::files::{dynstr_file, strtab_file, wide_strtab_file};
-use crate::tests::places::{ENCODING, put, section_32, set};
+use crate::files::{dynstr_file, strtab_file, wide_strtab_file};
+use crate::places::{ENCODING, put, section_32, set};
 use std::process::Abort;
 use std::test::Fail;
 use xmas_elf::bytes::Order;

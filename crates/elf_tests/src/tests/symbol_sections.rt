@@ -1,8 +1,8 @@
 //! The section that a symbol belongs to.
 
 use crate::callers::symbols::section_of_any;
-use crate::tests::files::{many_sections_file, shndx_file, strtab_file};
-use crate::tests::places::{WORD, section_32, set, symbol_32, symbol_64};
+use crate::files::{many_sections_file, shndx_file, strtab_file};
+use crate::places::{WORD, section_32, set, symbol_32, symbol_64};
 use crate::tests::symbols::symbol;
 use std::test::Fail;
 use xmas_elf::bytes::Order;

@@ -4,9 +4,9 @@ use crate::callers::symbols::{
     dyn_name_or_refusal, first_name, name_by_table, name_bytes, name_or_refusal, own_is_named,
     own_section, value_at,
 };
+use crate::files::{dynstr_file, strtab_file};
 use crate::own::Numbered;
-use crate::tests::files::{dynstr_file, strtab_file};
-use crate::tests::places::{set, symbol_32, symbol_64};
+use crate::places::{set, symbol_32, symbol_64};
 use std::string::ToString;
 use std::test::Fail;
 use xmas_elf::bytes::{Order, Record, Table};

@@ -1,7 +1,7 @@
 //! Notes of segments, build ids and links to debug information.
 
-use crate::tests::files::{alternate_link_file, debug_link_file, debug_link_file_in, with_class};
-use crate::tests::places::{Place, WORD, program_64, section_32, section_64, set};
+use elf_tests::files::{alternate_link_file, debug_link_file, debug_link_file_in, with_class};
+use elf_tests::places::{Place, WORD, program_64, section_32, section_64, set};
 use std::test::Fail;
 use xmas_elf::bytes::{Order, Record};
 use xmas_elf::program::{ProgramHeader, ProgramHeader64, SegmentData};

@@ -1,7 +1,7 @@
 //! Look-ups and checks along chains that don't end, end early, or lead elsewhere.
 
-use crate::own::Numbered;
-use crate::tests::files::{put_symbols, put_words, strtab_file};
+use elf_tests::files::{put_symbols, put_words, strtab_file};
+use elf_tests::own::Numbered;
 use std::cell::Cell;
 use std::process::Abort;
 use std::test::Fail;

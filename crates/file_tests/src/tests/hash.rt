@@ -1,6 +1,6 @@
 //! Hash numbers, the words of hash tables, and look-ups in a table of two symbols.
 
-use crate::tests::files::{put_symbols, put_words, strtab_file};
+use elf_tests::files::{put_symbols, put_words, strtab_file};
 use std::process::Abort;
 use std::test::Fail;
 use xmas_elf::bytes::{Order, Table};

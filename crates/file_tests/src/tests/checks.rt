@@ -1,7 +1,7 @@
 //! The check of the ELF header, each refusal at its boundary.
 
-use crate::tests::files::{debug_link_file, plain_header, strtab_file};
-use crate::tests::places::{Place, header_32, header_64, set};
+use elf_tests::files::{debug_link_file, plain_header, strtab_file};
+use elf_tests::places::{Place, header_32, header_64, set};
 use std::test::Fail;
 use xmas_elf::bytes::Order;
 use xmas_elf::header::{Class_, Data_, Header, HeaderPt1, HeaderPt2, Version_, sanity_check};

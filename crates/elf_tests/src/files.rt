@@ -2,7 +2,7 @@
 
 ghost use Rattle.std.specs.Prelude.{◌≤◌};
 
-use crate::tests::places::{
+use crate::places::{
     WORD, header_32, header_64, program_32, put, section_32, section_64, set, symbol_32,
 };
 use std::alloc::{AllocError, Global};

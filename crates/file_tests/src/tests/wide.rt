@@ -1,12 +1,12 @@
 //! Counts and indices of more than 16 bits, which stand in section header 0.
 
 use crate::tests::compared::check_compared;
-use crate::tests::files::{
+use crate::tests::reports::check_end;
+use elf_tests::files::{
     many_sections_file, plain_header, plain_header_len, segment_file, strtab_file,
     wide_strtab_file, with_class,
 };
-use crate::tests::places::{Place, header_32, header_64, section_32, section_64, set};
-use crate::tests::reports::check_end;
+use elf_tests::places::{Place, header_32, header_64, section_32, section_64, set};
 use std::process::Abort;
 use std::test::Fail;
 use xmas_elf::bytes::Order;

@@ -1,10 +1,8 @@
 //! Sections by index, by iterator and by name.
 
-use crate::tests::files::{
-    debug_link_file, plain_header, plain_header_len, strtab_file, with_class,
-};
-use crate::tests::places::{ENCODING, header_32, header_64, section_64, set};
-use crate::{callers, constants};
+use elf_tests::files::{debug_link_file, plain_header, plain_header_len, strtab_file, with_class};
+use elf_tests::places::{ENCODING, header_32, header_64, section_64, set};
+use elf_tests::{callers, constants};
 use std::process::Abort;
 use std::string::ToString;
 use std::test::Fail;

@@ -1,10 +1,10 @@
 //! Segments by index and by iterator, their data, checks and printed forms.
 
-use crate::tests::files::{
+use crate::tests::reports::check_end;
+use elf_tests::files::{
     debug_link_file, overlaid_file, plain_header, plain_header_len, segment_file, with_class,
 };
-use crate::tests::places::{Place, header_32, header_64, program_32, program_64, set};
-use crate::tests::reports::check_end;
+use elf_tests::places::{Place, header_32, header_64, program_32, program_64, set};
 use std::fmt;
 use std::string::ToString;
 use std::test::Fail;

@@ -1,8 +1,8 @@
 //! The last line of a report, which tells of the hash table.
 
-use crate::tests::files::{hash_file, put_words};
-use crate::tests::places::{section_32, set};
 use crate::tests::reports::check_end;
+use elf_tests::files::{hash_file, put_words};
+use elf_tests::places::{section_32, set};
 use std::alloc::Global;
 use std::process::Abort;
 use xmas_elf::bytes::Order;

@@ -1,7 +1,7 @@
 //! The data of sections and segments, by their types.
 
-use crate::tests::files::{debug_link_file, plain_header, strtab_file, with_class};
-use crate::tests::places::{ENCODING, program_32, put, section_64, set};
+use elf_tests::files::{debug_link_file, plain_header, strtab_file, with_class};
+use elf_tests::places::{ENCODING, program_32, put, section_64, set};
 use std::process::Abort;
 use std::test::Fail;
 use xmas_elf::bytes::{Order, Record};

@@ -1,7 +1,7 @@
 //! Reports, each written out by hand.
 
-use crate::tests::files::{debug_link_file, strtab_file};
-use crate::tests::places::{
+use elf_tests::files::{debug_link_file, strtab_file};
+use elf_tests::places::{
     ABI_VERSION, OS_ABI, PADDING, VERSION, header_32, header_64, put, section_64, set,
 };
 use std::alloc::Global;

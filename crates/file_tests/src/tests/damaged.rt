@@ -1,7 +1,7 @@
 //! Files that end early, and headers that say what isn't so.
 
-use crate::tests::files::{debug_link_file, strtab_file};
-use crate::tests::places::{header_64, put, set};
+use elf_tests::files::{debug_link_file, strtab_file};
+use elf_tests::places::{header_64, put, set};
 use std::alloc::Global;
 use std::process::Abort;
 use std::test::Fail;

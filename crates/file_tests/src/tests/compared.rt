@@ -1,7 +1,7 @@
 //! Names compared in place, and how many bytes were compared.
 
-use crate::tests::files::{strtab_file, wide_strtab_file};
-use crate::tests::places::{header_32, put, section_32, set};
+use elf_tests::files::{strtab_file, wide_strtab_file};
+use elf_tests::places::{header_32, put, section_32, set};
 use std::process::Abort;
 use std::test::Fail;
 use xmas_elf::ElfFile;

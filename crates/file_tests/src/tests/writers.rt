@@ -1,6 +1,6 @@
 //! The report into writers that take little, nothing, or only some calls.
 
-use crate::tests::files::{debug_link_file, hash_file, strtab_file};
+use elf_tests::files::{debug_link_file, hash_file, strtab_file};
 use std::alloc::Global;
 use std::io;
 use std::io::Write;

@@ -21,8 +21,8 @@
 //! -Wl,-z,max-page-size=16,-z,common-page-size=16
 //! ```
 
-use crate::callers::hash::value_in_bytes;
 use crate::tests::reports::check_end;
+use elf_tests::callers::hash::value_in_bytes;
 use std::process::Abort;
 use std::test::Fail;
 use xmas_elf::bytes::{Record, Table};

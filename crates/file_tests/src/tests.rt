@@ -1,0 +1,16 @@
+//! Expected values are worked out by hand from the format, and never taken from the program's output.
+
+mod chains;
+mod checks;
+mod compared;
+mod damaged;
+mod data;
+mod extensions;
+mod hash;
+mod reports;
+mod reports_of_hash;
+mod sections;
+mod segments;
+mod shared_object;
+mod wide;
+mod writers;
