@@ -102,7 +102,9 @@ pub fn counted_sections(file: &ElfFile<'_>) -> u64
 pub fn section_with_address(file: &ElfFile<'_>, address: u64) -> Option<SectionHeader>
     ensures { let sections = section_list file.now in MatchOption result
         (AllWithin (λ section. (section_fields section).address ≢ address) sections 0 (length sections))
-        (λ section. (section_fields section).address ≡ address) }
+        (λ section. (section_fields section).address ≡ address
+        × ((i : ℕ) × (i < length sections) × HoldsAt (λ item. item ≡ section) sections i
+        × AllWithin (λ before. (section_fields before).address ≢ address) sections 0 i)) }
 {
     file.section_iter()
         .find(|section| section.address() == address)
