@@ -1,5 +1,5 @@
 -- How many bytes the sections of a file have by kind, as `size` of binutils counts them. The kinds are
--- its own; the flags and the types are those of gABI, "Section Header", sh_flags and sh_type. What it
+-- its own; the flags and the types are those of gABI, "Sections", sh_flags and sh_type. What it
 -- leaves out and is counted here: symbol tables and string tables of an object file that take memory.
 use Rattle.std.specs.Prelude.{◌≡◌, ℕ, ◌==◌, Bool, true, false, not, sum_by, Result, Ok, if◌then◌else◌}
 use Rattle.std.specs.Int.Bits.{bit_and}

@@ -1,17 +1,18 @@
 //! Callers of `xmas_elf` in another crate, proved by its public contracts alone.
 
-ghost use Rattle.std.specs.Prelude.{◌≡◌, ◌≢◌, ◌+◌, ◌↔◌, ◌≤◌, ◌<◌, ◌==◌, IfOk, IfSome, IsOkAnd, IsTrue, List, MatchOption, Ok, count_by, drop, length, ℕ};
+ghost use Rattle.std.specs.Prelude.{◌≡◌, ◌≢◌, ◌+◌, ◌↔◌, ◌≤◌, ◌<◌, ◌==◌, IfNone, IfOk, IfSome, IsOkAnd, IsTrue, List, MatchOption, Ok, count_by, drop, length, ℕ};
 ghost use Rattle.std.specs.List.{AllWithin, HoldsAt};
 ghost use Rattle.xmas_elf.specs.Checks.{header_check};
 ghost use Rattle.xmas_elf.specs.Counts.{program_count_of, section_count_of};
 ghost use Rattle.xmas_elf.specs.FileHeader.{file_class, file_order, header_of};
 ghost use Rattle.xmas_elf.specs.HeaderLayout.{header_fields};
-ghost use Rattle.xmas_elf.specs.NameTable.{Bears, IsFirstNamed, IsNameTable, shstr_of};
+ghost use Rattle.xmas_elf.specs.HeaderTable.{IsLongest};
+ghost use Rattle.xmas_elf.specs.NameTable.{Bears, IsFirstNamed, IsNameTable, section_named, shstr_of};
 ghost use Rattle.xmas_elf.specs.Number.{byte_at, number};
 ghost use Rattle.xmas_elf.specs.ProgramHeader.{program_fields, program_header_of};
 ghost use Rattle.xmas_elf.specs.ProgramList.{program_list};
 ghost use Rattle.xmas_elf.specs.Range.{IsRange};
-ghost use Rattle.xmas_elf.specs.SectionData.{IsSectionData};
+ghost use Rattle.xmas_elf.specs.SectionData.{HasSectionData, IsSectionData};
 ghost use Rattle.xmas_elf.specs.SectionHeader.{section_fields, section_header_size, section_of, section_place, section_type};
 ghost use Rattle.xmas_elf.specs.SectionList.{section_list};
 ghost use Rattle.xmas_elf.specs.Text.{IsText};
@@ -54,7 +55,8 @@ pub fn size_64(file: &ElfFile<'_>, index: u16) -> Result<u64, ElfError>
 
 /// How many sections of a file can be read, by its iterator.
 pub fn readable_sections(file: &ElfFile<'_>) -> usize
-    ensures { result ≡ length (section_list file.now) }
+    ensures counted { result ≡ length (section_list file.now) }
+    ensures longest { IsLongest (section_of file.now) (section_count_of file.now) (section_list file.now) }
 {
     file.section_iter().count()
 }
@@ -120,8 +122,10 @@ pub fn data_len(file: &ElfFile<'_>, section: SectionHeader) -> Result<usize, Elf
 
 /// The data of the first section with this name, if the file holds them.
 pub fn data_named<'a>(file: &ElfFile<'a>, name: &str) -> Option<&'a [u8]>
-    ensures { IfSome result (λ bytes. (index : ℕ) × (section : SectionHeader)
+    ensures found { IfSome result (λ bytes. (index : ℕ) × (section : SectionHeader)
         × IsFirstNamed file.now name.now index section × IsSectionData file.now section bytes.now) }
+    ensures missing { IfNone result (IfSome (section_named file.now name.now)
+        (λ section. ¬ HasSectionData file.now section)) }
 {
     let section = file.find_section_by_name(name)?;
     section.raw_data(file).ok()
