@@ -1,8 +1,9 @@
 #!/usr/bin/env python3
 """Wants each edit of crates/*/does-not-compile/ to be refused by the compiler.
 
-An edit is applied to a copy of the repository, and `rt check` of its crate must end with the error
-that the edit names. Run it at the top of the repository: tools/does_not_compile.py
+An edit is applied to a copy of the repository, and `rt try --test` of its crate, which compiles it and
+proves nothing, must end with the error that the edit names. Run it at the top of the repository:
+tools/does_not_compile.py
 """
 import pathlib
 import shutil
@@ -39,7 +40,7 @@ def is_refused(edit: pathlib.Path) -> bool:
         shutil.copytree(ROOT, copy, ignore=shutil.ignore_patterns("out", ".git"))
         crate = copy / "crates" / edit.parent.parent.name
         want = apply_edit(edit, crate)
-        ran = subprocess.run(["rt", "check"], cwd=crate, capture_output=True, text=True)
+        ran = subprocess.run(["rt", "try", "--test"], cwd=crate, capture_output=True, text=True)
         return ran.returncode != 0 and f"error[{want}]" in ran.stdout + ran.stderr
 
 

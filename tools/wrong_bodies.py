@@ -1,0 +1,387 @@
+#!/usr/bin/env python3
+"""Wants the prover to refuse each wrong body of crates/NAME/wrong-bodies/TOPIC/*.edit.
+
+A function is proved by the contracts of what it calls, and not by their bodies. So edits of different
+functions are tried together, in one check of a copy of the crate, and each is judged by what is said
+of its own function: a goal of its contract must be left open. One of which that isn't said is tried
+alone, where any goal will do, since nothing else was changed. An edit fails that doesn't apply or
+compile, that changes nothing, or with which the crate is still proved.
+
+    tools/wrong_bodies.py [--jobs N] [NAME..]    a NAME is that of a crate, a topic or an edit; none: all
+    tools/wrong_bodies.py --self-test            whether the script itself tells right from wrong
+
+Each crate must be proved as it stands, and is checked first; what that check and earlier ones kept in
+out/ is used again. The last line is `N refused, M failed`.
+"""
+import argparse
+import concurrent.futures
+import dataclasses
+import pathlib
+import re
+import shutil
+import subprocess
+import sys
+import tempfile
+import threading
+
+ROOT = pathlib.Path(__file__).resolve().parent.parent
+
+# Many edits of one batch share what a check costs before the first goal; few leave work for others.
+BATCH = 16
+
+CONTRACT = re.compile(r"what the function ensures|the invariant of the loop|the loop's invariant")
+NOTE = re.compile(r"note: (?:\./)?(src/\S+?):(\d+):\d+: it is not proved that (.*)")
+ANSWER = re.compile(r"(?:\./)?proofs/(\S+)/\w+\.antt:\d+:\d+: error: (.*)")
+# A proof that only cites a name which the edit took away says nothing of the contract.
+LOST = re.compile(r"has no field|is not in scope|has no `|was not admitted")
+TOLD = re.compile(r"fn (\S+): (?:proved|not proved|no proof)")
+
+
+@dataclasses.dataclass(frozen=True)
+class Function:
+    """A function of a source file, by the lines that it takes, its attributes among them."""
+
+    file: str
+    first: int
+    last: int
+    path: str
+
+    def tail(self) -> str:
+        return "::".join(self.path.split("::")[-2:])
+
+
+@dataclasses.dataclass
+class Edit:
+    """A wrong body: which texts of which files it changes, and the functions that these stand in."""
+
+    crate: str
+    name: str
+    changes: list
+    functions: set
+    fault: str = ""
+
+    def label(self) -> str:
+        return f"{self.crate}/{self.name}"
+
+
+def label_of(head: str) -> str:
+    """The name of an impl or a trait in the path of a function: `Table`, `TableClone`, `Part_+P32`."""
+    found = re.match(r"(?:pub )?(?:impl|trait)(?:<((?:[^<>]|<[^<>]*>)*)>)?\s+(?:([\w:]+)(?:<[^{]*?>)? for )?(\w+)(?:<([^{]*?)>)?", head)
+    if not found:
+        return ""
+    # The arguments of a type stand in its name where they are types, and not parameters of the impl.
+    own = re.findall(r"\w+", re.sub(r":[^,]*", "", found[1] or ""))
+    arguments = [it.strip() for it in (found[4] or "").split(",")]
+    arguments = [it for it in arguments if re.fullmatch(r"\w+", it) and it not in own and it != "_"]
+    trait = (found[2] or "").split("::")[-1]
+    return found[3] + "".join(arguments if trait else ["+" + it for it in arguments]) + trait
+
+
+def functions_of(file: str, text: str, crate: str) -> list:
+    """The functions of a source file, as its layout shows where each begins and ends."""
+    module = re.sub(r"^src/|\.rt$", "", file).replace("/", "::")
+    prefix = crate if module in ("lib", "main") else f"{crate}::{module}"
+    lines, found, label, first = text.split("\n"), [], "", None
+    for at, line in enumerate(lines, 1):
+        if re.match(r"(pub )?(impl|trait)\b", line):
+            label = label_of(" ".join(lines[at - 1 : at + 6]))
+        elif line == "}":
+            label = "" if not re.match(r"}", lines[at - 2]) else label
+        begins = re.match(r"( {0,4})(?:pub(?:\(\w+\))? )?(?:const )?fn (\w+)", line)
+        if re.match(r" {0,4}(#\[|///? )", line):
+            first = first or at
+        elif begins:
+            inside = label if begins[1] else ""
+            path = "::".join(it for it in (prefix, inside, begins[2]) if it)
+            end = next((k for k in range(at, len(lines) + 1) if lines[k - 1] == begins[1] + "}"), at)
+            found.append(Function(file, first or at, end, path))
+            first = None
+        else:
+            first = None
+    return found
+
+
+class Crate:
+    """The sources of a crate, and which function stands where."""
+
+    def __init__(self, folder: pathlib.Path):
+        self.folder, self.name = folder, folder.name
+        files = sorted((folder / "src").rglob("*.rt"))
+        self.texts = {str(it.relative_to(folder)): it.read_text(encoding="utf-8") for it in files}
+        self.functions = [one for file, text in self.texts.items() for one in functions_of(file, text, self.name)]
+
+    def function_at(self, file: str, line: int):
+        held = [it for it in self.functions if it.file == file and it.first <= line <= it.last]
+        return held[-1] if held else None
+
+    def changed(self, edits) -> dict:
+        """The texts of the changed files; ValueError says which change can't be made."""
+        texts = {}
+        for edit in edits:
+            for file, old, new in edit.changes:
+                text = texts.get(file, self.texts.get(file, ""))
+                if text.count(old) != 1:
+                    raise ValueError(f"the old text stands {text.count(old)} times in {file}")
+                texts[file] = text.replace(old, new)
+        return texts
+
+    def read_edit(self, path: pathlib.Path) -> Edit:
+        """The edit of a file, with a fault where it can't be tried."""
+        file, old, changes, functions = "", "", [], set()
+        for line in path.read_text(encoding="utf-8").split("\n"):
+            word, _, text = line.partition(":")
+            text = text.removeprefix(" ")
+            if word == "file":
+                file = text.strip()
+            elif word == "old":
+                old = text
+            elif word == "new":
+                changes.append((file, old, text))
+        folder = path.parent.relative_to(self.folder / "wrong-bodies")
+        edit = Edit(self.name, str(folder / path.stem), changes, functions)
+        try:
+            self.changed([edit])
+        except ValueError as error:
+            edit.fault = str(error)
+        if not changes or all(old == new for _, old, new in changes):
+            edit.fault = "it changes nothing"
+        for at, (file, old, _) in enumerate([] if edit.fault else changes):
+            # An edit keeps the number of lines, so a line has its number before and behind the changes above it.
+            text = self.changed([Edit("", "", changes[:at], set())]).get(file, self.texts[file])
+            line = text.count("\n", 0, text.find(old)) + 1
+            if not text.split("\n")[line - 1].startswith(("use ", "ghost use ")):
+                functions.add(self.function_at(file, line))
+        return edit
+
+
+def batches_of(crate: Crate, edits) -> list:
+    """The edits in few groups, each of edits of different functions that can be made together."""
+    batches = []
+    for edit in edits:
+        for batch in batches:
+            used = set().union(*(it.functions for it in batch))
+            if len(batch) < BATCH and None not in used | edit.functions and not used & edit.functions:
+                try:
+                    crate.changed([*batch, edit])
+                    batch.append(edit)
+                    break
+                except ValueError:
+                    continue
+        else:
+            batches.append([edit])
+    return batches
+
+
+def goals_in(crate: Crate, said: str) -> dict:
+    """What a check left open, by the function that it said it of (None: of no function of the sources)."""
+    told = {it.split("::", 1)[1] for it in TOLD.findall(said) if "::" in it}
+    by_path = {}
+    for one in crate.functions:
+        alike = [it for it in told if "::".join(("", *it.split("::"))[-2:]) == one.tail()]
+        exact = one.path.split("::", 1)[1]
+        by_path[exact if exact in told or len(alike) != 1 else alike[0]] = one
+    goals = {}
+    for line in said.split("\n"):
+        note, answer = NOTE.match(line), ANSWER.match(line)
+        if note:
+            goals.setdefault(crate.function_at(note[1], int(note[2])), []).append(note[3])
+        elif answer and not LOST.search(answer[2]):
+            one = by_path.get(answer[1].replace("/", "::"))
+            goals.setdefault(one, []).append(f"what the function ensures: {answer[2]}")
+    return goals
+
+
+class Room:
+    """A copy of the repository in which one crate is changed and checked again and again."""
+
+    def __init__(self, root: pathlib.Path, crate: Crate, below, place: pathlib.Path):
+        self.crate, self.folder = crate, place / "crates" / crate.name
+        place.mkdir()
+        needed = [*below, crate.name]
+        lines = (root / "crates.txt").read_text(encoding="utf-8").splitlines(keepends=True)
+        (place / "crates.txt").write_text("".join(it for it in lines if re.split(r"[ :]", it)[0] in needed), encoding="utf-8")
+        for name in needed:
+            source, copy = root / "crates" / name, place / "crates" / name
+            for part in ("src", "specs", "proofs"):
+                if (source / part).is_dir():
+                    shutil.copytree(source / part, copy / part)
+            kept = "incremental" if name == crate.name else "rlib"
+            if (source / "out" / kept).is_dir():
+                shutil.copytree(source / "out" / kept, copy / "out" / kept)
+
+    def check(self, edits) -> subprocess.CompletedProcess:
+        """Checks the crate with these edits made, and takes them back."""
+        changed = self.crate.changed(edits)
+        for file, text in changed.items():
+            (self.folder / file).write_text(text, encoding="utf-8")
+        words = ["rt", "check", "--jobs", "1"]
+        ran = subprocess.run(words, cwd=self.folder, stdout=subprocess.PIPE, stderr=subprocess.STDOUT, text=True, errors="replace")
+        for file in changed:
+            (self.folder / file).write_text(self.crate.texts[file], encoding="utf-8")
+        return ran
+
+    def judge(self, edits) -> list:
+        """Each edit with the goal for which it is refused, or with none and a fault."""
+        ran = self.check(edits)
+        reached = re.search(r"^logic=(proved|not-proved)", ran.stdout, re.M)
+        if not reached and len(edits) > 1:
+            return [*self.judge(edits[::2]), *self.judge(edits[1::2])]
+        if not reached:
+            said = [it for it in ran.stdout.split("\n") if "error" in it] or ran.stdout.strip().split("\n")[-1:]
+            return [(edits[0], "", f"it does not compile: {said[0]}")]
+        goals = goals_in(self.crate, ran.stdout)
+        if len(edits) == 1:
+            own = [it for one in edits[0].functions for it in goals.get(one, [])]
+            others = [it for them in goals.values() for it in them]
+            goal = next((it for it in [*own, *others]), "")
+            fault = "the crate is still proved" if reached[1] == "proved" else "no goal is left open, only a name that it took away"
+            return [(edits[0], goal, "" if goal else fault)]
+        judged = []
+        for edit in edits:
+            own = [it for one in edit.functions for it in goals.get(one, []) if CONTRACT.search(it)]
+            judged += [(edit, own[0], "")] if own else self.judge([edit])
+        return judged
+
+
+class Trial:
+    """All edits of a repository that are to be tried, by several workers."""
+
+    def __init__(self, root: pathlib.Path, names, jobs: int):
+        self.root, self.jobs, self.lock = root, jobs, threading.Lock()
+        self.refused, self.failed = [], []
+        self.tasks = []
+        below = {}
+        for line in (root / "crates.txt").read_text(encoding="utf-8").splitlines():
+            name, _, deps = line.partition("#")[0].partition(":")
+            if name.strip():
+                below[name.split()[0]] = deps.split()
+        for name in below:
+            crate = Crate(root / "crates" / name)
+            edits = [crate.read_edit(it) for it in sorted((crate.folder / "wrong-bodies").glob("*/*.edit"))]
+            edits = [it for it in edits if not names or any(self.is_named(it, word) for word in names)]
+            for edit in edits:
+                if edit.fault:
+                    self.tell(edit, "", edit.fault)
+            libraries = self.closure(below, name)
+            batches = batches_of(crate, [it for it in edits if not it.fault])
+            if batches:
+                self.tasks.append((crate, libraries, batches))
+
+    @staticmethod
+    def is_named(edit: Edit, word: str) -> bool:
+        parts = edit.label().split("/")
+        return word in parts or word in ("/".join(parts[:2]), edit.label())
+
+    @staticmethod
+    def closure(below: dict, name: str) -> list:
+        found = []
+        for it in below.get(name, []):
+            if it in below:
+                found += [low for low in [*Trial.closure(below, it), it] if low not in found]
+        return found
+
+    def tell(self, edit: Edit, goal: str, fault: str):
+        with self.lock:
+            (self.failed if fault else self.refused).append(edit.label())
+            print(f"{edit.label()}: " + (f"FAILED: {fault}" if fault else f"refused: {goal}")[:200], flush=True)
+
+    def work(self, batches: list, crate: Crate, below, place: pathlib.Path):
+        """Takes batches of a crate until none is left."""
+        room = None
+        while True:
+            with self.lock:
+                if not batches:
+                    return
+                batch = batches.pop(0)
+            room = room or Room(self.root, crate, below, place)
+            for edit, goal, fault in room.judge(batch):
+                self.tell(edit, goal, fault)
+
+    def run(self) -> int:
+        with tempfile.TemporaryDirectory(prefix="wrong-bodies-") as rooms, concurrent.futures.ThreadPoolExecutor(self.jobs) as pool:
+            for crate, below, batches in self.tasks:
+                count = sum(map(len, batches))
+                print(f"{crate.name}: {count} edits in {len(batches)} batches", flush=True)
+                ran = subprocess.run(["rt", "check"], cwd=crate.folder, stdout=subprocess.PIPE, stderr=subprocess.STDOUT, text=True, errors="replace")
+                if ran.returncode:
+                    self.failed.append(crate.name)
+                    print(f"{crate.name}: FAILED: it is not proved as it stands", flush=True)
+                    continue
+                places = [pathlib.Path(rooms, f"{crate.name}-{at}") for at in range(min(self.jobs, len(batches)))]
+                done = [pool.submit(self.work, batches, crate, below, it) for it in places]
+                for it in done:
+                    it.result()
+                for it in places:
+                    shutil.rmtree(it, ignore_errors=True)
+        print(f"{len(self.refused)} refused, {len(self.failed)} failed")
+        return 1 if self.failed or not self.refused else 0
+
+
+PAIR = """//! Two functions.
+
+#![tactic(auto)]
+
+ghost use Rattle.std.specs.Prelude.{◌≡◌, ◌/◌, ◌≤◌, ℕ};
+
+/// The larger of two numbers.
+pub fn larger(one: u32, other: u32) -> u32
+    ensures least { one ≤ result }
+    ensures too { other ≤ result }
+{
+    if one < other { other } else { one }
+}
+
+/// Half of a number.
+pub fn half(number: u32) -> u32
+    ensures { result ≡ number / 2 }
+{
+    let parts = 2;
+    number / parts
+}
+"""
+
+# Edits of that crate, and whether each is refused as it must be.
+TOLD_APART = {
+    "smaller": ("if one < other { other }", "if one > other { other }", True),
+    "third": ("let parts = 2;", "let parts = 3;", True),
+    "nothing_changed": ("let parts = 2;", "let parts = 2;", False),
+    "does_not_compile": ("if one < other { other }", "if one < true { other }", False),
+    "right_in_other_words": ("if one < other { other }", "if one <= other { other }", False),
+    "not_there": ("if one == other", "if one < other", False),
+}
+
+
+def self_test() -> int:
+    """Whether a crate with right and wrong edits gets the verdict that it must get."""
+    with tempfile.TemporaryDirectory(prefix="wrong-bodies-") as place:
+        root = pathlib.Path(place)
+        folder = root / "crates" / "pair"
+        (folder / "src").mkdir(parents=True)
+        (folder / "wrong-bodies" / "numbers").mkdir(parents=True)
+        (root / "crates.txt").write_text("pair:\n", encoding="utf-8")
+        (root / "HANDLES").write_text("Handles allowed: none.\n", encoding="utf-8")
+        (folder / "src" / "lib.rt").write_text(PAIR, encoding="utf-8")
+        for name, (old, new, _) in TOLD_APART.items():
+            lines = f"file: src/lib.rt\nold: {old}\nnew: {new}\n"
+            (folder / "wrong-bodies" / "numbers" / f"{name}.edit").write_text(lines, encoding="utf-8")
+        trial = Trial(root, [], 1)
+        status = trial.run()
+    wanted = {f"pair/numbers/{name}" for name, (_, _, is_refused) in TOLD_APART.items() if is_refused}
+    well = status == 1 and set(trial.refused) == wanted and len(trial.failed) == len(TOLD_APART) - len(wanted)
+    print(f"the script {'tells' if well else 'DOES NOT TELL'} right bodies from wrong ones")
+    return 0 if well else 1
+
+
+def main() -> int:
+    words = argparse.ArgumentParser(description=__doc__, formatter_class=argparse.RawDescriptionHelpFormatter)
+    words.add_argument("--jobs", type=int, default=2, help="how many checks run side by side (each takes some 2 GB)")
+    words.add_argument("--self-test", action="store_true", help="try the script on a crate of two functions")
+    words.add_argument("names", nargs="*", metavar="NAME", help="a crate, a topic or an edit")
+    given = words.parse_args()
+    if given.self_test:
+        return self_test()
+    return Trial(ROOT, given.names, max(given.jobs, 1)).run()
+
+
+if __name__ == "__main__":
+    sys.exit(main())
