@@ -314,9 +314,13 @@ class Damage:
         links, hash_table, hash_table, notes, tables, names, cut, moved, numbering, bytes, front)
 
 
-def mutated(data: bytes, random: randoms.Random) -> bytes:
+    # Those that leave each number at its place, so that they do the same in both orders.
+    IN_PLACE = (links, hash_table, hash_table, notes, names, cut)
+
+
+def mutated(data: bytes, random: randoms.Random, ways=Damage.ALL) -> bytes:
     damage = Damage(data, random)
-    for way in random.choices(Damage.ALL, k=random.choice((1, 1, 2, 3, 5))):
+    for way in random.choices(ways, k=random.choice((1, 1, 2, 3, 5))):
         way(damage)
     return bytes(damage.data)
 
@@ -326,3 +330,11 @@ def damaged(seed: int, index: int) -> bytes:
     wide, hostile = random.random() < 0.6, random.choice(("", "", "", "looped", "shared"))
     order = "big" if random.random() < 0.2 else "little"
     return mutated(worked(wide, order, hostile), random)
+
+
+def twins(seed: int, index: int):
+    """A damaged little-endian file, and the same file in the other order."""
+    random = randoms.Random(f"{seed}/{index} twins")
+    wide, hostile = random.random() < 0.5, random.choice(("", "", "looped", "shared"))
+    for order in ("little", "big"):
+        yield mutated(worked(wide, order, hostile), randoms.Random(f"{seed}/{index}"), Damage.IN_PLACE)
