@@ -457,7 +457,12 @@ const NO_LINKS: WantedFile<'static> = WantedFile {
 fn each_prefix_of_a_link_answers_each_call(rt: HostRuntime) {
     let file = debug_link_file();
     for len in 0..398 {
-        check_link_prefix(&rt, rt.alloc(), file.get(..len).unwrap_or(b""), &NO_SEGMENTS);
+        check_link_prefix(
+            &rt,
+            rt.alloc(),
+            file.get(..len).unwrap_or(b""),
+            &NO_SEGMENTS,
+        );
     }
 }
 
@@ -550,10 +555,7 @@ const NO_STRTAB: WantedFile<'static> = WantedFile {
 };
 
 // What is wanted of section 1 of `strtab_file`, with another name.
-fn table_named<'a>(
-    bytes: &'a [u8],
-    name: Result<&'static str, ElfError>,
-) -> WantedSection<'a> {
+fn table_named<'a>(bytes: &'a [u8], name: Result<&'static str, ElfError>) -> WantedSection<'a> {
     WantedSection {
         numbers: [1, 0, 0, 132, 12, 0, 0, 1, 0],
         kind: Ok(ShType::StrTab),
@@ -591,10 +593,7 @@ fn names_that_are_the_whole_file_answer_each_call(rt: HostRuntime) {
 fn a_name_that_is_no_text_answers_each_call(rt: HostRuntime) {
     let mut file = strtab_file(LITTLE);
     put(&mut file, 133, b"\xff");
-    let sections = [
-        first(),
-        table_named(&file[132..], Err(ElfError::TextUtf8)),
-    ];
+    let sections = [first(), table_named(&file[132..], Err(ElfError::TextUtf8))];
     let wanted = WantedFile {
         sections: &sections,
         names: &[
@@ -604,7 +603,11 @@ fn a_name_that_is_no_text_answers_each_call(rt: HostRuntime) {
             (9, Ok("ab")),
         ],
         compared: &[(1, ".strtab", (false, 1)), (2, "strtab", (true, 7))],
-        report: [STRTAB_HEADER, " ok", "1 Ok(StrTab) ! Text is not valid UTF-8\n"],
+        report: [
+            STRTAB_HEADER,
+            " ok",
+            "1 Ok(StrTab) ! Text is not valid UTF-8\n",
+        ],
         ..NO_STRTAB
     };
     check_all_calls(&rt, rt.alloc(), &file, Ok(wanted));

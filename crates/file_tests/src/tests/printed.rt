@@ -10,7 +10,9 @@ use xmas_elf::dynamic::{Dynamic, Tag, Tag_};
 use xmas_elf::hash::HashTable;
 use xmas_elf::report::ReportFault;
 use xmas_elf::sections::{NoteHeader, Rel, Rela, SectionData, ShType, ShType_};
-use xmas_elf::symbol_table::{Binding, Binding_, DynEntry32, DynEntry64, Entry32, Entry64, Visibility, Visibility_};
+use xmas_elf::symbol_table::{
+    Binding, Binding_, DynEntry32, DynEntry64, Entry32, Entry64, Visibility, Visibility_,
+};
 use xmas_elf::{ElfError, ElfFile, P32, P64, header, program, symbol_table};
 
 const LITTLE: Order = Order::Little;
@@ -51,7 +53,12 @@ fn their_meanings_print_their_name(rt: HostRuntime) {
     check(&rt, alloc, &header::OsAbi::OpenVMS, "OpenVMS");
     check(&rt, alloc, &header::Type::SharedObject, "SharedObject");
     check(&rt, alloc, &header::Machine::RISC_V, "RISC_V");
-    check(&rt, alloc, &ShType::OsSpecific(0x6000_0000), "OsSpecific(1610612736)");
+    check(
+        &rt,
+        alloc,
+        &ShType::OsSpecific(0x6000_0000),
+        "OsSpecific(1610612736)",
+    );
     check(&rt, alloc, &program::Type::GnuRelro, "GnuRelro");
     check(&rt, alloc, &Visibility::Hidden, "Hidden");
     check(&rt, alloc, &Binding::Weak, "Weak");
@@ -60,7 +67,12 @@ fn their_meanings_print_their_name(rt: HostRuntime) {
     check(&rt, alloc, &Tag::<P64>::OsSpecific(7), "OsSpecific(7)");
     check(&rt, alloc, &LITTLE, "Little");
     check(&rt, alloc, &ElfError::NoteDesc, "NoteDesc");
-    check(&rt, alloc, &ReportFault::Elf(ElfError::NoMagic), "Elf(NoMagic)");
+    check(
+        &rt,
+        alloc,
+        &ReportFault::Elf(ElfError::NoMagic),
+        "Elf(NoMagic)",
+    );
     check(&rt, alloc, &ReportFault::Write, "Write");
 }
 
@@ -106,16 +118,28 @@ fn program_headers_print_their_fields(rt: HostRuntime) -> Result<(), Fail> {
     let text = format!(in alloc; "ProgramHeader32 {SEGMENT}")?;
     check(&rt, alloc, &narrow, text.as_str());
     let text = format!(in alloc; "Ph32({text})")?;
-    check(&rt, alloc, &program::ProgramHeader::Ph32(narrow), text.as_str());
+    check(
+        &rt,
+        alloc,
+        &program::ProgramHeader::Ph32(narrow),
+        text.as_str(),
+    );
     let wide = program::ProgramHeader64::default();
     let text = format!(in alloc; "ProgramHeader64 {WIDE_SEGMENT}")?;
     check(&rt, alloc, &wide, text.as_str());
     let text = format!(in alloc; "Ph64({text})")?;
-    check(&rt, alloc, &program::ProgramHeader::Ph64(wide), text.as_str());
+    check(
+        &rt,
+        alloc,
+        &program::ProgramHeader::Ph64(wide),
+        text.as_str(),
+    );
     Ok(())
 }
 
-const WORDS: [u8; 24] = [1, 0, 0, 0, 2, 0, 0, 0, 3, 0, 0, 0, 0, 0, 0, 0, 0, 0, 0, 0, 0, 0, 0, 0];
+const WORDS: [u8; 24] = [
+    1, 0, 0, 0, 2, 0, 0, 0, 3, 0, 0, 0, 0, 0, 0, 0, 0, 0, 0, 0, 0, 0, 0, 0,
+];
 
 #[test]
 fn records_print_their_fields(rt: HostRuntime) -> Result<(), Fail> {
@@ -127,7 +151,7 @@ fn records_print_their_fields(rt: HostRuntime) -> Result<(), Fail> {
     let rela = Rela::<P32>::decode(&WORDS[..12], LITTLE);
     check(&rt, alloc, &rela, "Rela { offset: 1, info: 2, addend: 3 }");
     let entry = Dynamic::<P32>::decode(&WORDS[..8], LITTLE);
-    check(&rt, alloc, &entry, "Dynamic { tag: Tag_(1), un: 2 }");
+    check(&rt, alloc, &entry, "Dynamic { tag: Tag_(1), value: 2 }");
     let bytes = &WORDS[..12];
     let note = NoteHeader::decode(bytes, LITTLE);
     let text = format!(in alloc; "NoteHeader {{ bytes: {bytes:?}, order: Little }}")?;
@@ -146,12 +170,22 @@ fn symbols_print_their_bytes(rt: HostRuntime) -> Result<(), Fail> {
     let named = format!(in alloc; "Entry32 {text}")?;
     check(&rt, alloc, &Entry32::decode(narrow, LITTLE), named.as_str());
     let named = format!(in alloc; "DynEntry32 {text}")?;
-    check(&rt, alloc, &DynEntry32::decode(narrow, LITTLE), named.as_str());
+    check(
+        &rt,
+        alloc,
+        &DynEntry32::decode(narrow, LITTLE),
+        named.as_str(),
+    );
     let text = format!(in alloc; "{{ bytes: {wide:?}, order: Little }}")?;
     let named = format!(in alloc; "Entry64 {text}")?;
     check(&rt, alloc, &Entry64::decode(wide, LITTLE), named.as_str());
     let named = format!(in alloc; "DynEntry64 {text}")?;
-    check(&rt, alloc, &DynEntry64::decode(wide, LITTLE), named.as_str());
+    check(
+        &rt,
+        alloc,
+        &DynEntry64::decode(wide, LITTLE),
+        named.as_str(),
+    );
     Ok(())
 }
 
@@ -160,7 +194,12 @@ fn data_prints_its_bytes(rt: HostRuntime) -> Result<(), Fail> {
     let alloc = rt.alloc();
     check(&rt, alloc, &SectionData::Empty, "Empty");
     check(&rt, alloc, &program::SegmentData::Empty, "Empty");
-    check(&rt, alloc, &SectionData::Undefined(&WORDS[..2]), "Undefined([1, 0])");
+    check(
+        &rt,
+        alloc,
+        &SectionData::Undefined(&WORDS[..2]),
+        "Undefined([1, 0])",
+    );
     let texts = SectionData::StrArray(b"a\0");
     check(&rt, alloc, &texts, "StrArray([97, 0])");
     match texts.strings() {
@@ -168,7 +207,8 @@ fn data_prints_its_bytes(rt: HostRuntime) -> Result<(), Fail> {
         Err(()) => panic!(rt; "no texts"),
     }
     let words = Table::<u32>::new(&WORDS[..4], LITTLE)?;
-    let text = "Table { bytes: [1, 0, 0, 0], order: Little, kind: PhantomData<u32> }";
+    // Rust's own would name the type that the table is of.
+    let text = "Table { bytes: [1, 0, 0, 0], order: Little, kind: PhantomData<_> }";
     check(&rt, alloc, &words, text);
     let iter = format!(in alloc; "TableIter {{ rest: {text} }}")?;
     check(&rt, alloc, &words.iter(), iter.as_str());
@@ -177,6 +217,11 @@ fn data_prints_its_bytes(rt: HostRuntime) -> Result<(), Fail> {
     let bytes = debug_link_file();
     let file = ElfFile::new(&bytes)?;
     let link = format!(in alloc; "Undefined({:?})", &bytes[365..377])?;
-    check(&rt, alloc, &file.section_header(2)?.get_data(&file)?, link.as_str());
+    check(
+        &rt,
+        alloc,
+        &file.section_header(2)?.get_data(&file)?,
+        link.as_str(),
+    );
     Ok(())
 }
