@@ -1,0 +1,6 @@
+//! What a dynamic linker reads beside the ELF standard's own tables.
+#![tactic(auto)]
+
+mod error;
+
+pub use crate::error::LinkError;
