@@ -2,5 +2,6 @@
 #![tactic(auto)]
 
 mod error;
+pub mod gnu_hash;
 
 pub use crate::error::LinkError;

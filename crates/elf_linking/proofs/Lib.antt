@@ -1,0 +1,7 @@
+pub mod Shifts
+pub mod Lists
+pub mod Words
+pub mod Runs
+pub mod Looks
+pub mod Scans
+pub mod GnuChecks
