@@ -1,3 +1,4 @@
+pub mod lemmas
 pub mod Shifts
 pub mod Lists
 pub mod Words

@@ -71,12 +71,16 @@ module _ {E : Type 0} (P : E → Type 0) (table : GnuHashTable) (symbols : Symbo
     where
       held : IsHeld table symbols.items name i
       held = good.holds i e name exported
+
       begins : held.from ≡ from
       begins = let one : start_of table name ≡ Some held.from = held.starts in cc
+
       here : Run table symbols.items from i
       here = subst (λ x. Run table symbols.items x i) begins held.run
+
       hit : IsHit P (gnu_hash_number name) table symbols.items i e
       hit = record { there = held.there; symbol = exported.global.stands; agrees = held.agrees; holds = holds }
+
       go : (i ≡ last) ⊎ ((i < last) ⊎ (last < i)) → ⊥
       go (inl same) = none e (subst (λ x. IsHit P (gnu_hash_number name) table symbols.items x e) same hit)
       go (inr (inl before)) = missed i e here.ordered before hit

@@ -100,6 +100,7 @@ module _ {E : Type 0} (table : GnuHashTable) (symbols : List E) where
       come : (i : ℕ) → from ≤ i → i ≤ index + 1 → (index < i) ⊎ (i ≤ index) → Run table symbols i (index + 1)
       come i above below (inl behind) = let same : index + 1 ≡ i = omega arith in subst (λ k. Run table symbols i k) (sym same) (run_first i)
       come i above below (inr before) = run_next i index (c.come i above before) there on
+
       only : (i : ℕ) → 0 < i → Run table symbols i (index + 1) → (index < i) ⊎ (i ≤ index) → from ≤ i
       only i positive run (inl behind) = let ordered : from ≤ index = c.ordered in omega arith
       only i positive run (inr before) = c.only i positive (run_part i index (index + 1) run before (omega arith))

@@ -6,7 +6,6 @@ ghost use Rattle.elf_linking.specs.GnuHashNumber.{gnu_hash_number};
 ghost use Rattle.elf_linking.specs.GnuLayout.{IsGnuTable, bloom_count_in, bloom_size, chains_in, gnu_table_of, is_known};
 ghost use Rattle.std.specs.Int.{bit_at};
 
-
 mod check;
 mod lookup;
 
@@ -166,7 +165,11 @@ impl<'a> GnuHashTable<'a> {
         ensures { result ≡ bloom_word self.now index }
     {
         match self.class {
-            Class::ThirtyTwo => u64::from(read_u32(self.bytes, 16 + 4 * index as usize, self.order)),
+            Class::ThirtyTwo => u64::from(read_u32(
+                self.bytes,
+                16 + 4 * index as usize,
+                self.order,
+            )),
             _ => read_u64(self.bytes, 16 + 8 * index as usize, self.order),
         }
     }

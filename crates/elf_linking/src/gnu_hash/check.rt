@@ -25,7 +25,8 @@ impl<'a> GnuHashTable<'a> {
     /// none and a symbol is missing.
     ///
     /// It takes no memory, and marks nothing. It costs one pass over the buckets, one over the chain
-    /// words and one over the symbols, whatever the bytes are, and reads each symbol's name once.
+    /// words and one over the symbols, whatever the bytes are, and calls `Entry::get_name` of each symbol
+    /// at most once.
     pub fn check<E: Entry + Record>(
         &self,
         symbols: &Table<'_, E>,

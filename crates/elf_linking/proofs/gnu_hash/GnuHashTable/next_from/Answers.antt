@@ -17,5 +17,5 @@ returns-else-goes_on g c =
     let table = c.args.self.now in
     let items = table_items c.args.symbols.now in
     come_stop table items c.args.index (λ there on. (
-      let below : c.args.index < symbol_end items = there.symbol in
-      c.goes_on.ensures.no c.if-goes_on.false (omega arith) there.word on))
+    let below : c.args.index < symbol_end items = there.symbol in
+    c.goes_on.ensures.no c.if-goes_on.false (omega arith) there.word on))

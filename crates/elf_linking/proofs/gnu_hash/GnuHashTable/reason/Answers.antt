@@ -21,7 +21,7 @@ returns-in-Ok g c =
     let same : c.symbol_end-end.result ≡ symbol_end items = c.symbol_end-end.ensures in
     let before : c.args.from < symbol_end items = omega arith in
     let there : (i : ℕ) → c.args.from ≤ i → i < symbol_end items → IsThere table items i =
-      λ i above below. record { symbol = below; word = chain_before table i (c.symbol_end-end.result - 1) (omega arith) (omega arith) word } in
+    λ i above below. record { symbol = below; word = chain_before table i (c.symbol_end-end.result - 1) (omega arith) (omega arith) word } in
     record {
       last = symbol_end items;
       run = run_to table items c.args.from (symbol_end items) (omega arith) there c.requires.endless;
@@ -38,7 +38,7 @@ returns-in-Err g c =
     let lacks : HasChain table (c.symbol_end-end.result - 1) → ⊥ = λ h. (let yes = c.in-Err.ensures.readable.1 h in cc) in
     let (last, above, within, out, fits) = chain_end table c.args.from (c.symbol_end-end.result - 1) begins (omega arith) lacks in
     let there : (i : ℕ) → c.args.from ≤ i → i < last → IsThere table items i =
-      λ i over under. record { symbol = omega arith; word = (omega arith, fits i over under) } in
+    λ i over under. record { symbol = omega arith; word = (omega arith, fits i over under) } in
     record {
       last = last;
       run = run_to table items c.args.from last above there c.requires.endless;

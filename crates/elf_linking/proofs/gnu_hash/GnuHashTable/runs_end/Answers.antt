@@ -30,10 +30,10 @@ pub returns-in-Err-clause-last : goal.returns-in-Err-clause-last
 returns-in-Err-clause-last g c = λ i begins above there ends.
     let table = c.args.self.now in
     let go : (i < c.loop-index.index) ⊎ (c.loop-index.index ≤ i) → ⊥ =
-      λ either. elim either [
-        | inl before ↦ c.loop-index.invariant.last i begins above before ends
-        | inr behind ↦ (let yes = c.in-Err.ensures.readable.1 (chain_before table c.loop-index.index i (omega arith) behind there.word) in cc)
-      ] in
+    λ either. elim either [
+      | inl before ↦ c.loop-index.invariant.last i begins above before ends
+      | inr behind ↦ (let yes = c.in-Err.ensures.readable.1 (chain_before table c.loop-index.index i (omega arith) behind there.word) in cc)
+    ] in
     go (cases_lt i c.loop-index.index)
 
 pub returns-clause-ends : goal.returns-clause-ends
