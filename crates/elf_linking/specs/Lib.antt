@@ -1,1 +1,3 @@
 pub mod Message
+pub mod Relr
+pub mod Notes

@@ -2,5 +2,7 @@
 #![tactic(auto)]
 
 mod error;
+pub mod notes;
+pub mod relr;
 
 pub use crate::error::LinkError;

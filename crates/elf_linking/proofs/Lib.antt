@@ -1,0 +1,2 @@
+pub mod RelrItems
+pub mod NoteItems
