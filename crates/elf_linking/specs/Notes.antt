@@ -55,7 +55,7 @@ first_note align order bytes = record {
 -- last item, as a fault
 pub data AreNotes (align : ℕ) (order : Order) : List ℕ → List (Result NoteParts LinkError) → Type 0 where
   at_end : AreNotes align order [] []
-  cut_off : (bytes : List ℕ) → bytes ≢ [] → (BeginsWithNote align order bytes → ⊥)
+  cut_off : (bytes : List ℕ) → bytes ≢ [] → (¬ BeginsWithNote align order bytes)
       → AreNotes align order bytes (Err ShortNote ∷ [])
   whole : (bytes : List ℕ) (items : List (Result NoteParts LinkError)) → BeginsWithNote align order bytes
       → AreNotes align order (drop (next_note align order bytes) bytes) items

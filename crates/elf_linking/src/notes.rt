@@ -114,7 +114,7 @@ fn next_step(align: u64, place: u64) -> u64
 // The note that the bytes begin with, and the bytes from the next note on.
 fn split_first<'a>(bytes: &'a [u8], order: Order, align: u64) -> Option<(Note<'a>, &'a [u8])>
     ensures { MatchOption result
-        (BeginsWithNote align order bytes.now → ⊥)
+        (¬ BeginsWithNote align order bytes.now)
         (λ split. BeginsWithNote align order bytes.now
         × (note_parts split.0 ≡ first_note align order bytes.now)
         × (split.1.now ≡ drop (next_note align order bytes.now) bytes.now)) }
