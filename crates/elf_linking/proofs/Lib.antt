@@ -6,3 +6,5 @@ pub mod Runs
 pub mod Looks
 pub mod Scans
 pub mod GnuChecks
+pub mod RelrItems
+pub mod NoteItems

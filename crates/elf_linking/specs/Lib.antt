@@ -5,3 +5,5 @@ pub mod GnuLayout
 pub mod GnuHash
 pub mod Run
 pub mod GoodGnu
+pub mod Relr
+pub mod Notes

@@ -3,5 +3,7 @@
 
 mod error;
 pub mod gnu_hash;
+pub mod notes;
+pub mod relr;
 
 pub use crate::error::LinkError;
