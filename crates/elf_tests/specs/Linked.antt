@@ -4,13 +4,13 @@ use Rattle.xmas_elf.specs.Content.{Content, dyn_symbols_64, hash_table}
 use Rattle.xmas_elf.specs.ElfError.{ElfError}
 use Rattle.xmas_elf.specs.ElfError.TheVariants.{ShortData}
 use Rattle.xmas_elf.specs.Good.{IsCheck}
-use Rattle.xmas_elf.specs.HashReport.{content_at, dyn_symbols_in_64}
+use Rattle.xmas_elf.specs.HashReport.{content_at}
 use Rattle.xmas_elf.specs.HashTable.{hash_data, hash_order}
 use Rattle.xmas_elf.specs.NameTable.{section_named}
 use Rattle.xmas_elf.specs.Order.{Order}
 use Rattle.xmas_elf.specs.SectionContent.{section_content_of}
 use Rattle.xmas_elf.specs.SectionHeader.{section_fields}
-use Rattle.xmas_elf.specs.Symbols.{IsGlobal, Symbols}
+use Rattle.xmas_elf.specs.Symbols.{IsGlobal, Symbols, dyn_symbols_in_64}
 use Rattle.xmas_elf.specs.declared.ElfFile.{ElfFile}
 use Rattle.xmas_elf.specs.declared.hash.HashTable.{HashTable}
 use Rattle.xmas_elf.specs.declared.sections.section_header.SectionHeader.{SectionHeader}

@@ -6,12 +6,15 @@ pub mod ReportLines
 pub mod Names
 pub mod NamedSections
 pub mod StringTables
+pub mod SymbolNames
 pub mod SymbolSections
 pub mod StringRuns
 pub mod StringItems
+pub mod Counts
 pub mod ChainPaths
 pub mod ChainStarts
 pub mod ChainFinds
 pub mod ChainOnce
 pub mod ChainChecks
+pub mod ChainCounts
 pub mod HashSections

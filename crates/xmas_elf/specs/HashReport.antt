@@ -2,10 +2,7 @@
 -- of a section of type SHT_HASH, says which section holds the symbols).
 use Rattle.std.specs.Prelude.{◌≡◌, ◌≢◌, ℕ, ◌<◌, List, length, Result, Ok, Err}
 use Rattle.std.specs.List.{AllWithin, HoldsAt}
-use Rattle.std.specs.Result.{result_ok}
 use Rattle.elf_base.specs.Refusal.{and_then}
-use Rattle.elf_base.specs.Table.{records}
-use Rattle.elf_base.specs.declared.bytes.Order.{Order}
 use Rattle.elf_base.specs.declared.error.ElfError.{ElfError}
 use Rattle.elf_records.specs.declared.sections.ShType.TheVariants.{Hash}
 use Rattle.xmas_elf.specs.Content.{Content, symbols_32, symbols_64, dyn_symbols_32, dyn_symbols_64, hash_table}
@@ -14,47 +11,12 @@ use Rattle.xmas_elf.specs.HashTable.{hash_data, hash_order}
 use Rattle.xmas_elf.specs.SectionContent.{section_content_of}
 use Rattle.xmas_elf.specs.SectionHeader.{section_fields, section_of, section_type}
 use Rattle.xmas_elf.specs.SectionList.{section_list}
-use Rattle.xmas_elf.specs.StringTable.{dyn_string_of, string_of}
-use Rattle.xmas_elf.specs.Symbol.{dyn_entry_32, dyn_entry_32_fields, dyn_entry_64, dyn_entry_64_fields, entry_32, entry_32_fields, entry_64, entry_64_fields}
-use Rattle.xmas_elf.specs.Symbols.{Symbols}
+use Rattle.xmas_elf.specs.Symbols.{Symbols, dyn_symbols_in_32, dyn_symbols_in_64, symbols_in_32, symbols_in_64}
 use Rattle.xmas_elf.specs.declared.ElfFile.{ElfFile}
 use Rattle.xmas_elf.specs.declared.hash.HashTable.{HashTable}
 use Rattle.xmas_elf.specs.declared.report.hash.HashVerdict.{HashVerdict}
 use Rattle.xmas_elf.specs.declared.report.hash.HashVerdict.TheVariants.{NoTable, NoSymbols, Checked}
 use Rattle.xmas_elf.specs.declared.sections.section_header.SectionHeader.{SectionHeader}
-use Rattle.xmas_elf.specs.declared.symbol_table.entries.DynEntry32.{DynEntry32}
-use Rattle.xmas_elf.specs.declared.symbol_table.entries.DynEntry64.{DynEntry64}
-use Rattle.xmas_elf.specs.declared.symbol_table.entries.Entry32.{Entry32}
-use Rattle.xmas_elf.specs.declared.symbol_table.entries.Entry64.{Entry64}
-
--- the symbols that stand in some bytes of a file, of each of the four kinds
-abbrev pub symbols_in_32 : ElfFile → Order → List ℕ → Symbols Entry32
-symbols_in_32 file order bytes = record {
-  items = records 16 (entry_32 order) bytes;
-  fields = entry_32_fields;
-  text = λ e. result_ok (string_of file (entry_32_fields e).name);
-}
-
-abbrev pub symbols_in_64 : ElfFile → Order → List ℕ → Symbols Entry64
-symbols_in_64 file order bytes = record {
-  items = records 24 (entry_64 order) bytes;
-  fields = entry_64_fields;
-  text = λ e. result_ok (string_of file (entry_64_fields e).name);
-}
-
-abbrev pub dyn_symbols_in_32 : ElfFile → Order → List ℕ → Symbols DynEntry32
-dyn_symbols_in_32 file order bytes = record {
-  items = records 16 (dyn_entry_32 order) bytes;
-  fields = dyn_entry_32_fields;
-  text = λ e. result_ok (dyn_string_of file (dyn_entry_32_fields e).name);
-}
-
-abbrev pub dyn_symbols_in_64 : ElfFile → Order → List ℕ → Symbols DynEntry64
-dyn_symbols_in_64 file order bytes = record {
-  items = records 24 (dyn_entry_64 order) bytes;
-  fields = dyn_entry_64_fields;
-  text = λ e. result_ok (dyn_string_of file (dyn_entry_64_fields e).name);
-}
 
 -- the verdict is that of the check of a hash table with these symbols
 abbrev pub IsVerdictOf : {E : Type 0} → HashTable → Symbols E → HashVerdict → Type 0

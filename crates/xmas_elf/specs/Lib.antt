@@ -48,6 +48,7 @@ pub mod Symbol
 pub mod HashTable
 pub mod Symbols
 pub mod Chain
+pub mod Counted
 pub mod Good
 pub mod Content
 pub mod SectionContent
@@ -55,6 +56,7 @@ pub mod Strings
 pub mod NameTable
 pub mod NamedData
 pub mod StringTable
+pub mod SymbolName
 pub mod SymbolSection
 pub mod SymbolText
 pub mod SectionText

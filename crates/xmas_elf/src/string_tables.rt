@@ -41,7 +41,7 @@ impl<'a> ElfFile<'a> {
 
     // The data of `.strtab`.
     #[tactic(auto, unfolding(crate::specs::StringTable::strtab_of))]
-    fn strtab(&self) -> Result<&'a [u8], ElfError>
+    pub(crate) fn strtab(&self) -> Result<&'a [u8], ElfError>
         ensures table { Lends (IsStrtab self.now) result }
         ensures only { LendsOnly (IsStrtab self.now) result }
         ensures exact { Answers (strtab_of self.now) result }
@@ -57,7 +57,7 @@ impl<'a> ElfFile<'a> {
 
     // The data of `.dynstr`, of whatever type.
     #[tactic(auto, unfolding(crate::specs::StringTable::dynstr_of))]
-    fn dynstr(&self) -> Result<&'a [u8], ElfError>
+    pub(crate) fn dynstr(&self) -> Result<&'a [u8], ElfError>
         ensures table { Lends (IsDynstr self.now) result }
         ensures only { LendsOnly (IsDynstr self.now) result }
         ensures exact { Answers (dynstr_of self.now) result }
