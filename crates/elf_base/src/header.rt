@@ -6,12 +6,12 @@ ghost use Rattle.elf_base.specs.Refusal.{unless};
 ghost use Rattle.elf_base.specs.HeaderLayout.{header_fields, pt2_size};
 ghost use Rattle.elf_base.specs.HeaderNumbers.{class_number, class_of, encoding_number, encoding_of, order_of, os_abi_number, os_abi_of, version_number, version_of};
 
-mod kinds;
+mod numbers;
 mod printed;
 mod records;
 
 use crate::bytes::{Order, Record};
-pub use crate::header::kinds::{
+pub use crate::header::numbers::{
     Class, Class_, Data, Data_, Machine, Machine_, OsAbi, OsAbi_, Type, Type_, Version, Version_,
 };
 use crate::{ElfError, P32, P64};

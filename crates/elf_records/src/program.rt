@@ -85,27 +85,27 @@ impl Type_ {
 /// What a segment is (gABI, "Program Header", p_type).
 #[derive(Clone, Copy, Debug, PartialEq, Eq)]
 pub enum Type {
-    /// No segment: the other fields have no meaning.
+    /// `PT_NULL`: no segment: the other fields have no meaning.
     Null,
-    /// Bytes to be loaded into memory.
+    /// `PT_LOAD`: bytes to be loaded into memory.
     Load,
-    /// What a dynamic linker needs.
+    /// `PT_DYNAMIC`: what a dynamic linker needs.
     Dynamic,
-    /// The path of the program interpreter.
+    /// `PT_INTERP`: the path of the program interpreter.
     Interp,
-    /// Notes.
+    /// `PT_NOTE`: notes.
     Note,
-    /// Reserved, without a meaning.
+    /// `PT_SHLIB`: reserved, without a meaning.
     ShLib,
-    /// The program header table itself.
+    /// `PT_PHDR`: the program header table itself.
     Phdr,
-    /// The template of thread-local storage.
+    /// `PT_TLS`: the template of thread-local storage.
     Tls,
-    /// What is read-only once relocations are applied (GNU).
+    /// `PT_GNU_RELRO`: what is read-only once relocations are applied (GNU).
     GnuRelro,
-    /// A type of the operating system.
+    /// `PT_LOOS` to `PT_HIOS`: a type of the operating system.
     OsSpecific(u32),
-    /// A type of the processor.
+    /// `PT_LOPROC` to `PT_HIPROC`: a type of the processor.
     ProcessorSpecific(u32),
 }
 

@@ -43,13 +43,13 @@ impl Visibility_ {
 /// Who sees a symbol (gABI, "Symbol Table", st_other).
 #[derive(Clone, Copy, Debug, PartialEq, Eq)]
 pub enum Visibility {
-    /// As its binding says.
+    /// `STV_DEFAULT`: as its binding says.
     Default,
-    /// As Hidden, with a further meaning of the processor.
+    /// `STV_INTERNAL`: as Hidden, with a further meaning of the processor.
     Internal,
-    /// No other file.
+    /// `STV_HIDDEN`: no other file.
     Hidden,
-    /// All files, but the file itself uses its own.
+    /// `STV_PROTECTED`: all files, but the file itself uses its own.
     Protected,
 }
 
@@ -104,15 +104,15 @@ impl Binding_ {
 /// How files share a symbol (gABI, "Symbol Table", ELF32_ST_BIND).
 #[derive(Clone, Copy, Debug, PartialEq, Eq)]
 pub enum Binding {
-    /// Only its own file has it.
+    /// `STB_LOCAL`: only its own file has it.
     Local,
-    /// All files have it.
+    /// `STB_GLOBAL`: all files have it.
     Global,
-    /// As Global, but it gives way to a global one.
+    /// `STB_WEAK`: as Global, but it gives way to a global one.
     Weak,
-    /// A binding of the operating system.
+    /// `STB_LOOS` to `STB_HIOS`: a binding of the operating system.
     OsSpecific(u8),
-    /// A binding of the processor.
+    /// `STB_LOPROC` to `STB_HIPROC`: a binding of the processor.
     ProcessorSpecific(u8),
 }
 
@@ -172,23 +172,23 @@ impl Type_ {
 /// What a symbol stands for (gABI, "Symbol Table", ELF32_ST_TYPE).
 #[derive(Clone, Copy, Debug, PartialEq, Eq)]
 pub enum Type {
-    /// Nothing is said.
+    /// `STT_NOTYPE`: nothing is said.
     NoType,
-    /// Data, as a variable.
+    /// `STT_OBJECT`: data, as a variable.
     Object,
-    /// A function or other code.
+    /// `STT_FUNC`: a function or other code.
     Func,
-    /// A section.
+    /// `STT_SECTION`: a section.
     Section,
-    /// The name of a source file.
+    /// `STT_FILE`: the name of a source file.
     File,
-    /// A common block that is not yet placed.
+    /// `STT_COMMON`: a common block that is not yet placed.
     Common,
-    /// A thread-local variable.
+    /// `STT_TLS`: a thread-local variable.
     Tls,
-    /// A type of the operating system.
+    /// `STT_LOOS` to `STT_HIOS`: a type of the operating system.
     OsSpecific(u8),
-    /// A type of the processor.
+    /// `STT_LOPROC` to `STT_HIPROC`: a type of the processor.
     ProcessorSpecific(u8),
 }
 

@@ -6,15 +6,15 @@ ghost use Rattle.elf_records.specs.Note.{note_header};
 ghost use Rattle.xmas_elf.specs.Content.{note_64, note_of};
 
 use crate::bytes::Record;
-use crate::header::Class::{SixtyFour, ThirtyTwo};
+use crate::header::Class;
 use crate::sections::NoteHeader;
 use crate::{ElfError, ElfFile};
 use elf_base::header::byte_order;
 
-/// The header of the note at the front of these bytes, and all bytes that follow it.
-///
-/// Refused with `Note32` in class 1, with `UnknownClass` where the class is not 2, and with
-/// `ShortData` below 12 bytes.
+// The header of the note at the front of these bytes, and all bytes that follow it.
+//
+// Refused with `Note32` in class 1, with `UnknownClass` where the class is not 2, and with
+// `ShortData` below 12 bytes.
 pub(crate) fn first_note<'a>(
     file: &ElfFile<'_>,
     bytes: &'a [u8],
@@ -30,8 +30,8 @@ pub(crate) fn first_note<'a>(
         (λ e. note_of (file_class file.now.header) (file_order file.now.header) bytes.now ≡ Err e) }
 {
     match file.header.pt1.class() {
-        ThirtyTwo => Err(ElfError::Note32),
-        SixtyFour => {
+        Class::ThirtyTwo => Err(ElfError::Note32),
+        Class::SixtyFour => {
             if bytes.len() < NoteHeader::SIZE {
                 return Err(ElfError::ShortData);
             }

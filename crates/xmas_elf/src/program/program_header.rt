@@ -117,13 +117,23 @@ impl ProgramHeader {
         }
     }
 
-    // What the segment is, as a number.
+    // What the segment is, as a number. That of a section is public, as in the Rust crate.
     pub(crate) fn type_(&self) -> Type_
         ensures { result ≡ (program_fields self.now).type_ }
     {
         match self {
             ProgramHeader::Ph32(header) => header.type_,
             ProgramHeader::Ph64(header) => header.type_,
+        }
+    }
+
+    // The record of the segment, in the types of class 64.
+    pub(crate) fn record_64(&self) -> ProgramHeader64
+        ensures { result ≡ program_fields self.now }
+    {
+        match self {
+            ProgramHeader::Ph32(header) => header.to_64(),
+            ProgramHeader::Ph64(header) => *header,
         }
     }
 

@@ -5,7 +5,7 @@ ghost use Rattle.elf_base.specs.Lent.{Answers, Lends, LendsOnly};
 ghost use Rattle.elf_records.specs.SectionNumbers.{sh_type_raw};
 ghost use Rattle.xmas_elf.specs.NameTable.{Bears, name_of, name_table_of};
 ghost use Rattle.xmas_elf.specs.SectionData.{HasSectionData, IsSectionData, section_data_of};
-ghost use Rattle.xmas_elf.specs.SectionHeader.{section_fields, section_type};
+ghost use Rattle.xmas_elf.specs.SectionHeader.{record_fields, section_fields, section_type};
 ghost use Rattle.xmas_elf.specs.declared.ElfFile.{ElfFile};
 
 use crate::ranges::range_at;
@@ -180,6 +180,16 @@ impl SectionHeader {
         match self.get_type()? {
             ShType::Null => Err(ElfError::NullData),
             _ => range_at(file.input, self.offset(), self.size()),
+        }
+    }
+
+    // The record of the section, in the types of class 64.
+    pub(crate) fn record_64(&self) -> SectionHeader_<P64>
+        ensures { record_fields result ≡ section_fields self.now }
+    {
+        match self {
+            SectionHeader::Sh32(header) => header.to_64(),
+            SectionHeader::Sh64(header) => *header,
         }
     }
 }

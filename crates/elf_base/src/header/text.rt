@@ -4,7 +4,7 @@ ghost use Rattle.std.specs.Prelude.{◌≡◌, Some};
 ghost use Rattle.elf_base.specs.HeaderLayout.{header_fields};
 ghost use Rattle.elf_base.specs.HeaderText.{class_text, encoding_text, first_part_text, header_text, machine_text, os_abi_text, second_part_text, type_text, version_text};
 
-use crate::header::kinds::{Class, Data, Machine, OsAbi, Type, Version};
+use crate::header::numbers::{Class, Data, Machine, OsAbi, Type, Version};
 use crate::header::{Header, HeaderPt1, HeaderPt2, HeaderPt2_};
 use crate::print::{Bytes, Field};
 use crate::{P32, P64};

@@ -8,7 +8,7 @@ ghost use Rattle.xmas_elf.specs.SegmentData.{IsSegmentData};
 
 use crate::bytes::Table;
 use crate::dynamic::Dynamic;
-use crate::header::Class::{SixtyFour, ThirtyTwo};
+use crate::header::Class;
 use crate::notes::first_note;
 use crate::program::{ProgramHeader, ProgramHeader32, ProgramHeader64, Type};
 use crate::sections::NoteHeader;
@@ -36,10 +36,10 @@ impl ProgramHeader {
     /// The data of the segment by its type, which lives as long as the input. The class and the order
     /// of its numbers are those of the file.
     ///
-    /// It is `Empty` for type Null. Refused with `InvalidPhType` and as `raw_data` is; then the dynamic
-    /// section with `UnknownClass` where the class is neither 1 nor 2, and with `NotMultiple` where it
-    /// isn't a whole number of entries; notes with `Note32` in class 1, with `UnknownClass`, and below
-    /// 12 bytes with `ShortData`.
+    /// It is `Empty` for type Null. Refused with `InvalidPhType`, and with `DataRange` where it passes the
+    /// end of the input and isn't empty; then the dynamic section with `UnknownClass` where the class is
+    /// neither 1 nor 2, and with `NotMultiple` where it isn't a whole number of entries; notes with
+    /// `Note32` in class 1, with `UnknownClass`, and below 12 bytes with `ShortData`.
     pub fn get_data<'a>(&self, file: &ElfFile<'a>) -> Result<SegmentData<'a>, ElfError>
         ensures exact { MatchResult result
             (λ d. segment_content_of file.now (program_fields self.now) ≡ Ok (segment_content d))
@@ -88,8 +88,8 @@ impl ProgramHeader64 {
         let bytes = self.raw_data(file)?;
         let order = byte_order(file.header.pt1.encoding);
         match (kind, file.header.pt1.class()) {
-            (Type::Dynamic, ThirtyTwo) => Ok(SegmentData::Dynamic32(Table::new(bytes, order)?)),
-            (Type::Dynamic, SixtyFour) => Ok(SegmentData::Dynamic64(Table::new(bytes, order)?)),
+            (Type::Dynamic, Class::ThirtyTwo) => Ok(SegmentData::Dynamic32(Table::new(bytes, order)?)),
+            (Type::Dynamic, Class::SixtyFour) => Ok(SegmentData::Dynamic64(Table::new(bytes, order)?)),
             (Type::Dynamic, _) => Err(ElfError::UnknownClass),
             (Type::Note, _) => {
                 let (header, body) = first_note(file, bytes)?;
