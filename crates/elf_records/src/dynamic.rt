@@ -2,7 +2,9 @@
 
 ghost use Rattle.std.specs.Prelude.{◌≡◌};
 ghost use Rattle.std.proofs.Common.{lit<};
-ghost use Rattle.elf_records.specs.Tag.{dynamic_32, dynamic_64, dynamic_tag, dynamic_value, pointer_in, pointer_of, row_of, tag_number, tag_of, tag_raw, value_in, value_of};
+ghost use Rattle.elf_records.specs.Dynamic.{dynamic_32, dynamic_64, dynamic_tag, dynamic_value};
+ghost use Rattle.elf_records.specs.Dynamic.{pointer_in, pointer_of, row_of, tag_number, tag_of};
+ghost use Rattle.elf_records.specs.Dynamic.{tag_raw, value_in, value_of};
 
 use elf_base::bytes::{Order, Record, read_u32, read_u64};
 use elf_base::{ElfError, P32, P64};
@@ -206,8 +208,8 @@ impl Content {
         ensures { result ≡ value_in number self }
     {
         match self {
-            Content::Value | Content::Unspecified => Ok(number),
-            Content::Ignored | Content::Pointer => Err(ElfError::InvalidValue),
+            Self::Value | Self::Unspecified => Ok(number),
+            Self::Ignored | Self::Pointer => Err(ElfError::InvalidValue),
         }
     }
 
@@ -216,15 +218,15 @@ impl Content {
         ensures { result ≡ pointer_in number self }
     {
         match self {
-            Content::Pointer | Content::Unspecified => Ok(number),
-            Content::Ignored | Content::Value => Err(ElfError::InvalidPtr),
+            Self::Pointer | Self::Unspecified => Ok(number),
+            Self::Ignored | Self::Value => Err(ElfError::InvalidPtr),
         }
     }
 }
 
 // The tag that a number means, and what the number of its entries is; `raw` is that number as the
 // file has it.
-#[tactic(auto, unfolding(crate::specs::Tag::row_of))]
+#[tactic(auto, unfolding(crate::specs::Dynamic::row_of))]
 fn row<P: Copy>(number: u64, raw: P) -> Result<(Tag<P>, Content), ElfError>
     ensures { result ≡ row_of raw number }
 {

@@ -4,7 +4,8 @@ ghost use Rattle.std.specs.Prelude.{◌≡◌, ◌↔◌, IsTrue, Some};
 ghost use Rattle.std.specs.Fmt.{WritesOnOk};
 ghost use Rattle.std.specs.Int.{IsBitSet};
 ghost use Rattle.elf_base.specs.Printed.{hex_text, upper_hex_text};
-ghost use Rattle.elf_records.specs.ProgramNumbers.{flags_text, ph_type_number, ph_type_of, ph_type_raw, ph_type_text};
+ghost use Rattle.elf_records.specs.ProgramNumbers.{flags_text, ph_type_number, ph_type_of};
+ghost use Rattle.elf_records.specs.ProgramNumbers.{ph_type_raw, ph_type_text};
 
 use elf_base::ElfError;
 use std::fmt;
@@ -114,17 +115,17 @@ impl Display for Type {
 
     fn fmt<W: fmt::Write>(&self, f: &mut fmt::Formatter<W>) -> fmt::Result {
         f.write_str(match *self {
-            Type::Null => "Null",
-            Type::Load => "Load",
-            Type::Dynamic => "Dynamic",
-            Type::Interp => "Interp",
-            Type::Note => "Note",
-            Type::ShLib => "ShLib",
-            Type::Phdr => "Phdr",
-            Type::Tls => "Tls",
-            Type::GnuRelro => "GnuRelro",
-            Type::OsSpecific(number) => return write!(f, "OsSpecific({number})"),
-            Type::ProcessorSpecific(number) => return write!(f, "ProcessorSpecific({number})"),
+            Self::Null => "Null",
+            Self::Load => "Load",
+            Self::Dynamic => "Dynamic",
+            Self::Interp => "Interp",
+            Self::Note => "Note",
+            Self::ShLib => "ShLib",
+            Self::Phdr => "Phdr",
+            Self::Tls => "Tls",
+            Self::GnuRelro => "GnuRelro",
+            Self::OsSpecific(number) => return write!(f, "OsSpecific({number})"),
+            Self::ProcessorSpecific(number) => return write!(f, "ProcessorSpecific({number})"),
         })
     }
 }

@@ -1,7 +1,8 @@
 //! The numbers of sections that have names, and the records in sections (gABI, "Sections").
 
 ghost use Rattle.std.specs.Prelude.{◌≡◌, Some};
-ghost use Rattle.elf_records.specs.SectionNumbers.{sh_type_number, sh_type_of, sh_type_raw, sh_type_text};
+ghost use Rattle.elf_records.specs.SectionNumbers.{sh_type_number, sh_type_of, sh_type_raw};
+ghost use Rattle.elf_records.specs.SectionNumbers.{sh_type_text};
 
 mod note;
 mod relocations;
@@ -209,26 +210,26 @@ impl Display for ShType {
 
     fn fmt<W: fmt::Write>(&self, f: &mut fmt::Formatter<W>) -> fmt::Result {
         f.write_str(match *self {
-            ShType::Null => "Null",
-            ShType::ProgBits => "ProgBits",
-            ShType::SymTab => "SymTab",
-            ShType::StrTab => "StrTab",
-            ShType::Rela => "Rela",
-            ShType::Hash => "Hash",
-            ShType::Dynamic => "Dynamic",
-            ShType::Note => "Note",
-            ShType::NoBits => "NoBits",
-            ShType::Rel => "Rel",
-            ShType::ShLib => "ShLib",
-            ShType::DynSym => "DynSym",
-            ShType::InitArray => "InitArray",
-            ShType::FiniArray => "FiniArray",
-            ShType::PreInitArray => "PreInitArray",
-            ShType::Group => "Group",
-            ShType::SymTabShIndex => "SymTabShIndex",
-            ShType::OsSpecific(number) => return write!(f, "OsSpecific({number})"),
-            ShType::ProcessorSpecific(number) => return write!(f, "ProcessorSpecific({number})"),
-            ShType::User(number) => return write!(f, "User({number})"),
+            Self::Null => "Null",
+            Self::ProgBits => "ProgBits",
+            Self::SymTab => "SymTab",
+            Self::StrTab => "StrTab",
+            Self::Rela => "Rela",
+            Self::Hash => "Hash",
+            Self::Dynamic => "Dynamic",
+            Self::Note => "Note",
+            Self::NoBits => "NoBits",
+            Self::Rel => "Rel",
+            Self::ShLib => "ShLib",
+            Self::DynSym => "DynSym",
+            Self::InitArray => "InitArray",
+            Self::FiniArray => "FiniArray",
+            Self::PreInitArray => "PreInitArray",
+            Self::Group => "Group",
+            Self::SymTabShIndex => "SymTabShIndex",
+            Self::OsSpecific(number) => return write!(f, "OsSpecific({number})"),
+            Self::ProcessorSpecific(number) => return write!(f, "ProcessorSpecific({number})"),
+            Self::User(number) => return write!(f, "User({number})"),
         })
     }
 }

@@ -1,7 +1,11 @@
 //! The numbers of symbols that have names (gABI, "Symbol Table").
 
 ghost use Rattle.std.specs.Prelude.{◌≡◌, Some};
-ghost use Rattle.elf_records.specs.SymbolNumbers.{binding_number, binding_of, binding_raw, binding_text, symbol_type_number, symbol_type_of, symbol_type_raw, symbol_type_text, visibility_number, visibility_of, visibility_raw, visibility_text};
+ghost use Rattle.elf_records.specs.SymbolNumbers.{binding_number, binding_of, binding_raw};
+ghost use Rattle.elf_records.specs.SymbolNumbers.{binding_text, symbol_type_number, symbol_type_of};
+ghost use Rattle.elf_records.specs.SymbolNumbers.{symbol_type_raw, symbol_type_text};
+ghost use Rattle.elf_records.specs.SymbolNumbers.{visibility_number, visibility_of, visibility_raw};
+ghost use Rattle.elf_records.specs.SymbolNumbers.{visibility_text};
 
 use elf_base::ElfError;
 use std::fmt;
@@ -58,10 +62,10 @@ impl Display for Visibility {
 
     fn fmt<W: fmt::Write>(&self, f: &mut fmt::Formatter<W>) -> fmt::Result {
         f.write_str(match *self {
-            Visibility::Default => "Default",
-            Visibility::Internal => "Internal",
-            Visibility::Hidden => "Hidden",
-            Visibility::Protected => "Protected",
+            Self::Default => "Default",
+            Self::Internal => "Internal",
+            Self::Hidden => "Hidden",
+            Self::Protected => "Protected",
         })
     }
 }
@@ -121,11 +125,11 @@ impl Display for Binding {
 
     fn fmt<W: fmt::Write>(&self, f: &mut fmt::Formatter<W>) -> fmt::Result {
         f.write_str(match *self {
-            Binding::Local => "Local",
-            Binding::Global => "Global",
-            Binding::Weak => "Weak",
-            Binding::OsSpecific(number) => return write!(f, "OsSpecific({number})"),
-            Binding::ProcessorSpecific(number) => return write!(f, "ProcessorSpecific({number})"),
+            Self::Local => "Local",
+            Self::Global => "Global",
+            Self::Weak => "Weak",
+            Self::OsSpecific(number) => return write!(f, "OsSpecific({number})"),
+            Self::ProcessorSpecific(number) => return write!(f, "ProcessorSpecific({number})"),
         })
     }
 }
@@ -197,15 +201,15 @@ impl Display for Type {
 
     fn fmt<W: fmt::Write>(&self, f: &mut fmt::Formatter<W>) -> fmt::Result {
         f.write_str(match *self {
-            Type::NoType => "NoType",
-            Type::Object => "Object",
-            Type::Func => "Func",
-            Type::Section => "Section",
-            Type::File => "File",
-            Type::Common => "Common",
-            Type::Tls => "Tls",
-            Type::OsSpecific(number) => return write!(f, "OsSpecific({number})"),
-            Type::ProcessorSpecific(number) => return write!(f, "ProcessorSpecific({number})"),
+            Self::NoType => "NoType",
+            Self::Object => "Object",
+            Self::Func => "Func",
+            Self::Section => "Section",
+            Self::File => "File",
+            Self::Common => "Common",
+            Self::Tls => "Tls",
+            Self::OsSpecific(number) => return write!(f, "OsSpecific({number})"),
+            Self::ProcessorSpecific(number) => return write!(f, "ProcessorSpecific({number})"),
         })
     }
 }

@@ -12,8 +12,8 @@ use Rattle.xmas_elf.specs.SectionContent.{content, content_in, content_of, secti
 use Rattle.xmas_elf.specs.SectionHeader.{section_fields, section_type}
 use Rattle.xmas_elf.specs.declared.ElfFile.{ElfFile}
 use Rattle.xmas_elf.specs.declared.hash.HashTable.{HashTable}
-use Rattle.xmas_elf.specs.declared.sections.data.SectionData.{SectionData}
-use Rattle.xmas_elf.specs.declared.sections.data.SectionData.TheVariants as section_data
+use Rattle.xmas_elf.specs.declared.sections.content.SectionData.{SectionData}
+use Rattle.xmas_elf.specs.declared.sections.content.SectionData.TheVariants as section_data
 use Rattle.xmas_elf.specs.declared.sections.section_header.SectionHeader.{SectionHeader}
 
 -- the content is a hash table

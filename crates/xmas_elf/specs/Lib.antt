@@ -16,7 +16,7 @@ pub use Rattle.elf_records.specs.ProgramNumbers
 pub use Rattle.elf_records.specs.SymbolNumbers
 pub use Rattle.elf_records.specs.HashNumber
 pub use Rattle.elf_records.specs.Relocation
-pub use Rattle.elf_records.specs.Tag
+pub use Rattle.elf_records.specs.Dynamic
 pub use Rattle.elf_records.specs.Note
 pub use Rattle.elf_base.specs.declared.error.ElfError
 pub use Rattle.elf_base.specs.declared.bytes.Order

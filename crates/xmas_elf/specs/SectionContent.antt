@@ -13,8 +13,8 @@ use Rattle.xmas_elf.specs.HashTable.{hash_data, hash_order}
 use Rattle.xmas_elf.specs.Range.{range_of}
 use Rattle.xmas_elf.specs.SectionHeader.{section_fields, section_type}
 use Rattle.xmas_elf.specs.declared.ElfFile.{ElfFile}
-use Rattle.xmas_elf.specs.declared.sections.data.SectionData.{SectionData}
-use Rattle.xmas_elf.specs.declared.sections.data.SectionData.TheVariants as section_data
+use Rattle.xmas_elf.specs.declared.sections.content.SectionData.{SectionData}
+use Rattle.xmas_elf.specs.declared.sections.content.SectionData.TheVariants as section_data
 use Rattle.xmas_elf.specs.declared.sections.section_header.SectionHeader.{SectionHeader}
 
 -- what a value of `SectionData` holds

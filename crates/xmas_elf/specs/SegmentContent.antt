@@ -12,8 +12,8 @@ use Rattle.xmas_elf.specs.Content.{Content, by_class, dynamic_32, dynamic_64, em
 use Rattle.xmas_elf.specs.ProgramHeader as program_header
 use Rattle.xmas_elf.specs.SegmentData.{segment_data_of}
 use Rattle.xmas_elf.specs.declared.ElfFile.{ElfFile}
-use Rattle.xmas_elf.specs.declared.program.data.SegmentData.{SegmentData}
-use Rattle.xmas_elf.specs.declared.program.data.SegmentData.TheVariants as segment_data
+use Rattle.xmas_elf.specs.declared.program.content.SegmentData.{SegmentData}
+use Rattle.xmas_elf.specs.declared.program.content.SegmentData.TheVariants as segment_data
 use Rattle.xmas_elf.specs.declared.program.records.ProgramHeader64.{ProgramHeader64}
 
 -- what a value of `SegmentData` holds

@@ -1,7 +1,8 @@
 //! How many sections and segments a file has, and which section holds the names (gABI, "ELF Header").
 
 ghost use Rattle.std.specs.Prelude.{◌≡◌};
-ghost use Rattle.xmas_elf.specs.Counts.{first_section, program_count_of, section_count_of, shstr_index_of};
+ghost use Rattle.xmas_elf.specs.Counts.{first_section, program_count_of, section_count_of};
+ghost use Rattle.xmas_elf.specs.Counts.{shstr_index_of};
 
 use crate::sections::{SHN_LORESERVE, SHN_XINDEX, SectionHeader};
 use crate::{ElfError, ElfFile};

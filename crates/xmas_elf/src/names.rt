@@ -4,7 +4,9 @@ ghost use Rattle.std.specs.Prelude.{◌≡◌, ◌↔◌, ◌+◌, ◌≤◌, If
 ghost use Rattle.elf_base.specs.Lent.{Answers, Lends, LendsOnly};
 ghost use Rattle.xmas_elf.specs.First.{FindsFirstAt};
 ghost use Rattle.xmas_elf.specs.HeaderTable.{EachBelow};
-ghost use Rattle.xmas_elf.specs.NameTable.{Bears, FindsNamed, IsFirstNamed, IsNameAt, IsNameTable, NameCompared, name_table_of, names_section_of, section_named, shstr_of};
+ghost use Rattle.xmas_elf.specs.NameTable.{Bears, FindsNamed, IsFirstNamed, IsNameAt, IsNameTable};
+ghost use Rattle.xmas_elf.specs.NameTable.{NameCompared, name_table_of, names_section_of};
+ghost use Rattle.xmas_elf.specs.NameTable.{section_named, shstr_of};
 ghost use Rattle.xmas_elf.specs.SectionHeader.{section_of};
 ghost use Rattle.xmas_elf.specs.SectionList.{section_list};
 ghost use Rattle.xmas_elf.specs.declared.sections.section_header.SectionHeader.{SectionHeader};

@@ -1,12 +1,13 @@
 //! The first note of a section or a segment (gABI, "Note Section").
 
-ghost use Rattle.std.specs.Prelude.{◌≡◌, ◌↔◌, ◌≤◌, Ok, Err, IfOk, IsOk, MatchResult, drop, length, take};
+ghost use Rattle.std.specs.Prelude.{◌≡◌, ◌↔◌, ◌≤◌, Ok, Err, IfOk, IsOk, MatchResult, drop, length};
+ghost use Rattle.std.specs.Prelude.{take};
 ghost use Rattle.elf_base.specs.FileHeader.{file_class, file_order};
 ghost use Rattle.elf_records.specs.Note.{note_header};
 ghost use Rattle.xmas_elf.specs.Content.{note_64, note_of};
 
 use crate::bytes::Record;
-use crate::header::Class;
+use crate::header::Class::{SixtyFour, ThirtyTwo};
 use crate::sections::NoteHeader;
 use crate::{ElfError, ElfFile};
 use elf_base::header::byte_order;
@@ -30,8 +31,8 @@ pub(crate) fn first_note<'a>(
         (λ e. note_of (file_class file.now.header) (file_order file.now.header) bytes.now ≡ Err e) }
 {
     match file.header.pt1.class() {
-        Class::ThirtyTwo => Err(ElfError::Note32),
-        Class::SixtyFour => {
+        ThirtyTwo => Err(ElfError::Note32),
+        SixtyFour => {
             if bytes.len() < NoteHeader::SIZE {
                 return Err(ElfError::ShortData);
             }

@@ -1,6 +1,7 @@
 //! The segments of a file, by index and by iterator (gABI, "Program Header").
 
-ghost use Rattle.std.specs.Prelude.{◌≡◌, ◌↔◌, ◌+◌, ◌*◌, ◌^◌, ◌<◌, ◌≤◌, [], ◌∷◌, IfOk, IsOk, is_none, length, nat_lt, not, unwrap_or};
+ghost use Rattle.std.specs.Prelude.{◌≡◌, ◌↔◌, ◌+◌, ◌*◌, ◌^◌, ◌<◌, ◌≤◌, [], ◌∷◌, IfOk, IsOk};
+ghost use Rattle.std.specs.Prelude.{is_none, length, nat_lt, not, unwrap_or};
 ghost use Rattle.std.specs.Option.{ForSome};
 ghost use Rattle.std.specs.Iterator.{YieldsFirst, item_count};
 ghost use Rattle.elf_base.specs.FileHeader.{file_class};
@@ -9,19 +10,22 @@ ghost use Rattle.elf_base.specs.Refusal.{unless};
 ghost use Rattle.xmas_elf.specs.Checks.{program_check};
 ghost use Rattle.xmas_elf.specs.Counts.{program_count_of};
 ghost use Rattle.xmas_elf.specs.HeaderTable.{IsLongest, is_known_class};
-ghost use Rattle.xmas_elf.specs.ProgramHeader.{HasProgramEntry, HasProgramHeader, HasProgram, program_at_index, program_entry, program_by_u16, program_header_size, program_at_place, program_of};
+ghost use Rattle.xmas_elf.specs.ProgramHeader.{HasProgramEntry, HasProgramHeader, HasProgram};
+ghost use Rattle.xmas_elf.specs.ProgramHeader.{program_at_index, program_entry, program_by_u16};
+ghost use Rattle.xmas_elf.specs.ProgramHeader.{program_header_size, program_at_place, program_of};
 ghost use Rattle.xmas_elf.specs.ProgramList.{ProgramStep, program_list, program_rest};
 
-mod data;
-mod printed;
+mod content;
 mod program_header;
 mod records;
+mod text;
 
-use crate::header::{Class, Header};
-pub use crate::program::data::SegmentData;
-pub(crate) use crate::program::printed::SegmentType;
+use crate::header::Class::{SixtyFour, ThirtyTwo};
+use crate::header::Header;
+pub use crate::program::content::SegmentData;
 pub use crate::program::program_header::ProgramHeader;
 pub use crate::program::records::{ProgramHeader32, ProgramHeader64};
+pub(crate) use crate::program::text::SegmentType;
 use crate::ranges::{ends_inside, entry_at};
 use crate::{ElfError, ElfFile};
 use elf_base::bytes::{Order, Record};
@@ -120,14 +124,14 @@ pub(crate) fn program_entry(
     let place = entry_at(input, offset, entry_size, u64::from(index));
     // One choice of the order for all fields.
     match byte_order(header.pt1.encoding) {
-        Order::Little => record_at(input, place, header, Order::Little),
-        Order::Big => record_at(input, place, header, Order::Big),
+        Order::Little => header_at_place(input, place, header, Order::Little),
+        Order::Big => header_at_place(input, place, header, Order::Big),
     }
 }
 
 // The program header at a place of the input, if there is one, its width by the class.
 #[inline(always)]
-fn record_at(
+fn header_at_place(
     input: &[u8],
     place: Option<usize>,
     header: &Header,
@@ -138,13 +142,16 @@ fn record_at(
     ensures { result ≡ unless (
         (not (is_known_class (file_class header.now)), ElfError.UnknownClass)
         ∷ (is_none place, ElfError.ShortProgramHeader)
-        ∷ (nat_lt (header_fields header.now.pt2).ph_entry_size
-            (program_header_size (file_class header.now)), ElfError.SmallEntry)
+        ∷ (
+          nat_lt (header_fields header.now.pt2).ph_entry_size
+              (program_header_size (file_class header.now)),
+          ElfError.SmallEntry,
+        )
         ∷ []) (program_at_place (file_class header.now) order (unwrap_or place 0) input.now) }
 {
     let entry_size = usize::from(header.pt2.ph_entry_size());
     match header.pt1.class() {
-        Class::ThirtyTwo => {
+        ThirtyTwo => {
             let place = place.ok_or(ElfError::ShortProgramHeader)?;
             if entry_size < ProgramHeader32::SIZE {
                 return Err(ElfError::SmallEntry);
@@ -152,7 +159,7 @@ fn record_at(
             let record = ProgramHeader32::read(input, place, order);
             Ok(ProgramHeader::Ph32(record))
         }
-        Class::SixtyFour => {
+        SixtyFour => {
             let place = place.ok_or(ElfError::ShortProgramHeader)?;
             if entry_size < ProgramHeader64::SIZE {
                 return Err(ElfError::SmallEntry);
@@ -160,7 +167,7 @@ fn record_at(
             let record = ProgramHeader64::read(input, place, order);
             Ok(ProgramHeader::Ph64(record))
         }
-        Class::None | Class::Other(_) => Err(ElfError::UnknownClass),
+        _ => Err(ElfError::UnknownClass),
     }
 }
 

@@ -1,6 +1,7 @@
 //! The sections of a file, by index and by iterator (gABI, "Sections").
 
-ghost use Rattle.std.specs.Prelude.{◌≡◌, ◌↔◌, ◌+◌, ◌*◌, ◌^◌, ◌<◌, ◌≤◌, [], ◌∷◌, IfOk, IsOk, length, nat_lt, not};
+ghost use Rattle.std.specs.Prelude.{◌≡◌, ◌↔◌, ◌+◌, ◌*◌, ◌^◌, ◌<◌, ◌≤◌, [], ◌∷◌, IfOk, IsOk, length};
+ghost use Rattle.std.specs.Prelude.{nat_lt, not};
 ghost use Rattle.std.specs.Iterator.{YieldsFirst, item_count};
 ghost use Rattle.elf_base.specs.FileHeader.{file_class};
 ghost use Rattle.elf_base.specs.HeaderLayout.{header_fields};
@@ -8,22 +9,25 @@ ghost use Rattle.elf_base.specs.Refusal.{unless};
 ghost use Rattle.xmas_elf.specs.Checks.{section_check};
 ghost use Rattle.xmas_elf.specs.Counts.{section_count_of};
 ghost use Rattle.xmas_elf.specs.HeaderTable.{IsLongest, is_known_class};
-ghost use Rattle.xmas_elf.specs.SectionHeader.{section_header_size, section_at_place, HasSectionEntry, HasSectionHeader, section_at_index, section_entry, section_by_u16, section_of};
+ghost use Rattle.xmas_elf.specs.SectionHeader.{section_header_size, section_at_place};
+ghost use Rattle.xmas_elf.specs.SectionHeader.{HasSectionEntry, HasSectionHeader, section_at_index};
+ghost use Rattle.xmas_elf.specs.SectionHeader.{section_entry, section_by_u16, section_of};
 ghost use Rattle.xmas_elf.specs.SectionList.{SectionStep, section_list, section_rest};
 
-mod data;
-mod printed;
+mod content;
 mod records;
 mod section_header;
 mod strings;
+mod text;
 
-use crate::header::{Class, Header};
+use crate::header::Class::{SixtyFour, ThirtyTwo};
+use crate::header::Header;
 use crate::ranges::entry_at;
-pub use crate::sections::data::SectionData;
-pub(crate) use crate::sections::printed::SectionType;
+pub use crate::sections::content::SectionData;
 pub use crate::sections::records::SectionHeader_;
 pub use crate::sections::section_header::SectionHeader;
 pub use crate::sections::strings::SectionStrings;
+pub(crate) use crate::sections::text::SectionType;
 use crate::{ElfError, ElfFile, P32, P64};
 use elf_base::bytes::{Order, Record};
 use elf_base::header::byte_order;
@@ -124,14 +128,14 @@ pub(crate) fn section_entry(
     };
     // One choice of the order for all fields.
     match byte_order(header.pt1.encoding) {
-        Order::Little => record_at(input, place, header, Order::Little),
-        Order::Big => record_at(input, place, header, Order::Big),
+        Order::Little => header_at_place(input, place, header, Order::Little),
+        Order::Big => header_at_place(input, place, header, Order::Big),
     }
 }
 
 // The section header at a place of the input, its width by the class.
 #[inline(always)]
-fn record_at(
+fn header_at_place(
     input: &[u8],
     place: usize,
     header: &Header,
@@ -140,27 +144,30 @@ fn record_at(
     requires { place + (header_fields header.now.pt2).sh_entry_size ≤ length input.now }
     ensures { result ≡ unless (
         (not (is_known_class (file_class header.now)), ElfError.UnknownClass)
-        ∷ (nat_lt (header_fields header.now.pt2).sh_entry_size
-            (section_header_size (file_class header.now)), ElfError.SmallEntry)
+        ∷ (
+          nat_lt (header_fields header.now.pt2).sh_entry_size
+              (section_header_size (file_class header.now)),
+          ElfError.SmallEntry,
+        )
         ∷ []) (section_at_place (file_class header.now) order place input.now) }
 {
     let entry_size = usize::from(header.pt2.sh_entry_size());
     match header.pt1.class() {
-        Class::ThirtyTwo => {
+        ThirtyTwo => {
             if entry_size < SectionHeader_::<P32>::SIZE {
                 return Err(ElfError::SmallEntry);
             }
             let record = SectionHeader_::<P32>::read(input, place, order);
             Ok(SectionHeader::Sh32(record))
         }
-        Class::SixtyFour => {
+        SixtyFour => {
             if entry_size < SectionHeader_::<P64>::SIZE {
                 return Err(ElfError::SmallEntry);
             }
             let record = SectionHeader_::<P64>::read(input, place, order);
             Ok(SectionHeader::Sh64(record))
         }
-        Class::None | Class::Other(_) => Err(ElfError::UnknownClass),
+        _ => Err(ElfError::UnknownClass),
     }
 }
 

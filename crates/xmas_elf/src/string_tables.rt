@@ -1,7 +1,8 @@
 //! The string tables of symbols, by name, and the texts there (gABI, "String Table").
 
 ghost use Rattle.elf_base.specs.Lent.{Answers, Lends, LendsOnly};
-ghost use Rattle.xmas_elf.specs.StringTable.{IsDynString, IsDynstr, IsString, IsStrtab, dyn_string_of, dynstr_of, string_of, strtab_of};
+ghost use Rattle.xmas_elf.specs.StringTable.{IsDynString, IsDynstr, IsString, IsStrtab};
+ghost use Rattle.xmas_elf.specs.StringTable.{dyn_string_of, dynstr_of, string_of, strtab_of};
 
 use crate::bytes::text_at;
 use crate::sections::ShType;

@@ -5,7 +5,9 @@ ghost use Rattle.std.proofs.Common.{lit<};
 ghost use Rattle.elf_base.specs.Lent.{Answers, Lends, LendsOnly};
 ghost use Rattle.elf_base.specs.Text.{IsText};
 ghost use Rattle.elf_base.specs.declared.error.ElfError.{ElfError};
-ghost use Rattle.elf_records.specs.Note.{IsNoteDescription, IsNoteName, NoteNameRefused, note_desc_of, note_desc_size, note_header, note_name_of, note_name_size, note_type, rounded_up};
+ghost use Rattle.elf_records.specs.Note.{IsNoteDescription, IsNoteName, NoteNameRefused};
+ghost use Rattle.elf_records.specs.Note.{note_desc_of, note_desc_size, note_header, note_name_of};
+ghost use Rattle.elf_records.specs.Note.{note_name_size, note_type, rounded_up};
 
 use elf_base::ElfError;
 use elf_base::bytes::{Order, Record, read_u32, text_at};

@@ -8,7 +8,7 @@ ghost use Rattle.xmas_elf.specs.SegmentData.{IsSegmentData};
 
 use crate::bytes::Table;
 use crate::dynamic::Dynamic;
-use crate::header::Class;
+use crate::header::Class::{SixtyFour, ThirtyTwo};
 use crate::notes::first_note;
 use crate::program::{ProgramHeader, ProgramHeader32, ProgramHeader64, Type};
 use crate::sections::NoteHeader;
@@ -48,8 +48,8 @@ impl ProgramHeader {
             (file_order file.now.header) (segment_content d)) }
     {
         match self {
-            ProgramHeader::Ph32(header) => header.get_data(file),
-            ProgramHeader::Ph64(header) => header.get_data(file),
+            Self::Ph32(header) => header.get_data(file),
+            Self::Ph64(header) => header.get_data(file),
         }
     }
 }
@@ -88,8 +88,8 @@ impl ProgramHeader64 {
         let bytes = self.raw_data(file)?;
         let order = byte_order(file.header.pt1.encoding);
         match (kind, file.header.pt1.class()) {
-            (Type::Dynamic, Class::ThirtyTwo) => Ok(SegmentData::Dynamic32(Table::new(bytes, order)?)),
-            (Type::Dynamic, Class::SixtyFour) => Ok(SegmentData::Dynamic64(Table::new(bytes, order)?)),
+            (Type::Dynamic, ThirtyTwo) => Ok(SegmentData::Dynamic32(Table::new(bytes, order)?)),
+            (Type::Dynamic, SixtyFour) => Ok(SegmentData::Dynamic64(Table::new(bytes, order)?)),
             (Type::Dynamic, _) => Err(ElfError::UnknownClass),
             (Type::Note, _) => {
                 let (header, body) = first_note(file, bytes)?;

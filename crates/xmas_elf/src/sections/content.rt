@@ -9,7 +9,7 @@ ghost use Rattle.xmas_elf.specs.declared.sections.section_header.SectionHeader.{
 use crate::bytes::{Order, Table};
 use crate::dynamic::Dynamic;
 use crate::hash::HashTable;
-use crate::header::Class;
+use crate::header::Class::{SixtyFour, ThirtyTwo};
 use crate::notes::first_note;
 use crate::ranges::range_at;
 use crate::sections::{NoteHeader, Rel, Rela, SectionHeader, ShType};
@@ -114,31 +114,31 @@ impl<'a> SectionData<'a> {
     {
         let order = byte_order(file.header.pt1.encoding);
         match (kind, file.header.pt1.class()) {
-            (ShType::Null | ShType::NoBits, _) => Ok(SectionData::Empty),
-            (ShType::StrTab, _) => Ok(SectionData::StrArray(bytes)),
-            (ShType::SymTab, Class::ThirtyTwo) => Ok(SectionData::SymbolTable32(Table::new(bytes, order)?)),
-            (ShType::SymTab, Class::SixtyFour) => Ok(SectionData::SymbolTable64(Table::new(bytes, order)?)),
-            (ShType::DynSym, Class::ThirtyTwo) => Ok(SectionData::DynSymbolTable32(Table::new(bytes, order)?)),
-            (ShType::DynSym, Class::SixtyFour) => Ok(SectionData::DynSymbolTable64(Table::new(bytes, order)?)),
-            (ShType::InitArray | ShType::FiniArray | ShType::PreInitArray, Class::ThirtyTwo) => Ok(
-                SectionData::FnArray32(Table::new(bytes, order)?),
+            (ShType::Null | ShType::NoBits, _) => Ok(Self::Empty),
+            (ShType::StrTab, _) => Ok(Self::StrArray(bytes)),
+            (ShType::SymTab, ThirtyTwo) => Ok(Self::SymbolTable32(Table::new(bytes, order)?)),
+            (ShType::SymTab, SixtyFour) => Ok(Self::SymbolTable64(Table::new(bytes, order)?)),
+            (ShType::DynSym, ThirtyTwo) => Ok(Self::DynSymbolTable32(Table::new(bytes, order)?)),
+            (ShType::DynSym, SixtyFour) => Ok(Self::DynSymbolTable64(Table::new(bytes, order)?)),
+            (ShType::InitArray | ShType::FiniArray | ShType::PreInitArray, ThirtyTwo) => Ok(
+                Self::FnArray32(Table::new(bytes, order)?),
             ),
-            (ShType::InitArray | ShType::FiniArray | ShType::PreInitArray, Class::SixtyFour) => Ok(
-                SectionData::FnArray64(Table::new(bytes, order)?),
+            (ShType::InitArray | ShType::FiniArray | ShType::PreInitArray, SixtyFour) => Ok(
+                Self::FnArray64(Table::new(bytes, order)?),
             ),
-            (ShType::Rela, Class::ThirtyTwo) => Ok(SectionData::Rela32(Table::new(bytes, order)?)),
-            (ShType::Rela, Class::SixtyFour) => Ok(SectionData::Rela64(Table::new(bytes, order)?)),
-            (ShType::Rel, Class::ThirtyTwo) => Ok(SectionData::Rel32(Table::new(bytes, order)?)),
-            (ShType::Rel, Class::SixtyFour) => Ok(SectionData::Rel64(Table::new(bytes, order)?)),
-            (ShType::Dynamic, Class::ThirtyTwo) => Ok(SectionData::Dynamic32(Table::new(bytes, order)?)),
-            (ShType::Dynamic, Class::SixtyFour) => Ok(SectionData::Dynamic64(Table::new(bytes, order)?)),
-            (ShType::SymTabShIndex, _) => Ok(SectionData::SymTabShIndex(Table::new(bytes, order)?)),
-            (ShType::Group, _) => SectionData::group(bytes, order),
+            (ShType::Rela, ThirtyTwo) => Ok(Self::Rela32(Table::new(bytes, order)?)),
+            (ShType::Rela, SixtyFour) => Ok(Self::Rela64(Table::new(bytes, order)?)),
+            (ShType::Rel, ThirtyTwo) => Ok(Self::Rel32(Table::new(bytes, order)?)),
+            (ShType::Rel, SixtyFour) => Ok(Self::Rel64(Table::new(bytes, order)?)),
+            (ShType::Dynamic, ThirtyTwo) => Ok(Self::Dynamic32(Table::new(bytes, order)?)),
+            (ShType::Dynamic, SixtyFour) => Ok(Self::Dynamic64(Table::new(bytes, order)?)),
+            (ShType::SymTabShIndex, _) => Ok(Self::SymTabShIndex(Table::new(bytes, order)?)),
+            (ShType::Group, _) => Self::group(bytes, order),
             (ShType::Note, _) => {
                 let (header, body) = first_note(file, bytes)?;
-                Ok(SectionData::Note64(header, body))
+                Ok(Self::Note64(header, body))
             }
-            (ShType::Hash, _) => Ok(SectionData::HashTable(HashTable::read(bytes, order)?)),
+            (ShType::Hash, _) => Ok(Self::HashTable(HashTable::read(bytes, order)?)),
             (
                 ShType::ProgBits
                 | ShType::ShLib
@@ -146,7 +146,7 @@ impl<'a> SectionData<'a> {
                 | ShType::ProcessorSpecific(_)
                 | ShType::User(_),
                 _,
-            ) => Ok(SectionData::Undefined(bytes)),
+            ) => Ok(Self::Undefined(bytes)),
             _ => Err(ElfError::UnknownClass),
         }
     }
@@ -162,7 +162,7 @@ impl<'a> SectionData<'a> {
         if bytes.len() < 4 {
             return Err(ElfError::ShortData);
         }
-        Ok(SectionData::Group {
+        Ok(Self::Group {
             flags: read_u32(bytes, 0, order),
             indicies: Table::new(&bytes[4..], order)?,
         })

@@ -30,7 +30,7 @@ impl<'a> SectionData<'a> {
             (λ e. string_data (content self.now) ≡ None) }
     {
         match self {
-            SectionData::StrArray(bytes) => {
+            Self::StrArray(bytes) => {
                 // By this the proof of `fits` knows that the length is a number of 64 bits.
                 prove!(bytes.len() <= usize::MAX);
                 Ok(SectionStrings { rest: bytes })
