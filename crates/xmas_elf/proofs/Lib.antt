@@ -3,7 +3,7 @@ pub mod HeaderLists
 pub mod SectionLists
 pub mod ProgramLists
 pub mod ReportLines
-pub mod Names
+pub mod FirstNamed
 pub mod NamedSections
 pub mod StringTables
 pub mod SymbolNames

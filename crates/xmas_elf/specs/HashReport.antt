@@ -1,11 +1,11 @@
 -- What the report says of the hash table of a file (this project's own; gABI, "Sections", sh_link
 -- of a section of type SHT_HASH, says which section holds the symbols).
-use Rattle.std.specs.Prelude.{◌≡◌, ◌≢◌, ℕ, ◌<◌, List, length, Result, Ok, Err}
-use Rattle.std.specs.List.{AllWithin, HoldsAt}
+use Rattle.std.specs.Prelude.{◌≡◌, ℕ, Option, None, Some, Result, Ok, Err}
 use Rattle.elf_base.specs.Refusal.{and_then}
 use Rattle.elf_base.specs.declared.error.ElfError.{ElfError}
 use Rattle.elf_records.specs.declared.sections.ShType.TheVariants.{Hash}
-use Rattle.xmas_elf.specs.Content.{Content, symbols_32, symbols_64, dyn_symbols_32, dyn_symbols_64, hash_table}
+use Rattle.xmas_elf.specs.Content.{Content, dyn_symbols_32, dyn_symbols_64, hash_table, symbols_32, symbols_64, table_of}
+use Rattle.xmas_elf.specs.First.{FindsFirst}
 use Rattle.xmas_elf.specs.Good.{IsCheck}
 use Rattle.xmas_elf.specs.HashTable.{hash_data, hash_order}
 use Rattle.xmas_elf.specs.SectionContent.{section_content_of}
@@ -25,11 +25,11 @@ IsVerdictOf table symbols verdict =
 
 -- the verdict on a hash table by what its link leads to: there is none on one without symbols
 abbrev pub IsLinkedVerdict : ElfFile → HashTable → Result Content ElfError → HashVerdict → Type 0
-IsLinkedVerdict file table (Ok (symbols_32 order bytes)) = IsVerdictOf table (symbols_in_32 file order bytes)
-IsLinkedVerdict file table (Ok (symbols_64 order bytes)) = IsVerdictOf table (symbols_in_64 file order bytes)
-IsLinkedVerdict file table (Ok (dyn_symbols_32 order bytes)) =
+IsLinkedVerdict file table (Ok (table_of symbols_32 order bytes)) = IsVerdictOf table (symbols_in_32 file order bytes)
+IsLinkedVerdict file table (Ok (table_of symbols_64 order bytes)) = IsVerdictOf table (symbols_in_64 file order bytes)
+IsLinkedVerdict file table (Ok (table_of dyn_symbols_32 order bytes)) =
     IsVerdictOf table (dyn_symbols_in_32 file order bytes)
-IsLinkedVerdict file table (Ok (dyn_symbols_64 order bytes)) =
+IsLinkedVerdict file table (Ok (table_of dyn_symbols_64 order bytes)) =
     IsVerdictOf table (dyn_symbols_in_64 file order bytes)
 IsLinkedVerdict file table _ = λ verdict. verdict ≡ NoSymbols
 
@@ -37,21 +37,16 @@ IsLinkedVerdict file table _ = λ verdict. verdict ≡ NoSymbols
 abbrev pub content_at : ElfFile → ℕ → Result Content ElfError
 content_at file index = and_then (section_of file index) (section_content_of file)
 
--- no section of the list is of type Hash, below place `high`
-abbrev pub NoHash : ElfFile → ℕ → Type 0
-NoHash file high = AllWithin (λ section. section_type section ≢ Ok Hash) (section_list file) 0 high
-
--- the section stands in the list and is of type Hash, and none before it is
-abbrev pub IsFirstHash : ElfFile → SectionHeader → Type 0
-IsFirstHash file section = (section_type section ≡ Ok Hash)
-    × ((i : ℕ) × (i < length (section_list file)) × HoldsAt (λ item. item ≡ section) (section_list file) i × NoHash file i)
+-- what a search for a section of type Hash along the list of sections answers
+abbrev pub FindsHash : ElfFile → Option SectionHeader → Type 0
+FindsHash file found = FindsFirst (λ section. section_type section ≡ Ok Hash) (section_list file) found
 
 -- what is found of the hash table of a file, which is the data of that section
 pub data IsHashVerdict (file : ElfFile) : HashVerdict → Type 0 where
-  none : NoHash file (length (section_list file)) → IsHashVerdict file NoTable
-  refused : (section : SectionHeader) (error : ElfError) → IsFirstHash file section
+  none : FindsHash file None → IsHashVerdict file NoTable
+  refused : (section : SectionHeader) (error : ElfError) → FindsHash file (Some section)
       → section_content_of file section ≡ Err error → IsHashVerdict file (Checked (Err error))
-  linked : (section : SectionHeader) (table : HashTable) (verdict : HashVerdict) → IsFirstHash file section
+  linked : (section : SectionHeader) (table : HashTable) (verdict : HashVerdict) → FindsHash file (Some section)
       → section_content_of file section ≡ Ok (hash_table (hash_order table) (hash_data table))
       → IsLinkedVerdict file table (content_at file (section_fields section).link) verdict
       → IsHashVerdict file verdict

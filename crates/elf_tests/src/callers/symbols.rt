@@ -10,8 +10,7 @@ ghost use Rattle.xmas_elf.specs.StringTable.{IsDynString, IsString, dyn_string_o
 ghost use Rattle.xmas_elf.specs.Symbol.{dyn_entry_32_fields, entry_64_fields};
 ghost use Rattle.xmas_elf.specs.SymbolSection.{IsSectionIndex};
 ghost use Rattle.xmas_elf.specs.Table.{table_data, table_order};
-ghost use Rattle.xmas_elf.specs.declared.ElfFile.{ElfFile};
-ghost use Rattle.xmas_elf.specs.declared.sections.section_header.SectionHeader.{SectionHeader};
+ghost use Rattle.xmas_elf.specs.Types.{ElfFile, SectionHeader};
 
 use crate::own::Numbered;
 use xmas_elf::bytes::{Order, Record, Table, text_at};

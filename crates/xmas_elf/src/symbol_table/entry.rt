@@ -122,8 +122,9 @@ pub trait Entry {
     /// Refused with `ReservedSymbolIndex` for `SHN_UNDEF`, `SHN_ABS` and `SHN_COMMON`, and else as
     /// `ElfFile::section_header` of `shndx` is. For `SHN_XINDEX` it is that at the index in word
     /// `self_index` of `.symtab_shndx`: refused with `NoShIndex` where no section bears that name,
-    /// with `ExpectedShIndex` where the first that does has another type than SymTabShIndex, as
-    /// `SectionHeader::get_data` is, with `SymbolIndex` where it has no such word, with
+    /// with `ExpectedShIndex` where the first that does has another type than SymTabShIndex, with
+    /// `DataRange` where its data passes the end of the input, with `NotMultiple` where that isn't a
+    /// whole number of words, with `SymbolIndex` where it has no such word, with
     /// `ReservedSymbolIndex` for 0, and as `ElfFile::section_header_at` is.
     #[tactic(auto, unfolding(crate::specs::SymbolSection::symbol_section_of))]
     fn get_section_header(

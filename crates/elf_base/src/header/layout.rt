@@ -5,7 +5,7 @@ ghost use Rattle.std.proofs.Common.{lit<};
 ghost use Rattle.elf_base.specs.HeaderLayout.{header_pt1, header_pt2_32, header_pt2_64};
 
 use crate::bytes::{Order, Record, read_u16, read_u32, read_u64};
-use crate::header::kinds::{Class_, Data_, Machine_, OsAbi_, Type_, Version_};
+use crate::header::numbers::{Class_, Data_, Machine_, OsAbi_, Type_, Version_};
 use crate::header::{HeaderPt1, HeaderPt2_};
 use crate::{P32, P64};
 

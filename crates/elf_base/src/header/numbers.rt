@@ -4,7 +4,11 @@
 //! The enum of the same name is what the number means.
 
 ghost use Rattle.std.specs.Prelude.{◌≡◌, ◌↔◌, IsTrue};
-ghost use Rattle.elf_base.specs.HeaderNumbers.{class_number, class_of, class_raw, encoding_number, encoding_of, encoding_raw, machine_number, machine_of, machine_raw, os_abi_number, os_abi_of, os_abi_raw, type_number, type_of, type_raw, version_number, version_of, version_raw};
+ghost use Rattle.elf_base.specs.HeaderNumbers.{class_number, class_of, class_raw, encoding_number};
+ghost use Rattle.elf_base.specs.HeaderNumbers.{encoding_of, encoding_raw, machine_number};
+ghost use Rattle.elf_base.specs.HeaderNumbers.{machine_of, machine_raw, os_abi_number, os_abi_of};
+ghost use Rattle.elf_base.specs.HeaderNumbers.{os_abi_raw, type_number, type_of, type_raw};
+ghost use Rattle.elf_base.specs.HeaderNumbers.{version_number, version_of, version_raw};
 
 /// How wide the addresses and offsets of a file are, as a number (gABI, "ELF Header", EI_CLASS).
 #[derive(Clone, Copy, Debug, PartialEq, Eq)]
@@ -48,11 +52,11 @@ impl Class_ {
 /// How wide the addresses and offsets of a file are (gABI, "ELF Header", EI_CLASS).
 #[derive(Clone, Copy, Debug, PartialEq, Eq)]
 pub enum Class {
-    /// Invalid.
+    /// `ELFCLASSNONE`: invalid.
     None,
-    /// 32 bits.
+    /// `ELFCLASS32`: 32 bits.
     ThirtyTwo,
-    /// 64 bits.
+    /// `ELFCLASS64`: 64 bits.
     SixtyFour,
     /// Any other number.
     Other(u8),
@@ -109,11 +113,11 @@ impl Data_ {
 /// The encoding of the numbers of a file (gABI, "ELF Header", EI_DATA).
 #[derive(Clone, Copy, Debug, PartialEq, Eq)]
 pub enum Data {
-    /// Invalid.
+    /// `ELFDATANONE`: invalid.
     None,
-    /// The least significant byte comes first.
+    /// `ELFDATA2LSB`: the least significant byte comes first.
     LittleEndian,
-    /// The most significant byte comes first.
+    /// `ELFDATA2MSB`: the most significant byte comes first.
     BigEndian,
     /// Any other number.
     Other(u8),
@@ -169,9 +173,9 @@ impl Version_ {
 /// The version of the header (gABI, "ELF Header", EI_VERSION).
 #[derive(Clone, Copy, Debug, PartialEq, Eq)]
 pub enum Version {
-    /// Invalid.
+    /// `EV_NONE`: invalid.
     None,
-    /// The one version that there is.
+    /// `EV_CURRENT`: the one version that there is.
     Current,
     /// Any other number.
     Other(u8),
@@ -228,25 +232,25 @@ impl OsAbi_ {
 /// The operating system whose extensions a file uses (gABI, "ELF Header", EI_OSABI).
 #[derive(Clone, Copy, Debug, PartialEq, Eq)]
 pub enum OsAbi {
-    /// No extensions, or none that are told.
+    /// `ELFOSABI_NONE`: no extensions, or none that are told.
     SystemV,
-    /// Hewlett-Packard HP-UX.
+    /// `ELFOSABI_HPUX`: Hewlett-Packard HP-UX.
     HpUx,
-    /// NetBSD.
+    /// `ELFOSABI_NETBSD`: NetBSD.
     NetBSD,
-    /// GNU and Linux.
+    /// `ELFOSABI_GNU`, also `ELFOSABI_LINUX`: GNU and Linux.
     Linux,
-    /// Sun Solaris.
+    /// `ELFOSABI_SOLARIS`: Sun Solaris.
     Solaris,
-    /// IBM AIX.
+    /// `ELFOSABI_AIX`: IBM AIX.
     Aix,
-    /// SGI IRIX.
+    /// `ELFOSABI_IRIX`: SGI IRIX.
     Irix,
-    /// FreeBSD.
+    /// `ELFOSABI_FREEBSD`: FreeBSD.
     FreeBSD,
-    /// OpenBSD.
+    /// `ELFOSABI_OPENBSD`: OpenBSD.
     OpenBSD,
-    /// OpenVMS.
+    /// `ELFOSABI_OPENVMS`: OpenVMS.
     OpenVMS,
     /// Any other number.
     Other(u8),
@@ -289,15 +293,15 @@ impl Type_ {
 /// What a file is for (gABI, "ELF Header", e_type).
 #[derive(Clone, Copy, Debug, PartialEq, Eq)]
 pub enum Type {
-    /// No type.
+    /// `ET_NONE`: no type.
     None,
-    /// An object file.
+    /// `ET_REL`: an object file.
     Relocatable,
-    /// A program.
+    /// `ET_EXEC`: a program.
     Executable,
-    /// A shared object.
+    /// `ET_DYN`: a shared object.
     SharedObject,
-    /// A core dump.
+    /// `ET_CORE`: a core dump.
     Core,
     /// Any other number.
     ProcessorSpecific(u16),
@@ -348,29 +352,29 @@ impl Machine_ {
 #[allow(non_camel_case_types)]
 #[derive(Clone, Copy, Debug, PartialEq, Eq)]
 pub enum Machine {
-    /// No machine.
+    /// `EM_NONE`: no machine.
     None,
-    /// SPARC.
+    /// `EM_SPARC`: SPARC.
     Sparc,
-    /// Intel 80386.
+    /// `EM_386`: Intel 80386.
     X86,
-    /// MIPS.
+    /// `EM_MIPS`: MIPS.
     Mips,
-    /// PowerPC.
+    /// `EM_PPC`: PowerPC.
     PowerPC,
-    /// Arm of 32 bits.
+    /// `EM_ARM`: Arm of 32 bits.
     Arm,
-    /// Hitachi SuperH.
+    /// `EM_SH`: Hitachi SuperH.
     SuperH,
-    /// Intel Itanium.
+    /// `EM_IA_64`: Intel Itanium.
     Ia64,
-    /// AMD x86-64.
+    /// `EM_X86_64`: AMD x86-64.
     X86_64,
-    /// Arm of 64 bits.
+    /// `EM_AARCH64`: Arm of 64 bits.
     AArch64,
-    /// RISC-V.
+    /// `EM_RISCV`: RISC-V.
     RISC_V,
-    /// Linux BPF.
+    /// `EM_BPF`: Linux BPF.
     BPF,
     /// Any other number.
     Other(u16),

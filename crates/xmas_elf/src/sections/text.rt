@@ -47,29 +47,6 @@ impl Display for SectionFields {
     }
 }
 
-impl SectionHeader {
-    // The same numbers, in the types of class 64, so that one text serves both.
-    fn record_64(&self) -> SectionHeader_<P64>
-        ensures { record_fields result ≡ section_fields self.now }
-    {
-        match self {
-            SectionHeader::Sh32(header) => SectionHeader_ {
-                name: header.name,
-                type_: header.type_,
-                flags: u64::from(header.flags),
-                address: u64::from(header.address),
-                offset: u64::from(header.offset),
-                size: u64::from(header.size),
-                link: header.link,
-                info: header.info,
-                align: u64::from(header.align),
-                entry_size: u64::from(header.entry_size),
-            },
-            SectionHeader::Sh64(header) => *header,
-        }
-    }
-}
-
 impl Display for SectionHeader {
     ghost output = { λ section. Some (section_text (section_fields section)) };
 

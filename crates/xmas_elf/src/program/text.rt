@@ -3,7 +3,7 @@
 ghost use Rattle.std.specs.Prelude.{◌≡◌, Some};
 ghost use Rattle.elf_records.specs.ProgramNumbers.{ph_type_number};
 ghost use Rattle.xmas_elf.specs.ProgramHeader.{program_64, program_fields};
-ghost use Rattle.xmas_elf.specs.SegmentText.{segment_fields_text, segment_text, segment_type_text};
+ghost use Rattle.xmas_elf.specs.ProgramText.{program_fields_text, program_text, segment_type_text};
 
 use crate::program::{ProgramHeader, ProgramHeader32, ProgramHeader64, Type_};
 use elf_base::print::{Field, Hex, PrintedResult};
@@ -24,10 +24,10 @@ impl Display for SegmentType {
 
 // The fields, each on a line.
 #[derive(Clone, Copy)]
-struct SegmentFields<'a>(&'a ProgramHeader64);
+struct ProgramFields(ProgramHeader64);
 
-impl Display for SegmentFields<'_> {
-    ghost output = { λ fields. Some (segment_fields_text fields.0.now) };
+impl Display for ProgramFields {
+    ghost output = { λ fields. Some (program_fields_text fields.0) };
 
     fn fmt<W: fmt::Write>(&self, f: &mut fmt::Formatter<W>) -> fmt::Result {
         write!(
@@ -46,15 +46,15 @@ impl Display for SegmentFields<'_> {
 }
 
 impl Display for ProgramHeader64 {
-    ghost output = { λ header. Some (segment_text header) };
+    ghost output = { λ header. Some (program_text header) };
 
     fn fmt<W: fmt::Write>(&self, f: &mut fmt::Formatter<W>) -> fmt::Result {
-        write!(f, "Program header:\n{}", SegmentFields(self))
+        write!(f, "Program header:\n{}", ProgramFields(*self))
     }
 }
 
 impl Display for ProgramHeader32 {
-    ghost output = { λ header. Some (segment_text (program_64 header)) };
+    ghost output = { λ header. Some (program_text (program_64 header)) };
 
     fn fmt<W: fmt::Write>(&self, f: &mut fmt::Formatter<W>) -> fmt::Result {
         self.to_64().fmt(f)
@@ -62,12 +62,9 @@ impl Display for ProgramHeader32 {
 }
 
 impl Display for ProgramHeader {
-    ghost output = { λ header. Some (segment_text (program_fields header)) };
+    ghost output = { λ header. Some (program_text (program_fields header)) };
 
     fn fmt<W: fmt::Write>(&self, f: &mut fmt::Formatter<W>) -> fmt::Result {
-        match self {
-            ProgramHeader::Ph32(header) => fmt::Display::fmt(header, f),
-            ProgramHeader::Ph64(header) => fmt::Display::fmt(header, f),
-        }
+        self.record_64().fmt(f)
     }
 }

@@ -9,8 +9,8 @@ abbrev pub segment_type_text : ℕ → List ℕ
 segment_type_text number = result_text ph_type_text (ph_type_of number)
 
 -- the fields of either width
-abbrev pub segment_fields_text : ProgramHeader64 → List ℕ
-segment_fields_text segment = joined (
+abbrev pub program_fields_text : ProgramHeader64 → List ℕ
+program_fields_text segment = joined (
     field_line (codes "type") (segment_type_text (ph_type_number segment.type_))
     ∷ field_line (codes "flags") (flags_text segment.flags.0)
     ∷ field_line (codes "offset") (hex_text segment.offset)
@@ -22,5 +22,5 @@ segment_fields_text segment = joined (
     ∷ [])
 
 -- a program header, under its heading
-abbrev pub segment_text : ProgramHeader64 → List ℕ
-segment_text segment = codes "Program header:\n" ++ segment_fields_text segment
+abbrev pub program_text : ProgramHeader64 → List ℕ
+program_text segment = codes "Program header:\n" ++ program_fields_text segment

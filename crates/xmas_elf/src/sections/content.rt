@@ -84,7 +84,8 @@ impl SectionHeader {
         ensures exact { MatchResult result
             (λ d. section_content_of file.now self.now ≡ Ok (content d))
             (λ e. section_content_of file.now self.now ≡ Err e) }
-        ensures holds { IfOk result (λ d. Holds (IsSectionData file.now self.now) (file_order file.now.header) (content d)) }
+        ensures holds { IfOk result (λ d. Holds (IsSectionData file.now self.now)
+            (file_order file.now.header) (content d)) }
     {
         match self.get_type()? {
             ShType::Null | ShType::NoBits => Ok(SectionData::Empty),
@@ -103,10 +104,13 @@ impl<'a> SectionData<'a> {
     // What these bytes are in a section of this type.
     fn read(kind: ShType, file: &ElfFile<'a>, bytes: &'a [u8]) -> Result<SectionData<'a>, ElfError>
         ensures exact { MatchResult result
-            (λ d. content_of kind (file_class file.now.header) (file_order file.now.header) bytes.now ≡ Ok (content d))
-            (λ e. content_of kind (file_class file.now.header) (file_order file.now.header) bytes.now ≡ Err e) }
+            (λ d. content_of kind (file_class file.now.header) (file_order file.now.header)
+            bytes.now ≡ Ok (content d))
+            (λ e. content_of kind (file_class file.now.header) (file_order file.now.header)
+            bytes.now ≡ Err e) }
         ensures holds { (f : ElfFile) (section : SectionHeader) → IsSectionData f section bytes.now
-            → IfOk result (λ d. Holds (IsSectionData f section) (file_order file.now.header) (content d)) }
+            → IfOk result (λ d. Holds (IsSectionData f section)
+            (file_order file.now.header) (content d)) }
     {
         let order = byte_order(file.header.pt1.encoding);
         match (kind, file.header.pt1.class()) {
@@ -158,7 +162,7 @@ impl<'a> SectionData<'a> {
         if bytes.len() < 4 {
             return Err(ElfError::ShortData);
         }
-        Ok(SectionData::Group {
+        Ok(Self::Group {
             flags: read_u32(bytes, 0, order),
             indicies: Table::new(&bytes[4..], order)?,
         })

@@ -1,6 +1,6 @@
 -- The section with a name, in the list and by its index.
-use Rattle.std.proofs.Common.{◌≡◌, ◌≢◌, ℕ, ◌<◌, ◌≤◌, nat_lt, Bool, true, false, Result, Err, drop, List, [], ◌∷◌, refl, length, Ok, Option, None, Some, IfSome, IfNone, MatchOption, slice_index_or, ap, sym, subst, ◌∙◌, arith}
-use Rattle.std.proofs.lemmas.Bool.{le-ltb, ltb-false, ltb-true}
+use Rattle.std.proofs.Common.{◌≡◌, ◌≢◌, ℕ, ◌⊎◌, inl, inr, ◌<◌, ◌≤◌, nat_lt, Bool, true, false, Result, Err, drop, List, [], ◌∷◌, refl, length, Ok, Option, None, Some, IfSome, IfNone, slice_index_or, ap, sym, subst, ◌∙◌, arith}
+use Rattle.std.proofs.lemmas.Bool.{cases_order, le-ltb, ltb-false}
 use Rattle.std.specs.Result.{result_ok}
 use Rattle.elf_base.specs.Refusal.{and_then, unless}
 use Rattle.elf_base.specs.Text.{IsText}
@@ -9,8 +9,9 @@ use Rattle.elf_base.specs.declared.error.ElfError.TheVariants.{ShortSectionOffse
 use Rattle.elf_records.specs.declared.sections.ShType.{ShType}
 use Rattle.elf_records.specs.declared.sections.ShType.TheVariants.{Null}
 use Rattle.xmas_elf.specs.Counts.{section_count_of}
+use Rattle.xmas_elf.specs.First.{IsFirstAt}
 use Rattle.xmas_elf.specs.HeaderTable.{EachBelow, IsLongest}
-use Rattle.xmas_elf.specs.NameTable.{Bears, IsFirstInList, IsFirstNamed, IsFirstPlace, IsNameTable, NoneBears, name_table_of, names_section_of}
+use Rattle.xmas_elf.specs.NameTable.{Bears, FindsNamed, IsFirstNamed, IsNameTable, name_table_of, names_section_of}
 use Rattle.xmas_elf.specs.SectionHeader.{section_fields, section_of, section_type}
 use Rattle.xmas_elf.specs.SectionList.{section_list}
 use Rattle.xmas_elf.specs.declared.ElfFile.{ElfFile}
@@ -70,59 +71,46 @@ text_borne file section names name table bears =
 longest : (file : ElfFile) → IsLongest (section_of file) (section_count_of file) (section_list file)
 longest file = header_list-longest (section_of file) (section_count_of file)
 
--- the sections below a place below which none bears the name
-none_below : (file : ElfFile) (name : List ℕ) (high : ℕ) → high ≤ length (section_list file) → NoneBears file name high → EachBelow (section_of file) (λ section. ¬ Bears file section name) high
-none_below file name high fits none = sections_within file (λ section. ¬ Bears file section name) high fits none
+-- where a search finds nothing no section bears the name, and what it finds is the first that does
+pub none_named : (file : ElfFile) (name : List ℕ) → FindsNamed file name None → EachBelow (section_of file) (λ section. ¬ Bears file section name) (length (section_list file))
+none_named file name none = sections_within file (λ section. ¬ Bears file section name) (length (section_list file)) (omega arith) none
 
-pub none_named : (file : ElfFile) (name : List ℕ) → NoneBears file name (length (section_list file)) → EachBelow (section_of file) (λ section. ¬ Bears file section name) (length (section_list file))
-none_named file name none = none_below file name (length (section_list file)) (omega arith) none
-
-pub first_named : (file : ElfFile) (name : List ℕ) (section : SectionHeader) → IsFirstInList file name section → (index : ℕ) × IsFirstNamed file name index section
+pub first_named : (file : ElfFile) (name : List ℕ) (section : SectionHeader) → FindsNamed file name (Some section) → (index : ℕ) × IsFirstNamed file name index section
 first_named file name section (bears, (i, below, at, none)) = (
   i,
   record {
     below = let counted = (longest file).counted in omega arith;
     is_header = (longest file).each i below section ∙ ap Ok (at section);
     bears = bears;
-    first = none_below file name i (omega arith) none;
+    first = sections_within file (λ earlier. ¬ Bears file earlier name) i (omega arith) none;
   },
 )
 
 -- the same of the answer of a search
-pub found_named : (file : ElfFile) (name : List ℕ) (r : Option SectionHeader) → MatchOption r (NoneBears file name (length (section_list file))) (IsFirstInList file name) → IfSome r (λ section. (index : ℕ) × IsFirstNamed file name index section)
+pub found_named : (file : ElfFile) (name : List ℕ) (r : Option SectionHeader) → FindsNamed file name r → IfSome r (λ section. (index : ℕ) × IsFirstNamed file name index section)
 found_named file name None found = tt
 found_named file name (Some section) found = first_named file name section found
 
-pub missing_named : (file : ElfFile) (name : List ℕ) (r : Option SectionHeader) → MatchOption r (NoneBears file name (length (section_list file))) (IsFirstInList file name) → IfNone r (EachBelow (section_of file) (λ section. ¬ Bears file section name) (length (section_list file)))
+pub missing_named : (file : ElfFile) (name : List ℕ) (r : Option SectionHeader) → FindsNamed file name r → IfNone r (EachBelow (section_of file) (λ section. ¬ Bears file section name) (length (section_list file)))
 missing_named file name None found = none_named file name found
 missing_named file name (Some section) found = tt
 
--- no section bears the name below the first that does
-one_first_below : (file : ElfFile) (name : List ℕ) (i j : ℕ) (g h : SectionHeader) → i < j → IsFirstNamed file name i g → IsFirstNamed file name j h → ⊥
-one_first_below file name i j g h below one other = other.first i g below one.is_header one.bears
-
 -- there is at most one first section with a name
-one_first : (file : ElfFile) (name : List ℕ) (i j : ℕ) (g h : SectionHeader) (before after : Bool) → nat_lt i j ≡ before → nat_lt j i ≡ after → IsFirstNamed file name i g → IsFirstNamed file name j h → g ≡ h
-one_first file name i j g h true after below _ one other = absurd (one_first_below file name i j g h (ltb-true _ _ below) one other)
-one_first file name i j g h false true not_below above one other = absurd (one_first_below file name j i h g (ltb-true _ _ above) other one)
-one_first file name i j g h false false not_below not_above one other =
-    let low : i ≤ j = ltb-false _ _ not_above in
-    let high : j ≤ i = ltb-false _ _ not_below in
-    let same : i ≡ j = omega (arith, low, high) in
-    let a = one.is_header in
-    let b = other.is_header in
-    cc
+one_first : (file : ElfFile) (name : List ℕ) (i j : ℕ) (g h : SectionHeader) → IsFirstNamed file name i g → IsFirstNamed file name j h → (i ≡ j) ⊎ ((i < j) ⊎ (j < i)) → g ≡ h
+one_first file name i j g h one other (inl same) = let a = one.is_header in let b = other.is_header in cc
+one_first file name i j g h one other (inr (inl below)) = absurd (other.first i g below one.is_header one.bears)
+one_first file name i j g h one other (inr (inr above)) = absurd (one.first j h above other.is_header other.bears)
 
 -- it is the answer of a search
-pub only_named : (file : ElfFile) (name : List ℕ) (r : Option SectionHeader) → MatchOption r (NoneBears file name (length (section_list file))) (IsFirstInList file name) → (index : ℕ) (section : SectionHeader) → IsFirstNamed file name index section → r ≡ Some section
+pub only_named : (file : ElfFile) (name : List ℕ) (r : Option SectionHeader) → FindsNamed file name r → (index : ℕ) (section : SectionHeader) → IsFirstNamed file name index section → r ≡ Some section
 only_named file name None found index section first =
     absurd (none_named file name found index section (section_in_list file index section first.below first.is_header) first.is_header first.bears)
 only_named file name (Some other) found index section first =
     let (i, is) = first_named file name other found in
-    ap Some (one_first file name i index other section (nat_lt i index) (nat_lt index i) refl refl is first)
+    ap Some (one_first file name i index other section is first (cases_order i index))
 
--- the section header at the first place in the list is the first of the list
-pub named_at : (file : ElfFile) (name : List ℕ) (i : ℕ) (r : Result SectionHeader ElfError) → section_of file i ≡ r → IsFirstPlace file name i → MatchOption (result_ok r) (NoneBears file name (length (section_list file))) (IsFirstInList file name)
+-- the section header at the first position in the list is the first of the list
+pub named_at : (file : ElfFile) (name : List ℕ) (i : ℕ) (r : Result SectionHeader ElfError) → section_of file i ≡ r → IsFirstAt (λ section. Bears file section name) (section_list file) i → FindsNamed file name (result_ok r)
 named_at file name i (Ok section) is (below, holds, none) =
     let longest = header_list-longest (section_of file) (section_count_of file) in
     let item : (d : SectionHeader) → slice_index_or (section_list file) i d ≡ section = λ d. let at = longest.each i below d in cc in

@@ -2,9 +2,11 @@
 
 ghost use Rattle.std.specs.Prelude.{◌≡◌, Some};
 ghost use Rattle.elf_base.specs.HeaderLayout.{header_fields};
-ghost use Rattle.elf_base.specs.HeaderText.{class_text, encoding_text, first_part_text, header_text, machine_text, os_abi_text, second_part_text, type_text, version_text};
+ghost use Rattle.elf_base.specs.HeaderText.{class_text, encoding_text, first_part_text};
+ghost use Rattle.elf_base.specs.HeaderText.{header_text, machine_text, os_abi_text};
+ghost use Rattle.elf_base.specs.HeaderText.{second_part_text, type_text, version_text};
 
-use crate::header::kinds::{Class, Data, Machine, OsAbi, Type, Version};
+use crate::header::numbers::{Class, Data, Machine, OsAbi, Type, Version};
 use crate::header::{Header, HeaderPt1, HeaderPt2, HeaderPt2_};
 use crate::print::{Bytes, Field};
 use crate::{P32, P64};
@@ -16,10 +18,10 @@ impl Display for Class {
 
     fn fmt<W: fmt::Write>(&self, f: &mut fmt::Formatter<W>) -> fmt::Result {
         f.write_str(match *self {
-            Class::None => "None",
-            Class::ThirtyTwo => "ThirtyTwo",
-            Class::SixtyFour => "SixtyFour",
-            Class::Other(number) => return write!(f, "Other({number})"),
+            Self::None => "None",
+            Self::ThirtyTwo => "ThirtyTwo",
+            Self::SixtyFour => "SixtyFour",
+            Self::Other(number) => return write!(f, "Other({number})"),
         })
     }
 }
@@ -29,10 +31,10 @@ impl Display for Data {
 
     fn fmt<W: fmt::Write>(&self, f: &mut fmt::Formatter<W>) -> fmt::Result {
         f.write_str(match *self {
-            Data::None => "None",
-            Data::LittleEndian => "LittleEndian",
-            Data::BigEndian => "BigEndian",
-            Data::Other(number) => return write!(f, "Other({number})"),
+            Self::None => "None",
+            Self::LittleEndian => "LittleEndian",
+            Self::BigEndian => "BigEndian",
+            Self::Other(number) => return write!(f, "Other({number})"),
         })
     }
 }
@@ -42,9 +44,9 @@ impl Display for Version {
 
     fn fmt<W: fmt::Write>(&self, f: &mut fmt::Formatter<W>) -> fmt::Result {
         f.write_str(match *self {
-            Version::None => "None",
-            Version::Current => "Current",
-            Version::Other(number) => return write!(f, "Other({number})"),
+            Self::None => "None",
+            Self::Current => "Current",
+            Self::Other(number) => return write!(f, "Other({number})"),
         })
     }
 }
@@ -54,17 +56,17 @@ impl Display for OsAbi {
 
     fn fmt<W: fmt::Write>(&self, f: &mut fmt::Formatter<W>) -> fmt::Result {
         f.write_str(match *self {
-            OsAbi::SystemV => "SystemV",
-            OsAbi::HpUx => "HpUx",
-            OsAbi::NetBSD => "NetBSD",
-            OsAbi::Linux => "Linux",
-            OsAbi::Solaris => "Solaris",
-            OsAbi::Aix => "Aix",
-            OsAbi::Irix => "Irix",
-            OsAbi::FreeBSD => "FreeBSD",
-            OsAbi::OpenBSD => "OpenBSD",
-            OsAbi::OpenVMS => "OpenVMS",
-            OsAbi::Other(number) => return write!(f, "Other({number})"),
+            Self::SystemV => "SystemV",
+            Self::HpUx => "HpUx",
+            Self::NetBSD => "NetBSD",
+            Self::Linux => "Linux",
+            Self::Solaris => "Solaris",
+            Self::Aix => "Aix",
+            Self::Irix => "Irix",
+            Self::FreeBSD => "FreeBSD",
+            Self::OpenBSD => "OpenBSD",
+            Self::OpenVMS => "OpenVMS",
+            Self::Other(number) => return write!(f, "Other({number})"),
         })
     }
 }
@@ -74,12 +76,12 @@ impl Display for Type {
 
     fn fmt<W: fmt::Write>(&self, f: &mut fmt::Formatter<W>) -> fmt::Result {
         f.write_str(match *self {
-            Type::None => "None",
-            Type::Relocatable => "Relocatable",
-            Type::Executable => "Executable",
-            Type::SharedObject => "SharedObject",
-            Type::Core => "Core",
-            Type::ProcessorSpecific(number) => return write!(f, "ProcessorSpecific({number})"),
+            Self::None => "None",
+            Self::Relocatable => "Relocatable",
+            Self::Executable => "Executable",
+            Self::SharedObject => "SharedObject",
+            Self::Core => "Core",
+            Self::ProcessorSpecific(number) => return write!(f, "ProcessorSpecific({number})"),
         })
     }
 }
@@ -89,19 +91,19 @@ impl Display for Machine {
 
     fn fmt<W: fmt::Write>(&self, f: &mut fmt::Formatter<W>) -> fmt::Result {
         f.write_str(match *self {
-            Machine::None => "None",
-            Machine::Sparc => "Sparc",
-            Machine::X86 => "X86",
-            Machine::Mips => "Mips",
-            Machine::PowerPC => "PowerPC",
-            Machine::Arm => "Arm",
-            Machine::SuperH => "SuperH",
-            Machine::Ia64 => "Ia64",
-            Machine::X86_64 => "X86_64",
-            Machine::AArch64 => "AArch64",
-            Machine::RISC_V => "RISC_V",
-            Machine::BPF => "BPF",
-            Machine::Other(number) => return write!(f, "Other({number})"),
+            Self::None => "None",
+            Self::Sparc => "Sparc",
+            Self::X86 => "X86",
+            Self::Mips => "Mips",
+            Self::PowerPC => "PowerPC",
+            Self::Arm => "Arm",
+            Self::SuperH => "SuperH",
+            Self::Ia64 => "Ia64",
+            Self::X86_64 => "X86_64",
+            Self::AArch64 => "AArch64",
+            Self::RISC_V => "RISC_V",
+            Self::BPF => "BPF",
+            Self::Other(number) => return write!(f, "Other({number})"),
         })
     }
 }
@@ -188,8 +190,8 @@ impl Display for HeaderPt2 {
 
     fn fmt<W: fmt::Write>(&self, f: &mut fmt::Formatter<W>) -> fmt::Result {
         match self {
-            HeaderPt2::Header32(part) => fmt::Display::fmt(part, f),
-            HeaderPt2::Header64(part) => fmt::Display::fmt(part, f),
+            Self::Header32(part) => fmt::Display::fmt(part, f),
+            Self::Header64(part) => fmt::Display::fmt(part, f),
         }
     }
 }
