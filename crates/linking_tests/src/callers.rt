@@ -1,0 +1,4 @@
+//! Callers as users write them, each proved.
+
+pub mod notes;
+pub mod relr;
