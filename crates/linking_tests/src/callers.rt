@@ -8,6 +8,9 @@ ghost use Rattle.elf_linking.specs.GoodGnu.{IsExported, IsGood};
 ghost use Rattle.linking_tests.specs.Linked.{IsFaultOf, IsValueBy};
 ghost use Rattle.xmas_elf.specs.Symbols.{Decides, symbols_of};
 
+pub mod notes;
+pub mod relr;
+
 use elf_base::bytes::{Record, Table};
 use elf_linking::LinkError;
 use elf_linking::gnu_hash::GnuHashTable;

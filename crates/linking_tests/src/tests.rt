@@ -3,4 +3,6 @@
 mod callers;
 mod gnu_hash;
 mod messages;
+mod notes;
+mod relr;
 mod shared_object;

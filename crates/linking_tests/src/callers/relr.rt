@@ -1,0 +1,27 @@
+//! Callers that read packed relative relocations.
+
+ghost use Rattle.std.specs.Prelude.{◌≡◌, ◌<◌, ◌^◌, Ok, Err, List, MatchResult, length, ℕ};
+ghost use Rattle.elf_linking.specs.Relr.{relr_of};
+
+use elf_base::bytes::Order;
+use elf_base::header::Class;
+use elf_linking::LinkError;
+use elf_linking::relr::Relr;
+
+/// How many relocations the data of a RELR section has.
+pub fn relocation_count(bytes: &[u8], class: Class, order: Order) -> Result<usize, LinkError>
+    requires { length bytes.now < 2 ^ 61 }
+    ensures { MatchResult result
+        (λ count. (addresses : List ℕ) × (relr_of class order bytes.now ≡ Ok addresses)
+        × (count ≡ length addresses))
+        (λ error. relr_of class order bytes.now ≡ Err error) }
+{
+    let relr = Relr::new(bytes, class, order)?;
+    Ok(relr.count())
+}
+
+/// Whether an address is relocated.
+pub fn is_relocated(relr: Relr<'_>, address: u64) -> bool {
+    let mut relr = relr;
+    relr.any(|relocated| relocated == address)
+}

@@ -1,0 +1,272 @@
+//! Which notes sections and segments have.
+
+use crate::callers::notes::{build_id_of_section, build_id_of_segments};
+use elf_base::ElfError;
+use elf_base::bytes::Order;
+use elf_linking::LinkError;
+use elf_linking::notes::{Notes, section_notes, segment_notes};
+use elf_tests::places::{header_32, program_32, put, section_32, set};
+use std::process::Abort;
+use std::test::Fail;
+use xmas_elf::{ElfFile, Extensions};
+
+const LITTLE: Order = Order::Little;
+
+// What a note says: its type, its name's bytes and its description.
+type Said<'a> = (u32, &'a [u8], &'a [u8]);
+
+// Wants these notes, then this fault if there is one, and then the end, also when it is asked for again.
+fn check(
+    rt: &impl Abort,
+    row: usize,
+    mut notes: Notes<'_>,
+    said: &[Said<'_>],
+    fault: Option<LinkError>,
+) -> Result<(), Fail> {
+    for (type_, name, desc) in said {
+        let note = notes.next().ok_or("a note is missing")??;
+        assert_eq!(rt; note.type_(), *type_, "row {row}");
+        assert_eq!(rt; note.name_bytes(), *name, "row {row}");
+        assert_eq!(rt; note.desc(), *desc, "row {row}");
+    }
+    if let Some(fault) = fault {
+        match notes.next() {
+            Some(Err(error)) => assert_eq!(rt; error, fault, "row {row}"),
+            _ => return Err(Fail::from("no fault")),
+        }
+    }
+    assert!(rt; notes.next().is_none(), "row {row}");
+    assert!(rt; notes.next().is_none(), "row {row}");
+    Ok(())
+}
+
+// As linkers wrote them: a build id, and a property of class 64 in steps of eight.
+const BUILD_ID: &[u8] = b"\x04\0\0\0\x08\0\0\0\x03\0\0\0GNU\0\x01\x23\x45\x67\x89\xab\xcd\xef";
+
+const PROPERTY: &[u8] =
+    b"\x04\0\0\0\x10\0\0\0\x05\0\0\0GNU\0\x02\x80\0\xc0\x04\0\0\0\x02\0\0\0\0\0\0\0";
+
+// A name of five bytes and a description of one, in steps of four and of eight, each without padding
+// behind it.
+const FOUR: &[u8] = b"\x05\0\0\0\x01\0\0\0\x07\0\0\0Name\0\0\0\0d";
+
+const EIGHT: &[u8] = b"\x05\0\0\0\x01\0\0\0\x07\0\0\0Name\0\0\0\0\0\0\0\0d";
+
+// Two of them, with the padding between.
+const TWO: &[u8] = b"\x05\0\0\0\x01\0\0\0\x07\0\0\0Name\0\0\0\0d\0\0\0\
+    \x05\0\0\0\x01\0\0\0\x08\0\0\0Next\0\0\0\0e\0";
+
+const TWO_WIDE: &[u8] = b"\x05\0\0\0\x01\0\0\0\x07\0\0\0Name\0\0\0\0\0\0\0\0d\0\0\0\0\0\0\0\
+    \x05\0\0\0\x01\0\0\0\x08\0\0\0Next\0\0\0\0\0\0\0\0e";
+
+const ID: &[u8] = b"\x01\x23\x45\x67\x89\xab\xcd\xef";
+
+const NAME: Said<'static> = (7, b"Name\0", b"d");
+
+const NEXT: Said<'static> = (8, b"Next\0", b"e");
+
+#[test]
+fn notes_come_in_steps_of_four_or_eight(rt: HostRuntime) -> Result<(), Fail> {
+    let rows: [(&[u8], u64, &[Said<'_>]); 12] = [
+        (b"", 4, &[]),
+        (BUILD_ID, 4, &[(3, b"GNU\0", ID)]),
+        (BUILD_ID, 8, &[(3, b"GNU\0", ID)]),
+        (PROPERTY, 8, &[(5, b"GNU\0", &PROPERTY[16..])]),
+        (FOUR, 4, &[NAME]),
+        (FOUR, 0, &[NAME]),
+        (FOUR, 16, &[NAME]),
+        (EIGHT, 8, &[NAME]),
+        (TWO, 4, &[NAME, NEXT]),
+        (TWO_WIDE, 8, &[NAME, NEXT]),
+        // no name and no description
+        (b"\0\0\0\0\0\0\0\0\x09\0\0\0", 4, &[(9, b"", b"")]),
+        (b"\0\0\0\0\0\0\0\0\x09\0\0\0\0\0\0\0", 8, &[(9, b"", b"")]),
+    ];
+    for (row, (bytes, align, said)) in rows.iter().enumerate() {
+        check(&rt, row, Notes::new(bytes, LITTLE, *align), said, None)?;
+    }
+    Ok(())
+}
+
+#[test]
+fn notes_that_are_cut_off_end_the_list(rt: HostRuntime) -> Result<(), Fail> {
+    let rows: [(&[u8], u64, &[Said<'_>]); 9] = [
+        // fewer bytes than the three words
+        (&BUILD_ID[..11], 4, &[]),
+        // no name, no description, half of it
+        (&BUILD_ID[..12], 4, &[]),
+        (&BUILD_ID[..16], 4, &[]),
+        (&BUILD_ID[..23], 4, &[]),
+        // the description stands one step later
+        (FOUR, 8, &[]),
+        // a whole note, and too little behind it
+        (&TWO[..25], 4, &[NAME]),
+        (&TWO[..44], 4, &[NAME]),
+        // without the padding behind the name
+        (&EIGHT[..17], 8, &[]),
+        // sizes that no data has
+        (&[0xff; 40], 4, &[]),
+    ];
+    let fault = Some(LinkError::ShortNote);
+    for (row, (bytes, align, said)) in rows.iter().enumerate() {
+        check(&rt, row, Notes::new(bytes, LITTLE, *align), said, fault)?;
+    }
+    Ok(())
+}
+
+#[test]
+fn names_are_texts_where_they_end_in_zero(rt: HostRuntime) -> Result<(), Fail> {
+    let rows: [(&[u8], Result<&str, ElfError>); 5] = [
+        (b"\0\0\0\x04\0\0\0\0\0\0\0\x01GNU\0", Ok("GNU")),
+        (b"\0\0\0\x04\0\0\0\0\0\0\0\x01A\0B\0", Ok("A")),
+        (b"\0\0\0\x04\0\0\0\0\0\0\0\x01CORE", Err(ElfError::TextEnd)),
+        (
+            b"\0\0\0\x02\0\0\0\0\0\0\0\x01\xff\0\0\0",
+            Err(ElfError::TextUtf8),
+        ),
+        (b"\0\0\0\0\0\0\0\0\0\0\0\x01", Err(ElfError::TextEnd)),
+    ];
+    for (row, (bytes, name)) in rows.iter().enumerate() {
+        let mut notes = Notes::new(bytes, Order::Big, 4);
+        let note = notes.next().ok_or("no note")??;
+        assert_eq!(rt; note.type_(), 1, "row {row}");
+        assert_eq!(rt; note.name(), *name, "row {row}");
+    }
+    Ok(())
+}
+
+// Where the headers of `note_file` begin.
+const PROGRAM: usize = 52;
+
+const NOTE_SECTION: usize = 164;
+
+const NAMES: &[u8] = b"\0.note.gnu.build-id\0";
+
+// Class 32: a segment of type Note over the build id at 224, and a section of it, after the section of
+// the names at 204.
+fn note_file() -> [u8; 248] {
+    let mut file = [0; 248];
+    put(&mut file, 0, &[0x7f, b'E', b'L', b'F', 1, 1, 1]);
+    set(&mut file, 0, header_32::PH_OFFSET, 52, LITTLE);
+    set(&mut file, 0, header_32::PH_ENTRY_SIZE, 32, LITTLE);
+    set(&mut file, 0, header_32::PH_COUNT, 1, LITTLE);
+    set(&mut file, 0, header_32::SH_OFFSET, 84, LITTLE);
+    set(&mut file, 0, header_32::SH_ENTRY_SIZE, 40, LITTLE);
+    set(&mut file, 0, header_32::SH_COUNT, 3, LITTLE);
+    set(&mut file, 0, header_32::SH_STR_INDEX, 1, LITTLE);
+    set(&mut file, PROGRAM, program_32::TYPE, 4, LITTLE);
+    set(&mut file, PROGRAM, program_32::OFFSET, 224, LITTLE);
+    set(&mut file, PROGRAM, program_32::FILE_SIZE, 24, LITTLE);
+    set(&mut file, PROGRAM, program_32::ALIGN, 4, LITTLE);
+    let sections = [(124, 0, 3, 204, 20), (NOTE_SECTION, 1, 7, 224, 24)];
+    for (start, name, kind, offset, size) in sections {
+        set(&mut file, start, section_32::NAME, name, LITTLE);
+        set(&mut file, start, section_32::TYPE, kind, LITTLE);
+        set(&mut file, start, section_32::OFFSET, offset, LITTLE);
+        set(&mut file, start, section_32::SIZE, size, LITTLE);
+        set(&mut file, start, section_32::ALIGN, 4, LITTLE);
+    }
+    put(&mut file, 204, NAMES);
+    put(&mut file, 224, BUILD_ID);
+    file
+}
+
+#[test]
+fn sections_and_segments_of_class_32_have_notes(rt: HostRuntime) -> Result<(), Fail> {
+    let bytes = note_file();
+    let file = ElfFile::new(&bytes)?;
+    let said: [Said<'_>; 1] = [(3, b"GNU\0", ID)];
+    check(
+        &rt,
+        0,
+        section_notes(&file, &file.section_header(2)?)?,
+        &said,
+        None,
+    )?;
+    check(
+        &rt,
+        1,
+        segment_notes(&file, &file.program_header(0)?)?,
+        &said,
+        None,
+    )?;
+    assert_eq!(rt; build_id_of_section(&file), Ok(Some(ID)));
+    assert_eq!(rt; build_id_of_segments(&file), Ok(Some(ID)));
+    assert_eq!(rt; file.get_gnu_buildid(), None);
+    Ok(())
+}
+
+#[test]
+fn the_steps_are_those_of_the_header(rt: HostRuntime) -> Result<(), Fail> {
+    let mut bytes = note_file();
+    // a name of five bytes and no description, in steps of four: eight bytes are left
+    put(&mut bytes, 224, b"\x05\0\0\0\0\0\0\0\x07\0\0\0Name\0\0\0\0");
+    set(&mut bytes, PROGRAM, program_32::FILE_SIZE, 20, LITTLE);
+    set(&mut bytes, NOTE_SECTION, section_32::SIZE, 20, LITTLE);
+    let file = ElfFile::new(&bytes)?;
+    let said: [Said<'_>; 1] = [(7, b"Name\0", b"")];
+    check(
+        &rt,
+        0,
+        section_notes(&file, &file.section_header(2)?)?,
+        &said,
+        None,
+    )?;
+    check(
+        &rt,
+        1,
+        segment_notes(&file, &file.program_header(0)?)?,
+        &said,
+        None,
+    )?;
+    // in steps of eight the description would begin at 24
+    set(&mut bytes, PROGRAM, program_32::ALIGN, 8, LITTLE);
+    set(&mut bytes, NOTE_SECTION, section_32::ALIGN, 8, LITTLE);
+    let file = ElfFile::new(&bytes)?;
+    let fault = Some(LinkError::ShortNote);
+    check(
+        &rt,
+        2,
+        section_notes(&file, &file.section_header(2)?)?,
+        &[],
+        fault,
+    )?;
+    check(
+        &rt,
+        3,
+        segment_notes(&file, &file.program_header(0)?)?,
+        &[],
+        fault,
+    )?;
+    assert_eq!(rt; build_id_of_segments(&file), Err(LinkError::ShortNote));
+    Ok(())
+}
+
+#[test]
+fn data_that_is_refused_has_no_notes(rt: HostRuntime) -> Result<(), Fail> {
+    let rows = [
+        (section_32::OFFSET, 225, ElfError::DataRange),
+        (section_32::TYPE, 0, ElfError::NullData),
+        (section_32::TYPE, 19, ElfError::InvalidShType),
+    ];
+    for (place, number, error) in rows {
+        let mut bytes = note_file();
+        set(&mut bytes, NOTE_SECTION, place, number, LITTLE);
+        let file = ElfFile::new(&bytes)?;
+        let notes = section_notes(&file, &file.section_header(2)?);
+        assert_eq!(rt; notes.err(), Some(LinkError::Elf(error)));
+    }
+    let rows = [
+        (program_32::OFFSET, 225, ElfError::DataRange),
+        (program_32::TYPE, 0, ElfError::NullData),
+        (program_32::TYPE, 8, ElfError::InvalidPhType),
+    ];
+    for (place, number, error) in rows {
+        let mut bytes = note_file();
+        set(&mut bytes, PROGRAM, place, number, LITTLE);
+        let file = ElfFile::new(&bytes)?;
+        let notes = segment_notes(&file, &file.program_header(0)?);
+        assert_eq!(rt; notes.err(), Some(LinkError::Elf(error)));
+    }
+    Ok(())
+}

@@ -1,0 +1,148 @@
+//! Which addresses packed relative relocations name.
+
+use crate::callers::relr::{is_relocated, relocation_count};
+use elf_base::bytes::Order;
+use elf_base::header::Class;
+use elf_linking::LinkError;
+use elf_linking::relr::Relr;
+use elf_tests::places::{Place, set};
+use std::process::Abort;
+use std::test::Fail;
+
+const LITTLE: Order = Order::Little;
+
+const BIG: Order = Order::Big;
+
+const NARROW: Class = Class::ThirtyTwo;
+
+const WIDE: Class = Class::SixtyFour;
+
+// The words of a row, each in four or eight bytes, and zeros behind them.
+fn words_32(words: &[u64], order: Order) -> [u8; 16] {
+    let mut bytes = [0; 16];
+    for (k, word) in words.iter().enumerate() {
+        set(&mut bytes, 0, Place(k.wrapping_mul(4), 4), *word, order);
+    }
+    bytes
+}
+
+fn words_64(words: &[u64], order: Order) -> [u8; 32] {
+    let mut bytes = [0; 32];
+    for (k, word) in words.iter().enumerate() {
+        set(&mut bytes, 0, Place(k.wrapping_mul(8), 8), *word, order);
+    }
+    bytes
+}
+
+// Wants these addresses and no more, also when they are asked for once more.
+fn check(
+    rt: &impl Abort,
+    row: usize,
+    relr: Result<Relr<'_>, LinkError>,
+    addresses: &[u64],
+) -> Result<(), Fail> {
+    let mut relr = relr?;
+    for address in addresses {
+        assert_eq!(rt; relr.next(), Some(*address), "row {row}");
+    }
+    assert_eq!(rt; relr.next(), None, "row {row}");
+    assert_eq!(rt; relr.next(), None, "row {row}");
+    Ok(())
+}
+
+#[test]
+fn words_of_eight_bytes_name_addresses(rt: HostRuntime) -> Result<(), Fail> {
+    let rows: [(&[u64], &[u64]); 9] = [
+        (&[], &[]),
+        (&[0x1000], &[0x1000]),
+        (&[0x1000, 0x3], &[0x1000, 0x1008]),
+        (&[0x1000, 1 << 63 | 1], &[0x1000, 0x11f8]),
+        (&[0x1000, 0x1, 0x3], &[0x1000, 0x1200]),
+        (&[0x5], &[8]),
+        (&[0xffff_ffff_ffff_fff8, 0x3], &[0xffff_ffff_ffff_fff8, 0]),
+        (&[0x1000, 0x2000, 0x7], &[0x1000, 0x2000, 0x2008, 0x2010]),
+        // as a linker wrote them, with the addresses that `readelf -r` prints
+        (
+            &[0x3c0, 0x9, 0x3e43],
+            &[
+                0x3c0, 0x3d8, 0x5c0, 0x5e8, 0x600, 0x608, 0x610, 0x618, 0x620,
+            ],
+        ),
+    ];
+    for (row, (words, addresses)) in rows.iter().enumerate() {
+        let len = words.len().wrapping_mul(8);
+        for order in [LITTLE, BIG] {
+            let bytes = words_64(words, order);
+            let bytes = bytes.get(..len).ok_or("a long row")?;
+            check(&rt, row, Relr::new(bytes, WIDE, order), addresses)?;
+        }
+    }
+    Ok(())
+}
+
+#[test]
+fn words_of_four_bytes_name_addresses(rt: HostRuntime) -> Result<(), Fail> {
+    let rows: [(&[u64], &[u64]); 5] = [
+        (&[0x1000, 0x3], &[0x1000, 0x1004]),
+        (&[0x1000, 0x8000_0001], &[0x1000, 0x107c]),
+        (&[0x1000, 0x1, 0x3], &[0x1000, 0x1080]),
+        (&[0xffff_fffc, 0x3], &[0xffff_fffc, 0]),
+        // as a linker wrote them, with the addresses that `readelf -r` prints
+        (
+            &[0x1e0, 0x9, 0x2e0, 0x7e1],
+            &[
+                0x1e0, 0x1ec, 0x2e0, 0x2f4, 0x2f8, 0x2fc, 0x300, 0x304, 0x308,
+            ],
+        ),
+    ];
+    for (row, (words, addresses)) in rows.iter().enumerate() {
+        let len = words.len().wrapping_mul(4);
+        for order in [LITTLE, BIG] {
+            let bytes = words_32(words, order);
+            let bytes = bytes.get(..len).ok_or("a long row")?;
+            check(&rt, row, Relr::new(bytes, NARROW, order), addresses)?;
+        }
+    }
+    Ok(())
+}
+
+#[test]
+fn data_that_is_no_words_is_refused(rt: HostRuntime) {
+    let bytes = [0; 12];
+    let rows = [
+        (12, WIDE, Err(LinkError::NotMultiple)),
+        (9, NARROW, Err(LinkError::NotMultiple)),
+        (3, NARROW, Err(LinkError::NotMultiple)),
+        (8, Class::None, Err(LinkError::UnknownClass)),
+        (9, Class::Other(3), Err(LinkError::UnknownClass)),
+        (8, WIDE, Ok(1)),
+        (12, NARROW, Ok(3)),
+        (0, WIDE, Ok(0)),
+    ];
+    for (len, class, answer) in rows {
+        assert!(rt; len <= bytes.len());
+        assert_eq!(rt;
+            relocation_count(&bytes[..len], class, LITTLE),
+            answer,
+            "{len}"
+        );
+    }
+}
+
+#[test]
+fn relocations_are_counted_and_found(rt: HostRuntime) -> Result<(), Fail> {
+    // a bitmap of all bits but the lowest is 63 addresses
+    let bytes = words_64(&[0x1000, u64::MAX], LITTLE);
+    assert_eq!(rt; relocation_count(&bytes[..16], WIDE, LITTLE), Ok(64));
+    let rows = [
+        (0x1000, true),
+        (0x11f8, true),
+        (0x1004, false),
+        (0x1200, false),
+    ];
+    for (address, relocated) in rows {
+        let relr = Relr::new(&bytes[..16], WIDE, LITTLE)?;
+        assert_eq!(rt; is_relocated(relr, address), relocated, "{address}");
+    }
+    Ok(())
+}
