@@ -1,9 +1,8 @@
 -- How `number` meets the numbers of `byteorder`.
-use Rattle.std.proofs.Common.{◌≡◌, ℕ, zero, suc, ◌+◌, ◌*◌, ◌^◌, ◌-◌, ◌≤◌, List, length, length-drop, take, drop, slice_index, refl, sym, ap, ◌∙◌, arith, add-suc, add-zero}
+use Rattle.std.proofs.Common.{◌≡◌, ℕ, zero, suc, ◌+◌, ◌*◌, ◌^◌, ◌-◌, List, length, length-drop, take, drop, slice_index, refl, sym, ap, ◌∙◌, arith, add-suc, add-zero}
 use Rattle.std.proofs.Math.Nat.{pow-succ'}
-use Rattle.std.proofs.lemmas.List.{get_or-drop, get_or-take, take_all}
+use Rattle.std.proofs.lemmas.List.{get_or-drop, take_all}
 use Rattle.byteorder.specs.Endian.{big_from, little_from}
-use Rattle.elf_base.specs.declared.bytes.Order.{Order}
 use Rattle.elf_base.specs.declared.bytes.Order.TheVariants.{Little, Big}
 use Rattle.elf_base.specs.Number.{little_sum, big_sum, number}
 
@@ -56,27 +55,3 @@ unfolding number
 number-big w a xs =
     ap (big_from 0 w) (rest a xs) ∙ big_from-drop w 0 a xs
     ∙ ap (λ n. big_from n w xs) (add-zero a) ∙ sym (big_sum-from w a xs)
-
--- a number within the n bytes from place p on
-little_sum-window : (w p a n : ℕ) (xs : List ℕ) → a + w ≤ n → little_sum w a (take n (drop p xs)) ≡ little_sum w (p + a) xs
-unfolding little_sum
-little_sum-window zero p a n xs fits = refl
-little_sum-window (suc w) p a n xs fits =
-    let lower = little_sum-window w p a n xs (omega arith) in
-    let byte : slice_index (take n (drop p xs)) (a + w) ≡ slice_index xs (p + a + w) =
-    get_or-take n (drop p xs) (a + w) 0 (omega arith) ∙ get_or-drop p xs (a + w) 0 ∙ ap (slice_index xs) (omega arith) in
-    rw (lower, byte) refl
-
-big_sum-window : (w p a n : ℕ) (xs : List ℕ) → a + w ≤ n → big_sum w a (take n (drop p xs)) ≡ big_sum w (p + a) xs
-unfolding big_sum
-big_sum-window zero p a n xs fits = refl
-big_sum-window (suc w) p a n xs fits =
-    let lower = big_sum-window w p (suc a) n xs (omega arith) ∙ ap (λ k. big_sum w k xs) (add-suc p a) in
-    let byte : slice_index (take n (drop p xs)) a ≡ slice_index xs (p + a) =
-    get_or-take n (drop p xs) a 0 (omega arith) ∙ get_or-drop p xs a 0 in
-    rw (lower, byte) refl
-
-pub number-window : (order : Order) (w p a n : ℕ) (xs : List ℕ) → a + w ≤ n → number order w a (take n (drop p xs)) ≡ number order w (p + a) xs
-unfolding number
-number-window Little w p a n xs fits = little_sum-window w p a n xs fits
-number-window Big w p a n xs fits = big_sum-window w p a n xs fits

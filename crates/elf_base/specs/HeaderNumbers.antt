@@ -3,24 +3,24 @@ use Rattle.std.specs.Prelude.{ℕ, ◌==◌, [], ◌∷◌, if◌then◌else◌}
 use Rattle.elf_base.specs.Named.{named_or}
 use Rattle.elf_base.specs.declared.bytes.Order.{Order}
 use Rattle.elf_base.specs.declared.bytes.Order.TheVariants.{Little, Big}
-use Rattle.elf_base.specs.declared.header.kinds.Class_.{Class_}
-use Rattle.elf_base.specs.declared.header.kinds.Data_.{Data_}
-use Rattle.elf_base.specs.declared.header.kinds.Version_.{Version_}
-use Rattle.elf_base.specs.declared.header.kinds.OsAbi_.{OsAbi_}
-use Rattle.elf_base.specs.declared.header.kinds.Type_.{Type_}
-use Rattle.elf_base.specs.declared.header.kinds.Machine_.{Machine_}
-use Rattle.elf_base.specs.declared.header.kinds.Class.{Class}
-use Rattle.elf_base.specs.declared.header.kinds.Class.TheVariants as class
-use Rattle.elf_base.specs.declared.header.kinds.Data.{Data}
-use Rattle.elf_base.specs.declared.header.kinds.Data.TheVariants as encoding
-use Rattle.elf_base.specs.declared.header.kinds.Version.{Version}
-use Rattle.elf_base.specs.declared.header.kinds.Version.TheVariants as version
-use Rattle.elf_base.specs.declared.header.kinds.OsAbi.{OsAbi}
-use Rattle.elf_base.specs.declared.header.kinds.OsAbi.TheVariants as os_abi
-use Rattle.elf_base.specs.declared.header.kinds.Type as the_type
-use Rattle.elf_base.specs.declared.header.kinds.Type.TheVariants as kind
-use Rattle.elf_base.specs.declared.header.kinds.Machine.{Machine}
-use Rattle.elf_base.specs.declared.header.kinds.Machine.TheVariants as machine
+use Rattle.elf_base.specs.declared.header.numbers.Class_.{Class_}
+use Rattle.elf_base.specs.declared.header.numbers.Data_.{Data_}
+use Rattle.elf_base.specs.declared.header.numbers.Version_.{Version_}
+use Rattle.elf_base.specs.declared.header.numbers.OsAbi_.{OsAbi_}
+use Rattle.elf_base.specs.declared.header.numbers.Type_.{Type_}
+use Rattle.elf_base.specs.declared.header.numbers.Machine_.{Machine_}
+use Rattle.elf_base.specs.declared.header.numbers.Class.{Class}
+use Rattle.elf_base.specs.declared.header.numbers.Class.TheVariants as class
+use Rattle.elf_base.specs.declared.header.numbers.Data.{Data}
+use Rattle.elf_base.specs.declared.header.numbers.Data.TheVariants as encoding
+use Rattle.elf_base.specs.declared.header.numbers.Version.{Version}
+use Rattle.elf_base.specs.declared.header.numbers.Version.TheVariants as version
+use Rattle.elf_base.specs.declared.header.numbers.OsAbi.{OsAbi}
+use Rattle.elf_base.specs.declared.header.numbers.OsAbi.TheVariants as os_abi
+use Rattle.elf_base.specs.declared.header.numbers.Type as the_type
+use Rattle.elf_base.specs.declared.header.numbers.Type.TheVariants as kind
+use Rattle.elf_base.specs.declared.header.numbers.Machine.{Machine}
+use Rattle.elf_base.specs.declared.header.numbers.Machine.TheVariants as machine
 
 -- EI_CLASS: the number that stands in a file, and the value of a number
 abbrev pub class_number : Class_ → ℕ

@@ -3,18 +3,18 @@ use Rattle.std.specs.Prelude.{ℕ, List, [], ◌∷◌, ◌++◌, codes, decimal
 use Rattle.elf_base.specs.Printed.{numbered, bytes_text, field_line, joined}
 use Rattle.elf_base.specs.HeaderNumbers.{class_number, class_of, encoding_number, encoding_of, machine_number, machine_of, os_abi_number, os_abi_of, type_number, type_of, version_number, version_of}
 use Rattle.elf_base.specs.HeaderLayout.{header_fields}
-use Rattle.elf_base.specs.declared.header.kinds.Class.{Class}
-use Rattle.elf_base.specs.declared.header.kinds.Class.TheVariants as class
-use Rattle.elf_base.specs.declared.header.kinds.Data.{Data}
-use Rattle.elf_base.specs.declared.header.kinds.Data.TheVariants as encoding
-use Rattle.elf_base.specs.declared.header.kinds.Version.{Version}
-use Rattle.elf_base.specs.declared.header.kinds.Version.TheVariants as version
-use Rattle.elf_base.specs.declared.header.kinds.OsAbi.{OsAbi}
-use Rattle.elf_base.specs.declared.header.kinds.OsAbi.TheVariants as os_abi
-use Rattle.elf_base.specs.declared.header.kinds.Type as the_type
-use Rattle.elf_base.specs.declared.header.kinds.Type.TheVariants as kind
-use Rattle.elf_base.specs.declared.header.kinds.Machine.{Machine}
-use Rattle.elf_base.specs.declared.header.kinds.Machine.TheVariants as machine
+use Rattle.elf_base.specs.declared.header.numbers.Class.{Class}
+use Rattle.elf_base.specs.declared.header.numbers.Class.TheVariants as class
+use Rattle.elf_base.specs.declared.header.numbers.Data.{Data}
+use Rattle.elf_base.specs.declared.header.numbers.Data.TheVariants as encoding
+use Rattle.elf_base.specs.declared.header.numbers.Version.{Version}
+use Rattle.elf_base.specs.declared.header.numbers.Version.TheVariants as version
+use Rattle.elf_base.specs.declared.header.numbers.OsAbi.{OsAbi}
+use Rattle.elf_base.specs.declared.header.numbers.OsAbi.TheVariants as os_abi
+use Rattle.elf_base.specs.declared.header.numbers.Type as the_type
+use Rattle.elf_base.specs.declared.header.numbers.Type.TheVariants as kind
+use Rattle.elf_base.specs.declared.header.numbers.Machine.{Machine}
+use Rattle.elf_base.specs.declared.header.numbers.Machine.TheVariants as machine
 use Rattle.elf_base.specs.declared.header.HeaderPt1.{HeaderPt1}
 use Rattle.elf_base.specs.declared.header.HeaderPt2_.{HeaderPt2_}
 use Rattle.elf_base.specs.declared.header.Header.{Header}

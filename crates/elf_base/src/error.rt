@@ -6,175 +6,119 @@ ghost use Rattle.elf_base.specs.Message.{message_of};
 use std::error::Error;
 use std::fmt;
 
-/// Why an input, or a part of it, is refused. Each refusal has one text.
-///
-/// Each names the calls of `xmas_elf` that answer it, where `Entry::get_name` is that of the four
-/// entries there, and what is said of `ProgramHeader` holds of its two records. `report::report`
-/// hands on the answer of `ElfFile::new`. The iterators over headers, `find_section_by_name`,
-/// `shstr_is` and the calls of `Extensions` don't say why there is nothing.
+/// Why an input, or a part of it, is refused. Each refusal has one text; which calls of `xmas_elf` answer
+/// it stands in `docs/ERRORS.md`.
 #[derive(Clone, Copy, Debug, PartialEq, Eq)]
 pub enum ElfError {
-    /// The input has fewer than 16 bytes. Answered by `ElfFile::new` and `header::parse_header`.
+    /// The input has fewer than 16 bytes.
     ShortPart1,
-    /// The input does not begin with `MAGIC`. Answered by `ElfFile::new` and
-    /// `header::parse_header`.
+    /// The input does not begin with `MAGIC`.
     NoMagic,
-    /// The class of the input is neither 1 nor 2. Answered by `ElfFile::new` and
-    /// `header::parse_header`.
+    /// The class of the input is neither 1 nor 2.
     InvalidClass,
-    /// The input ends before the ELF header of its class does. Answered by `ElfFile::new` and
-    /// `header::parse_header`.
+    /// The input ends before the ELF header of its class does.
     ShortHeaders,
-    /// A 16-bit section index from 0xff00 on, which has a meaning of its own; or, as the index of
-    /// the section of the names, 0xffff where section header 0 can't be read. Answered by
-    /// `ElfFile::section_header`, `shstr_index`, `get_shstr`, `sections::parse_section_header`,
-    /// `SectionHeader::get_name` and `Entry::get_section_header`.
+    /// A section index of 16 bits from 0xff00 on, which names no section by itself.
     ReservedIndex,
-    /// An entry of the section header table passes the end of the input. Answered by
-    /// `ElfFile::section_header`, `section_header_at`, `get_shstr`,
-    /// `sections::parse_section_header`, `SectionHeader::get_name` and `Entry::get_section_header`.
+    /// An entry of the section header table passes the end of the input.
     ShortSectionHeader,
-    /// The class of the header is neither 1 nor 2. Answered by `ElfFile::section_header`,
-    /// `section_header_at`, `program_header`, `program_header_at`, `get_shstr`,
-    /// `sections::parse_section_header`, `program::parse_program_header`,
-    /// `SectionHeader::get_name`, `get_data`, `ProgramHeader::get_data` and
-    /// `Entry::get_section_header`.
+    /// The class of the header is neither 1 nor 2.
     UnknownClass,
-    /// The entries of a header table are smaller than the record that they hold. Answered by
-    /// `ElfFile::section_header`, `section_header_at`, `program_header`, `program_header_at`,
-    /// `get_shstr`, `sections::parse_section_header`, `program::parse_program_header`,
-    /// `SectionHeader::get_name` and `Entry::get_section_header`.
+    /// The entries of a header table are smaller than the record that they hold.
     SmallEntry,
-    /// No program header has this index. Answered by `ElfFile::program_header`, `program_header_at`
-    /// and `program::parse_program_header`.
+    /// No program header has this index.
     NoProgramHeaders,
-    /// An entry of the program header table passes the end of the input. Answered by
-    /// `ElfFile::program_header`, `program_header_at` and `program::parse_program_header`.
+    /// An entry of the program header table passes the end of the input.
     ShortProgramHeader,
-    /// The type of a section is not in the table of section types. Answered by
-    /// `ShType_::as_sh_type`, `SectionHeader::get_type`, `get_name`, `raw_data`, `get_data` and
-    /// `sections::sanity_check`.
+    /// The type of a section is not in the table of section types.
     InvalidShType,
-    /// A section of type Null has no name. Answered by `SectionHeader::get_name`.
+    /// A section of type Null has no name.
     NullName,
-    /// The section that holds the names begins past the end of the input. Answered by
-    /// `ElfFile::get_shstr` and `SectionHeader::get_name`.
+    /// The section that holds the names begins past the end of the input.
     ShortSectionOffset,
-    /// A text would begin past the end of its data. Answered by `bytes::text_at`,
-    /// `ElfFile::get_shstr`, `get_string`, `get_dyn_string`, `SectionHeader::get_name` and
-    /// `Entry::get_name`.
+    /// A text would begin past the end of its data.
     TextStart,
-    /// No zero byte ends a text in its data. Answered by `bytes::text_at`, `ElfFile::get_shstr`,
-    /// `get_string`, `get_dyn_string`, `SectionHeader::get_name`, `Entry::get_name`,
-    /// `NoteHeader::name` and the items of `SectionStrings`.
+    /// No zero byte ends a text in its data.
     TextEnd,
-    /// The bytes of a text are not UTF-8. Answered by `bytes::text_at`, `ElfFile::get_shstr`,
-    /// `get_string`, `get_dyn_string`, `SectionHeader::get_name`, `Entry::get_name`,
-    /// `NoteHeader::name` and the items of `SectionStrings`.
+    /// The bytes of a text are not UTF-8.
     TextUtf8,
-    /// A section or segment of type Null has no data. Answered by `SectionHeader::raw_data` and
-    /// `ProgramHeader::raw_data`.
+    /// A section or segment of type Null has no data.
     NullData,
-    /// The data of a section or segment passes the end of the input. Answered by
-    /// `SectionHeader::raw_data`, `get_data`, `ProgramHeader::raw_data`, `get_data`,
-    /// `ElfFile::get_string`, `get_dyn_string`, `Entry::get_name` and `get_section_header`.
+    /// The data of a section or segment passes the end of the input.
     DataRange,
-    /// The length of a table is no multiple of the size of its records. Answered by `Table::new`,
-    /// `SectionHeader::get_data`, `ProgramHeader::get_data` and `Entry::get_section_header`.
+    /// The length of a table is no multiple of the size of its records.
     NotMultiple,
-    /// Data is shorter than what it begins with. Answered by `HashTable::read`,
-    /// `SectionHeader::get_data` and `ProgramHeader::get_data`.
+    /// Data is shorter than what it begins with.
     ShortData,
-    /// Notes of class 32 are not read. Answered by `SectionHeader::get_data` and
-    /// `ProgramHeader::get_data`.
+    /// Notes of class 32 are not read.
     Note32,
-    /// The name of a note has another length than the note says. Answered by `NoteHeader::name`.
+    /// The name of a note has another length than the note says.
     NoteName,
-    /// The description of a note passes the end of its data. Answered by `NoteHeader::desc`.
+    /// The description of a note passes the end of its data.
     NoteDesc,
-    /// No section is named `.strtab`. Answered by `ElfFile::get_string` and `get_name` of `Entry32`
-    /// and `Entry64`.
+    /// No section is named `.strtab`.
     NoStrtab,
-    /// The section `.strtab` is of another type than StrTab. Answered by `ElfFile::get_string` and
-    /// `get_name` of `Entry32` and `Entry64`.
+    /// The section `.strtab` is of another type than StrTab.
     StrtabType,
-    /// No section is named `.dynstr`. Answered by `ElfFile::get_dyn_string` and `get_name` of
-    /// `DynEntry32` and `DynEntry64`.
+    /// No section is named `.dynstr`.
     NoDynstr,
-    /// The type of a segment is not in the table of segment types. Answered by
-    /// `program::Type_::as_type`, `ProgramHeader::get_type`, `raw_data`, `get_data` and
-    /// `program::sanity_check`.
+    /// The type of a segment is not in the table of segment types.
     InvalidPhType,
-    /// A tag of the dynamic section is not in the table of tags. Answered by `Tag_::as_tag`,
-    /// `Dynamic::get_tag`, `get_val` and `get_ptr`.
+    /// A tag of the dynamic section is not in the table of tags.
     InvalidTag,
-    /// A dynamic entry with this tag has no value. Answered by `Dynamic::get_val`.
+    /// A dynamic entry with this tag has no value.
     InvalidValue,
-    /// A dynamic entry with this tag has no pointer. Answered by `Dynamic::get_ptr`.
+    /// A dynamic entry with this tag has no pointer.
     InvalidPtr,
-    /// The binding of a symbol is not in the table of bindings. Answered by `Binding_::as_binding`
-    /// and `Entry::get_binding`.
+    /// The binding of a symbol is not in the table of bindings.
     InvalidBinding,
-    /// The type of a symbol is not in the table of symbol types. Answered by
-    /// `symbol_table::Type_::as_type` and `Entry::get_type`.
+    /// The type of a symbol is not in the table of symbol types.
     InvalidSymbolType,
-    /// The section index of a symbol is reserved, and names no section. Answered by
-    /// `Entry::get_section_header`.
+    /// The section index of a symbol is reserved, and names no section.
     ReservedSymbolIndex,
-    /// No section is named `.symtab_shndx`. Answered by `Entry::get_section_header`.
+    /// No section is named `.symtab_shndx`.
     NoShIndex,
-    /// The section `.symtab_shndx` is of another type than SymTabShIndex. Answered by
-    /// `Entry::get_section_header`.
+    /// The section `.symtab_shndx` is of another type than SymTabShIndex.
     ExpectedShIndex,
     /// An index of a symbol is not below the number of symbols, or of words in `.symtab_shndx`.
-    /// Answered by `HashTable::lookup`, `lookup_counted` and `check`, and for the words by
-    /// `Entry::get_section_header`.
     SymbolIndex,
-    /// A section index does not fit in 16 bits. Answered by no call, since wide indices are read;
-    /// it stays, with its text, for code that names it.
+    /// A section index does not fit in 16 bits. No call answers it, since wide indices are read.
     WideIndex,
-    /// The header does not begin with `MAGIC`. Answered by `header::sanity_check`.
+    /// The header does not begin with `MAGIC`.
     BadMagic,
-    /// The header says another size of itself than that of its two parts. Answered by
-    /// `header::sanity_check`.
+    /// The header says another size of itself than that of its two parts.
     HeaderSize,
-    /// The class of the header is 0. Answered by `header::sanity_check`.
+    /// The class of the header is 0.
     NoClass,
-    /// The class of the header is not that of its second part. Answered by `header::sanity_check`.
+    /// The class of the header is not that of its second part.
     ClassMismatch,
-    /// The version of the header is 0. Answered by `header::sanity_check`.
+    /// The version of the header is 0.
     NoVersion,
-    /// The data byte of the header is 0. Answered by `header::sanity_check`.
+    /// The data byte of the header is 0.
     NoDataFormat,
-    /// The program header table passes the end of the input. Answered by `header::sanity_check`.
+    /// The program header table passes the end of the input.
     PhTableRange,
-    /// The section header table passes the end of the input. Answered by `header::sanity_check`.
+    /// The section header table passes the end of the input.
     ShTableRange,
-    /// The entries of the program header table have another size than the record. Answered by
-    /// `program::sanity_check`.
+    /// The entries of the program header table have another size than the record.
     PhSizeMismatch,
-    /// A segment does not end before the end of the input. Answered by `program::sanity_check`.
+    /// A segment does not end before the end of the input.
     EntryPointRange,
-    /// A segment is of type ShLib, whose meaning is open. Answered by `program::sanity_check`.
+    /// A segment is of type ShLib, whose meaning is open.
     ShLibUsed,
-    /// The address and the offset of a segment differ modulo its alignment. Answered by
-    /// `program::sanity_check`.
+    /// The address and the offset of a segment differ modulo its alignment.
     BadAlign,
-    /// A bucket index is not below the number of buckets. Answered by `HashTable::get_bucket`.
+    /// A bucket index is not below the number of buckets.
     BucketIndex,
-    /// A chain index is not below the number of chains. Answered by `HashTable::get_chain`,
-    /// `lookup`, `lookup_counted` and `check`.
+    /// A chain index is not below the number of chains.
     ChainIndex,
-    /// The number of buckets and a chain's index add up to 2 to the 32 or more. Answered by
-    /// `HashTable::get_chain`, `lookup`, `lookup_counted` and `check`.
+    /// The number of buckets and a chain's index add up to 2 to the 32 or more.
     ChainSum,
-    /// A word of a hash table does not lie whole in its data. Answered by `HashTable::get_bucket`,
-    /// `get_chain`, `lookup`, `lookup_counted` and `check`.
+    /// A word of a hash table does not lie whole in its data.
     HashData,
-    /// A chain of a hash table never comes to an end. Answered by `HashTable::lookup`,
-    /// `lookup_counted` and `check`.
+    /// A chain of a hash table never comes to an end.
     HashCycle,
-    /// A symbol is not on the chain that its name leads to. Answered by `HashTable::check`.
+    /// A symbol is not on the chain that its name leads to.
     HashMissing,
 }
 
@@ -184,61 +128,61 @@ impl ElfError {
         ensures { result.now ≡ message_of self.now }
     {
         match self {
-            ElfError::ShortPart1 => "File is shorter than the first ELF header part",
-            ElfError::NoMagic => "Did not find ELF magic number",
-            ElfError::InvalidClass => "Invalid ELF class",
-            ElfError::ShortHeaders => "File is shorter than ELF headers",
-            ElfError::ReservedIndex => "Attempt to get section for a reserved index",
-            ElfError::ShortSectionHeader => "File is shorter than section header offset",
-            ElfError::UnknownClass => "Unknown ELF class",
-            ElfError::SmallEntry => "Entry size is smaller than the record",
-            ElfError::NoProgramHeaders => "There are no program headers in this file",
-            ElfError::ShortProgramHeader => "File is shorter than program header offset",
-            ElfError::InvalidShType => "Invalid sh type",
-            ElfError::NullName => "Attempt to get name of null section",
-            ElfError::ShortSectionOffset => "File is shorter than section offset",
-            ElfError::TextStart => "Text starts past the end of its data",
-            ElfError::TextEnd => "Text has no terminating zero",
-            ElfError::TextUtf8 => "Text is not valid UTF-8",
-            ElfError::NullData => "Attempt to get data of a null header",
-            ElfError::DataRange => "Data is out of range",
-            ElfError::NotMultiple => "Data is not a whole number of records",
-            ElfError::ShortData => "Data is too short",
-            ElfError::Note32 => "32-bit binaries not implemented",
-            ElfError::NoteName => "Note name does not match its size",
-            ElfError::NoteDesc => "Note description is out of range",
-            ElfError::NoStrtab => "no .strtab section",
-            ElfError::StrtabType => "expected .strtab to be StrTab",
-            ElfError::NoDynstr => "no .dynstr section",
-            ElfError::InvalidPhType => "Invalid type",
-            ElfError::InvalidTag => "Invalid tag value",
-            ElfError::InvalidValue => "Invalid value",
-            ElfError::InvalidPtr => "Invalid ptr",
-            ElfError::InvalidBinding => "Invalid value for binding",
-            ElfError::InvalidSymbolType => "Invalid value for type",
-            ElfError::ReservedSymbolIndex => "Reserved section header index",
-            ElfError::NoShIndex => "no .symtab_shndx section",
-            ElfError::ExpectedShIndex => "Expected SymTabShIndex",
-            ElfError::SymbolIndex => "Symbol index is out of range",
-            ElfError::WideIndex => "Section index does not fit in 16 bits",
-            ElfError::BadMagic => "bad magic number",
-            ElfError::HeaderSize => "header_size does not match size of header",
-            ElfError::NoClass => "No class",
-            ElfError::ClassMismatch => "Mismatch between specified and actual class",
-            ElfError::NoVersion => "no version",
-            ElfError::NoDataFormat => "no data format",
-            ElfError::PhTableRange => "program header table out of range",
-            ElfError::ShTableRange => "section header table out of range",
-            ElfError::PhSizeMismatch => "program header size mismatch",
-            ElfError::EntryPointRange => "entry point out of range",
-            ElfError::ShLibUsed => "Shouldn't use ShLib",
-            ElfError::BadAlign => "Invalid combination of virtual_addr, offset, and align",
-            ElfError::BucketIndex => "Bucket index is out of range",
-            ElfError::ChainIndex => "Chain index is out of range",
-            ElfError::ChainSum => "Chain position does not fit in 32 bits",
-            ElfError::HashData => "Hash table data is too short",
-            ElfError::HashCycle => "Hash chain never ends",
-            ElfError::HashMissing => "Symbol is missing from the hash table",
+            Self::ShortPart1 => "File is shorter than the first ELF header part",
+            Self::NoMagic => "Did not find ELF magic number",
+            Self::InvalidClass => "Invalid ELF class",
+            Self::ShortHeaders => "File is shorter than ELF headers",
+            Self::ReservedIndex => "Attempt to get section for a reserved index",
+            Self::ShortSectionHeader => "File is shorter than section header offset",
+            Self::UnknownClass => "Unknown ELF class",
+            Self::SmallEntry => "Entry size is smaller than the record",
+            Self::NoProgramHeaders => "There are no program headers in this file",
+            Self::ShortProgramHeader => "File is shorter than program header offset",
+            Self::InvalidShType => "Invalid sh type",
+            Self::NullName => "Attempt to get name of null section",
+            Self::ShortSectionOffset => "File is shorter than section offset",
+            Self::TextStart => "Text starts past the end of its data",
+            Self::TextEnd => "Text has no terminating zero",
+            Self::TextUtf8 => "Text is not valid UTF-8",
+            Self::NullData => "Attempt to get data of a null header",
+            Self::DataRange => "Data is out of range",
+            Self::NotMultiple => "Data is not a whole number of records",
+            Self::ShortData => "Data is too short",
+            Self::Note32 => "32-bit binaries not implemented",
+            Self::NoteName => "Note name does not match its size",
+            Self::NoteDesc => "Note description is out of range",
+            Self::NoStrtab => "no .strtab section",
+            Self::StrtabType => "expected .strtab to be StrTab",
+            Self::NoDynstr => "no .dynstr section",
+            Self::InvalidPhType => "Invalid type",
+            Self::InvalidTag => "Invalid tag value",
+            Self::InvalidValue => "Invalid value",
+            Self::InvalidPtr => "Invalid ptr",
+            Self::InvalidBinding => "Invalid value for binding",
+            Self::InvalidSymbolType => "Invalid value for type",
+            Self::ReservedSymbolIndex => "Reserved section header index",
+            Self::NoShIndex => "no .symtab_shndx section",
+            Self::ExpectedShIndex => "Expected SymTabShIndex",
+            Self::SymbolIndex => "Symbol index is out of range",
+            Self::WideIndex => "Section index does not fit in 16 bits",
+            Self::BadMagic => "bad magic number",
+            Self::HeaderSize => "header_size does not match size of header",
+            Self::NoClass => "No class",
+            Self::ClassMismatch => "Mismatch between specified and actual class",
+            Self::NoVersion => "no version",
+            Self::NoDataFormat => "no data format",
+            Self::PhTableRange => "program header table out of range",
+            Self::ShTableRange => "section header table out of range",
+            Self::PhSizeMismatch => "program header size mismatch",
+            Self::EntryPointRange => "entry point out of range",
+            Self::ShLibUsed => "Shouldn't use ShLib",
+            Self::BadAlign => "Invalid combination of virtual_addr, offset, and align",
+            Self::BucketIndex => "Bucket index is out of range",
+            Self::ChainIndex => "Chain index is out of range",
+            Self::ChainSum => "Chain position does not fit in 32 bits",
+            Self::HashData => "Hash table data is too short",
+            Self::HashCycle => "Hash chain never ends",
+            Self::HashMissing => "Symbol is missing from the hash table",
         }
     }
 }

@@ -1,17 +1,21 @@
 //! The ELF header, with which every file begins (gABI, "ELF Header").
 
-ghost use Rattle.std.specs.Prelude.{◌≡◌, ◌↔◌, ◌==◌, ◌||◌, [], ◌∷◌, IfOk, IsOk, if◌then◌else◌, length, nat_lt, not};
+ghost use Rattle.std.specs.Prelude.{◌≡◌, ◌↔◌, ◌==◌, ◌||◌, [], ◌∷◌, IfOk, IsOk, if◌then◌else◌};
+ghost use Rattle.std.specs.Prelude.{length, nat_lt, not};
 ghost use Rattle.elf_base.specs.FileHeader.{IsAccepted, file_header, header_of, pt2_record};
 ghost use Rattle.elf_base.specs.Refusal.{unless};
 ghost use Rattle.elf_base.specs.HeaderLayout.{header_fields, pt2_size};
-ghost use Rattle.elf_base.specs.HeaderNumbers.{class_number, class_of, encoding_number, encoding_of, order_of, os_abi_number, os_abi_of, version_number, version_of};
+ghost use Rattle.elf_base.specs.HeaderNumbers.{class_number, class_of, encoding_number};
+ghost use Rattle.elf_base.specs.HeaderNumbers.{encoding_of, order_of, os_abi_number, os_abi_of};
+ghost use Rattle.elf_base.specs.HeaderNumbers.{version_number, version_of};
 
-mod kinds;
-mod printed;
-mod records;
+mod layout;
+mod numbers;
+mod text;
 
 use crate::bytes::{Order, Record};
-pub use crate::header::kinds::{
+use crate::header::Class::{SixtyFour, ThirtyTwo};
+pub use crate::header::numbers::{
     Class, Class_, Data, Data_, Machine, Machine_, OsAbi, OsAbi_, Type, Type_, Version, Version_,
 };
 use crate::{ElfError, P32, P64};
@@ -124,8 +128,8 @@ impl HeaderPt2 {
         ensures { result ≡ pt2_size self.now }
     {
         match self {
-            HeaderPt2::Header32(_) => HeaderPt2_::<P32>::SIZE,
-            HeaderPt2::Header64(_) => HeaderPt2_::<P64>::SIZE,
+            Self::Header32(_) => HeaderPt2_::<P32>::SIZE,
+            Self::Header64(_) => HeaderPt2_::<P64>::SIZE,
         }
     }
 
@@ -134,8 +138,8 @@ impl HeaderPt2 {
         ensures { result ≡ (header_fields self.now).type_ }
     {
         match self {
-            HeaderPt2::Header32(part) => part.type_,
-            HeaderPt2::Header64(part) => part.type_,
+            Self::Header32(part) => part.type_,
+            Self::Header64(part) => part.type_,
         }
     }
 
@@ -144,8 +148,8 @@ impl HeaderPt2 {
         ensures { result ≡ (header_fields self.now).machine }
     {
         match self {
-            HeaderPt2::Header32(part) => part.machine,
-            HeaderPt2::Header64(part) => part.machine,
+            Self::Header32(part) => part.machine,
+            Self::Header64(part) => part.machine,
         }
     }
 
@@ -154,8 +158,8 @@ impl HeaderPt2 {
         ensures { result ≡ (header_fields self.now).version }
     {
         match self {
-            HeaderPt2::Header32(part) => part.version,
-            HeaderPt2::Header64(part) => part.version,
+            Self::Header32(part) => part.version,
+            Self::Header64(part) => part.version,
         }
     }
 
@@ -164,8 +168,8 @@ impl HeaderPt2 {
         ensures { result ≡ (header_fields self.now).header_size }
     {
         match self {
-            HeaderPt2::Header32(part) => part.header_size,
-            HeaderPt2::Header64(part) => part.header_size,
+            Self::Header32(part) => part.header_size,
+            Self::Header64(part) => part.header_size,
         }
     }
 
@@ -174,8 +178,8 @@ impl HeaderPt2 {
         ensures { result ≡ (header_fields self.now).entry_point }
     {
         match self {
-            HeaderPt2::Header32(part) => u64::from(part.entry_point),
-            HeaderPt2::Header64(part) => part.entry_point,
+            Self::Header32(part) => u64::from(part.entry_point),
+            Self::Header64(part) => part.entry_point,
         }
     }
 
@@ -184,8 +188,8 @@ impl HeaderPt2 {
         ensures { result ≡ (header_fields self.now).ph_offset }
     {
         match self {
-            HeaderPt2::Header32(part) => u64::from(part.ph_offset),
-            HeaderPt2::Header64(part) => part.ph_offset,
+            Self::Header32(part) => u64::from(part.ph_offset),
+            Self::Header64(part) => part.ph_offset,
         }
     }
 
@@ -194,8 +198,8 @@ impl HeaderPt2 {
         ensures { result ≡ (header_fields self.now).sh_offset }
     {
         match self {
-            HeaderPt2::Header32(part) => u64::from(part.sh_offset),
-            HeaderPt2::Header64(part) => part.sh_offset,
+            Self::Header32(part) => u64::from(part.sh_offset),
+            Self::Header64(part) => part.sh_offset,
         }
     }
 
@@ -204,8 +208,8 @@ impl HeaderPt2 {
         ensures { result ≡ (header_fields self.now).ph_entry_size }
     {
         match self {
-            HeaderPt2::Header32(part) => part.ph_entry_size,
-            HeaderPt2::Header64(part) => part.ph_entry_size,
+            Self::Header32(part) => part.ph_entry_size,
+            Self::Header64(part) => part.ph_entry_size,
         }
     }
 
@@ -214,8 +218,8 @@ impl HeaderPt2 {
         ensures { result ≡ (header_fields self.now).ph_count }
     {
         match self {
-            HeaderPt2::Header32(part) => part.ph_count,
-            HeaderPt2::Header64(part) => part.ph_count,
+            Self::Header32(part) => part.ph_count,
+            Self::Header64(part) => part.ph_count,
         }
     }
 
@@ -224,8 +228,8 @@ impl HeaderPt2 {
         ensures { result ≡ (header_fields self.now).sh_entry_size }
     {
         match self {
-            HeaderPt2::Header32(part) => part.sh_entry_size,
-            HeaderPt2::Header64(part) => part.sh_entry_size,
+            Self::Header32(part) => part.sh_entry_size,
+            Self::Header64(part) => part.sh_entry_size,
         }
     }
 
@@ -234,8 +238,8 @@ impl HeaderPt2 {
         ensures { result ≡ (header_fields self.now).sh_count }
     {
         match self {
-            HeaderPt2::Header32(part) => part.sh_count,
-            HeaderPt2::Header64(part) => part.sh_count,
+            Self::Header32(part) => part.sh_count,
+            Self::Header64(part) => part.sh_count,
         }
     }
 
@@ -245,8 +249,8 @@ impl HeaderPt2 {
         ensures { result ≡ (header_fields self.now).sh_str_index }
     {
         match self {
-            HeaderPt2::Header32(part) => part.sh_str_index,
-            HeaderPt2::Header64(part) => part.sh_str_index,
+            Self::Header32(part) => part.sh_str_index,
+            Self::Header64(part) => part.sh_str_index,
         }
     }
 }
@@ -298,20 +302,20 @@ fn read_pt2(input: &[u8], class: Class_, order: Order) -> Result<HeaderPt2, ElfE
         ∷ []) (pt2_record (class_number class) order input.now) }
 {
     match class.as_class() {
-        Class::ThirtyTwo => {
+        ThirtyTwo => {
             if input.len() < HeaderPt1::SIZE + HeaderPt2_::<P32>::SIZE {
                 return Err(ElfError::ShortHeaders);
             }
             let part = HeaderPt2_::<P32>::read(input, HeaderPt1::SIZE, order);
             Ok(HeaderPt2::Header32(part))
         }
-        Class::SixtyFour => {
+        SixtyFour => {
             if input.len() < HeaderPt1::SIZE + HeaderPt2_::<P64>::SIZE {
                 return Err(ElfError::ShortHeaders);
             }
             let part = HeaderPt2_::<P64>::read(input, HeaderPt1::SIZE, order);
             Ok(HeaderPt2::Header64(part))
         }
-        Class::None | Class::Other(_) => Err(ElfError::InvalidClass),
+        _ => Err(ElfError::InvalidClass),
     }
 }

@@ -2,6 +2,6 @@ pub mod SectionNumbers
 pub mod ProgramNumbers
 pub mod Relocation
 pub mod Note
-pub mod Tag
+pub mod Dynamic
 pub mod SymbolNumbers
 pub mod HashNumber

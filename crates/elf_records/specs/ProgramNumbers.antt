@@ -1,5 +1,5 @@
 -- What the numbers of segments mean (gABI, "Program Header", p_type and p_flags).
-use Rattle.std.specs.Prelude.{ℕ, ◌==◌, ◌^◌, nat_le, ◌&&◌, List, [], ◌∷◌, ◌++◌, Result, Ok, Err, codes, bit_and, if◌then◌else◌}
+use Rattle.std.specs.Prelude.{ℕ, ◌==◌, ◌^◌, nat_le, ◌&&◌, Bool, true, false, List, [], ◌∷◌, ◌++◌, Result, Ok, Err, codes, bit_and, if◌then◌else◌}
 use Rattle.elf_base.specs.Named.{named_or}
 use Rattle.elf_base.specs.Printed.{numbered}
 use Rattle.elf_base.specs.declared.error.ElfError.{ElfError}
@@ -36,6 +36,26 @@ ph_type_of n = named_or ph_type_in_range (
     ∷ (7, Ok ph_type.Tls)
     ∷ (0x6474e552, Ok ph_type.GnuRelro)
     ∷ []) n
+
+-- two types are the same
+abbrev pub is_ph_type : the_type.Type → the_type.Type → Bool
+is_ph_type ph_type.Null ph_type.Null = true
+is_ph_type ph_type.Load ph_type.Load = true
+is_ph_type ph_type.Dynamic ph_type.Dynamic = true
+is_ph_type ph_type.Interp ph_type.Interp = true
+is_ph_type ph_type.Note ph_type.Note = true
+is_ph_type ph_type.ShLib ph_type.ShLib = true
+is_ph_type ph_type.Phdr ph_type.Phdr = true
+is_ph_type ph_type.Tls ph_type.Tls = true
+is_ph_type ph_type.GnuRelro ph_type.GnuRelro = true
+is_ph_type (ph_type.OsSpecific m) (ph_type.OsSpecific n) = m == n
+is_ph_type (ph_type.ProcessorSpecific m) (ph_type.ProcessorSpecific n) = m == n
+is_ph_type _ _ = false
+
+-- what may be refused is this type
+abbrev pub has_ph_type : the_type.Type → Result the_type.Type ElfError → Bool
+has_ph_type wanted (Ok kind) = is_ph_type wanted kind
+has_ph_type wanted (Err error) = false
 
 -- how a type is printed
 abbrev pub ph_type_text : the_type.Type → List ℕ

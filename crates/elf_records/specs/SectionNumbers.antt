@@ -1,5 +1,5 @@
 -- What the numbers of sections mean (gABI, "Sections", sh_type).
-use Rattle.std.specs.Prelude.{ℕ, nat_le, ◌&&◌, List, [], ◌∷◌, Result, Ok, Err, codes, if◌then◌else◌}
+use Rattle.std.specs.Prelude.{ℕ, nat_le, ◌==◌, ◌&&◌, Bool, true, false, List, [], ◌∷◌, Result, Ok, Err, codes, if◌then◌else◌}
 use Rattle.elf_base.specs.Named.{named_or}
 use Rattle.elf_base.specs.Printed.{numbered}
 use Rattle.elf_base.specs.declared.error.ElfError.{ElfError}
@@ -45,6 +45,35 @@ sh_type_of n = named_or sh_type_in_range (
     ∷ (17, Ok sh_type.Group)
     ∷ (18, Ok sh_type.SymTabShIndex)
     ∷ []) n
+
+-- two types are the same
+abbrev pub is_sh_type : ShType → ShType → Bool
+is_sh_type sh_type.Null sh_type.Null = true
+is_sh_type sh_type.ProgBits sh_type.ProgBits = true
+is_sh_type sh_type.SymTab sh_type.SymTab = true
+is_sh_type sh_type.StrTab sh_type.StrTab = true
+is_sh_type sh_type.Rela sh_type.Rela = true
+is_sh_type sh_type.Hash sh_type.Hash = true
+is_sh_type sh_type.Dynamic sh_type.Dynamic = true
+is_sh_type sh_type.Note sh_type.Note = true
+is_sh_type sh_type.NoBits sh_type.NoBits = true
+is_sh_type sh_type.Rel sh_type.Rel = true
+is_sh_type sh_type.ShLib sh_type.ShLib = true
+is_sh_type sh_type.DynSym sh_type.DynSym = true
+is_sh_type sh_type.InitArray sh_type.InitArray = true
+is_sh_type sh_type.FiniArray sh_type.FiniArray = true
+is_sh_type sh_type.PreInitArray sh_type.PreInitArray = true
+is_sh_type sh_type.Group sh_type.Group = true
+is_sh_type sh_type.SymTabShIndex sh_type.SymTabShIndex = true
+is_sh_type (sh_type.OsSpecific m) (sh_type.OsSpecific n) = m == n
+is_sh_type (sh_type.ProcessorSpecific m) (sh_type.ProcessorSpecific n) = m == n
+is_sh_type (sh_type.User m) (sh_type.User n) = m == n
+is_sh_type _ _ = false
+
+-- what may be refused is this type
+abbrev pub has_sh_type : ShType → Result ShType ElfError → Bool
+has_sh_type wanted (Ok kind) = is_sh_type wanted kind
+has_sh_type wanted (Err error) = false
 
 -- how a type is printed
 abbrev pub sh_type_text : ShType → List ℕ

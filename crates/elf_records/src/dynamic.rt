@@ -2,7 +2,9 @@
 
 ghost use Rattle.std.specs.Prelude.{◌≡◌};
 ghost use Rattle.std.proofs.Common.{lit<};
-ghost use Rattle.elf_records.specs.Tag.{dynamic_32, dynamic_64, dynamic_tag, dynamic_value, pointer_in, pointer_of, row_of, tag_number, tag_of, tag_raw, value_in, value_of};
+ghost use Rattle.elf_records.specs.Dynamic.{dynamic_32, dynamic_64, dynamic_tag, dynamic_value};
+ghost use Rattle.elf_records.specs.Dynamic.{pointer_in, pointer_of, row_of, tag_number, tag_of};
+ghost use Rattle.elf_records.specs.Dynamic.{tag_raw, value_in, value_of};
 
 use elf_base::bytes::{Order, Record, read_u32, read_u64};
 use elf_base::{ElfError, P32, P64};
@@ -105,85 +107,85 @@ pub struct Tag_<P>(P);
 /// What an entry of the dynamic section is (gABI, "Dynamic Section", d_tag).
 #[derive(Clone, Debug, Drop, PartialEq, Eq)]
 pub enum Tag<P> {
-    /// The end of the entries.
+    /// `DT_NULL`: the end of the entries.
     Null,
-    /// The name of a library that is needed, as an offset in the string table.
+    /// `DT_NEEDED`: the name of a library that is needed, as an offset in the string table.
     Needed,
-    /// The size of the relocations of the procedure linkage table, in bytes.
+    /// `DT_PLTRELSZ`: the size of the relocations of the procedure linkage table, in bytes.
     PltRelSize,
-    /// The address of the procedure linkage table or the global offset table.
+    /// `DT_PLTGOT`: the address of the procedure linkage table or the global offset table.
     Pltgot,
-    /// The address of the symbol hash table.
+    /// `DT_HASH`: the address of the symbol hash table.
     Hash,
-    /// The address of the string table.
+    /// `DT_STRTAB`: the address of the string table.
     StrTab,
-    /// The address of the symbol table.
+    /// `DT_SYMTAB`: the address of the symbol table.
     SymTab,
-    /// The address of the relocations with addends.
+    /// `DT_RELA`: the address of the relocations with addends.
     Rela,
-    /// The size of those, in bytes.
+    /// `DT_RELASZ`: the size of those, in bytes.
     RelaSize,
-    /// The size of one of those, in bytes.
+    /// `DT_RELAENT`: the size of one of those, in bytes.
     RelaEnt,
-    /// The size of the string table, in bytes.
+    /// `DT_STRSZ`: the size of the string table, in bytes.
     StrSize,
-    /// The size of one entry of the symbol table, in bytes.
+    /// `DT_SYMENT`: the size of one entry of the symbol table, in bytes.
     SymEnt,
-    /// The address of the function that begins the run.
+    /// `DT_INIT`: the address of the function that begins the run.
     Init,
-    /// The address of the function that ends the run.
+    /// `DT_FINI`: the address of the function that ends the run.
     Fini,
-    /// The name of this library, as an offset in the string table.
+    /// `DT_SONAME`: the name of this library, as an offset in the string table.
     SoName,
-    /// Where libraries are looked for, as an offset in the string table (older).
+    /// `DT_RPATH`: where libraries are looked for, as an offset in the string table (older).
     RPath,
-    /// Symbols are looked for in this library first.
+    /// `DT_SYMBOLIC`: symbols are looked for in this library first.
     Symbolic,
-    /// The address of the relocations without addends.
+    /// `DT_REL`: the address of the relocations without addends.
     Rel,
-    /// The size of those, in bytes.
+    /// `DT_RELSZ`: the size of those, in bytes.
     RelSize,
-    /// The size of one of those, in bytes.
+    /// `DT_RELENT`: the size of one of those, in bytes.
     RelEnt,
-    /// Which kind of relocations the procedure linkage table has: the tag Rel or Rela.
+    /// `DT_PLTREL`: which kind of relocations the procedure linkage table has: the tag Rel or Rela.
     PltRel,
-    /// An address for debuggers.
+    /// `DT_DEBUG`: an address for debuggers.
     Debug,
-    /// A relocation may change a segment that cannot be written.
+    /// `DT_TEXTREL`: a relocation may change a segment that cannot be written.
     TextRel,
-    /// The address of the relocations of the procedure linkage table.
+    /// `DT_JMPREL`: the address of the relocations of the procedure linkage table.
     JmpRel,
-    /// All relocations are made before the program runs.
+    /// `DT_BIND_NOW`: all relocations are made before the program runs.
     BindNow,
-    /// The address of the pointers to functions that begin the run.
+    /// `DT_INIT_ARRAY`: the address of the pointers to functions that begin the run.
     InitArray,
-    /// The address of the pointers to functions that end the run.
+    /// `DT_FINI_ARRAY`: the address of the pointers to functions that end the run.
     FiniArray,
-    /// The size of the pointers of InitArray, in bytes.
+    /// `DT_INIT_ARRAYSZ`: the size of the pointers of InitArray, in bytes.
     InitArraySize,
-    /// The size of the pointers of FiniArray, in bytes.
+    /// `DT_FINI_ARRAYSZ`: the size of the pointers of FiniArray, in bytes.
     FiniArraySize,
-    /// Where libraries are looked for, as an offset in the string table.
+    /// `DT_RUNPATH`: where libraries are looked for, as an offset in the string table.
     RunPath,
-    /// Flags of this file.
+    /// `DT_FLAGS`: flags of this file.
     Flags,
-    /// The address of the pointers to functions that run before those of InitArray.
+    /// `DT_PREINIT_ARRAY`: the address of the pointers to functions that run before the others.
     PreInitArray,
-    /// The size of those pointers, in bytes.
+    /// `DT_PREINIT_ARRAYSZ`: the size of those pointers, in bytes.
     PreInitArraySize,
-    /// The address of the section indices of symbols that need more than 16 bits.
+    /// `DT_SYMTAB_SHNDX`: the address of section indices of symbols that need more than 16 bits.
     SymTabShIndex,
-    /// The size of the relative relocations, in bytes.
+    /// `DT_RELRSZ`: the size of the relative relocations, in bytes.
     RelrSize,
-    /// The address of the relative relocations.
+    /// `DT_RELR`: the address of the relative relocations.
     Relr,
-    /// The size of one of those, in bytes.
+    /// `DT_RELRENT`: the size of one of those, in bytes.
     RelrEnt,
-    /// Further flags of this file: `FLAG_1_NOW` and the like.
+    /// `DT_FLAGS_1`: further flags of this file: `FLAG_1_NOW` and the like.
     Flags1,
-    /// A tag of the operating system.
+    /// `DT_LOOS` to `DT_HIOS`: a tag of the operating system.
     OsSpecific(P),
-    /// A tag of the processor.
+    /// `DT_LOPROC` to `DT_HIPROC`: a tag of the processor.
     ProcessorSpecific(P),
 }
 
@@ -206,8 +208,8 @@ impl Content {
         ensures { result ≡ value_in number self }
     {
         match self {
-            Content::Value | Content::Unspecified => Ok(number),
-            Content::Ignored | Content::Pointer => Err(ElfError::InvalidValue),
+            Self::Value | Self::Unspecified => Ok(number),
+            Self::Ignored | Self::Pointer => Err(ElfError::InvalidValue),
         }
     }
 
@@ -216,15 +218,15 @@ impl Content {
         ensures { result ≡ pointer_in number self }
     {
         match self {
-            Content::Pointer | Content::Unspecified => Ok(number),
-            Content::Ignored | Content::Value => Err(ElfError::InvalidPtr),
+            Self::Pointer | Self::Unspecified => Ok(number),
+            Self::Ignored | Self::Value => Err(ElfError::InvalidPtr),
         }
     }
 }
 
 // The tag that a number means, and what the number of its entries is; `raw` is that number as the
 // file has it.
-#[tactic(auto, unfolding(crate::specs::Tag::row_of))]
+#[tactic(auto, unfolding(crate::specs::Dynamic::row_of))]
 fn row<P: Copy>(number: u64, raw: P) -> Result<(Tag<P>, Content), ElfError>
     ensures { result ≡ row_of raw number }
 {

@@ -4,7 +4,8 @@ ghost use Rattle.std.specs.Prelude.{◌≡◌, ◌↔◌, IsTrue, Some};
 ghost use Rattle.std.specs.Fmt.{WritesOnOk};
 ghost use Rattle.std.specs.Int.{IsBitSet};
 ghost use Rattle.elf_base.specs.Printed.{hex_text, upper_hex_text};
-ghost use Rattle.elf_records.specs.ProgramNumbers.{flags_text, ph_type_number, ph_type_of, ph_type_raw, ph_type_text};
+ghost use Rattle.elf_records.specs.ProgramNumbers.{flags_text, ph_type_number, ph_type_of};
+ghost use Rattle.elf_records.specs.ProgramNumbers.{ph_type_raw, ph_type_text};
 
 use elf_base::ElfError;
 use std::fmt;
@@ -85,27 +86,27 @@ impl Type_ {
 /// What a segment is (gABI, "Program Header", p_type).
 #[derive(Clone, Copy, Debug, PartialEq, Eq)]
 pub enum Type {
-    /// No segment: the other fields have no meaning.
+    /// `PT_NULL`: no segment: the other fields have no meaning.
     Null,
-    /// Bytes to be loaded into memory.
+    /// `PT_LOAD`: bytes to be loaded into memory.
     Load,
-    /// What a dynamic linker needs.
+    /// `PT_DYNAMIC`: what a dynamic linker needs.
     Dynamic,
-    /// The path of the program interpreter.
+    /// `PT_INTERP`: the path of the program interpreter.
     Interp,
-    /// Notes.
+    /// `PT_NOTE`: notes.
     Note,
-    /// Reserved, without a meaning.
+    /// `PT_SHLIB`: reserved, without a meaning.
     ShLib,
-    /// The program header table itself.
+    /// `PT_PHDR`: the program header table itself.
     Phdr,
-    /// The template of thread-local storage.
+    /// `PT_TLS`: the template of thread-local storage.
     Tls,
-    /// What is read-only once relocations are applied (GNU).
+    /// `PT_GNU_RELRO`: what is read-only once relocations are applied (GNU).
     GnuRelro,
-    /// A type of the operating system.
+    /// `PT_LOOS` to `PT_HIOS`: a type of the operating system.
     OsSpecific(u32),
-    /// A type of the processor.
+    /// `PT_LOPROC` to `PT_HIPROC`: a type of the processor.
     ProcessorSpecific(u32),
 }
 
@@ -114,17 +115,17 @@ impl Display for Type {
 
     fn fmt<W: fmt::Write>(&self, f: &mut fmt::Formatter<W>) -> fmt::Result {
         f.write_str(match *self {
-            Type::Null => "Null",
-            Type::Load => "Load",
-            Type::Dynamic => "Dynamic",
-            Type::Interp => "Interp",
-            Type::Note => "Note",
-            Type::ShLib => "ShLib",
-            Type::Phdr => "Phdr",
-            Type::Tls => "Tls",
-            Type::GnuRelro => "GnuRelro",
-            Type::OsSpecific(number) => return write!(f, "OsSpecific({number})"),
-            Type::ProcessorSpecific(number) => return write!(f, "ProcessorSpecific({number})"),
+            Self::Null => "Null",
+            Self::Load => "Load",
+            Self::Dynamic => "Dynamic",
+            Self::Interp => "Interp",
+            Self::Note => "Note",
+            Self::ShLib => "ShLib",
+            Self::Phdr => "Phdr",
+            Self::Tls => "Tls",
+            Self::GnuRelro => "GnuRelro",
+            Self::OsSpecific(number) => return write!(f, "OsSpecific({number})"),
+            Self::ProcessorSpecific(number) => return write!(f, "ProcessorSpecific({number})"),
         })
     }
 }

@@ -1,7 +1,8 @@
 //! The numbers of sections that have names, and the records in sections (gABI, "Sections").
 
 ghost use Rattle.std.specs.Prelude.{◌≡◌, Some};
-ghost use Rattle.elf_records.specs.SectionNumbers.{sh_type_number, sh_type_of, sh_type_raw, sh_type_text};
+ghost use Rattle.elf_records.specs.SectionNumbers.{sh_type_number, sh_type_of, sh_type_raw};
+ghost use Rattle.elf_records.specs.SectionNumbers.{sh_type_text};
 
 mod note;
 mod relocations;
@@ -162,45 +163,45 @@ impl ShType_ {
 /// What a section holds (gABI, "Sections", sh_type).
 #[derive(Clone, Copy, Debug, PartialEq, Eq)]
 pub enum ShType {
-    /// No section: the other fields have no meaning.
+    /// `SHT_NULL`: no section: the other fields have no meaning.
     Null,
-    /// What the program itself defines.
+    /// `SHT_PROGBITS`: what the program itself defines.
     ProgBits,
-    /// The symbol table.
+    /// `SHT_SYMTAB`: the symbol table.
     SymTab,
-    /// A string table.
+    /// `SHT_STRTAB`: a string table.
     StrTab,
-    /// Relocations with addends.
+    /// `SHT_RELA`: relocations with addends.
     Rela,
-    /// A hash table of symbols.
+    /// `SHT_HASH`: a hash table of symbols.
     Hash,
-    /// What a dynamic linker needs.
+    /// `SHT_DYNAMIC`: what a dynamic linker needs.
     Dynamic,
-    /// Notes.
+    /// `SHT_NOTE`: notes.
     Note,
-    /// Like ProgBits, but without bytes in the file.
+    /// `SHT_NOBITS`: like ProgBits, but without bytes in the file.
     NoBits,
-    /// Relocations without addends.
+    /// `SHT_REL`: relocations without addends.
     Rel,
-    /// Reserved, without a meaning.
+    /// `SHT_SHLIB`: reserved, without a meaning.
     ShLib,
-    /// The symbols of the dynamic linker.
+    /// `SHT_DYNSYM`: the symbols of the dynamic linker.
     DynSym,
-    /// Pointers to functions that begin the run.
+    /// `SHT_INIT_ARRAY`: pointers to functions that begin the run.
     InitArray,
-    /// Pointers to functions that end the run.
+    /// `SHT_FINI_ARRAY`: pointers to functions that end the run.
     FiniArray,
-    /// Pointers to functions that run before those of InitArray.
+    /// `SHT_PREINIT_ARRAY`: pointers to functions that run before those of InitArray.
     PreInitArray,
-    /// A group of sections.
+    /// `SHT_GROUP`: a group of sections.
     Group,
-    /// Section indices of symbols that need more than 16 bits.
+    /// `SHT_SYMTAB_SHNDX`: section indices of symbols that need more than 16 bits.
     SymTabShIndex,
-    /// A type of the operating system.
+    /// `SHT_LOOS` to `SHT_HIOS`: a type of the operating system.
     OsSpecific(u32),
-    /// A type of the processor.
+    /// `SHT_LOPROC` to `SHT_HIPROC`: a type of the processor.
     ProcessorSpecific(u32),
-    /// A type of programs.
+    /// `SHT_LOUSER` to `SHT_HIUSER`: a type of programs.
     User(u32),
 }
 
@@ -209,26 +210,26 @@ impl Display for ShType {
 
     fn fmt<W: fmt::Write>(&self, f: &mut fmt::Formatter<W>) -> fmt::Result {
         f.write_str(match *self {
-            ShType::Null => "Null",
-            ShType::ProgBits => "ProgBits",
-            ShType::SymTab => "SymTab",
-            ShType::StrTab => "StrTab",
-            ShType::Rela => "Rela",
-            ShType::Hash => "Hash",
-            ShType::Dynamic => "Dynamic",
-            ShType::Note => "Note",
-            ShType::NoBits => "NoBits",
-            ShType::Rel => "Rel",
-            ShType::ShLib => "ShLib",
-            ShType::DynSym => "DynSym",
-            ShType::InitArray => "InitArray",
-            ShType::FiniArray => "FiniArray",
-            ShType::PreInitArray => "PreInitArray",
-            ShType::Group => "Group",
-            ShType::SymTabShIndex => "SymTabShIndex",
-            ShType::OsSpecific(number) => return write!(f, "OsSpecific({number})"),
-            ShType::ProcessorSpecific(number) => return write!(f, "ProcessorSpecific({number})"),
-            ShType::User(number) => return write!(f, "User({number})"),
+            Self::Null => "Null",
+            Self::ProgBits => "ProgBits",
+            Self::SymTab => "SymTab",
+            Self::StrTab => "StrTab",
+            Self::Rela => "Rela",
+            Self::Hash => "Hash",
+            Self::Dynamic => "Dynamic",
+            Self::Note => "Note",
+            Self::NoBits => "NoBits",
+            Self::Rel => "Rel",
+            Self::ShLib => "ShLib",
+            Self::DynSym => "DynSym",
+            Self::InitArray => "InitArray",
+            Self::FiniArray => "FiniArray",
+            Self::PreInitArray => "PreInitArray",
+            Self::Group => "Group",
+            Self::SymTabShIndex => "SymTabShIndex",
+            Self::OsSpecific(number) => return write!(f, "OsSpecific({number})"),
+            Self::ProcessorSpecific(number) => return write!(f, "ProcessorSpecific({number})"),
+            Self::User(number) => return write!(f, "User({number})"),
         })
     }
 }

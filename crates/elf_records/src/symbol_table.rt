@@ -1,7 +1,11 @@
 //! The numbers of symbols that have names (gABI, "Symbol Table").
 
 ghost use Rattle.std.specs.Prelude.{◌≡◌, Some};
-ghost use Rattle.elf_records.specs.SymbolNumbers.{binding_number, binding_of, binding_raw, binding_text, symbol_type_number, symbol_type_of, symbol_type_raw, symbol_type_text, visibility_number, visibility_of, visibility_raw, visibility_text};
+ghost use Rattle.elf_records.specs.SymbolNumbers.{binding_number, binding_of, binding_raw};
+ghost use Rattle.elf_records.specs.SymbolNumbers.{binding_text, symbol_type_number, symbol_type_of};
+ghost use Rattle.elf_records.specs.SymbolNumbers.{symbol_type_raw, symbol_type_text};
+ghost use Rattle.elf_records.specs.SymbolNumbers.{visibility_number, visibility_of, visibility_raw};
+ghost use Rattle.elf_records.specs.SymbolNumbers.{visibility_text};
 
 use elf_base::ElfError;
 use std::fmt;
@@ -43,13 +47,13 @@ impl Visibility_ {
 /// Who sees a symbol (gABI, "Symbol Table", st_other).
 #[derive(Clone, Copy, Debug, PartialEq, Eq)]
 pub enum Visibility {
-    /// As its binding says.
+    /// `STV_DEFAULT`: as its binding says.
     Default,
-    /// As Hidden, with a further meaning of the processor.
+    /// `STV_INTERNAL`: as Hidden, with a further meaning of the processor.
     Internal,
-    /// No other file.
+    /// `STV_HIDDEN`: no other file.
     Hidden,
-    /// All files, but the file itself uses its own.
+    /// `STV_PROTECTED`: all files, but the file itself uses its own.
     Protected,
 }
 
@@ -58,10 +62,10 @@ impl Display for Visibility {
 
     fn fmt<W: fmt::Write>(&self, f: &mut fmt::Formatter<W>) -> fmt::Result {
         f.write_str(match *self {
-            Visibility::Default => "Default",
-            Visibility::Internal => "Internal",
-            Visibility::Hidden => "Hidden",
-            Visibility::Protected => "Protected",
+            Self::Default => "Default",
+            Self::Internal => "Internal",
+            Self::Hidden => "Hidden",
+            Self::Protected => "Protected",
         })
     }
 }
@@ -104,15 +108,15 @@ impl Binding_ {
 /// How files share a symbol (gABI, "Symbol Table", ELF32_ST_BIND).
 #[derive(Clone, Copy, Debug, PartialEq, Eq)]
 pub enum Binding {
-    /// Only its own file has it.
+    /// `STB_LOCAL`: only its own file has it.
     Local,
-    /// All files have it.
+    /// `STB_GLOBAL`: all files have it.
     Global,
-    /// As Global, but it gives way to a global one.
+    /// `STB_WEAK`: as Global, but it gives way to a global one.
     Weak,
-    /// A binding of the operating system.
+    /// `STB_LOOS` to `STB_HIOS`: a binding of the operating system.
     OsSpecific(u8),
-    /// A binding of the processor.
+    /// `STB_LOPROC` to `STB_HIPROC`: a binding of the processor.
     ProcessorSpecific(u8),
 }
 
@@ -121,11 +125,11 @@ impl Display for Binding {
 
     fn fmt<W: fmt::Write>(&self, f: &mut fmt::Formatter<W>) -> fmt::Result {
         f.write_str(match *self {
-            Binding::Local => "Local",
-            Binding::Global => "Global",
-            Binding::Weak => "Weak",
-            Binding::OsSpecific(number) => return write!(f, "OsSpecific({number})"),
-            Binding::ProcessorSpecific(number) => return write!(f, "ProcessorSpecific({number})"),
+            Self::Local => "Local",
+            Self::Global => "Global",
+            Self::Weak => "Weak",
+            Self::OsSpecific(number) => return write!(f, "OsSpecific({number})"),
+            Self::ProcessorSpecific(number) => return write!(f, "ProcessorSpecific({number})"),
         })
     }
 }
@@ -172,23 +176,23 @@ impl Type_ {
 /// What a symbol stands for (gABI, "Symbol Table", ELF32_ST_TYPE).
 #[derive(Clone, Copy, Debug, PartialEq, Eq)]
 pub enum Type {
-    /// Nothing is said.
+    /// `STT_NOTYPE`: nothing is said.
     NoType,
-    /// Data, as a variable.
+    /// `STT_OBJECT`: data, as a variable.
     Object,
-    /// A function or other code.
+    /// `STT_FUNC`: a function or other code.
     Func,
-    /// A section.
+    /// `STT_SECTION`: a section.
     Section,
-    /// The name of a source file.
+    /// `STT_FILE`: the name of a source file.
     File,
-    /// A common block that is not yet placed.
+    /// `STT_COMMON`: a common block that is not yet placed.
     Common,
-    /// A thread-local variable.
+    /// `STT_TLS`: a thread-local variable.
     Tls,
-    /// A type of the operating system.
+    /// `STT_LOOS` to `STT_HIOS`: a type of the operating system.
     OsSpecific(u8),
-    /// A type of the processor.
+    /// `STT_LOPROC` to `STT_HIPROC`: a type of the processor.
     ProcessorSpecific(u8),
 }
 
@@ -197,15 +201,15 @@ impl Display for Type {
 
     fn fmt<W: fmt::Write>(&self, f: &mut fmt::Formatter<W>) -> fmt::Result {
         f.write_str(match *self {
-            Type::NoType => "NoType",
-            Type::Object => "Object",
-            Type::Func => "Func",
-            Type::Section => "Section",
-            Type::File => "File",
-            Type::Common => "Common",
-            Type::Tls => "Tls",
-            Type::OsSpecific(number) => return write!(f, "OsSpecific({number})"),
-            Type::ProcessorSpecific(number) => return write!(f, "ProcessorSpecific({number})"),
+            Self::NoType => "NoType",
+            Self::Object => "Object",
+            Self::Func => "Func",
+            Self::Section => "Section",
+            Self::File => "File",
+            Self::Common => "Common",
+            Self::Tls => "Tls",
+            Self::OsSpecific(number) => return write!(f, "OsSpecific({number})"),
+            Self::ProcessorSpecific(number) => return write!(f, "ProcessorSpecific({number})"),
         })
     }
 }

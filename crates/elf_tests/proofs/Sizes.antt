@@ -4,7 +4,7 @@ use Rattle.std.specs.List.{sum_by}
 use Rattle.std.proofs.lemmas.List.Sums.{sum_by-cons}
 use Rattle.elf_tests.specs.Sizes.{size_as, size_of}
 use Rattle.elf_tests.specs.declared.callers.size_report.SizeKind.{SizeKind}
-use Rattle.xmas_elf.specs.declared.sections.section_header.SectionHeader.{SectionHeader}
+use Rattle.xmas_elf.specs.Types.{SectionHeader}
 
 -- with `rest` still left of all sections, `count` is the bytes of a kind so far: each section has added
 -- less than 2 to the 64

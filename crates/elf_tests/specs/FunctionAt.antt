@@ -3,15 +3,14 @@
 use Rattle.std.specs.Prelude.{◌≡◌, ℕ, ◌+◌, ◌≤◌, ◌<◌, List, Option, None, Some, MatchOption, MatchResult, Ok, IsOkAnd, IsSomeAnd, IsTrue, false, codes, length, slice_get}
 use Rattle.std.specs.Borrow.{Bor}
 use Rattle.std.specs.List.{AllWithin}
-use Rattle.xmas_elf.specs.Content.{Content, symbols_32, symbols_64}
+use Rattle.xmas_elf.specs.Content.{Content, symbols_32, symbols_64, table_of}
 use Rattle.xmas_elf.specs.ElfError.{ElfError}
-use Rattle.xmas_elf.specs.HashReport.{symbols_in_32, symbols_in_64}
 use Rattle.xmas_elf.specs.NameTable.{section_named}
 use Rattle.xmas_elf.specs.SectionContent.{section_content_of}
 use Rattle.xmas_elf.specs.Symbol.{SymbolFields, symbol_type}
 use Rattle.xmas_elf.specs.SymbolType.TheVariants.{Func}
-use Rattle.xmas_elf.specs.Symbols.{Symbols}
-use Rattle.xmas_elf.specs.declared.ElfFile.{ElfFile}
+use Rattle.xmas_elf.specs.Symbols.{Symbols, symbols_in_32, symbols_in_64}
+use Rattle.xmas_elf.specs.Types.{ElfFile}
 
 -- the range of this function symbol holds the address
 pub record HoldsAddress (symbol : SymbolFields) (address : ℕ) : Type 0 where
@@ -38,8 +37,8 @@ IsFunctionName {E} symbols address found = MatchOption found
 
 -- the same for what the data of a section is taken for; other data has no symbols
 abbrev pub IsFunctionNameIn : ElfFile → Content → ℕ → Option (Bor (List ℕ)) → Type 0
-IsFunctionNameIn file (symbols_32 order bytes) = IsFunctionName (symbols_in_32 file order bytes)
-IsFunctionNameIn file (symbols_64 order bytes) = IsFunctionName (symbols_in_64 file order bytes)
+IsFunctionNameIn file (table_of symbols_32 order bytes) = IsFunctionName (symbols_in_32 file order bytes)
+IsFunctionNameIn file (table_of symbols_64 order bytes) = IsFunctionName (symbols_in_64 file order bytes)
 IsFunctionNameIn file _ = λ address found. found ≡ None
 
 -- the same for the first section that is called .symtab; a file without it has no symbols
@@ -54,8 +53,8 @@ HasNoName {E} symbols address = (index : ℕ) × (symbol : E)
 
 -- the same for what the data of a section is taken for
 abbrev pub HasNoNameIn : ElfFile → Content → ℕ → Type 0
-HasNoNameIn file (symbols_32 order bytes) = HasNoName (symbols_in_32 file order bytes)
-HasNoNameIn file (symbols_64 order bytes) = HasNoName (symbols_in_64 file order bytes)
+HasNoNameIn file (table_of symbols_32 order bytes) = HasNoName (symbols_in_32 file order bytes)
+HasNoNameIn file (table_of symbols_64 order bytes) = HasNoName (symbols_in_64 file order bytes)
 HasNoNameIn file _ = λ address. IsTrue false
 
 -- why no name is given: the data of .symtab are refused, and so is this, or the function has no name

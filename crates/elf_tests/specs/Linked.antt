@@ -1,20 +1,17 @@
 -- A hash table and the symbols that it is linked to, in a file of class 64 that a program is linked to.
 use Rattle.std.specs.Prelude.{◌≡◌, ℕ, List, Option, None, Some, MatchOption, Result, Ok, Err, codes, slice_get}
-use Rattle.xmas_elf.specs.Content.{Content, dyn_symbols_64, hash_table}
+use Rattle.xmas_elf.specs.Content.{Content, dyn_symbols_64, hash_table, table_of}
 use Rattle.xmas_elf.specs.ElfError.{ElfError}
 use Rattle.xmas_elf.specs.ElfError.TheVariants.{ShortData}
 use Rattle.xmas_elf.specs.Good.{IsCheck}
-use Rattle.xmas_elf.specs.HashReport.{content_at, dyn_symbols_in_64}
+use Rattle.xmas_elf.specs.HashReport.{content_at}
 use Rattle.xmas_elf.specs.HashTable.{hash_data, hash_order}
 use Rattle.xmas_elf.specs.NameTable.{section_named}
 use Rattle.xmas_elf.specs.Order.{Order}
 use Rattle.xmas_elf.specs.SectionContent.{section_content_of}
 use Rattle.xmas_elf.specs.SectionHeader.{section_fields}
-use Rattle.xmas_elf.specs.Symbols.{IsGlobal, Symbols}
-use Rattle.xmas_elf.specs.declared.ElfFile.{ElfFile}
-use Rattle.xmas_elf.specs.declared.hash.HashTable.{HashTable}
-use Rattle.xmas_elf.specs.declared.sections.section_header.SectionHeader.{SectionHeader}
-use Rattle.xmas_elf.specs.declared.symbol_table.entries.DynEntry64.{DynEntry64}
+use Rattle.xmas_elf.specs.Symbols.{IsGlobal, Symbols, dyn_symbols_in_64}
+use Rattle.xmas_elf.specs.Types.{DynEntry64, ElfFile, HashTable, SectionHeader}
 
 -- the order and the bytes of a hash table, if that is what a section has
 abbrev pub table_in : Result Content ElfError → Option (Order × List ℕ)
@@ -23,7 +20,7 @@ table_in _ = None
 
 -- those of the symbols for the dynamic linker, if that is what it has
 abbrev pub symbols_in : Result Content ElfError → Option (Order × List ℕ)
-symbols_in (Ok (dyn_symbols_64 order bytes)) = Some (order, bytes)
+symbols_in (Ok (table_of dyn_symbols_64 order bytes)) = Some (order, bytes)
 symbols_in _ = None
 
 -- the first section that is called .hash is the hash table, and its link leads to the symbols

@@ -1,27 +1,20 @@
 -- What a loader takes from a file, and which files it takes (gABI, "Program Header": PT_LOAD; which
 -- refusal a loader gives is this project's own).
-use Rattle.std.specs.Prelude.{◌≡◌, ℕ, ◌≤◌, Bool, true, false, List, Result, Ok, IsTrue, All, drop, filter, length, map, take}
+use Rattle.std.specs.Prelude.{◌≡◌, ℕ, ◌≤◌, Bool, List, IsTrue, All, drop, filter, length, map, take}
 use Rattle.elf_tests.specs.declared.callers.loader.LoadError.{LoadError}
 use Rattle.elf_tests.specs.declared.callers.loader.LoadError.TheVariants.{Header, OutOfMemory, Range, Size}
 use Rattle.elf_tests.specs.declared.callers.loader.Piece.{Piece}
 use Rattle.xmas_elf.specs.Counts.{program_count_of}
-use Rattle.xmas_elf.specs.ElfError.{ElfError}
 use Rattle.xmas_elf.specs.ProgramHeader.{program_fields, segment_type}
 use Rattle.xmas_elf.specs.ProgramList.{program_list}
+use Rattle.xmas_elf.specs.ProgramNumbers.{has_ph_type}
 use Rattle.xmas_elf.specs.SegmentData.{HasSegmentData}
-use Rattle.xmas_elf.specs.SegmentType as segment_types
 use Rattle.xmas_elf.specs.SegmentType.TheVariants.{Load}
-use Rattle.xmas_elf.specs.declared.ElfFile.{ElfFile}
-use Rattle.xmas_elf.specs.declared.program.program_header.ProgramHeader.{ProgramHeader}
+use Rattle.xmas_elf.specs.Types.{ElfFile, ProgramHeader}
 
--- the type is Load (PT_LOAD)
-abbrev pub is_load_type : Result segment_types.Type ElfError → Bool
-is_load_type (Ok Load) = true
-is_load_type _ = false
-
--- a segment is to be loaded
+-- a segment is to be loaded (PT_LOAD)
 abbrev pub is_load : ProgramHeader → Bool
-is_load program = is_load_type (segment_type (program_fields program))
+is_load program = has_ph_type Load (segment_type (program_fields program))
 
 -- each program header can be read: the list, which ends before the first that can't, has them all
 abbrev pub AreRead : ElfFile → Type 0

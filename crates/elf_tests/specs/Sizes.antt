@@ -1,28 +1,21 @@
 -- How many bytes the sections of a file have by kind, as `size` of binutils counts them. The kinds are
 -- its own; the flags and the types are those of gABI, "Sections", sh_flags and sh_type. What it
 -- leaves out and is counted here: symbol tables and string tables of an object file that take memory.
-use Rattle.std.specs.Prelude.{◌≡◌, ℕ, ◌==◌, Bool, true, false, not, sum_by, Result, Ok, if◌then◌else◌}
+use Rattle.std.specs.Prelude.{◌≡◌, ℕ, ◌==◌, Bool, true, false, not, sum_by, if◌then◌else◌}
 use Rattle.std.specs.Int.Bits.{bit_and}
 use Rattle.elf_tests.specs.declared.callers.size_report.SizeKind.{SizeKind}
 use Rattle.elf_tests.specs.declared.callers.size_report.SizeKind.TheVariants.{Code, Constants, Initialised, ZeroInitialised, Other}
 use Rattle.elf_tests.specs.declared.callers.size_report.SizeReport.{SizeReport}
-use Rattle.xmas_elf.specs.ElfError.{ElfError}
 use Rattle.xmas_elf.specs.SectionConstants.{SHF_ALLOC, SHF_EXECINSTR, SHF_WRITE}
 use Rattle.xmas_elf.specs.SectionHeader.{section_fields, section_type}
 use Rattle.xmas_elf.specs.SectionList.{section_list}
-use Rattle.xmas_elf.specs.ShType.{ShType}
+use Rattle.xmas_elf.specs.SectionNumbers.{has_sh_type}
 use Rattle.xmas_elf.specs.ShType.TheVariants.{NoBits, Null}
-use Rattle.xmas_elf.specs.declared.ElfFile.{ElfFile}
-use Rattle.xmas_elf.specs.declared.sections.section_header.SectionHeader.{SectionHeader}
+use Rattle.xmas_elf.specs.Types.{ElfFile, SectionHeader}
 
 -- a section has a flag
 abbrev pub has_flag : SectionHeader → ℕ → Bool
 has_flag section flag = not (bit_and (section_fields section).flags flag == 0)
-
--- the type of a section without bytes in the file
-abbrev pub is_no_bits : Result ShType ElfError → Bool
-is_no_bits (Ok NoBits) = true
-is_no_bits _ = false
 
 -- the kind of a section: other where it takes no memory; else code where it has instructions, and
 -- constants where it can't be written, of either with or without bytes in the file; else
@@ -32,17 +25,13 @@ kind_of section =
     if not (has_flag section SHF_ALLOC) then Other
     else (if has_flag section SHF_EXECINSTR then Code
     else (if not (has_flag section SHF_WRITE) then Constants
-    else (if is_no_bits (section_type section) then ZeroInitialised
+    else (if has_sh_type NoBits (section_type section) then ZeroInitialised
     else Initialised)))
 
--- the type of a section whose other fields have no meaning, or in section 0 another one
-abbrev pub is_null : Result ShType ElfError → Bool
-is_null (Ok Null) = true
-is_null _ = false
-
--- how many bytes a section has
+-- how many bytes a section has: none where its type is Null, whose other fields have no meaning, or in
+-- section 0 another one
 abbrev pub size_of : SectionHeader → ℕ
-size_of section = if is_null (section_type section) then 0 else (section_fields section).size
+size_of section = if has_sh_type Null (section_type section) then 0 else (section_fields section).size
 
 -- two kinds are the same
 abbrev pub same_kind : SizeKind → SizeKind → Bool

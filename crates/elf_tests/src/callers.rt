@@ -9,15 +9,14 @@ ghost use Rattle.xmas_elf.specs.HeaderLayout.{header_fields};
 ghost use Rattle.xmas_elf.specs.HeaderTable.{IsLongest};
 ghost use Rattle.xmas_elf.specs.NameTable.{Bears, IsFirstNamed, IsNameTable, section_named, shstr_of};
 ghost use Rattle.xmas_elf.specs.Number.{byte_at, number};
-ghost use Rattle.xmas_elf.specs.ProgramHeader.{program_fields, program_header_of};
+ghost use Rattle.xmas_elf.specs.ProgramHeader.{program_fields, program_by_u16};
 ghost use Rattle.xmas_elf.specs.ProgramList.{program_list};
 ghost use Rattle.xmas_elf.specs.Range.{IsRange};
 ghost use Rattle.xmas_elf.specs.SectionData.{HasSectionData, IsSectionData};
 ghost use Rattle.xmas_elf.specs.SectionHeader.{section_fields, section_header_size, section_of, section_place, section_type};
 ghost use Rattle.xmas_elf.specs.SectionList.{section_list};
 ghost use Rattle.xmas_elf.specs.Text.{IsText};
-ghost use Rattle.xmas_elf.specs.declared.ElfFile.{ElfFile};
-ghost use Rattle.xmas_elf.specs.declared.sections.section_header.SectionHeader.{SectionHeader};
+ghost use Rattle.xmas_elf.specs.Types.{ElfFile, SectionHeader};
 
 pub mod backtrace;
 pub mod data;
@@ -150,7 +149,7 @@ pub fn null_has_data(file: &ElfFile<'_>, section: SectionHeader) -> bool
 
 /// How many bytes the data of a segment has: as many as its header says.
 pub fn segment_data_len(file: &ElfFile<'_>, index: u16) -> Result<usize, ElfError>
-    ensures { IfOk result (λ len. IfOk (program_header_of file.now.input.now file.now.header index)
+    ensures { IfOk result (λ len. IfOk (program_by_u16 file.now.input.now file.now.header index)
         (λ program. len ≡ (program_fields program).file_size)) }
 {
     let range = file.program_header(index)?.raw_data(file)?;

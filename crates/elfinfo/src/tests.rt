@@ -1,5 +1,7 @@
 //! Each way in which a run of the program can end.
 
+mod each_call;
+
 use super::run;
 use std::alloc::Global;
 use std::io;

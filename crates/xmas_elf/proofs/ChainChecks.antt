@@ -1,9 +1,9 @@
 -- What passes the check of a hash table, and what doesn't.
-use Rattle.std.proofs.Common.{◌≡◌, ◌≢◌, ◌<◌, ◌+◌, ◌/◌, ℕ, ◌⊎◌, inl, inr, List, Some, None, Result, Ok, Err, slice_get, refl, ap, subst, below_more}
+use Rattle.std.proofs.Common.{◌≡◌, ◌<◌, ℕ, ◌⊎◌, inl, inr, Some, Result, Ok, Err, refl, ap, subst}
 use Rattle.std.proofs.lemmas.Bool.{cases_order}
 use Rattle.std.specs.Prelude.{IsOk}
 use Rattle.elf_base.specs.declared.error.ElfError.{ElfError}
-use Rattle.xmas_elf.specs.Good.{Nothing, IsAtFault, IsReached, IsGood, IsCheck, good, faulty, missing}
+use Rattle.xmas_elf.specs.Good.{IsAtFault, IsReached, IsGood, IsCheck, good, faulty, missing}
 use Rattle.xmas_elf.specs.Chain.{LooksFrom, chains_of}
 use Rattle.xmas_elf.specs.HashTable.{bucket_of}
 use Rattle.xmas_elf.specs.Symbols.{IsGlobal, Symbols}
@@ -12,22 +12,6 @@ use Rattle.xmas_elf.proofs.ChainFinds.{not_at_fault}
 use Rattle.xmas_elf.proofs.ChainOnce.{looks_once}
 
 module _ {E : Type 0} (table : HashTable) (symbols : Symbols E) where
-  -- the symbol at i is held, if there is one that must be
-  abbrev pub Held : ℕ → Type 0
-  Held i = (e : E) (name : List ℕ) → IsGlobal symbols i e name → IsReached table symbols.items name i
-
-  pub held_absent : (i : ℕ) → slice_get symbols.items i ≡ None → Held i
-  held_absent i absent e name global = let there : slice_get symbols.items i ≡ Some e = global.stands in cc
-
-  pub held_entry : (i : ℕ) (d : E) → slice_get symbols.items i ≡ Some d → ((name : List ℕ) → (symbols.fields d).info / 16 ≢ 0 → symbols.text d ≡ Some name → IsReached table symbols.items name i) → Held i
-  held_entry i d at reached e name global =
-      let there : slice_get symbols.items i ≡ Some e = global.stands in
-      let same : e ≡ d = cc in
-      reached name (subst (λ x. (symbols.fields x).info / 16 ≢ 0) same global.binding) (subst (λ x. symbols.text x ≡ Some name) same global.named)
-
-  pub held_more : (n : ℕ) → ((i : ℕ) → i < n → Held i) → Held n → (i : ℕ) → i < n + 1 → Held i
-  held_more n below here i h = below_more Held n below here i h
-
   -- the check answers Ok exactly on a good table
   pub ok_is_good : (r : Result (Unit {0}) ElfError) → IsCheck table symbols r → IsOk r → IsGood table symbols
   ok_is_good _ (good h) ok = h
@@ -43,8 +27,9 @@ module _ {E : Type 0} (table : HashTable) (symbols : Symbols E) where
   fault_once : (k k' : ℕ) (error error' : ElfError) → k ≡ k' → IsAtFault table symbols.items k error → IsAtFault table symbols.items k' error' → error ≡ error'
   fault_once k k' error error' same (n, looks) (m, looks') =
       let chains = chains_of table symbols.items in
-      let one : LooksFrom (Nothing {E = E}) chains (Some (bucket_of table k')) (Err error) n = subst (λ x. LooksFrom (Nothing {E = E}) chains (Some (bucket_of table x)) (Err error) n) same looks in
-      let both : Err error ≡ Err error' = (looks_once (Nothing {E = E}) chains (Some (bucket_of table k')) (Err error) (Err error') n m one looks').0 in
+      let P : E → Type 0 = λ _. ⊥ in
+      let one : LooksFrom P chains (Some (bucket_of table k')) (Err error) n = subst (λ x. LooksFrom P chains (Some (bucket_of table x)) (Err error) n) same looks in
+      let both : Err error ≡ Err error' = (looks_once P chains (Some (bucket_of table k')) (Err error) (Err error') n m one looks').0 in
       cc
 
   -- the check has one answer

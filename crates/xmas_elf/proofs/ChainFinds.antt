@@ -1,64 +1,59 @@
 -- On a good table a look-up is never refused and finds what must be found.
 use Rattle.std.proofs.Math.Dec.{eqb}
 use Rattle.std.proofs.lemmas.Bool.Decides.{eqb_tells}
-use Rattle.std.proofs.Common.{◌≡◌, ◌≢◌, ◌<◌, ◌%◌, ℕ, ◌⊎◌, inl, inr, true, false, List, [], ◌∷◌, Option, Some, None, Result, Ok, Err, slice_get, refl, sym, ◌∙◌, subst, arith}
+use Rattle.std.proofs.Common.{◌≡◌, ◌≢◌, ◌<◌, ◌≤◌, ◌+◌, ◌%◌, ℕ, zero, suc, ◌⊎◌, inl, inr, true, false, List, Option, Some, None, Result, Ok, Err, slice_get, refl, sym, ◌∙◌, subst, arith, below_more}
 use Rattle.elf_base.specs.declared.error.ElfError.{ElfError}
 use Rattle.elf_base.specs.declared.error.ElfError.TheVariants.{SymbolIndex, ChainIndex}
 use Rattle.elf_records.specs.HashNumber.{hash_number}
-use Rattle.xmas_elf.specs.Chain.{Chains, Stops, at_end, past_chains, past_symbols, found, refused, Links, Path, here, step, Reaches, LooksFrom, no_bucket, bad_bucket, reaches, endless, chains_of}
+use Rattle.xmas_elf.specs.Chain.{Chains, StandsAt, Stops, at_end, past_chains, past_symbols, found, refused, Links, Comes, Reaches, NoneBefore, LooksFrom, no_bucket, bad_bucket, reaches, endless, chains_of}
 use Rattle.xmas_elf.specs.HashTable.{bucket_count_of, bucket_of, start_of}
-use Rattle.xmas_elf.specs.Good.{Nothing, Ends, EndsBelow, IsAtFault, IsGood, FindsAll}
+use Rattle.xmas_elf.specs.Good.{Ends, EndsBelow, IsAtFault, IsGood, FindsAll}
 use Rattle.xmas_elf.specs.Symbols.{Symbols}
 use Rattle.xmas_elf.specs.declared.hash.HashTable.{HashTable}
-use Rattle.xmas_elf.proofs.ChainPaths.{link_once, stop_once, Same}
+use Rattle.xmas_elf.proofs.ChainPaths.{by_order, comes_in, comes_once, end_links, end_once, goes_on, none_more, stop_or_link}
 use Rattle.xmas_elf.proofs.ChainStarts.{start_none, start_some}
 
 module _ {E : Type 0} (P : E → Type 0) (chains : Chains E) where
-  -- a walk that looks for something goes where one that looks for nothing does
-  pub plain_link : (i j : ℕ) → Links P chains i j → Links (Nothing {E = E}) chains i j
-  plain_link i j l = record { entry = l.entry; stands = l.stands; misses = λ n. n; next = l.next }
+  -- where a walk along the whole chain ends, no walk stops with a refusal
+  pub no_refusal : (first n last p : ℕ) (error : ElfError) → Comes chains first n last → Stops P chains last (Err error) p → Reaches chains first 0 → ⊥
+  no_refusal first n last p error c s (m, end) = go last p error c s
+    where
+      same_end : (k : ℕ) → Comes chains first n k → ((x : ℕ) → Links chains k x → ⊥) → 0 < k → ⊥
+      same_end k c stop above =
+          let same : k ≡ 0 = end_once chains first n m k 0 c stop end (λ x l. end_links chains 0 x refl l) in omega arith
 
-  pub plain_path : (i k : ℕ) (xs : List ℕ) → Path P chains i xs k → Path (Nothing {E = E}) chains i xs k
-  plain_path _ _ _ (here i) = here i
-  plain_path _ k _ (step i j _ xs l p) = step i j k xs (plain_link i j l) (plain_path j k xs p)
+      go : (k q : ℕ) (why : ElfError) → Comes chains first n k → Stops P chains k (Err why) q → ⊥
+      go _ _ _ c (past_chains i above past) = same_end i c (λ x l. (let h : i < chains.count = l.stands.below in omega arith)) above
+      go _ _ _ c (past_symbols i above within absent) = same_end i c (λ x l. (let h : slice_get chains.symbols i ≡ Some l.entry = l.stands.symbol in cc)) above
+      go _ _ _ c (refused i e why stands misses refuses) = same_end i c (λ x l. (let h : chains.chain i ≡ Ok x = l.next in cc)) stands.not_end
 
-  -- an index on the way to a stop is linked to the next
-  pub on_the_way : (first i last : ℕ) (us xs : List ℕ) → Path (Nothing {E = E}) chains first us i → Path P chains first xs last → (i ≡ last → ⊥) → ((j : ℕ) → Links (Nothing {E = E}) chains last j → ⊥) → (j : ℕ) × Links P chains i j
-  on_the_way _ _ _ _ _ (here i) (here _) other stop = absurd (other refl)
-  on_the_way _ _ _ _ _ (here i) (step _ j _ xs l p) other stop = (j, l)
-  on_the_way _ i _ _ _ (step f j _ us l q) (here _) other stop = absurd (stop j l)
-  on_the_way _ i last _ _ (step f j _ us l q) (step _ j' _ xs l' p) other stop =
-      let p' : Path P chains j xs last = subst (λ x. Path P chains x xs last) (link_once (Nothing {E = E}) chains f j' j (plain_link f j' l') l) p in
-      on_the_way j i last us xs q p' other stop
+  -- where no stop is reached, no entry with P is passed
+  none_all : (first : ℕ) → ((last m p : ℕ) (a : Result (Option (ℕ × E)) ElfError) → Comes chains first m last → NoneBefore P chains first m → Stops P chains last a p → ⊥) → (n : ℕ) → NoneBefore P chains first n
+  none_all first never zero m below = absurd (omega arith)
+  none_all first never (suc n) m below =
+      below_more (λ k. (x : ℕ) (e : E) → Comes chains first k x → StandsAt chains x e → P e → ⊥) n (none_all first never n)
+      (λ x e at stands holds. never x n 1 (Ok (Some (x, e))) at (none_all first never n) (found x e stands holds)) m (omega arith)
 
-  -- where the plain walk ends, some stop is reached
-  pub some_stop : (i k : ℕ) (xs : List ℕ) → Path (Nothing {E = E}) chains i xs k → k ≡ 0 → ((last : ℕ) (a : Result (Option (ℕ × E)) ElfError) → Reaches P chains i last → Stops P chains last a → ⊥) → ⊥
-  some_stop _ _ _ (here i) end none = none 0 (Ok None) (0 ∷ [], subst (λ x. Path P chains x (0 ∷ []) 0) (sym end) (here 0)) at_end
-  some_stop _ k _ (step i j _ xs l p) end none =
-      let misses : P l.entry → ⊥ = λ h. none i (Ok (Some (i, l.entry))) (i ∷ [], here i) (found i l.entry l.stands h) in
-      let link : Links P chains i j = record { entry = l.entry; stands = l.stands; misses = misses; next = l.next } in
-      some_stop j k xs p end (λ last a (is, q) s. none last a (i ∷ is, step i j last is link q) s)
+  -- where a walk along the whole chain ends, each walk reaches some stop
+  pub some_stop : (first : ℕ) → Reaches chains first 0 → ((last m p : ℕ) (a : Result (Option (ℕ × E)) ElfError) → Comes chains first m last → NoneBefore P chains first m → Stops P chains last a p → ⊥) → ⊥
+  some_stop first (n, end) never = never 0 n 0 (Ok None) end (none_all first never n) at_end
 
-  -- where the plain walk ends, no walk stops with a refusal
-  pub no_refusal : (first last : ℕ) (is : List ℕ) (error : ElfError) → Path P chains first is last → Stops (Nothing {E = E}) chains last (Err error) → Reaches (Nothing {E = E}) chains first 0 → 0 < last → ⊥
-  no_refusal first last is error p s (xs, q) above =
-      let same : Same (Nothing {E = E}) chains last 0 is xs = stop_once (Nothing {E = E}) chains first last 0 is xs (Err error) (Ok None) (plain_path first last is p) s q at_end in
-      let e : last ≡ 0 = same.last in
-      omega arith
-
-  -- a walk stops at 0 with nothing found
-  pub zero_stops : (i : ℕ) (a : Result (Option (ℕ × E)) ElfError) → Stops P chains i a → i ≡ 0 → a ≡ Ok None
-  zero_stops _ _ at_end end = refl
-  zero_stops _ _ (past_chains i above past) end = absurd (omega arith)
-  zero_stops _ _ (past_symbols i above within absent) end = absurd (omega arith)
-  zero_stops _ _ (found i e stands holds) end = absurd (omega arith)
-  zero_stops _ _ (refused i e error stands misses refuses) end = absurd (omega arith)
+  -- what a walk that finds nothing could have reached has no P
+  pub passed_none : (first n i v : ℕ) (e : E) → Comes chains first n 0 → NoneBefore P chains first n → Comes chains first v i → 0 < i → slice_get chains.symbols i ≡ Some e → P e → ⊥
+  passed_none first n i v e end none at above there holds =
+      by_order chains ⊥ v n
+      (λ same. (let zero_at : i ≡ 0 = comes_once chains first n i 0 (comes_in chains first v n i same at) end in omega arith))
+      (λ earlier. (let (j, l) = goes_on chains first n 0 v i end earlier at in
+      let symbol : slice_get chains.symbols i ≡ Some l.entry = l.stands.symbol in
+      let entry : e ≡ l.entry = cc in
+      none v earlier i l.entry at l.stands (subst P entry holds)))
+      (λ later. (let (j, l) = goes_on chains first v i n 0 at later end in end_links chains 0 j refl l))
 
 -- where the chains of all buckets end, so does that of a name
-pub start_ends : {E : Type 0} (table : HashTable) (symbols : List E) (name : List ℕ) (b : Result ℕ ElfError) → EndsBelow table symbols (bucket_count_of table) → start_of table name ≡ Some b → (first : ℕ) × (b ≡ Ok first) × Reaches Nothing (chains_of table symbols) first 0
+pub start_ends : {E : Type 0} (table : HashTable) (symbols : List E) (name : List ℕ) (b : Result ℕ ElfError) → EndsBelow table symbols (bucket_count_of table) → start_of table name ≡ Some b → (first : ℕ) × (b ≡ Ok first) × Reaches (chains_of table symbols) first 0
 start_ends table symbols name b ends start = go (eqb_tells (bucket_count_of table) 0)
   where
-    go : ((eqb (bucket_count_of table) 0 ≡ true) × (bucket_count_of table ≡ 0)) ⊎ ((eqb (bucket_count_of table) 0 ≡ false) × (bucket_count_of table ≢ 0)) → (first : ℕ) × (b ≡ Ok first) × Reaches Nothing (chains_of table symbols) first 0
+    go : ((eqb (bucket_count_of table) 0 ≡ true) × (bucket_count_of table ≡ 0)) ⊎ ((eqb (bucket_count_of table) 0 ≡ false) × (bucket_count_of table ≢ 0)) → (first : ℕ) × (b ≡ Ok first) × Reaches (chains_of table symbols) first 0
     go (inl (_, none)) = let e : start_of table name ≡ None = start_none table name none in cc
     go (inr (_, some)) =
         let at_bucket : Some (bucket_of table (hash_number name % bucket_count_of table)) ≡ Some b = sym (start_some table name some) ∙ start in
@@ -67,72 +62,42 @@ start_ends table symbols name b ends start = go (eqb_tells (bucket_count_of tabl
         (first, cc, r)
 
 module _ {E : Type 0} (P : E → Type 0) (table : HashTable) (symbols : Symbols E) (name : List ℕ) where
-  stop_finds : (first last : ℕ) (is : List ℕ) (a : Result (Option (ℕ × E)) ElfError) → IsGood table symbols → start_of table name ≡ Some (Ok first) → Reaches Nothing (chains_of table symbols.items) first 0 → Path P (chains_of table symbols.items) first is last → Stops P (chains_of table symbols.items) last a → FindsAll symbols name P a
-  stop_finds first _ is _ good start zero' p at_end = λ (i, e, global, holds).
-      let chains = chains_of table symbols.items in
-      let (first', start', (us, q)) = good.holds i e name global in
+  stop_finds : (first n last p : ℕ) (a : Result (Option (ℕ × E)) ElfError) → IsGood table symbols → start_of table name ≡ Some (Ok first) → Reaches (chains_of table symbols.items) first 0 → Comes (chains_of table symbols.items) first n last → NoneBefore P (chains_of table symbols.items) first n → Stops P (chains_of table symbols.items) last a p → FindsAll symbols name P a
+  stop_finds first n _ _ _ good start end c none at_end = λ (i, e, global, holds).
+      let (first', start', (v, at)) = good.holds i e name global in
       let same : first' ≡ first = cc in
-      let q' : Path Nothing chains first us i = subst (λ x. Path Nothing chains x us i) same q in
-      let above : 0 < i = global.not_first in
-      let (j, l) = on_the_way P chains first i 0 us is q' p (λ e. omega arith) (λ j l. (let h : 0 < 0 = l.stands.not_end in omega arith)) in
-      let symbol : slice_get symbols.items i ≡ Some e = global.stands in
-      let there : slice_get symbols.items i ≡ Some l.entry = l.stands.symbol in
-      let entry : e ≡ l.entry = cc in
-      l.misses (subst P entry holds)
-  stop_finds first last is _ good start zero' p (past_chains i above past) = no_refusal P (chains_of table symbols.items) first i is ChainIndex p (past_chains i above past) zero' above
-  stop_finds first last is _ good start zero' p (past_symbols i above within absent) = no_refusal P (chains_of table symbols.items) first i is SymbolIndex p (past_symbols i above within absent) zero' above
-  stop_finds first last is _ good start zero' p (found i e stands holds) = (stands.not_end, stands.symbol, holds)
-  stop_finds first last is _ good start zero' p (refused i e error stands misses refuses) = no_refusal P (chains_of table symbols.items) first i is error p (refused i e error stands (λ n. n) refuses) zero' stands.not_end
+      passed_none P (chains_of table symbols.items) first n i v e c none
+      (subst (λ x. Comes (chains_of table symbols.items) x v i) same at) global.not_first global.stands holds
+  stop_finds first n _ _ _ good start end c none (past_chains i above past) = no_refusal P (chains_of table symbols.items) first n i 0 ChainIndex c (past_chains i above past) end
+  stop_finds first n _ _ _ good start end c none (past_symbols i above within absent) = no_refusal P (chains_of table symbols.items) first n i 0 SymbolIndex c (past_symbols i above within absent) end
+  stop_finds first n _ _ _ good start end c none (found i e stands holds) = (stands.not_end, stands.symbol, holds)
+  stop_finds first n _ _ _ good start end c none (refused i e error stands misses refuses) = no_refusal P (chains_of table symbols.items) first n i 1 error c (refused i e error stands misses refuses) end
 
   pub finds_all : (s : Option (Result ℕ ElfError)) (a : Result (Option (ℕ × E)) ElfError) (n : ℕ) → start_of table name ≡ s → IsGood table symbols → LooksFrom P (chains_of table symbols.items) s a n → FindsAll symbols name P a
   finds_all _ _ _ start good no_bucket = λ (i, e, global, holds).
       let (first, start', r) = good.holds i e name global in cc
   finds_all _ _ _ start good (bad_bucket error) =
       let (first, ok, r) = start_ends table symbols.items name (Err error) good.ends start in cc
-  finds_all _ _ _ start good (reaches first last is a p s) =
+  finds_all _ _ _ start good (reaches first last n p a c none s) =
       let (first', ok, r) = start_ends table symbols.items name (Ok first) good.ends start in
       let same : first' ≡ first = cc in
-      stop_finds first last is a good start (subst (λ x. Reaches Nothing (chains_of table symbols.items) x 0) same r) p s
-  finds_all _ _ _ start good (endless first n none) =
-      let (first', ok, (xs, r)) = start_ends table symbols.items name (Ok first) good.ends start in
+      stop_finds first n last p a good start (subst (λ x. Reaches (chains_of table symbols.items) x 0) same r) c none s
+  finds_all _ _ _ start good (endless first n never) =
+      let (first', ok, r) = start_ends table symbols.items name (Ok first) good.ends start in
       let same : first' ≡ first = cc in
-      some_stop P (chains_of table symbols.items) first 0 xs (subst (λ x. Path Nothing (chains_of table symbols.items) x xs 0) same r) refl none
+      some_stop P (chains_of table symbols.items) first (subst (λ x. Reaches (chains_of table symbols.items) x 0) same r) never
 
 -- where the chain of a bucket ends, no walk from it is refused
-pub plain_ends : {E : Type 0} (chains : Chains E) (first n : ℕ) (s : Option (Result ℕ ElfError)) (error : ElfError) → s ≡ Some (Ok first) → Reaches (Nothing {E = E}) chains first 0 → LooksFrom (Nothing {E = E}) chains s (Err error) n → ⊥
-plain_ends chains first _ _ _ start r (bad_bucket error) = cc
-plain_ends {E} chains first _ _ _ start (xs, r) (reaches first' last is (Err error) p s) =
+plain_ends : {E : Type 0} (P : E → Type 0) (chains : Chains E) (first n : ℕ) (s : Option (Result ℕ ElfError)) (error : ElfError) → s ≡ Some (Ok first) → Reaches chains first 0 → LooksFrom P chains s (Err error) n → ⊥
+plain_ends P chains first _ _ _ start end (bad_bucket error) = cc
+plain_ends P chains first _ _ _ start end (reaches first' last n p (Err error) c none s) =
     let same : first ≡ first' = cc in
-    let r' : Path (Nothing {E = E}) chains first' xs 0 = subst (λ x. Path (Nothing {E = E}) chains x xs 0) same r in
-    let one : Same (Nothing {E = E}) chains last 0 is xs = stop_once (Nothing {E = E}) chains first' last 0 is xs (Err error) (Ok None) p s r' at_end in
-    let e : Err error ≡ Ok None = zero_stops (Nothing {E = E}) chains last (Err error) s one.last in
-    cc
-plain_ends {E} chains first _ _ _ start (xs, r) (endless first' n none) =
+    no_refusal P chains first' n last p error c s (subst (λ x. Reaches chains x 0) same end)
+plain_ends P chains first _ _ _ start end (endless first' n never) =
     let same : first ≡ first' = cc in
-    none 0 (Ok None) (xs, subst (λ x. Path (Nothing {E = E}) chains x xs 0) same r) at_end
+    some_stop P chains first' (subst (λ x. Reaches chains x 0) same end) never
 
 pub not_at_fault : {E : Type 0} (table : HashTable) (symbols : List E) (k : ℕ) (error : ElfError) → Ends table symbols k → IsAtFault table symbols k error → ⊥
 not_at_fault {E} table symbols k error (first, ok, r) (n, looks) =
-    plain_ends (chains_of table symbols) first n (Some (bucket_of table k)) error (cc) r looks
-
-pub bucket_unrefused : {E : Type 0} (table : HashTable) (symbols : List E) (k first n : ℕ) (error : ElfError) → Ends table symbols k → bucket_of table k ≡ Ok first → LooksFrom (Nothing {E = E}) (chains_of table symbols) (Some (Ok first)) (Err error) n → ⊥
-bucket_unrefused {E} table symbols k first n error (first', ok, r) at_bucket looks =
-    let same : first' ≡ first = cc in
-    plain_ends (chains_of table symbols) first n (Some (Ok first)) error refl (subst (λ x. Reaches (Nothing {E = E}) (chains_of table symbols) x 0) same r) looks
-
-module _ {E : Type 0} (P : E → Type 0) (chains : Chains E) where
-  -- what is reached from an index is reached from the next
-  pub reached_next : (i j m : ℕ) → Links P chains i j → (i ≡ m → ⊥) → Reaches P chains i m → Reaches P chains j m
-  reached_next i j m l other (_, p) = go i m _ p other (λ j' l'. link_once P chains i j' j l' l)
-    where
-      go : (i m : ℕ) (xs : List ℕ) → Path P chains i xs m → (i ≡ m → ⊥) → ((j' : ℕ) → Links P chains i j' → j' ≡ j) → Reaches P chains j m
-      go _ _ _ (here i) other same = absurd (other refl)
-      go _ m _ (step i j' _ xs l' p) other same = (xs, subst (λ x. Path P chains x xs m) (same j' l') p)
-
-  -- the end reaches nothing else
-  pub end_reaches : (i m : ℕ) → i ≡ 0 → (i ≡ m → ⊥) → Reaches P chains i m → ⊥
-  end_reaches i m end other (_, p) = go i m _ p end other
-    where
-      go : (i m : ℕ) (xs : List ℕ) → Path P chains i xs m → i ≡ 0 → (i ≡ m → ⊥) → ⊥
-      go _ _ _ (here i) end other = other refl
-      go _ m _ (step i j' _ xs l' p) end other = let h : 0 < i = l'.stands.not_end in omega arith
+    let P : E → Type 0 = λ _. ⊥ in
+    plain_ends P (chains_of table symbols) first n (Some (bucket_of table k)) error (cc) r looks

@@ -12,8 +12,8 @@ use Rattle.xmas_elf.specs.SectionContent.{content, content_in, content_of, secti
 use Rattle.xmas_elf.specs.SectionHeader.{section_fields, section_type}
 use Rattle.xmas_elf.specs.declared.ElfFile.{ElfFile}
 use Rattle.xmas_elf.specs.declared.hash.HashTable.{HashTable}
-use Rattle.xmas_elf.specs.declared.sections.data.SectionData.{SectionData}
-use Rattle.xmas_elf.specs.declared.sections.data.SectionData.TheVariants as section_data
+use Rattle.xmas_elf.specs.declared.sections.content.SectionData.{SectionData}
+use Rattle.xmas_elf.specs.declared.sections.content.SectionData.TheVariants as section_data
 use Rattle.xmas_elf.specs.declared.sections.section_header.SectionHeader.{SectionHeader}
 
 -- the content is a hash table
@@ -36,24 +36,7 @@ hash_content file section c typed e =
 
 only_table : (d : SectionData) (order : Order) (bytes : List ℕ) → content d ≡ hash_table order bytes → ((table : HashTable) → d ≡ section_data.HashTable table → ⊥) → ⊥
 only_table (section_data.HashTable table) order b e other = other table refl
-only_table section_data.Empty order b e other = cc
-only_table (section_data.Undefined bytes) order b e other = cc
-only_table (section_data.StrArray bytes) order b e other = cc
-only_table (section_data.SymbolTable32 table) order b e other = cc
-only_table (section_data.SymbolTable64 table) order b e other = cc
-only_table (section_data.DynSymbolTable32 table) order b e other = cc
-only_table (section_data.DynSymbolTable64 table) order b e other = cc
-only_table (section_data.FnArray32 table) order b e other = cc
-only_table (section_data.FnArray64 table) order b e other = cc
-only_table (section_data.Rela32 table) order b e other = cc
-only_table (section_data.Rela64 table) order b e other = cc
-only_table (section_data.Rel32 table) order b e other = cc
-only_table (section_data.Rel64 table) order b e other = cc
-only_table (section_data.Dynamic32 table) order b e other = cc
-only_table (section_data.Dynamic64 table) order b e other = cc
-only_table (section_data.SymTabShIndex table) order b e other = cc
-only_table (section_data.Group flags table) order b e other = cc
-only_table (section_data.Note64 header body) order b e other = cc
+only_table _ order b e other = cc
 
 pub hash_data_is_table : (file : ElfFile) (section : SectionHeader) (d : SectionData) → section_type section ≡ Ok Hash → section_content_of file section ≡ Ok (content d) → ((table : HashTable) → d ≡ section_data.HashTable table → ⊥) → ⊥
 hash_data_is_table file section d typed e other =

@@ -1,21 +1,22 @@
 -- The first section with a name, as it is computed.
 use Rattle.std.proofs.Common.{◌≡◌, ◌≢◌, ℕ, zero, suc, ◌<◌, Bool, true, false, Decides, List, [], ◌∷◌, length, Option, None, Some, MatchOption, Result, Ok, Err, if◌then◌else◌, refl, sym, ap, ◌∙◌, subst, arith}
-use Rattle.std.specs.List.{AllWithin, HoldsAt, find}
+use Rattle.std.specs.List.{HoldsAt, find}
 use Rattle.std.proofs.lemmas.Slice.Eq.{bytes_eq-Decides}
 use Rattle.elf_base.specs.Refusal.{and_then}
 use Rattle.elf_base.specs.Text.{text_of}
 use Rattle.elf_base.specs.declared.error.ElfError.{ElfError}
 use Rattle.elf_base.specs.declared.error.ElfError.TheVariants.{NullName}
 use Rattle.elf_base.proofs.lemmas.TextLemmas.{is-text_of, text_of-is}
+use Rattle.elf_records.specs.SectionNumbers.{is_sh_type}
 use Rattle.elf_records.specs.declared.sections.ShType.{ShType}
 use Rattle.elf_records.specs.declared.sections.ShType.TheVariants.{Null}
-use Rattle.xmas_elf.specs.NameTable.{Bears, IsFirstInList, IsNameAt, NoneBears, is_name, name_of, name_table_of, section_named, shstr_of}
-use Rattle.xmas_elf.specs.SectionData.{is_null}
+use Rattle.xmas_elf.specs.First.{NoneBelow}
+use Rattle.xmas_elf.specs.NameTable.{Bears, FindsNamed, IsNameAt, is_name, name_of, name_table_of, section_named, shstr_of}
 use Rattle.xmas_elf.specs.SectionHeader.{section_fields, section_type}
 use Rattle.xmas_elf.specs.SectionList.{section_list}
 use Rattle.xmas_elf.specs.declared.ElfFile.{ElfFile}
 use Rattle.xmas_elf.specs.declared.sections.section_header.SectionHeader.{SectionHeader}
-use Rattle.xmas_elf.proofs.Names.{is-name_table, name_table-is}
+use Rattle.xmas_elf.proofs.FirstNamed.{is-name_table, name_table-is}
 
 -- a search by a test that decides a property
 module _ {H : Type 0} (test : H → Bool) (P : H → Type 0) (decides : (h : H) → Decides (test h) (P h)) where
@@ -23,7 +24,7 @@ module _ {H : Type 0} (test : H → Bool) (P : H → Type 0) (decides : (h : H) 
   fails h true is never = absurd (never ((decides h).0 is))
   fails h false is never = is
 
-  found_at : (items : List H) (i : ℕ) (h : H) → i < length items → HoldsAt (λ item. item ≡ h) items i → P h → AllWithin (λ item. ¬ P item) items 0 i → find test items ≡ Some h
+  found_at : (items : List H) (i : ℕ) (h : H) → i < length items → HoldsAt (λ item. item ≡ h) items i → P h → NoneBelow P items i → find test items ≡ Some h
   found_at [] i h below at has none = absurd (omega arith)
   found_at (item ∷ items) zero h below at has none =
       let same : item ≡ h = at h in
@@ -34,7 +35,7 @@ module _ {H : Type 0} (test : H → Bool) (P : H → Type 0) (decides : (h : H) 
       let later : find test items ≡ Some h = found_at items i h (omega arith) at has (λ k d low high. none (suc k) d (omega arith) (omega arith)) in
       rw here later
 
-  not_found : (items : List H) → AllWithin (λ item. ¬ P item) items 0 (length items) → find test items ≡ None
+  not_found : (items : List H) → NoneBelow P items (length items) → find test items ≡ None
   not_found [] none = refl
   not_found (item ∷ items) none =
       let here : test item ≡ false = fails item (test item) refl (none 0 item (omega arith) (omega arith)) in
@@ -61,14 +62,14 @@ is-shstr_of file index name at =
     rw table (is-text_of at.table index name at.is_text)
 
 -- and so is the name of a section
-not_null : (kind : ShType) → is_null kind ≡ false → kind ≢ Null
-not_null kind test same = let null : is_null kind ≡ true = ap is_null same in cc
+not_null : (kind : ShType) → is_sh_type Null kind ≡ false → kind ≢ Null
+not_null kind test same = let null : is_sh_type Null kind ≡ true = ap (is_sh_type Null) same in cc
 
-null_test : (kind : ShType) → kind ≢ Null → is_null kind ≡ false
+null_test : (kind : ShType) → kind ≢ Null → is_sh_type Null kind ≡ false
 null_test Null other = absurd (other refl)
 null_test _ other = refl
 
-bears_by_kind : (file : ElfFile) (section : SectionHeader) (name : List ℕ) (kind : ShType) (null : Bool) → section_type section ≡ Ok kind → is_null kind ≡ null → (if null then Err NullName else shstr_of file (section_fields section).name) ≡ Ok name → Bears file section name
+bears_by_kind : (file : ElfFile) (section : SectionHeader) (name : List ℕ) (kind : ShType) (null : Bool) → section_type section ≡ Ok kind → is_sh_type Null kind ≡ null → (if null then Err NullName else shstr_of file (section_fields section).name) ≡ Ok name → Bears file section name
 bears_by_kind file section name kind true typed test is = cc
 bears_by_kind file section name kind false typed test is = record {
   kind = kind;
@@ -77,8 +78,8 @@ bears_by_kind file section name kind false typed test is = record {
   named = shstr_of-is file (section_fields section).name name is;
 }
 
-bears_by : (file : ElfFile) (section : SectionHeader) (name : List ℕ) (kind : Result ShType ElfError) → section_type section ≡ kind → and_then kind (λ k. if is_null k then Err NullName else shstr_of file (section_fields section).name) ≡ Ok name → Bears file section name
-bears_by file section name (Ok kind) typed is = bears_by_kind file section name kind (is_null kind) typed refl is
+bears_by : (file : ElfFile) (section : SectionHeader) (name : List ℕ) (kind : Result ShType ElfError) → section_type section ≡ kind → and_then kind (λ k. if is_sh_type Null k then Err NullName else shstr_of file (section_fields section).name) ≡ Ok name → Bears file section name
+bears_by file section name (Ok kind) typed is = bears_by_kind file section name kind (is_sh_type Null kind) typed refl is
 bears_by file section name (Err error) typed is = cc
 
 name_of-bears : (file : ElfFile) (section : SectionHeader) (name : List ℕ) → name_of file section ≡ Ok name → Bears file section name
@@ -89,7 +90,7 @@ bears-name_of : (file : ElfFile) (section : SectionHeader) (name : List ℕ) →
 unfolding name_of
 bears-name_of file section name bears =
     let typed : section_type section ≡ Ok bears.kind = bears.typed in
-    let other : is_null bears.kind ≡ false = null_test bears.kind bears.not_null in
+    let other : is_sh_type Null bears.kind ≡ false = null_test bears.kind bears.not_null in
     rw (typed, other) (is-shstr_of file (section_fields section).name name bears.named)
 
 -- the test of a name decides whether the section bears it
@@ -106,17 +107,17 @@ is_name-Decides file name section = (
 )
 
 -- so the first section of the list that bears the name is the one that is computed
-pub first-section_named : (file : ElfFile) (name : List ℕ) (section : SectionHeader) → IsFirstInList file name section → section_named file name ≡ Some section
+first-section_named : (file : ElfFile) (name : List ℕ) (section : SectionHeader) → FindsNamed file name (Some section) → section_named file name ≡ Some section
 unfolding section_named
 first-section_named file name section (bears, (i, below, at, none)) =
     found_at (λ s. is_name name (name_of file s)) (λ s. Bears file s name) (is_name-Decides file name) (section_list file) i section below at bears none
 
-pub none-section_named : (file : ElfFile) (name : List ℕ) → NoneBears file name (length (section_list file)) → section_named file name ≡ None
+none-section_named : (file : ElfFile) (name : List ℕ) → FindsNamed file name None → section_named file name ≡ None
 unfolding section_named
 none-section_named file name none =
     not_found (λ s. is_name name (name_of file s)) (λ s. Bears file s name) (is_name-Decides file name) (section_list file) none
 
 -- the same of the answer of a search
-pub is-section_named : (file : ElfFile) (name : List ℕ) (r : Option SectionHeader) → MatchOption r (NoneBears file name (length (section_list file))) (IsFirstInList file name) → r ≡ section_named file name
+pub is-section_named : (file : ElfFile) (name : List ℕ) (r : Option SectionHeader) → FindsNamed file name r → r ≡ section_named file name
 is-section_named file name None found = sym (none-section_named file name found)
 is-section_named file name (Some section) found = sym (first-section_named file name section found)

@@ -7,7 +7,7 @@ use Rattle.elf_base.specs.declared.error.ElfError.TheVariants.{NoProgramHeaders,
 use Rattle.elf_base.specs.declared.header.Header.{Header}
 use Rattle.xmas_elf.specs.Counts.{program_count_of}
 use Rattle.xmas_elf.specs.HeaderTable.{IsKnownClass, is_known_class}
-use Rattle.xmas_elf.specs.ProgramHeader.{HasProgramEntry, program_at, program_entry, program_header_size, program_place, segment_of}
+use Rattle.xmas_elf.specs.ProgramHeader.{HasProgramEntry, program_at_index, program_entry, program_header_size, program_place, program_of}
 use Rattle.xmas_elf.specs.ProgramList.{program_list}
 use Rattle.xmas_elf.specs.declared.ElfFile.{ElfFile}
 use Rattle.xmas_elf.specs.declared.program.program_header.ProgramHeader.{ProgramHeader}
@@ -39,7 +39,7 @@ pub length-program_list : (file : ElfFile) → IsKnownClass (file_class file.hea
 length-program_list file class within placed large =
     let part = header_fields file.header.pt2 in
     let count = program_count_of file in
-    header_list-whole (segment_of file) count (λ i below. program_entry-has file.input.now file.header count i (record {
+    header_list-whole (program_of file) count (λ i below. program_entry-has file.input.now file.header count i (record {
       counted = below;
       placed = placed;
       within = entry_place-within part.ph_offset part.ph_entry_size count (length file.input.now) i within below;
@@ -61,7 +61,7 @@ program_entry-ends input header count index h is =
     ∷ (not (is_known_class (file_class header)), UnknownClass)
     ∷ (nat_lt (length input) (program_place header (index + 1)), ShortProgramHeader)
     ∷ (nat_lt part.ph_entry_size (program_header_size (file_class header)), SmallEntry)
-    ∷ []) (program_at input header index) h is in
+    ∷ []) (program_at_index input header index) h is in
     let within : program_place header (index + 1) ≤ length input = ltb-false _ _ passed.1.1.0 in
     let large : program_header_size (file_class header) ≤ part.ph_entry_size = ltb-false _ _ passed.1.1.1.0 in
     let least : 32 ≤ program_header_size (file_class header) = at_least_32 (file_class header == 1) in
@@ -70,4 +70,4 @@ program_entry-ends input header count index h is =
 -- so there are no more than there is room for
 pub program_list-fits : (file : ElfFile) → length (program_list file) * 32 ≤ length file.input.now
 program_list-fits file = let count = program_count_of file in
-    header_list-fits (segment_of file) count 32 (length file.input.now) (λ i h is. program_entry-ends file.input.now file.header count i h is)
+    header_list-fits (program_of file) count 32 (length file.input.now) (λ i h is. program_entry-ends file.input.now file.header count i h is)

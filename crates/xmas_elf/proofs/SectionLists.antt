@@ -3,15 +3,16 @@ use Rattle.std.proofs.Common.{◌≡◌, ℕ, suc, ◌+◌, ◌*◌, ◌≤◌, 
 use Rattle.std.proofs.lemmas.Bool.{le-ltb, ltb-false, ltb-true}
 use Rattle.elf_base.specs.FileHeader.{file_class}
 use Rattle.elf_base.specs.HeaderLayout.{header_fields}
+use Rattle.elf_base.specs.declared.error.ElfError.{ElfError}
 use Rattle.elf_base.specs.declared.error.ElfError.TheVariants.{ShortSectionHeader, UnknownClass, SmallEntry}
 use Rattle.elf_base.specs.declared.header.Header.{Header}
 use Rattle.xmas_elf.specs.Counts.{section_count_of}
 use Rattle.xmas_elf.specs.HeaderTable.{IsKnownClass, is_known_class}
-use Rattle.xmas_elf.specs.SectionHeader.{HasSectionEntry, section_at, section_entry, section_header_size, section_of, section_place}
+use Rattle.xmas_elf.specs.SectionHeader.{HasSectionEntry, section_at_index, section_entry, section_header_size, section_of, section_place}
 use Rattle.xmas_elf.specs.SectionList.{section_list}
 use Rattle.xmas_elf.specs.declared.ElfFile.{ElfFile}
 use Rattle.xmas_elf.specs.declared.sections.section_header.SectionHeader.{SectionHeader}
-use Rattle.xmas_elf.proofs.HeaderLists.{entries_fit, entry_place-within, header_list-fits, header_list-longest, header_list-whole, is_known_class-known, unless-passed}
+use Rattle.xmas_elf.proofs.HeaderLists.{AllPassed, entries_fit, entry_place-within, header_list-fits, header_list-longest, header_list-whole, is_known_class-known, unless-passed}
 
 section_entry-has : (input : List ℕ) (header : Header) (index : ℕ) → HasSectionEntry input header index → IsOk (section_entry input header index)
 unfolding section_entry
@@ -38,16 +39,22 @@ at_least_40 : (one : Bool) → 40 ≤ (if one then 40 else 64)
 at_least_40 true = omega arith
 at_least_40 false = omega arith
 
--- each section that can be read has bytes of its own
-section_entry-ends : (input : List ℕ) (header : Header) (index : ℕ) (h : SectionHeader) → section_entry input header index ≡ Ok h → suc index * 40 ≤ length input
+-- a section that can be read has passed each refusal
+abbrev rows : List ℕ → Header → ℕ → List (Bool × ElfError)
+rows input header index = (nat_lt (length input) (section_place header (index + 1)), ShortSectionHeader)
+    ∷ (not (is_known_class (file_class header)), UnknownClass)
+    ∷ (nat_lt (header_fields header.pt2).sh_entry_size (section_header_size (file_class header)), SmallEntry)
+    ∷ []
+
+section_entry-passed : (input : List ℕ) (header : Header) (index : ℕ) (h : SectionHeader) → section_entry input header index ≡ Ok h → AllPassed (rows input header index)
 unfolding section_entry
+section_entry-passed input header index h is = unless-passed (rows input header index) (section_at_index input header index) h is
+
+-- so it has bytes of its own
+section_entry-ends : (input : List ℕ) (header : Header) (index : ℕ) (h : SectionHeader) → section_entry input header index ≡ Ok h → suc index * 40 ≤ length input
 section_entry-ends input header index h is =
     let part = header_fields header.pt2 in
-    let passed = unless-passed (
-    (nat_lt (length input) (section_place header (index + 1)), ShortSectionHeader)
-    ∷ (not (is_known_class (file_class header)), UnknownClass)
-    ∷ (nat_lt part.sh_entry_size (section_header_size (file_class header)), SmallEntry)
-    ∷ []) (section_at input header index) h is in
+    let passed = section_entry-passed input header index h is in
     let within : section_place header (index + 1) ≤ length input = ltb-false _ _ passed.0 in
     let large : section_header_size (file_class header) ≤ part.sh_entry_size = ltb-false _ _ passed.1.1.0 in
     let least : 40 ≤ section_header_size (file_class header) = at_least_40 (file_class header == 1) in
@@ -58,15 +65,11 @@ pub section_list-fits : (file : ElfFile) → length (section_list file) * 40 ≤
 section_list-fits file = header_list-fits (section_of file) (section_count_of file) 40 (length file.input.now) (λ i h is. section_entry-ends file.input.now file.header i h is)
 
 -- a section before one that can be read can be read
-section_entry-before : (input : List ℕ) (header : Header) (i j : ℕ) (h : SectionHeader) → i ≤ j → section_entry input header j ≡ Ok h → section_entry input header i ≡ Ok (section_at input header i)
+section_entry-before : (input : List ℕ) (header : Header) (i j : ℕ) (h : SectionHeader) → i ≤ j → section_entry input header j ≡ Ok h → section_entry input header i ≡ Ok (section_at_index input header i)
 unfolding section_entry
 section_entry-before input header i j h before is =
     let part = header_fields header.pt2 in
-    let passed = unless-passed (
-    (nat_lt (length input) (section_place header (j + 1)), ShortSectionHeader)
-    ∷ (not (is_known_class (file_class header)), UnknownClass)
-    ∷ (nat_lt part.sh_entry_size (section_header_size (file_class header)), SmallEntry)
-    ∷ []) (section_at input header j) h is in
+    let passed = section_entry-passed input header j h is in
     let ends : section_place header (j + 1) ≤ length input = ltb-false _ _ passed.0 in
     let within : nat_lt (length input) (section_place header (i + 1)) ≡ false =
     le-ltb _ _ (entry_place-within part.sh_offset part.sh_entry_size (j + 1) (length input) i ends (omega arith)) in
@@ -78,7 +81,7 @@ section_stands file i h true is counted readable = ltb-true _ _ is
 section_stands file i h false is counted readable =
     let sections = header_list-longest (section_of file) (section_count_of file) in
     let past : length (section_list file) ≤ i = ltb-false _ _ is in
-    absurd (sections.longest (section_at file.input.now file.header (length (section_list file))) (omega (arith, past, counted)) (section_entry-before file.input.now file.header (length (section_list file)) i h past readable))
+    absurd (sections.longest (section_at_index file.input.now file.header (length (section_list file))) (omega (arith, past, counted)) (section_entry-before file.input.now file.header (length (section_list file)) i h past readable))
 
 pub section_in_list : (file : ElfFile) (i : ℕ) (h : SectionHeader) → i < section_count_of file → section_of file i ≡ Ok h → i < length (section_list file)
 section_in_list file i h counted readable = section_stands file i h (nat_lt i (length (section_list file))) refl counted readable

@@ -1,6 +1,6 @@
 -- The chains of a hash table: where a walk along one stops, what it goes on to, and what it reaches
 -- (gABI, "Hash Table"; how a walk is refused is this project's own).
-use Rattle.std.specs.Prelude.{◌≡◌, ◌<◌, ◌≤◌, ℕ, List, [], ◌∷◌, Option, Some, None, Result, Ok, Err, Bool, nat_lt, ◌&&◌, count_by, slice_get, length}
+use Rattle.std.specs.Prelude.{◌≡◌, ◌<◌, ◌≤◌, ◌+◌, ◌⊎◌, ℕ, zero, suc, List, Option, Some, None, Result, Ok, Err, slice_get, length}
 use Rattle.elf_base.specs.declared.error.ElfError.{ElfError}
 use Rattle.elf_base.specs.declared.error.ElfError.TheVariants.{ChainIndex, HashCycle, SymbolIndex}
 use Rattle.xmas_elf.specs.HashTable.{chain_count_of, chain_of, start_of}
@@ -23,48 +23,55 @@ pub record StandsAt {E : Type 0} (chains : Chains E) (i : ℕ) (e : E) : Type 0 
   pub below : i < chains.count
   pub symbol : slice_get chains.symbols i ≡ Some e
 
--- a walk that looks for P stops at an index with an answer
-pub data Stops {E : Type 0} (P : E → Type 0) (chains : Chains E) : ℕ → Result (Option (ℕ × E)) ElfError → Type 0 where
-  at_end : Stops P chains 0 (Ok None)
-  past_chains : (i : ℕ) → 0 < i → chains.count ≤ i → Stops P chains i (Err ChainIndex)
-  past_symbols : (i : ℕ) → 0 < i → i < chains.count → slice_get chains.symbols i ≡ None
-      → Stops P chains i (Err SymbolIndex)
-  found : (i : ℕ) (e : E) → StandsAt chains i e → P e → Stops P chains i (Ok (Some (i, e)))
-  refused : (i : ℕ) (e : E) (error : ElfError) → StandsAt chains i e → (P e → ⊥)
-      → chains.chain i ≡ Err error → Stops P chains i (Err error)
-
--- a walk that looks for P goes on from i to j
-pub record Links {E : Type 0} (P : E → Type 0) (chains : Chains E) (i j : ℕ) : Type 0 where
+-- a walk goes on from i to j
+pub record Links {E : Type 0} (chains : Chains E) (i j : ℕ) : Type 0 where
   pub entry : E
   pub stands : StandsAt chains i entry
-  pub misses : P entry → ⊥
   pub next : chains.chain i ≡ Ok j
 
--- the list begins with the first index and ends with the last, and each member links to the next
-pub data Path {E : Type 0} (P : E → Type 0) (chains : Chains E) : ℕ → List ℕ → ℕ → Type 0 where
-  here : (i : ℕ) → Path P chains i (i ∷ []) i
-  step : (i j k : ℕ) (is : List ℕ) → Links P chains i j → Path P chains j is k → Path P chains i (i ∷ is) k
+-- a walk from the first index comes to another in so many steps
+pub data Comes {E : Type 0} (chains : Chains E) (first : ℕ) : ℕ → ℕ → Type 0 where
+  starts : Comes chains first zero first
+  goes : (n i j : ℕ) → Comes chains first n i → Links chains i j → Comes chains first (suc n) j
 
--- a walk that looks for P comes from one index to the other
-abbrev pub Reaches : {E : Type 0} → (E → Type 0) → Chains E → ℕ → ℕ → Type 0
-Reaches P chains first last = (is : List ℕ) × Path P chains first is last
+-- a walk comes from one index to the other
+abbrev pub Reaches : {E : Type 0} → Chains E → ℕ → ℕ → Type 0
+Reaches chains first last = (n : ℕ) × Comes chains first n last
 
--- a symbol is compared at an index
-abbrev pub is_compared : {E : Type 0} → Chains E → ℕ → Bool
-is_compared chains i = nat_lt 0 i && nat_lt i chains.count && nat_lt i (length chains.symbols)
+-- no symbol with P stands where the walk comes in fewer steps than n
+abbrev pub NoneBefore : {E : Type 0} → (E → Type 0) → Chains E → ℕ → ℕ → Type 0
+NoneBefore {E} P chains first n =
+    (m : ℕ) → m < n → (i : ℕ) (e : E) → Comes chains first m i → StandsAt chains i e → ¬ P e
 
--- the answer of a walk that begins at a bucket, and how many symbols it compares: that of the stop
--- that it reaches, or HashCycle where it reaches none
+-- a walk that looks for P stops at an index with an answer, and compares so many symbols there
+pub data Stops {E : Type 0} (P : E → Type 0) (chains : Chains E) : ℕ → Result (Option (ℕ × E)) ElfError → ℕ → Type 0 where
+  at_end : Stops P chains 0 (Ok None) 0
+  past_chains : (i : ℕ) → 0 < i → chains.count ≤ i → Stops P chains i (Err ChainIndex) 0
+  past_symbols : (i : ℕ) → 0 < i → i < chains.count → slice_get chains.symbols i ≡ None
+      → Stops P chains i (Err SymbolIndex) 0
+  found : (i : ℕ) (e : E) → StandsAt chains i e → P e → Stops P chains i (Ok (Some (i, e))) 1
+  refused : (i : ℕ) (e : E) (error : ElfError) → StandsAt chains i e → (P e → ⊥)
+      → chains.chain i ≡ Err error → Stops P chains i (Err error) 1
+
+-- the answer of a walk that begins at a bucket, and how many symbols it compares: that of the first
+-- stop that it reaches, or HashCycle where it reaches none
 pub data LooksFrom {E : Type 0} (P : E → Type 0) (chains : Chains E) : Option (Result ℕ ElfError) → Result (Option (ℕ × E)) ElfError → ℕ → Type 0 where
   no_bucket : LooksFrom P chains None (Ok None) 0
   bad_bucket : (error : ElfError) → LooksFrom P chains (Some (Err error)) (Err error) 0
-  reaches : (first last : ℕ) (is : List ℕ) (answer : Result (Option (ℕ × E)) ElfError)
-      → Path P chains first is last → Stops P chains last answer
-      → LooksFrom P chains (Some (Ok first)) answer (count_by (is_compared chains) is)
+  reaches : (first last n more : ℕ) (answer : Result (Option (ℕ × E)) ElfError)
+      → Comes chains first n last → NoneBefore P chains first n → Stops P chains last answer more
+      → LooksFrom P chains (Some (Ok first)) answer (n + more)
   endless : (first n : ℕ)
-      → ((last : ℕ) (answer : Result (Option (ℕ × E)) ElfError) → Reaches P chains first last → Stops P chains last answer → ⊥)
+      → ((last m more : ℕ) (answer : Result (Option (ℕ × E)) ElfError) → Comes chains first m last → NoneBefore P chains first m → Stops P chains last answer more → ⊥)
       → LooksFrom P chains (Some (Ok first)) (Err HashCycle) n
 
 -- the answer of a look-up for P, which begins at the bucket of the name
 abbrev pub Looks : {E : Type 0} → (E → Type 0) → HashTable → List E → List ℕ → Result (Option (ℕ × E)) ElfError → ℕ → Type 0
 Looks P table symbols name = LooksFrom P (chains_of table symbols) (start_of table name)
+
+-- why a walk that has passed so many symbols goes no further than an index that isn't the end
+pub data Halts {E : Type 0} (chains : Chains E) (passed i : ℕ) : ElfError → Type 0 where
+  no_chain : chains.count ≤ i → Halts chains passed i ChainIndex
+  no_symbol : i < chains.count → slice_get chains.symbols i ≡ None → Halts chains passed i SymbolIndex
+  too_many : (e : E) → StandsAt chains i e → (chains.count ≤ passed) ⊎ (length chains.symbols ≤ passed)
+      → Halts chains passed i HashCycle

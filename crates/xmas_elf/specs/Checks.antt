@@ -1,8 +1,7 @@
--- What the checks of headers look at (this project's own, after the Rust crate; that of a section header
--- is in `SectionHeader`).
-use Rattle.std.specs.Prelude.{ℕ, ◌+◌, ◌%◌, ◌==◌, ◌&&◌, not, nat_eq, nat_lt, nat_le, is_err, Bool, true, false, [], ◌∷◌, length, Result, Ok}
+-- What the checks of headers look at (this project's own, after the Rust crate).
+use Rattle.std.specs.Prelude.{ℕ, ◌+◌, ◌%◌, ◌==◌, ◌&&◌, not, nat_eq, nat_lt, nat_le, is_err, Bool, [], ◌∷◌, length, Result, Ok}
 use lib.Pointwise.{pointwise}
-use Rattle.elf_base.specs.Refusal.{unless}
+use Rattle.elf_base.specs.Refusal.{and_then, unless}
 use Rattle.elf_base.specs.HeaderNumbers.{encoding_number, version_number}
 use Rattle.elf_base.specs.HeaderLayout.{header_fields, pt2_size}
 use Rattle.elf_base.specs.FileHeader.{file_class, magic_number}
@@ -10,14 +9,15 @@ use Rattle.elf_base.specs.declared.error.ElfError.{ElfError}
 use Rattle.elf_base.specs.declared.error.ElfError.TheVariants.{BadMagic, HeaderSize, NoClass, ClassMismatch, NoVersion, NoDataFormat, PhTableRange, ShTableRange, PhSizeMismatch, EntryPointRange, InvalidPhType, ShLibUsed, BadAlign}
 use Rattle.elf_base.specs.declared.header.HeaderPt2.{HeaderPt2}
 use Rattle.elf_base.specs.declared.header.HeaderPt2.TheVariants.{Header32, Header64}
-use Rattle.elf_records.specs.declared.program.Type as the_type
+use Rattle.elf_records.specs.ProgramNumbers.{has_ph_type}
 use Rattle.elf_records.specs.declared.program.Type.TheVariants.{ShLib}
 use Rattle.xmas_elf.specs.Counts.{program_count_of, section_count_of}
 use Rattle.xmas_elf.specs.ProgramHeader.{program_fields, program_place, program_record_size, segment_type}
-use Rattle.xmas_elf.specs.SectionHeader.{section_place}
+use Rattle.xmas_elf.specs.SectionHeader.{section_place, section_type}
 use Rattle.xmas_elf.specs.declared.ElfFile.{ElfFile}
 use Rattle.xmas_elf.specs.declared.program.program_header.ProgramHeader.{ProgramHeader}
 use Rattle.xmas_elf.specs.declared.program.records.ProgramHeader64.{ProgramHeader64}
+use Rattle.xmas_elf.specs.declared.sections.section_header.SectionHeader.{SectionHeader}
 
 -- the class whose part 2 this is
 abbrev pub part_class : HeaderPt2 → ℕ
@@ -37,10 +37,9 @@ header_check file = let header = file.header in unless (
     ∷ (nat_lt (length file.input.now) (section_place header (section_count_of file)), ShTableRange)
     ∷ []) tt
 
--- the type is ShLib, whose meaning is open (PT_SHLIB)
-abbrev pub is_sh_lib : Result the_type.Type ElfError → Bool
-is_sh_lib (Ok ShLib) = true
-is_sh_lib _ = false
+-- the one fault of a section header: a type that is none
+abbrev pub section_check : SectionHeader → Result (Unit {0}) ElfError
+section_check section = and_then (section_type section) (λ kind. Ok tt)
 
 -- the address and the offset of a segment differ modulo its alignment
 abbrev pub is_misaligned : ProgramHeader64 → Bool
@@ -53,6 +52,6 @@ program_check file program = let segment = program_fields program in unless (
     (not ((header_fields file.header.pt2).ph_entry_size == program_record_size program), PhSizeMismatch)
     ∷ (nat_le (length file.input.now) (segment.offset + segment.file_size), EntryPointRange)
     ∷ (is_err (segment_type segment), InvalidPhType)
-    ∷ (is_sh_lib (segment_type segment), ShLibUsed)
+    ∷ (has_ph_type ShLib (segment_type segment), ShLibUsed)
     ∷ (is_misaligned segment, BadAlign)
     ∷ []) tt

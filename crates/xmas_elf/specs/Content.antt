@@ -9,37 +9,49 @@ use Rattle.elf_base.specs.declared.error.ElfError.TheVariants.{Note32, NotMultip
 use Rattle.elf_records.specs.Note.{note_header}
 use Rattle.elf_records.specs.declared.sections.note.NoteHeader.{NoteHeader}
 
--- each kind of content, with the order of its numbers where it has any, and its bytes; the numbers in
--- the names are the class
+-- what the records of a table are; the numbers in the names are the class
+pub data TableKind : Type 0 where
+  symbols_32 symbols_64 dyn_symbols_32 dyn_symbols_64 : TableKind
+  functions_32 functions_64 section_indices : TableKind
+  rela_32 rela_64 rel_32 rel_64 dynamic_32 dynamic_64 : TableKind
+
+-- how many bytes each has
+abbrev pub record_size : TableKind → ℕ
+record_size symbols_32 = 16
+record_size symbols_64 = 24
+record_size dyn_symbols_32 = 16
+record_size dyn_symbols_64 = 24
+record_size functions_32 = 4
+record_size functions_64 = 8
+record_size section_indices = 4
+record_size rela_32 = 12
+record_size rela_64 = 24
+record_size rel_32 = 8
+record_size rel_64 = 16
+record_size dynamic_32 = 8
+record_size dynamic_64 = 16
+
+-- bytes, and the order of their numbers where they have any; of a group the flags and the section
+-- indices, of a note its header and what follows that
 pub data Content : Type 0 where
   empty : Content
   undefined : List ℕ → Content
   strings : List ℕ → Content
-  symbols_32 : Order → List ℕ → Content
-  symbols_64 : Order → List ℕ → Content
-  dyn_symbols_32 : Order → List ℕ → Content
-  dyn_symbols_64 : Order → List ℕ → Content
-  functions_32 : Order → List ℕ → Content
-  functions_64 : Order → List ℕ → Content
-  rela_32 : Order → List ℕ → Content
-  rela_64 : Order → List ℕ → Content
-  rel_32 : Order → List ℕ → Content
-  rel_64 : Order → List ℕ → Content
-  dynamic_32 : Order → List ℕ → Content
-  dynamic_64 : Order → List ℕ → Content
-  section_indices : Order → List ℕ → Content
+  table_of : TableKind → Order → List ℕ → Content
   group : ℕ → Order → List ℕ → Content
   note_64 : NoteHeader → List ℕ → Content
   hash_table : Order → List ℕ → Content
 
--- records of `size` bytes each: the bytes are a whole number of them
-abbrev pub table_of : ℕ → (List ℕ → Content) → List ℕ → Result Content ElfError
-table_of size kind bytes = unless ((not (length bytes % size == 0), NotMultiple) ∷ []) (kind bytes)
+-- a table: the bytes are a whole number of records
+abbrev pub whole_table : TableKind → Order → List ℕ → Result Content ElfError
+whole_table kind order bytes =
+    unless ((not (length bytes % record_size kind == 0), NotMultiple) ∷ []) (table_of kind order bytes)
 
--- what one class has, or the other
-abbrev pub by_class : ℕ → Result Content ElfError → Result Content ElfError → Result Content ElfError
-by_class class narrow wide =
-    if class == 1 then narrow else (if class == 2 then wide else Err UnknownClass)
+-- the same, of records that differ by the class
+abbrev pub by_class : TableKind → TableKind → ℕ → Order → List ℕ → Result Content ElfError
+by_class narrow wide class order bytes =
+    if class == 1 then whole_table narrow order bytes
+    else (if class == 2 then whole_table wide order bytes else Err UnknownClass)
 
 -- a group of sections: its flags in four bytes, and then section indices of four bytes each
 abbrev pub group_of : Order → List ℕ → Result Content ElfError
@@ -59,10 +71,6 @@ note_of class order bytes = unless (
 -- a hash table, which begins with its two counts and a bucket
 abbrev pub hash_table_of : Order → List ℕ → Result Content ElfError
 hash_table_of order bytes = unless ((nat_lt (length bytes) 12, ShortData) ∷ []) (hash_table order bytes)
-
--- the bytes of a table have the property, and its numbers this order
-abbrev pub HoldsTable : (List ℕ → Type 0) → Order → Order → List ℕ → Type 0
-HoldsTable Is order own bytes = (own ≡ order) × Is bytes
 
 -- a group stands in bytes with the property
 pub record HoldsGroup (Is : List ℕ → Type 0) (order own : Order) (flags : ℕ) (indices : List ℕ) : Type 0 where
@@ -84,19 +92,7 @@ abbrev pub Holds : (List ℕ → Type 0) → Order → Content → Type 0
 Holds Is order empty = Unit {0}
 Holds Is order (undefined bytes) = Is bytes
 Holds Is order (strings bytes) = Is bytes
+Holds Is order (table_of kind own bytes) = (own ≡ order) × Is bytes
 Holds Is order (group flags own indices) = HoldsGroup Is order own flags indices
 Holds Is order (note_64 header body) = HoldsNote Is order header body
-Holds Is order (symbols_32 own bytes) = HoldsTable Is order own bytes
-Holds Is order (symbols_64 own bytes) = HoldsTable Is order own bytes
-Holds Is order (dyn_symbols_32 own bytes) = HoldsTable Is order own bytes
-Holds Is order (dyn_symbols_64 own bytes) = HoldsTable Is order own bytes
-Holds Is order (functions_32 own bytes) = HoldsTable Is order own bytes
-Holds Is order (functions_64 own bytes) = HoldsTable Is order own bytes
-Holds Is order (rela_32 own bytes) = HoldsTable Is order own bytes
-Holds Is order (rela_64 own bytes) = HoldsTable Is order own bytes
-Holds Is order (rel_32 own bytes) = HoldsTable Is order own bytes
-Holds Is order (rel_64 own bytes) = HoldsTable Is order own bytes
-Holds Is order (dynamic_32 own bytes) = HoldsTable Is order own bytes
-Holds Is order (dynamic_64 own bytes) = HoldsTable Is order own bytes
-Holds Is order (section_indices own bytes) = HoldsTable Is order own bytes
-Holds Is order (hash_table own bytes) = HoldsTable Is order own bytes
+Holds Is order (hash_table own bytes) = (own ≡ order) × Is bytes

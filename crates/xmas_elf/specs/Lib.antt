@@ -16,7 +16,7 @@ pub use Rattle.elf_records.specs.ProgramNumbers
 pub use Rattle.elf_records.specs.SymbolNumbers
 pub use Rattle.elf_records.specs.HashNumber
 pub use Rattle.elf_records.specs.Relocation
-pub use Rattle.elf_records.specs.Tag
+pub use Rattle.elf_records.specs.Dynamic
 pub use Rattle.elf_records.specs.Note
 pub use Rattle.elf_base.specs.declared.error.ElfError
 pub use Rattle.elf_base.specs.declared.bytes.Order
@@ -25,19 +25,23 @@ pub use Rattle.elf_base.specs.declared.header.HeaderPt1
 pub use Rattle.elf_base.specs.declared.header.HeaderPt2
 pub use Rattle.elf_base.specs.declared.header.HeaderPt2_
 pub use Rattle.elf_base.specs.declared.header.TheConstants as HeaderConstants
-pub use Rattle.elf_base.specs.declared.header.kinds.Class
-pub use Rattle.elf_base.specs.declared.header.kinds.Data
-pub use Rattle.elf_base.specs.declared.header.kinds.Version
-pub use Rattle.elf_base.specs.declared.header.kinds.OsAbi
-pub use Rattle.elf_base.specs.declared.header.kinds.Type as HeaderType
-pub use Rattle.elf_base.specs.declared.header.kinds.Machine
+pub use Rattle.elf_base.specs.declared.header.numbers.Class
+pub use Rattle.elf_base.specs.declared.header.numbers.Data
+pub use Rattle.elf_base.specs.declared.header.numbers.Version
+pub use Rattle.elf_base.specs.declared.header.numbers.OsAbi
+pub use Rattle.elf_base.specs.declared.header.numbers.Type as HeaderType
+pub use Rattle.elf_base.specs.declared.header.numbers.Machine
 pub use Rattle.elf_records.specs.declared.sections.ShType
 pub use Rattle.elf_records.specs.declared.sections.note.NoteHeader
 pub use Rattle.elf_records.specs.declared.sections.TheConstants as SectionConstants
 pub use Rattle.elf_records.specs.declared.program.Type as SegmentType
 pub use Rattle.elf_records.specs.declared.program.Flags
 pub use Rattle.elf_records.specs.declared.program.TheConstants as SegmentConstants
+pub use Rattle.elf_records.specs.declared.symbol_table.Binding
 pub use Rattle.elf_records.specs.declared.symbol_table.Type as SymbolType
+pub use Rattle.elf_records.specs.declared.symbol_table.Visibility
+pub use Rattle.elf_records.specs.declared.dynamic.Tag as DynamicTag
+pub mod First
 pub mod HeaderTable
 pub mod SectionHeader
 pub mod Counts
@@ -48,6 +52,7 @@ pub mod Symbol
 pub mod HashTable
 pub mod Symbols
 pub mod Chain
+pub mod Counted
 pub mod Good
 pub mod Content
 pub mod SectionContent
@@ -55,6 +60,7 @@ pub mod Strings
 pub mod NameTable
 pub mod NamedData
 pub mod StringTable
+pub mod SymbolName
 pub mod SymbolSection
 pub mod SymbolText
 pub mod SectionText
@@ -62,9 +68,10 @@ pub mod ProgramHeader
 pub mod ProgramList
 pub mod SegmentData
 pub mod SegmentContent
-pub mod SegmentText
+pub mod ProgramText
 pub mod Checks
 pub mod BuildId
 pub mod Link
 pub mod HashReport
 pub mod Report
+pub mod Types

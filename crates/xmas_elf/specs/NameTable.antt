@@ -1,18 +1,19 @@
 -- The names of sections, and the section with a name (gABI, "String Table" and "ELF Header",
 -- e_shstrndx; that the table goes on past its section, of whatever type, is this project's own).
 use Rattle.std.specs.Prelude.{◌≡◌, ◌≢◌, ℕ, ◌<◌, ◌≤◌, nat_lt, Bool, false, List, [], ◌∷◌, length, drop, Option, Result, Ok, Err, if◌then◌else◌}
-use Rattle.std.specs.List.{AllWithin, HoldsAt, find}
+use Rattle.std.specs.List.{find}
 use Rattle.std.specs.Str.{bytes_eq}
 use Rattle.elf_base.specs.Refusal.{and_then, unless}
 use Rattle.elf_base.specs.Text.{IsText, text_of}
 use Rattle.elf_base.specs.TextCompared.{TextCompared}
 use Rattle.elf_base.specs.declared.error.ElfError.{ElfError}
 use Rattle.elf_base.specs.declared.error.ElfError.TheVariants.{ShortSectionOffset, NullName}
+use Rattle.elf_records.specs.SectionNumbers.{is_sh_type}
 use Rattle.elf_records.specs.declared.sections.ShType.{ShType}
 use Rattle.elf_records.specs.declared.sections.ShType.TheVariants.{Null}
 use Rattle.xmas_elf.specs.Counts.{section_count_of, shstr_index_of}
+use Rattle.xmas_elf.specs.First.{FindsFirst}
 use Rattle.xmas_elf.specs.HeaderTable.{EachBelow}
-use Rattle.xmas_elf.specs.SectionData.{is_null}
 use Rattle.xmas_elf.specs.SectionHeader.{section_fields, section_of, section_type}
 use Rattle.xmas_elf.specs.SectionList.{section_list}
 use Rattle.xmas_elf.specs.declared.ElfFile.{ElfFile}
@@ -62,7 +63,7 @@ pub record Bears (file : ElfFile) (section : SectionHeader) (name : List ℕ) : 
 -- the name of a section as it is computed, or why it has none
 unfoldable pub name_of : ElfFile → SectionHeader → Result (List ℕ) ElfError
 name_of file section = and_then (section_type section)
-    (λ kind. if is_null kind then Err NullName else shstr_of file (section_fields section).name)
+    (λ kind. if is_sh_type Null kind then Err NullName else shstr_of file (section_fields section).name)
 
 -- section header `index` bears the name, and none before it does
 pub record IsFirstNamed (file : ElfFile) (name : List ℕ) (index : ℕ) (section : SectionHeader) : Type 0 where
@@ -71,19 +72,9 @@ pub record IsFirstNamed (file : ElfFile) (name : List ℕ) (index : ℕ) (sectio
   pub bears : Bears file section name
   pub first : EachBelow (section_of file) (λ earlier. ¬ Bears file earlier name) index
 
--- no section of the list bears the name, below place `high`
-abbrev pub NoneBears : ElfFile → List ℕ → ℕ → Type 0
-NoneBears file name high = AllWithin (λ section. ¬ Bears file section name) (section_list file) 0 high
-
--- the section at place `i` of the list bears the name, and none before it does
-abbrev pub IsFirstPlace : ElfFile → List ℕ → ℕ → Type 0
-IsFirstPlace file name i = (i < length (section_list file))
-    × HoldsAt (λ section. Bears file section name) (section_list file) i × NoneBears file name i
-
--- the section stands in the list and bears the name, and none before it does
-abbrev pub IsFirstInList : ElfFile → List ℕ → SectionHeader → Type 0
-IsFirstInList file name section = Bears file section name
-    × ((i : ℕ) × (i < length (section_list file)) × HoldsAt (λ item. item ≡ section) (section_list file) i × NoneBears file name i)
+-- what a search for the name along the list of sections answers
+abbrev pub FindsNamed : ElfFile → List ℕ → Option SectionHeader → Type 0
+FindsNamed file name found = FindsFirst (λ section. Bears file section name) (section_list file) found
 
 -- the name of a section is this one, as a test
 abbrev pub is_name : List ℕ → Result (List ℕ) ElfError → Bool

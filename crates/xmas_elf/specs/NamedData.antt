@@ -6,14 +6,10 @@ use Rattle.xmas_elf.specs.SectionData.{HasSectionData, IsSectionData}
 use Rattle.xmas_elf.specs.declared.ElfFile.{ElfFile}
 use Rattle.xmas_elf.specs.declared.sections.section_header.SectionHeader.{SectionHeader}
 
--- `bytes` are the data of the section, which is the first that bears the name
-pub record IsNamedData (file : ElfFile) (name : List ℕ) (section : SectionHeader) (bytes : List ℕ) : Type 0 where
+-- `bytes` are the data of the first section that bears the name
+pub record IsDataNamed (file : ElfFile) (name bytes : List ℕ) : Type 0 where
   pub index : ℕ
+  pub section : SectionHeader
   pub first : IsFirstNamed file name index section
   pub there : HasSectionData file section
   pub is_data : IsSectionData file section bytes
-
--- `bytes` are the data of the first section that bears the name
-pub record IsDataNamed (file : ElfFile) (name bytes : List ℕ) : Type 0 where
-  pub section : SectionHeader
-  pub named : IsNamedData file name section bytes

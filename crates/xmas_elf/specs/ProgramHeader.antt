@@ -82,14 +82,14 @@ program_place header index = let part = header_fields header.pt2 in
     entry_place part.ph_offset part.ph_entry_size index
 
 -- the program header at a place, its width by the class
-abbrev pub program_record : ℕ → Order → ℕ → List ℕ → ProgramHeader
-program_record class order place input =
+abbrev pub program_at_place : ℕ → Order → ℕ → List ℕ → ProgramHeader
+program_at_place class order place input =
     if class == 1 then Ph32 (program_header_32 order place input) else Ph64 (program_header_64 order place input)
 
 -- the program header that lies at an index, its width and order by part 1 of the ELF header
-abbrev pub program_at : List ℕ → Header → ℕ → ProgramHeader
-program_at input header index =
-    program_record (file_class header) (file_order header) (program_place header index) input
+abbrev pub program_at_index : List ℕ → Header → ℕ → ProgramHeader
+program_at_index input header index =
+    program_at_place (file_class header) (file_order header) (program_place header index) input
 
 -- program header `index` can be read, where the table has `count` entries: there is a table with so
 -- many, the entry lies in the input and is large enough for its class
@@ -107,18 +107,18 @@ program_entry input header count index = let part = header_fields header.pt2 in 
     ∷ (not (is_known_class (file_class header)), UnknownClass)
     ∷ (nat_lt (length input) (program_place header (index + 1)), ShortProgramHeader)
     ∷ (nat_lt part.ph_entry_size (program_header_size (file_class header)), SmallEntry)
-    ∷ []) (program_at input header index)
+    ∷ []) (program_at_index input header index)
 
 -- the same by the count of the ELF header
 abbrev pub HasProgramHeader : List ℕ → Header → ℕ → Type 0
 HasProgramHeader input header = HasProgramEntry input header (header_fields header.pt2).ph_count
 
-abbrev pub program_header_of : List ℕ → Header → ℕ → Result ProgramHeader ElfError
-program_header_of input header = program_entry input header (header_fields header.pt2).ph_count
+abbrev pub program_by_u16 : List ℕ → Header → ℕ → Result ProgramHeader ElfError
+program_by_u16 input header = program_entry input header (header_fields header.pt2).ph_count
 
 -- the same by the number of segments of a file
-abbrev pub HasSegment : ElfFile → ℕ → Type 0
-HasSegment file = HasProgramEntry file.input.now file.header (program_count_of file)
+abbrev pub HasProgram : ElfFile → ℕ → Type 0
+HasProgram file = HasProgramEntry file.input.now file.header (program_count_of file)
 
-abbrev pub segment_of : ElfFile → ℕ → Result ProgramHeader ElfError
-segment_of file = program_entry file.input.now file.header (program_count_of file)
+abbrev pub program_of : ElfFile → ℕ → Result ProgramHeader ElfError
+program_of file = program_entry file.input.now file.header (program_count_of file)

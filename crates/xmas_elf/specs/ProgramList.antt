@@ -3,20 +3,20 @@
 use Rattle.std.specs.Prelude.{◌≡◌, List, Option}
 use Rattle.xmas_elf.specs.Counts.{program_count_of}
 use Rattle.xmas_elf.specs.HeaderTable.{HeaderStep, header_list, header_rest}
-use Rattle.xmas_elf.specs.ProgramHeader.{segment_of}
+use Rattle.xmas_elf.specs.ProgramHeader.{program_of}
 use Rattle.xmas_elf.specs.declared.ElfFile.{ElfFile}
 use Rattle.xmas_elf.specs.declared.program.ProgramIter.{ProgramIter}
 use Rattle.xmas_elf.specs.declared.program.program_header.ProgramHeader.{ProgramHeader}
 
 -- the segments of a file: its headers by index, up to the count or the first that is refused
 abbrev pub program_list : ElfFile → List ProgramHeader
-program_list file = header_list (segment_of file) (program_count_of file)
+program_list file = header_list (program_of file) (program_count_of file)
 
 -- what an iterator over them has left
 abbrev pub program_rest : ProgramIter → List ProgramHeader
-program_rest iter = header_rest (segment_of iter.file.now) (program_count_of iter.file.now) iter.next_index
+program_rest iter = header_rest (program_of iter.file.now) (program_count_of iter.file.now) iter.next_index
 
 -- one call of `next`, which keeps the file
 abbrev pub ProgramStep : ProgramIter → Option ProgramHeader → ProgramIter → Type 0
 ProgramStep old result new = (new.file ≡ old.file)
-    × HeaderStep program_rest (λ iter. iter.next_index) (λ iter. segment_of iter.file.now) old result new
+    × HeaderStep program_rest (λ iter. iter.next_index) (λ iter. program_of iter.file.now) old result new

@@ -16,7 +16,7 @@ use Rattle.xmas_elf.specs.ProgramList.{program_list}
 use Rattle.xmas_elf.specs.SectionHeader.{section_fields}
 use Rattle.xmas_elf.specs.SectionList.{section_list}
 use Rattle.xmas_elf.specs.SectionText.{section_type_text}
-use Rattle.xmas_elf.specs.SegmentText.{segment_type_text}
+use Rattle.xmas_elf.specs.ProgramText.{segment_type_text}
 use Rattle.xmas_elf.specs.declared.ElfFile.{ElfFile}
 use Rattle.xmas_elf.specs.declared.program.program_header.ProgramHeader.{ProgramHeader}
 use Rattle.xmas_elf.specs.declared.report.ReportFault.{ReportFault}

@@ -8,13 +8,13 @@ use Rattle.elf_base.specs.declared.bytes.Order.{Order}
 use Rattle.elf_base.specs.declared.error.ElfError.{ElfError}
 use Rattle.elf_records.specs.declared.sections.ShType.{ShType}
 use Rattle.elf_records.specs.declared.sections.ShType.TheVariants as sh_type
-use Rattle.xmas_elf.specs.Content.{Content, empty, undefined, strings, symbols_32, symbols_64, dyn_symbols_32, dyn_symbols_64, functions_32, functions_64, rela_32, rela_64, rel_32, rel_64, dynamic_32, dynamic_64, section_indices, group, note_64, hash_table, table_of, by_class, group_of, note_of, hash_table_of}
+use Rattle.xmas_elf.specs.Content.{Content, by_class, dyn_symbols_32, dyn_symbols_64, dynamic_32, dynamic_64, empty, functions_32, functions_64, group, group_of, hash_table, hash_table_of, note_64, note_of, rel_32, rel_64, rela_32, rela_64, section_indices, strings, symbols_32, symbols_64, table_of, undefined, whole_table}
 use Rattle.xmas_elf.specs.HashTable.{hash_data, hash_order}
 use Rattle.xmas_elf.specs.Range.{range_of}
 use Rattle.xmas_elf.specs.SectionHeader.{section_fields, section_type}
 use Rattle.xmas_elf.specs.declared.ElfFile.{ElfFile}
-use Rattle.xmas_elf.specs.declared.sections.data.SectionData.{SectionData}
-use Rattle.xmas_elf.specs.declared.sections.data.SectionData.TheVariants as section_data
+use Rattle.xmas_elf.specs.declared.sections.content.SectionData.{SectionData}
+use Rattle.xmas_elf.specs.declared.sections.content.SectionData.TheVariants as section_data
 use Rattle.xmas_elf.specs.declared.sections.section_header.SectionHeader.{SectionHeader}
 
 -- what a value of `SectionData` holds
@@ -22,19 +22,19 @@ abbrev pub content : SectionData → Content
 content section_data.Empty = empty
 content (section_data.Undefined bytes) = undefined bytes.now
 content (section_data.StrArray bytes) = strings bytes.now
-content (section_data.SymbolTable32 table) = symbols_32 (table_order table) (table_data table)
-content (section_data.SymbolTable64 table) = symbols_64 (table_order table) (table_data table)
-content (section_data.DynSymbolTable32 table) = dyn_symbols_32 (table_order table) (table_data table)
-content (section_data.DynSymbolTable64 table) = dyn_symbols_64 (table_order table) (table_data table)
-content (section_data.FnArray32 table) = functions_32 (table_order table) (table_data table)
-content (section_data.FnArray64 table) = functions_64 (table_order table) (table_data table)
-content (section_data.Rela32 table) = rela_32 (table_order table) (table_data table)
-content (section_data.Rela64 table) = rela_64 (table_order table) (table_data table)
-content (section_data.Rel32 table) = rel_32 (table_order table) (table_data table)
-content (section_data.Rel64 table) = rel_64 (table_order table) (table_data table)
-content (section_data.Dynamic32 table) = dynamic_32 (table_order table) (table_data table)
-content (section_data.Dynamic64 table) = dynamic_64 (table_order table) (table_data table)
-content (section_data.SymTabShIndex table) = section_indices (table_order table) (table_data table)
+content (section_data.SymbolTable32 table) = table_of symbols_32 (table_order table) (table_data table)
+content (section_data.SymbolTable64 table) = table_of symbols_64 (table_order table) (table_data table)
+content (section_data.DynSymbolTable32 table) = table_of dyn_symbols_32 (table_order table) (table_data table)
+content (section_data.DynSymbolTable64 table) = table_of dyn_symbols_64 (table_order table) (table_data table)
+content (section_data.FnArray32 table) = table_of functions_32 (table_order table) (table_data table)
+content (section_data.FnArray64 table) = table_of functions_64 (table_order table) (table_data table)
+content (section_data.Rela32 table) = table_of rela_32 (table_order table) (table_data table)
+content (section_data.Rela64 table) = table_of rela_64 (table_order table) (table_data table)
+content (section_data.Rel32 table) = table_of rel_32 (table_order table) (table_data table)
+content (section_data.Rel64 table) = table_of rel_64 (table_order table) (table_data table)
+content (section_data.Dynamic32 table) = table_of dynamic_32 (table_order table) (table_data table)
+content (section_data.Dynamic64 table) = table_of dynamic_64 (table_order table) (table_data table)
+content (section_data.SymTabShIndex table) = table_of section_indices (table_order table) (table_data table)
 content (section_data.Group flags table) = group flags (table_order table) (table_data table)
 content (section_data.Note64 header body) = note_64 header body.now
 content (section_data.HashTable table) = hash_table (hash_order table) (hash_data table)
@@ -43,32 +43,20 @@ content (section_data.HashTable table) = hash_table (hash_order table) (hash_dat
 abbrev pub content_of : ShType → ℕ → Order → List ℕ → Result Content ElfError
 content_of sh_type.Null class order bytes = Ok empty
 content_of sh_type.NoBits class order bytes = Ok empty
-content_of sh_type.ProgBits class order bytes = Ok (undefined bytes)
-content_of sh_type.ShLib class order bytes = Ok (undefined bytes)
-content_of (sh_type.OsSpecific n) class order bytes = Ok (undefined bytes)
-content_of (sh_type.ProcessorSpecific n) class order bytes = Ok (undefined bytes)
-content_of (sh_type.User n) class order bytes = Ok (undefined bytes)
 content_of sh_type.StrTab class order bytes = Ok (strings bytes)
-content_of sh_type.SymTab class order bytes =
-    by_class class (table_of 16 (symbols_32 order) bytes) (table_of 24 (symbols_64 order) bytes)
-content_of sh_type.DynSym class order bytes =
-    by_class class (table_of 16 (dyn_symbols_32 order) bytes) (table_of 24 (dyn_symbols_64 order) bytes)
-content_of sh_type.InitArray class order bytes =
-    by_class class (table_of 4 (functions_32 order) bytes) (table_of 8 (functions_64 order) bytes)
-content_of sh_type.FiniArray class order bytes =
-    by_class class (table_of 4 (functions_32 order) bytes) (table_of 8 (functions_64 order) bytes)
-content_of sh_type.PreInitArray class order bytes =
-    by_class class (table_of 4 (functions_32 order) bytes) (table_of 8 (functions_64 order) bytes)
-content_of sh_type.Rela class order bytes =
-    by_class class (table_of 12 (rela_32 order) bytes) (table_of 24 (rela_64 order) bytes)
-content_of sh_type.Rel class order bytes =
-    by_class class (table_of 8 (rel_32 order) bytes) (table_of 16 (rel_64 order) bytes)
-content_of sh_type.Dynamic class order bytes =
-    by_class class (table_of 8 (dynamic_32 order) bytes) (table_of 16 (dynamic_64 order) bytes)
-content_of sh_type.SymTabShIndex class order bytes = table_of 4 (section_indices order) bytes
+content_of sh_type.SymTab class order bytes = by_class symbols_32 symbols_64 class order bytes
+content_of sh_type.DynSym class order bytes = by_class dyn_symbols_32 dyn_symbols_64 class order bytes
+content_of sh_type.InitArray class order bytes = by_class functions_32 functions_64 class order bytes
+content_of sh_type.FiniArray class order bytes = by_class functions_32 functions_64 class order bytes
+content_of sh_type.PreInitArray class order bytes = by_class functions_32 functions_64 class order bytes
+content_of sh_type.Rela class order bytes = by_class rela_32 rela_64 class order bytes
+content_of sh_type.Rel class order bytes = by_class rel_32 rel_64 class order bytes
+content_of sh_type.Dynamic class order bytes = by_class dynamic_32 dynamic_64 class order bytes
+content_of sh_type.SymTabShIndex class order bytes = whole_table section_indices order bytes
 content_of sh_type.Group class order bytes = group_of order bytes
 content_of sh_type.Note class order bytes = note_of class order bytes
 content_of sh_type.Hash class order bytes = hash_table_of order bytes
+content_of _ class order bytes = Ok (undefined bytes)
 
 -- the type is one whose sections have no bytes in the file (SHT_NULL and SHT_NOBITS)
 abbrev pub has_no_bytes : ShType → Bool

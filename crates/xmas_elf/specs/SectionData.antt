@@ -1,9 +1,10 @@
 -- The bytes of a section in its file (gABI, "Sections", sh_offset and sh_size; that type NoBits is
 -- no exception is this project's own).
-use Rattle.std.specs.Prelude.{◌≡◌, ◌≢◌, ℕ, ◌+◌, ◌≤◌, Bool, true, false, List, length, Result, Ok, Err, if◌then◌else◌}
+use Rattle.std.specs.Prelude.{◌≡◌, ◌≢◌, ℕ, ◌+◌, ◌≤◌, List, length, Result, Ok, Err, if◌then◌else◌}
 use Rattle.elf_base.specs.Refusal.{and_then}
 use Rattle.elf_base.specs.declared.error.ElfError.{ElfError}
 use Rattle.elf_base.specs.declared.error.ElfError.TheVariants.{NullData}
+use Rattle.elf_records.specs.SectionNumbers.{is_sh_type}
 use Rattle.elf_records.specs.declared.sections.ShType.{ShType}
 use Rattle.elf_records.specs.declared.sections.ShType.TheVariants.{Null}
 use Rattle.xmas_elf.specs.Range.{IsRange, range_of}
@@ -23,12 +24,7 @@ abbrev pub IsSectionData : ElfFile → SectionHeader → List ℕ → Type 0
 IsSectionData file section =
     IsRange file.input.now (section_fields section).offset (section_fields section).size
 
--- the type is Null (SHT_NULL)
-abbrev pub is_null : ShType → Bool
-is_null Null = true
-is_null _ = false
-
 -- the data of a section as it is computed, or why it has none
 unfoldable pub section_data_of : ElfFile → SectionHeader → Result (List ℕ) ElfError
-section_data_of file section = and_then (section_type section) (λ kind. if is_null kind then Err NullData
+section_data_of file section = and_then (section_type section) (λ kind. if is_sh_type Null kind then Err NullData
     else range_of file.input.now (section_fields section).offset (section_fields section).size)

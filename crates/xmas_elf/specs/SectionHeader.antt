@@ -1,8 +1,8 @@
 -- Section headers: what they say, where they lie, and which can be read (gABI, "Sections":
 -- Elf32_Shdr and Elf64_Shdr).
-use Rattle.std.specs.Prelude.{ℕ, ◌+◌, ◌<◌, ◌≤◌, ◌==◌, not, nat_le, nat_lt, List, [], ◌∷◌, length, Ok, Err, Result, if◌then◌else◌}
+use Rattle.std.specs.Prelude.{ℕ, ◌+◌, ◌<◌, ◌≤◌, ◌==◌, not, nat_le, nat_lt, List, [], ◌∷◌, length, Err, Result, if◌then◌else◌}
 use Rattle.elf_base.specs.Number.{number}
-use Rattle.elf_base.specs.Refusal.{and_then, unless}
+use Rattle.elf_base.specs.Refusal.{unless}
 use Rattle.elf_base.specs.FileHeader.{file_class, file_order}
 use Rattle.elf_base.specs.HeaderLayout.{header_fields}
 use Rattle.elf_base.specs.declared.bytes.Order.{Order}
@@ -94,14 +94,14 @@ section_place header index = let part = header_fields header.pt2 in
     entry_place part.sh_offset part.sh_entry_size index
 
 -- the section header at a place, its width by the class
-abbrev pub section_record : ℕ → Order → ℕ → List ℕ → SectionHeader
-section_record class order place input =
+abbrev pub section_at_place : ℕ → Order → ℕ → List ℕ → SectionHeader
+section_at_place class order place input =
     if class == 1 then Sh32 (section_header_32 order place input) else Sh64 (section_header_64 order place input)
 
 -- the section header that lies at an index, its width and order by part 1 of the ELF header
-abbrev pub section_at : List ℕ → Header → ℕ → SectionHeader
-section_at input header index =
-    section_record (file_class header) (file_order header) (section_place header index) input
+abbrev pub section_at_index : List ℕ → Header → ℕ → SectionHeader
+section_at_index input header index =
+    section_at_place (file_class header) (file_order header) (section_place header index) input
 
 -- entry `index` of the section header table can be read: it lies in the input and is large enough for
 -- its class
@@ -116,7 +116,7 @@ section_entry input header index = unless (
     (nat_lt (length input) (section_place header (index + 1)), ShortSectionHeader)
     ∷ (not (is_known_class (file_class header)), UnknownClass)
     ∷ (nat_lt (header_fields header.pt2).sh_entry_size (section_header_size (file_class header)), SmallEntry)
-    ∷ []) (section_at input header index)
+    ∷ []) (section_at_index input header index)
 
 -- the same by a 16-bit index, where that is none of those with a meaning of their own (gABI, "Sections",
 -- special section indexes: SHN_LORESERVE to SHN_HIRESERVE)
@@ -125,14 +125,10 @@ pub record HasSectionHeader (input : List ℕ) (header : Header) (index : ℕ) :
   pub entry : HasSectionEntry input header index
 
 -- the header by a 16-bit index, or the first reason why it can't be read
-unfoldable pub section_header_of : List ℕ → Header → ℕ → Result SectionHeader ElfError
-section_header_of input header index =
+unfoldable pub section_by_u16 : List ℕ → Header → ℕ → Result SectionHeader ElfError
+section_by_u16 input header index =
     if nat_le 0xff00 index then Err ReservedIndex else section_entry input header index
 
 -- section header `index` of a file, by any index
 abbrev pub section_of : ElfFile → ℕ → Result SectionHeader ElfError
 section_of file index = section_entry file.input.now file.header index
-
--- what the check of a section header finds: a type that is none
-abbrev pub section_check : SectionHeader → Result (Unit {0}) ElfError
-section_check section = and_then (section_type section) (λ kind. Ok tt)

@@ -5,35 +5,35 @@ use Rattle.elf_base.specs.Refusal.{and_then}
 use Rattle.elf_base.specs.Table.{table_data, table_order}
 use Rattle.elf_base.specs.declared.bytes.Order.{Order}
 use Rattle.elf_base.specs.declared.error.ElfError.{ElfError}
+use Rattle.elf_records.specs.ProgramNumbers.{is_ph_type}
 use Rattle.elf_records.specs.declared.program.Type as the_type
 use Rattle.elf_records.specs.declared.program.Type.TheVariants as segment_type
-use Rattle.xmas_elf.specs.Content.{Content, empty, undefined, dynamic_32, dynamic_64, note_64, table_of, by_class, note_of}
+use Rattle.xmas_elf.specs.Content.{Content, by_class, dynamic_32, dynamic_64, empty, note_64, note_of, table_of, undefined}
 use Rattle.xmas_elf.specs.ProgramHeader as program_header
-use Rattle.xmas_elf.specs.SegmentData.{is_null_segment, segment_data_of}
+use Rattle.xmas_elf.specs.SegmentData.{segment_data_of}
 use Rattle.xmas_elf.specs.declared.ElfFile.{ElfFile}
-use Rattle.xmas_elf.specs.declared.program.data.SegmentData.{SegmentData}
-use Rattle.xmas_elf.specs.declared.program.data.SegmentData.TheVariants as segment_data
+use Rattle.xmas_elf.specs.declared.program.content.SegmentData.{SegmentData}
+use Rattle.xmas_elf.specs.declared.program.content.SegmentData.TheVariants as segment_data
 use Rattle.xmas_elf.specs.declared.program.records.ProgramHeader64.{ProgramHeader64}
 
 -- what a value of `SegmentData` holds
 abbrev pub segment_content : SegmentData → Content
 segment_content segment_data.Empty = empty
 segment_content (segment_data.Undefined bytes) = undefined bytes.now
-segment_content (segment_data.Dynamic32 table) = dynamic_32 (table_order table) (table_data table)
-segment_content (segment_data.Dynamic64 table) = dynamic_64 (table_order table) (table_data table)
+segment_content (segment_data.Dynamic32 table) = table_of dynamic_32 (table_order table) (table_data table)
+segment_content (segment_data.Dynamic64 table) = table_of dynamic_64 (table_order table) (table_data table)
 segment_content (segment_data.Note64 header body) = note_64 header body.now
 
 -- what bytes are in a segment of this type, in a file of this class and order, or why they can't be
 abbrev pub content_of_segment : the_type.Type → ℕ → Order → List ℕ → Result Content ElfError
 content_of_segment segment_type.Null class order bytes = Ok empty
-content_of_segment segment_type.Dynamic class order bytes =
-    by_class class (table_of 8 (dynamic_32 order) bytes) (table_of 16 (dynamic_64 order) bytes)
+content_of_segment segment_type.Dynamic class order bytes = by_class dynamic_32 dynamic_64 class order bytes
 content_of_segment segment_type.Note class order bytes = note_of class order bytes
 content_of_segment _ class order bytes = Ok (undefined bytes)
 
 -- what a segment has, or the first reason why it has nothing
 unfoldable pub segment_content_of : ElfFile → ProgramHeader64 → Result Content ElfError
 segment_content_of file segment = and_then (program_header.segment_type segment) (λ kind.
-    if is_null_segment kind then Ok empty
+    if is_ph_type segment_type.Null kind then Ok empty
     else and_then (segment_data_of file segment)
     (content_of_segment kind (file_class file.header) (file_order file.header)))

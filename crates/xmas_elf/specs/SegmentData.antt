@@ -1,9 +1,10 @@
 -- The bytes of a segment in its file (gABI, "Program Header", p_offset and p_filesz; the rule for an
 -- empty segment is this project's own).
-use Rattle.std.specs.Prelude.{◌≡◌, ◌≢◌, ℕ, ◌+◌, ◌≤◌, ◌==◌, Bool, true, false, List, [], length, Result, Ok, Err, if◌then◌else◌}
+use Rattle.std.specs.Prelude.{◌≡◌, ◌≢◌, ℕ, ◌+◌, ◌≤◌, ◌==◌, List, [], length, Result, Ok, Err, if◌then◌else◌}
 use Rattle.elf_base.specs.Refusal.{and_then}
 use Rattle.elf_base.specs.declared.error.ElfError.{ElfError}
 use Rattle.elf_base.specs.declared.error.ElfError.TheVariants.{NullData}
+use Rattle.elf_records.specs.ProgramNumbers.{is_ph_type}
 use Rattle.elf_records.specs.declared.program.Type as the_type
 use Rattle.elf_records.specs.declared.program.Type.TheVariants.{Null}
 use Rattle.xmas_elf.specs.Range.{IsRange, range_of}
@@ -24,13 +25,8 @@ pub record IsSegmentData (file : ElfFile) (segment : ProgramHeader64) (range : L
   pub count_is : length range ≡ segment.file_size
   pub lies_there : segment.file_size ≢ 0 → IsRange file.input.now segment.offset segment.file_size range
 
--- the type is Null (PT_NULL)
-abbrev pub is_null_segment : the_type.Type → Bool
-is_null_segment Null = true
-is_null_segment _ = false
-
 -- the data of a segment as it is computed, or why it has none; an empty segment has no bytes wherever
 -- it lies
 unfoldable pub segment_data_of : ElfFile → ProgramHeader64 → Result (List ℕ) ElfError
-segment_data_of file segment = and_then (segment_type segment) (λ kind. if is_null_segment kind then Err NullData
+segment_data_of file segment = and_then (segment_type segment) (λ kind. if is_ph_type Null kind then Err NullData
     else (if segment.file_size == 0 then Ok [] else range_of file.input.now segment.offset segment.file_size))

@@ -1,31 +1,28 @@
 -- The string tables of symbols, which are found by their names, and the texts there (gABI, "Special
 -- Sections": .strtab and .dynstr, and "String Table"; that the type of .strtab alone is asked is this
 -- project's own).
-use Rattle.std.specs.Prelude.{◌≡◌, ℕ, Bool, true, false, List, codes, Result, Ok, Err, if◌then◌else◌}
+use Rattle.std.specs.Prelude.{◌≡◌, ℕ, List, codes, Result, Ok, Err, if◌then◌else◌}
 use Rattle.std.specs.Option.{ok_or}
 use Rattle.elf_base.specs.Refusal.{and_then}
 use Rattle.elf_base.specs.Text.{IsText, text_of}
 use Rattle.elf_base.specs.declared.error.ElfError.{ElfError}
 use Rattle.elf_base.specs.declared.error.ElfError.TheVariants.{NoDynstr, NoStrtab, StrtabType}
-use Rattle.elf_records.specs.declared.sections.ShType.{ShType}
+use Rattle.elf_records.specs.SectionNumbers.{has_sh_type}
 use Rattle.elf_records.specs.declared.sections.ShType.TheVariants.{StrTab}
 use Rattle.xmas_elf.specs.NameTable.{section_named}
-use Rattle.xmas_elf.specs.NamedData.{IsNamedData}
+use Rattle.xmas_elf.specs.NamedData.{IsDataNamed}
 use Rattle.xmas_elf.specs.SectionData.{section_data_of}
 use Rattle.xmas_elf.specs.SectionHeader.{section_type}
 use Rattle.xmas_elf.specs.declared.ElfFile.{ElfFile}
-use Rattle.xmas_elf.specs.declared.sections.section_header.SectionHeader.{SectionHeader}
 
 -- `table` is the string table of symbols: the data of .strtab, whose type is StrTab
 pub record IsStrtab (file : ElfFile) (table : List ℕ) : Type 0 where
-  pub section : SectionHeader
-  pub typed : section_type section ≡ Ok StrTab
-  pub named : IsNamedData file (codes ".strtab") section table
+  pub named : IsDataNamed file (codes ".strtab") table
+  pub typed : section_type named.section ≡ Ok StrTab
 
 -- `table` is that of the symbols of the dynamic linker: the data of .dynstr, of whatever type
-pub record IsDynstr (file : ElfFile) (table : List ℕ) : Type 0 where
-  pub section : SectionHeader
-  pub named : IsNamedData file (codes ".dynstr") section table
+abbrev pub IsDynstr : ElfFile → List ℕ → Type 0
+IsDynstr file = IsDataNamed file (codes ".dynstr")
 
 -- `text` is the text at an index of a table, whose zero byte stands in the table too
 pub record IsTextIn (IsTable : List ℕ → Type 0) (index : ℕ) (text : List ℕ) : Type 0 where
@@ -40,15 +37,10 @@ IsString file = IsTextIn (IsStrtab file)
 abbrev pub IsDynString : ElfFile → ℕ → List ℕ → Type 0
 IsDynString file = IsTextIn (IsDynstr file)
 
--- the type is StrTab (SHT_STRTAB)
-abbrev pub is_string_type : Result ShType ElfError → Bool
-is_string_type (Ok StrTab) = true
-is_string_type _ = false
-
 -- the two tables as they are computed, or why there is none
 unfoldable pub strtab_of : ElfFile → Result (List ℕ) ElfError
 strtab_of file = and_then (ok_or (section_named file (codes ".strtab")) NoStrtab)
-    (λ section. if is_string_type (section_type section) then section_data_of file section else Err StrtabType)
+    (λ section. if has_sh_type StrTab (section_type section) then section_data_of file section else Err StrtabType)
 
 unfoldable pub dynstr_of : ElfFile → Result (List ℕ) ElfError
 dynstr_of file = and_then (ok_or (section_named file (codes ".dynstr")) NoDynstr) (section_data_of file)

@@ -1,14 +1,18 @@
 //! Hash tables of symbols (gABI, "Hash Table").
 
 ghost use Rattle.std.specs.Prelude.{◌≡◌, ◌↔◌, ◌+◌, ◌^◌, ◌<◌, ◌≤◌, length, IfOk, IsOk, MatchResult};
+ghost use Rattle.elf_base.specs.Table.{table_items};
 
 mod check;
 mod lookup;
 
 use crate::ElfError;
-use crate::bytes::Order;
+use crate::bytes::{Order, Record, Table};
 use elf_base::bytes::read_u32;
 pub use elf_records::hash::hash;
+
+// What the names of symbols stand in, as `Entry::string_table` answers.
+type Strings<'a> = Option<Result<&'a [u8], ElfError>>;
 
 /// The hash table of a symbol table, in words of four bytes: how many buckets and how many chains it
 /// has, the buckets, and the chains.
@@ -22,6 +26,7 @@ pub struct HashTable<'a> {
 }
 
 impl<'a> HashTable<'a> {
+    ghost use Rattle.xmas_elf.specs.Chain.{Halts, StandsAt, chains_of};
     ghost use Rattle.xmas_elf.specs.HashTable.{HasBucket, HasChain, bucket_count_of, bucket_of, chain_count_of, chain_of, hash_data, hash_order, hash_word, word_of};
 
     /// The hash table that these bytes are; `ShortData` below 12 bytes.
@@ -87,6 +92,35 @@ impl<'a> HashTable<'a> {
             return Err(ElfError::ChainSum);
         }
         self.word(2 + place)
+    }
+
+    // The symbol that a walk meets at an index, which isn't the end, behind so many others; or why it goes
+    // no further. Behind as many as there are chains or symbols it has met one twice.
+    #[inline(always)]
+    fn symbol_at<E: Record>(
+        &self,
+        index: u32,
+        passed: u32,
+        symbols: &Table<'_, E>,
+    ) -> Result<E, ElfError>
+        requires { 0 < index }
+        ensures { let chains = chains_of self.now (table_items symbols.now) in MatchResult result
+            (λ entry. StandsAt chains index entry × (passed < chains.count)
+            × (passed < length chains.symbols) × (passed + 1 < 2 ^ 32))
+            (Halts chains passed index) }
+    {
+        let chain_count = self.chain_count();
+        if index >= chain_count {
+            return Err(ElfError::ChainIndex);
+        }
+        let Some(entry) = symbols.get(index as usize) else {
+            return Err(ElfError::SymbolIndex);
+        };
+        let symbol_count = symbols.len();
+        if passed >= chain_count || passed as usize >= symbol_count {
+            return Err(ElfError::HashCycle);
+        }
+        Ok(entry)
     }
 
     // The word at this place, in words.

@@ -30,11 +30,13 @@ pub fn sanity_check(file: &ElfFile<'_>) -> Result<(), ElfError>
 
     // Where all is well and the entries are large enough, each list is as long as its count says.
     ensures sections { OnOk result (
-        section_header_size (file_class file.now.header) ≤ (header_fields file.now.header.pt2).sh_entry_size
+        section_header_size (file_class file.now.header)
+        ≤ (header_fields file.now.header.pt2).sh_entry_size
         → length (section_list file.now) ≡ section_count_of file.now) }
     ensures segments { OnOk result (
         (header_fields file.now.header.pt2).ph_offset ≢ 0
-        → program_header_size (file_class file.now.header) ≤ (header_fields file.now.header.pt2).ph_entry_size
+        → program_header_size (file_class file.now.header)
+        ≤ (header_fields file.now.header.pt2).ph_entry_size
         → length (program_list file.now) ≡ program_count_of file.now) }
 {
     let pt1 = &file.header.pt1;

@@ -1,6 +1,7 @@
 //! The first note of a section or a segment (gABI, "Note Section").
 
-ghost use Rattle.std.specs.Prelude.{◌≡◌, ◌↔◌, ◌≤◌, Ok, Err, IfOk, IsOk, MatchResult, drop, length, take};
+ghost use Rattle.std.specs.Prelude.{◌≡◌, ◌↔◌, ◌≤◌, Ok, Err, IfOk, IsOk, MatchResult, drop, length};
+ghost use Rattle.std.specs.Prelude.{take};
 ghost use Rattle.elf_base.specs.FileHeader.{file_class, file_order};
 ghost use Rattle.elf_records.specs.Note.{note_header};
 ghost use Rattle.xmas_elf.specs.Content.{note_64, note_of};
@@ -11,10 +12,10 @@ use crate::sections::NoteHeader;
 use crate::{ElfError, ElfFile};
 use elf_base::header::byte_order;
 
-/// The header of the note at the front of these bytes, and all bytes that follow it.
-///
-/// Refused with `Note32` in class 1, with `UnknownClass` where the class is not 2, and with
-/// `ShortData` below 12 bytes.
+// The header of the note at the front of these bytes, and all bytes that follow it.
+//
+// Refused with `Note32` in class 1, with `UnknownClass` where the class is not 2, and with
+// `ShortData` below 12 bytes.
 pub(crate) fn first_note<'a>(
     file: &ElfFile<'_>,
     bytes: &'a [u8],

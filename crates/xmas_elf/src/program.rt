@@ -1,26 +1,31 @@
 //! The segments of a file, by index and by iterator (gABI, "Program Header").
 
-ghost use Rattle.std.specs.Prelude.{◌≡◌, ◌↔◌, ◌+◌, ◌≤◌, [], ◌∷◌, IfOk, IsOk, is_none, length, nat_lt, not, unwrap_or};
+ghost use Rattle.std.specs.Prelude.{◌≡◌, ◌↔◌, ◌+◌, ◌*◌, ◌^◌, ◌<◌, ◌≤◌, [], ◌∷◌, IfOk, IsOk};
+ghost use Rattle.std.specs.Prelude.{is_none, length, nat_lt, not, unwrap_or};
 ghost use Rattle.std.specs.Option.{ForSome};
 ghost use Rattle.std.specs.Iterator.{YieldsFirst, item_count};
 ghost use Rattle.elf_base.specs.FileHeader.{file_class};
 ghost use Rattle.elf_base.specs.HeaderLayout.{header_fields};
 ghost use Rattle.elf_base.specs.Refusal.{unless};
 ghost use Rattle.xmas_elf.specs.Checks.{program_check};
-ghost use Rattle.xmas_elf.specs.HeaderTable.{is_known_class};
-ghost use Rattle.xmas_elf.specs.ProgramHeader.{HasProgramEntry, HasProgramHeader, program_at, program_entry, program_header_of, program_header_size, program_record};
-ghost use Rattle.xmas_elf.specs.ProgramList.{ProgramStep, program_rest};
+ghost use Rattle.xmas_elf.specs.Counts.{program_count_of};
+ghost use Rattle.xmas_elf.specs.HeaderTable.{IsLongest, is_known_class};
+ghost use Rattle.xmas_elf.specs.ProgramHeader.{HasProgramEntry, HasProgramHeader, HasProgram};
+ghost use Rattle.xmas_elf.specs.ProgramHeader.{program_at_index, program_entry, program_by_u16};
+ghost use Rattle.xmas_elf.specs.ProgramHeader.{program_header_size, program_at_place, program_of};
+ghost use Rattle.xmas_elf.specs.ProgramList.{ProgramStep, program_list, program_rest};
 
-mod data;
-mod printed;
+mod content;
 mod program_header;
 mod records;
+mod text;
 
-use crate::header::{Class, Header};
-pub use crate::program::data::SegmentData;
-pub(crate) use crate::program::printed::SegmentType;
+use crate::header::Class::{SixtyFour, ThirtyTwo};
+use crate::header::Header;
+pub use crate::program::content::SegmentData;
 pub use crate::program::program_header::ProgramHeader;
 pub use crate::program::records::{ProgramHeader32, ProgramHeader64};
+pub(crate) use crate::program::text::SegmentType;
 use crate::ranges::{ends_inside, entry_at};
 use crate::{ElfError, ElfFile};
 use elf_base::bytes::{Order, Record};
@@ -29,6 +34,54 @@ pub use elf_records::program::{
     FLAG_MASKOS, FLAG_MASKPROC, FLAG_R, FLAG_W, FLAG_X, Flags, TYPE_GNU_RELRO, TYPE_HIOS,
     TYPE_HIPROC, TYPE_LOOS, TYPE_LOPROC, Type, Type_,
 };
+
+impl<'a> ElfFile<'a> {
+    /// The program header at this index, with the answer of `program::parse_program_header`.
+    #[inline(always)]
+    pub fn program_header(&self, index: u16) -> Result<ProgramHeader, ElfError>
+        ensures readable { IsOk result ↔ HasProgramHeader self.now.input.now self.now.header index }
+        ensures value { IfOk result (λ program. program
+            ≡ program_at_index self.now.input.now self.now.header index) }
+        ensures exact { result ≡ program_by_u16 self.now.input.now self.now.header index }
+    {
+        parse_program_header(self.input, self.header, index)
+    }
+
+    /// The program header at this index, by the number of segments that `program_count` gives.
+    ///
+    /// Refused with `NoProgramHeaders`, `UnknownClass`, `ShortProgramHeader` and `SmallEntry` as by
+    /// `program::parse_program_header`.
+    #[inline(always)]
+    pub fn program_header_at(&self, index: u32) -> Result<ProgramHeader, ElfError>
+        ensures readable { IsOk result ↔ HasProgram self.now index }
+        ensures value { IfOk result (λ program. program
+            ≡ program_at_index self.now.input.now self.now.header index) }
+        ensures exact { result ≡ program_of self.now index }
+    {
+        program_entry(self.input, &self.header, self.program_count(), index)
+    }
+
+    /// The program headers in order, from index 0 on.
+    ///
+    /// It ends before the first that is refused: with fewer items than `program_count`, some can't
+    /// be read.
+    pub fn program_iter(&self) -> ProgramIter<'_, 'a>
+        ensures file { result.file.now ≡ self.now }
+        ensures first { result.next_index ≡ 0 }
+        ensures longest { IsLongest (program_of self.now) (program_count_of self.now)
+            (program_rest result) }
+        ensures all { program_rest result ≡ program_list self.now }
+        ensures room { length (program_rest result) * 32 ≤ length self.now.input.now }
+        ensures fits { length (program_rest result) < 2 ^ 59 }
+    {
+        // By this the proof of `fits` knows that the length is a number of 64 bits.
+        prove!(self.input.len() <= usize::MAX);
+        ProgramIter {
+            file: self,
+            next_index: 0,
+        }
+    }
+}
 
 /// The program header at this index of the program header table.
 ///
@@ -43,8 +96,8 @@ pub fn parse_program_header(
     index: u16,
 ) -> Result<ProgramHeader, ElfError>
     ensures readable { IsOk result ↔ HasProgramHeader input.now header index }
-    ensures value { IfOk result (λ program. program ≡ program_at input.now header index) }
-    ensures exact { result ≡ program_header_of input.now header index }
+    ensures value { IfOk result (λ program. program ≡ program_at_index input.now header index) }
+    ensures exact { result ≡ program_by_u16 input.now header index }
 {
     let count = u32::from(header.pt2.ph_count());
     program_entry(input, &header, count, u32::from(index))
@@ -60,7 +113,7 @@ pub(crate) fn program_entry(
     index: u32,
 ) -> Result<ProgramHeader, ElfError>
     ensures readable { IsOk result ↔ HasProgramEntry input.now header.now count index }
-    ensures value { IfOk result (λ program. program ≡ program_at input.now header.now index) }
+    ensures value { IfOk result (λ program. program ≡ program_at_index input.now header.now index) }
     ensures exact { result ≡ program_entry input.now header.now count index }
 {
     let offset = header.pt2.ph_offset();
@@ -71,29 +124,34 @@ pub(crate) fn program_entry(
     let place = entry_at(input, offset, entry_size, u64::from(index));
     // One choice of the order for all fields.
     match byte_order(header.pt1.encoding) {
-        Order::Little => record_at(input, place, header, Order::Little),
-        Order::Big => record_at(input, place, header, Order::Big),
+        Order::Little => header_at_place(input, place, header, Order::Little),
+        Order::Big => header_at_place(input, place, header, Order::Big),
     }
 }
 
 // The program header at a place of the input, if there is one, its width by the class.
 #[inline(always)]
-fn record_at(
+fn header_at_place(
     input: &[u8],
     place: Option<usize>,
     header: &Header,
     order: Order,
 ) -> Result<ProgramHeader, ElfError>
-    requires { ForSome place (λ start. start + (header_fields header.now.pt2).ph_entry_size ≤ length input.now) }
+    requires { ForSome place (λ start. start + (header_fields header.now.pt2).ph_entry_size
+        ≤ length input.now) }
     ensures { result ≡ unless (
         (not (is_known_class (file_class header.now)), ElfError.UnknownClass)
         ∷ (is_none place, ElfError.ShortProgramHeader)
-        ∷ (nat_lt (header_fields header.now.pt2).ph_entry_size (program_header_size (file_class header.now)), ElfError.SmallEntry)
-        ∷ []) (program_record (file_class header.now) order (unwrap_or place 0) input.now) }
+        ∷ (
+          nat_lt (header_fields header.now.pt2).ph_entry_size
+              (program_header_size (file_class header.now)),
+          ElfError.SmallEntry,
+        )
+        ∷ []) (program_at_place (file_class header.now) order (unwrap_or place 0) input.now) }
 {
     let entry_size = usize::from(header.pt2.ph_entry_size());
     match header.pt1.class() {
-        Class::ThirtyTwo => {
+        ThirtyTwo => {
             let place = place.ok_or(ElfError::ShortProgramHeader)?;
             if entry_size < ProgramHeader32::SIZE {
                 return Err(ElfError::SmallEntry);
@@ -101,7 +159,7 @@ fn record_at(
             let record = ProgramHeader32::read(input, place, order);
             Ok(ProgramHeader::Ph32(record))
         }
-        Class::SixtyFour => {
+        SixtyFour => {
             let place = place.ok_or(ElfError::ShortProgramHeader)?;
             if entry_size < ProgramHeader64::SIZE {
                 return Err(ElfError::SmallEntry);
@@ -109,7 +167,7 @@ fn record_at(
             let record = ProgramHeader64::read(input, place, order);
             Ok(ProgramHeader::Ph64(record))
         }
-        Class::None | Class::Other(_) => Err(ElfError::UnknownClass),
+        _ => Err(ElfError::UnknownClass),
     }
 }
 

@@ -7,7 +7,7 @@ ghost use Rattle.xmas_elf.specs.Range.{IsRange, range_of};
 
 use crate::ElfError;
 
-/// Whether the `count` bytes from `start` on lie in the input.
+// Whether the `count` bytes from `start` on lie in the input.
 #[inline(always)]
 pub(crate) fn is_within(input: &[u8], start: u64, count: u64) -> bool
     ensures { IsTrue result ↔ (start + count ≤ length input.now) }
@@ -16,7 +16,7 @@ pub(crate) fn is_within(input: &[u8], start: u64, count: u64) -> bool
     count <= len && start <= len - count
 }
 
-/// Whether the `count` bytes from `start` on end before the input does.
+// Whether the `count` bytes from `start` on end before the input does.
 #[inline(always)]
 pub(crate) fn ends_inside(input: &[u8], start: u64, count: u64) -> bool
     ensures { IsTrue result ↔ (start + count < length input.now) }
@@ -25,7 +25,7 @@ pub(crate) fn ends_inside(input: &[u8], start: u64, count: u64) -> bool
     count < len && start < len - count
 }
 
-/// The `count` bytes of the input from `start` on, or `DataRange`.
+// The `count` bytes of the input from `start` on, or `DataRange`.
 #[inline(always)]
 pub(crate) fn range_at(input: &[u8], start: u64, count: u64) -> Result<&[u8], ElfError>
     ensures within { IsOk result ↔ (start + count ≤ length input.now) }
@@ -39,7 +39,7 @@ pub(crate) fn range_at(input: &[u8], start: u64, count: u64) -> Result<&[u8], El
     Ok(&input[start..start + count as usize])
 }
 
-/// Where entry `index` of a table begins, if it ends within the input.
+// Where entry `index` of a table begins, if it ends within the input.
 #[inline(always)]
 pub(crate) fn entry_at(input: &[u8], offset: u64, entry_size: u16, index: u64) -> Option<usize>
     ensures { MatchOption result (length input.now < entry_place offset entry_size (index + 1))
@@ -55,7 +55,7 @@ pub(crate) fn entry_at(input: &[u8], offset: u64, entry_size: u16, index: u64) -
     Some(place as usize)
 }
 
-/// Whether a table with so many entries ends within the input.
+// Whether a table with so many entries ends within the input.
 #[inline(always)]
 pub(crate) fn table_is_within(input: &[u8], offset: u64, entry_size: u16, count: u64) -> bool
     ensures { IsTrue result ↔ (entry_place offset entry_size count ≤ length input.now) }

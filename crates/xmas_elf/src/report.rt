@@ -2,7 +2,10 @@
 
 ghost use Rattle.std.specs.Prelude.{◌≡◌, Some, OnOk, IfErr};
 ghost use Rattle.xmas_elf.specs.NameTable.{name_of};
-ghost use Rattle.xmas_elf.specs.Report.{AppendsReport, RefusesExactly, WritesNothing, WritesReport, check_line, fault_text, hash_line, name_text, report_text, section_line, section_lines, segment_line, segment_lines, verdict_text};
+ghost use Rattle.xmas_elf.specs.Report.{AppendsReport, RefusesExactly, WritesNothing, WritesReport};
+ghost use Rattle.xmas_elf.specs.Report.{check_line, fault_text, hash_line, name_text, report_text};
+ghost use Rattle.xmas_elf.specs.Report.{section_line, section_lines, segment_line, segment_lines};
+ghost use Rattle.xmas_elf.specs.Report.{verdict_text};
 
 mod hash;
 
@@ -30,8 +33,8 @@ impl Display for ReportFault {
 
     fn fmt<W: fmt::Write>(&self, f: &mut fmt::Formatter<W>) -> fmt::Result {
         f.write_str(match self {
-            ReportFault::Elf(error) => error.message(),
-            ReportFault::Write => "cannot write",
+            Self::Elf(error) => error.message(),
+            Self::Write => "cannot write",
         })
     }
 }

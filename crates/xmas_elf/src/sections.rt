@@ -1,27 +1,33 @@
 //! The sections of a file, by index and by iterator (gABI, "Sections").
 
-ghost use Rattle.std.specs.Prelude.{◌≡◌, ◌↔◌, ◌+◌, ◌≤◌, [], ◌∷◌, IfOk, IsOk, length, nat_lt, not};
+ghost use Rattle.std.specs.Prelude.{◌≡◌, ◌↔◌, ◌+◌, ◌*◌, ◌^◌, ◌<◌, ◌≤◌, [], ◌∷◌, IfOk, IsOk, length};
+ghost use Rattle.std.specs.Prelude.{nat_lt, not};
 ghost use Rattle.std.specs.Iterator.{YieldsFirst, item_count};
 ghost use Rattle.elf_base.specs.FileHeader.{file_class};
 ghost use Rattle.elf_base.specs.HeaderLayout.{header_fields};
 ghost use Rattle.elf_base.specs.Refusal.{unless};
-ghost use Rattle.xmas_elf.specs.HeaderTable.{is_known_class};
-ghost use Rattle.xmas_elf.specs.SectionHeader.{section_header_size, section_record, HasSectionEntry, HasSectionHeader, section_at, section_check, section_entry, section_header_of};
-ghost use Rattle.xmas_elf.specs.SectionList.{SectionStep, section_rest};
+ghost use Rattle.xmas_elf.specs.Checks.{section_check};
+ghost use Rattle.xmas_elf.specs.Counts.{section_count_of};
+ghost use Rattle.xmas_elf.specs.HeaderTable.{IsLongest, is_known_class};
+ghost use Rattle.xmas_elf.specs.SectionHeader.{section_header_size, section_at_place};
+ghost use Rattle.xmas_elf.specs.SectionHeader.{HasSectionEntry, HasSectionHeader, section_at_index};
+ghost use Rattle.xmas_elf.specs.SectionHeader.{section_entry, section_by_u16, section_of};
+ghost use Rattle.xmas_elf.specs.SectionList.{SectionStep, section_list, section_rest};
 
-mod data;
-mod printed;
+mod content;
 mod records;
 mod section_header;
 mod strings;
+mod text;
 
-use crate::header::{Class, Header};
+use crate::header::Class::{SixtyFour, ThirtyTwo};
+use crate::header::Header;
 use crate::ranges::entry_at;
-pub use crate::sections::data::SectionData;
-pub(crate) use crate::sections::printed::SectionType;
+pub use crate::sections::content::SectionData;
 pub use crate::sections::records::SectionHeader_;
 pub use crate::sections::section_header::SectionHeader;
 pub use crate::sections::strings::SectionStrings;
+pub(crate) use crate::sections::text::SectionType;
 use crate::{ElfError, ElfFile, P32, P64};
 use elf_base::bytes::{Order, Record};
 use elf_base::header::byte_order;
@@ -33,12 +39,61 @@ pub use elf_records::sections::{
     SHT_HIOS, SHT_HIPROC, SHT_HIUSER, SHT_LOOS, SHT_LOPROC, SHT_LOUSER, ShType, ShType_,
 };
 
+impl<'a> ElfFile<'a> {
+    /// The section header at this index, with the answer of `sections::parse_section_header`.
+    #[inline(always)]
+    pub fn section_header(&self, index: u16) -> Result<SectionHeader, ElfError>
+        ensures readable { IsOk result ↔ HasSectionHeader self.now.input.now self.now.header index }
+        ensures value { IfOk result (λ section. section
+            ≡ section_at_index self.now.input.now self.now.header index) }
+        ensures exact { result ≡ section_by_u16 self.now.input.now self.now.header index }
+    {
+        parse_section_header(self.input, self.header, index)
+    }
+
+    /// The section header at any index of the section header table: none is reserved, and the index
+    /// isn't compared with the count of sections.
+    ///
+    /// Refused with `ShortSectionHeader`, `UnknownClass` and `SmallEntry` as by
+    /// `sections::parse_section_header`.
+    #[inline(always)]
+    pub fn section_header_at(&self, index: u64) -> Result<SectionHeader, ElfError>
+        ensures readable { IsOk result ↔ HasSectionEntry self.now.input.now self.now.header index }
+        ensures value { IfOk result (λ section. section
+            ≡ section_at_index self.now.input.now self.now.header index) }
+        ensures exact { result ≡ section_of self.now index }
+    {
+        section_entry(self.input, &self.header, index)
+    }
+
+    /// The section headers in order, from index 0 on.
+    ///
+    /// It ends before the first that is refused: with fewer items than `section_count`, some can't
+    /// be read. Section 0 is of type Null by the gABI, and `get_name` and `raw_data` refuse that.
+    pub fn section_iter(&self) -> SectionIter<'_, 'a>
+        ensures file { result.file.now ≡ self.now }
+        ensures first { result.next_index ≡ 0 }
+        ensures longest { IsLongest (section_of self.now) (section_count_of self.now)
+            (section_rest result) }
+        ensures all { section_rest result ≡ section_list self.now }
+        ensures room { length (section_rest result) * 40 ≤ length self.now.input.now }
+        ensures fits { length (section_rest result) < 2 ^ 59 }
+    {
+        // By this the proof of `fits` knows that the length is a number of 64 bits.
+        prove!(self.input.len() <= usize::MAX);
+        SectionIter {
+            file: self,
+            next_index: 0,
+        }
+    }
+}
+
 /// The section header at this index of the section header table.
 ///
 /// The index is not compared with the count of sections. Refused with `ReservedIndex` from 0xff00 on,
 /// `ShortSectionHeader` where the entry passes the end of the input, `UnknownClass` where the class
 /// is neither 1 nor 2, and `SmallEntry` where the entries are smaller than the record of the class.
-#[tactic(auto, unfolding(crate::specs::SectionHeader::section_header_of))]
+#[tactic(auto, unfolding(crate::specs::SectionHeader::section_by_u16))]
 #[inline(always)]
 pub fn parse_section_header(
     input: &[u8],
@@ -46,8 +101,8 @@ pub fn parse_section_header(
     index: u16,
 ) -> Result<SectionHeader, ElfError>
     ensures readable { IsOk result ↔ HasSectionHeader input.now header index }
-    ensures value { IfOk result (λ section. section ≡ section_at input.now header index) }
-    ensures exact { result ≡ section_header_of input.now header index }
+    ensures value { IfOk result (λ section. section ≡ section_at_index input.now header index) }
+    ensures exact { result ≡ section_by_u16 input.now header index }
 {
     if index >= SHN_LORESERVE {
         return Err(ElfError::ReservedIndex);
@@ -64,7 +119,7 @@ pub(crate) fn section_entry(
     index: u64,
 ) -> Result<SectionHeader, ElfError>
     ensures readable { IsOk result ↔ HasSectionEntry input.now header.now index }
-    ensures value { IfOk result (λ section. section ≡ section_at input.now header.now index) }
+    ensures value { IfOk result (λ section. section ≡ section_at_index input.now header.now index) }
     ensures exact { result ≡ section_entry input.now header.now index }
 {
     let entry_size = header.pt2.sh_entry_size();
@@ -73,14 +128,14 @@ pub(crate) fn section_entry(
     };
     // One choice of the order for all fields.
     match byte_order(header.pt1.encoding) {
-        Order::Little => record_at(input, place, header, Order::Little),
-        Order::Big => record_at(input, place, header, Order::Big),
+        Order::Little => header_at_place(input, place, header, Order::Little),
+        Order::Big => header_at_place(input, place, header, Order::Big),
     }
 }
 
 // The section header at a place of the input, its width by the class.
 #[inline(always)]
-fn record_at(
+fn header_at_place(
     input: &[u8],
     place: usize,
     header: &Header,
@@ -89,26 +144,30 @@ fn record_at(
     requires { place + (header_fields header.now.pt2).sh_entry_size ≤ length input.now }
     ensures { result ≡ unless (
         (not (is_known_class (file_class header.now)), ElfError.UnknownClass)
-        ∷ (nat_lt (header_fields header.now.pt2).sh_entry_size (section_header_size (file_class header.now)), ElfError.SmallEntry)
-        ∷ []) (section_record (file_class header.now) order place input.now) }
+        ∷ (
+          nat_lt (header_fields header.now.pt2).sh_entry_size
+              (section_header_size (file_class header.now)),
+          ElfError.SmallEntry,
+        )
+        ∷ []) (section_at_place (file_class header.now) order place input.now) }
 {
     let entry_size = usize::from(header.pt2.sh_entry_size());
     match header.pt1.class() {
-        Class::ThirtyTwo => {
+        ThirtyTwo => {
             if entry_size < SectionHeader_::<P32>::SIZE {
                 return Err(ElfError::SmallEntry);
             }
             let record = SectionHeader_::<P32>::read(input, place, order);
             Ok(SectionHeader::Sh32(record))
         }
-        Class::SixtyFour => {
+        SixtyFour => {
             if entry_size < SectionHeader_::<P64>::SIZE {
                 return Err(ElfError::SmallEntry);
             }
             let record = SectionHeader_::<P64>::read(input, place, order);
             Ok(SectionHeader::Sh64(record))
         }
-        Class::None | Class::Other(_) => Err(ElfError::UnknownClass),
+        _ => Err(ElfError::UnknownClass),
     }
 }
 

@@ -1,7 +1,8 @@
 //! The string tables of symbols, by name, and the texts there (gABI, "String Table").
 
 ghost use Rattle.elf_base.specs.Lent.{Answers, Lends, LendsOnly};
-ghost use Rattle.xmas_elf.specs.StringTable.{IsDynString, IsDynstr, IsString, IsStrtab, dyn_string_of, dynstr_of, string_of, strtab_of};
+ghost use Rattle.xmas_elf.specs.StringTable.{IsDynString, IsDynstr, IsString, IsStrtab};
+ghost use Rattle.xmas_elf.specs.StringTable.{dyn_string_of, dynstr_of, string_of, strtab_of};
 
 use crate::bytes::text_at;
 use crate::sections::ShType;
@@ -12,8 +13,8 @@ impl<'a> ElfFile<'a> {
     /// lives as long as the input.
     ///
     /// Refused with `NoStrtab` where no section bears that name, with `StrtabType` where the first
-    /// that does has another type than StrTab, as `SectionHeader::raw_data` is, and as
-    /// `bytes::text_at` is.
+    /// that does has another type than StrTab, with `DataRange` where its data passes the end of the
+    /// input, and as `bytes::text_at` is.
     ///
     /// Each call looks for the section by its name, in one pass over the section headers. For many
     /// texts, take `raw_data` of the section once, and then `bytes::text_at` of it.
@@ -26,10 +27,10 @@ impl<'a> ElfFile<'a> {
         text_at(self.strtab()?, index as usize)
     }
 
-    /// The text at an index of `.dynstr`, as `get_string` gives that of `.strtab`.
+    /// The text at an index of `.dynstr`, in bytes, like that of `.strtab` by `get_string`.
     ///
-    /// Refused with `NoDynstr` where no section bears that name, as `SectionHeader::raw_data` of the
-    /// first that does is, whatever its type, and as `bytes::text_at` is.
+    /// Refused with `NoDynstr` where no section bears that name, with `DataRange` where the data of the
+    /// first that does, whatever its type, passes the end of the input, and as `bytes::text_at` is.
     #[tactic(auto, unfolding(crate::specs::StringTable::dyn_string_of))]
     pub fn get_dyn_string(&self, index: u32) -> Result<&'a str, ElfError>
         ensures text { Lends (IsDynString self.now index) result }
@@ -41,7 +42,7 @@ impl<'a> ElfFile<'a> {
 
     // The data of `.strtab`.
     #[tactic(auto, unfolding(crate::specs::StringTable::strtab_of))]
-    fn strtab(&self) -> Result<&'a [u8], ElfError>
+    pub(crate) fn strtab(&self) -> Result<&'a [u8], ElfError>
         ensures table { Lends (IsStrtab self.now) result }
         ensures only { LendsOnly (IsStrtab self.now) result }
         ensures exact { Answers (strtab_of self.now) result }
@@ -57,7 +58,7 @@ impl<'a> ElfFile<'a> {
 
     // The data of `.dynstr`, of whatever type.
     #[tactic(auto, unfolding(crate::specs::StringTable::dynstr_of))]
-    fn dynstr(&self) -> Result<&'a [u8], ElfError>
+    pub(crate) fn dynstr(&self) -> Result<&'a [u8], ElfError>
         ensures table { Lends (IsDynstr self.now) result }
         ensures only { LendsOnly (IsDynstr self.now) result }
         ensures exact { Answers (dynstr_of self.now) result }

@@ -1,6 +1,6 @@
 -- Records, one after the other in bytes.
 use Rattle.std.proofs.Common.{◌≡◌, ℕ, zero, suc, ◌+◌, ◌*◌, ◌-◌, ◌/◌, ◌%◌, ◌≤◌, ◌<◌, List, [], ◌∷◌, length, length-drop, take, drop, get_or, Some, zero-mul, refl, sym, ap, ◌∙◌, arith, add-one}
-use Rattle.std.proofs.Math.Nat.{div-eq-sub-div, zero-div, mod-eq_of_lt, div-le_self, suc-mul}
+use Rattle.std.proofs.Math.Nat.{div-eq-sub-div, zero-div, mod-eq_of_lt, suc-mul}
 use Rattle.std.proofs.lemmas.List.{take_all, drop-drop}
 use Rattle.std.proofs.lemmas.Option.{slice_get-get_or}
 use Rattle.std.specs.Prelude.{slice_get}
@@ -41,9 +41,6 @@ length_first size value (suc n) bytes = ap suc (length_first size value n (drop 
 pub length-records : {V : Type 0} (size : ℕ) (value : List ℕ → V) (bytes : List ℕ) → length (records size value bytes) ≡ length bytes / size
 unfolding records
 length-records size value bytes = length_first size value (length bytes / size) bytes
-
-pub records-fit : {V : Type 0} (size : ℕ) (value : List ℕ → V) (bytes : List ℕ) → length (records size value bytes) ≤ length bytes
-records-fit size value bytes = let h = div-le_self (length bytes) size in let e = length-records size value bytes in omega arith
 
 -- record i of them
 at_first : {V : Type 0} (size : ℕ) (value : List ℕ → V) (n : ℕ) (bytes : List ℕ) (i : ℕ) (d : V) → i < n

@@ -1,6 +1,7 @@
 //! Tables of records.
 
-ghost use Rattle.std.specs.Prelude.{◌≡◌, ◌↔◌, ◌≢◌, ◌<◌, ◌≤◌, ◌*◌, ◌%◌, ◌^◌, ◌∷◌, [], ℕ, length, get_or, slice_get, MatchOption, MatchResult, IsTrue, ⊤};
+ghost use Rattle.std.specs.Prelude.{◌≡◌, ◌↔◌, ◌≢◌, ◌<◌, ◌≤◌, ◌*◌, ◌%◌, ◌^◌, ◌∷◌, [], ℕ, length};
+ghost use Rattle.std.specs.Prelude.{get_or, slice_get, MatchOption, MatchResult, IsTrue, ⊤};
 ghost use Rattle.std.specs.Iterator.{YieldsFirst, item_count};
 
 use crate::ElfError;
@@ -32,7 +33,8 @@ impl<T: Record> Clone for Table<'_, T> {
 impl<T: Record> Copy for Table<'_, T> {}
 
 impl<'a, T: Record> Table<'a, T> {
-    ghost use Rattle.elf_base.specs.Table.{record_at, table_data, table_items, table_order, table_rest};
+    ghost use Rattle.elf_base.specs.Table.{record_at, table_data, table_items, table_order};
+    ghost use Rattle.elf_base.specs.Table.{table_rest};
 
     /// The table of the records in `bytes`; `NotMultiple` where their length is no multiple of `SIZE`.
     #[inline(always)]

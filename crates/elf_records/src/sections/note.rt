@@ -5,7 +5,9 @@ ghost use Rattle.std.proofs.Common.{lit<};
 ghost use Rattle.elf_base.specs.Lent.{Answers, Lends, LendsOnly};
 ghost use Rattle.elf_base.specs.Text.{IsText};
 ghost use Rattle.elf_base.specs.declared.error.ElfError.{ElfError};
-ghost use Rattle.elf_records.specs.Note.{IsNoteDescription, IsNoteName, NoteNameRefused, note_desc_of, note_desc_size, note_header, note_name_of, note_name_size, note_type, rounded_up};
+ghost use Rattle.elf_records.specs.Note.{IsNoteDescription, IsNoteName, NoteNameRefused};
+ghost use Rattle.elf_records.specs.Note.{note_desc_of, note_desc_size, note_header, note_name_of};
+ghost use Rattle.elf_records.specs.Note.{note_name_size, note_type, rounded_up};
 
 use elf_base::ElfError;
 use elf_base::bytes::{Order, Record, read_u32, text_at};
@@ -61,7 +63,7 @@ impl NoteHeader {
 }
 
 impl NoteHeader {
-    /// The name of the note, without its zero byte: `TextEnd` and `TextUtf8` as `text_at`, and
+    /// The name of the note, without its zero byte: `TextEnd` where no zero byte follows, `TextUtf8`, and
     /// `NoteName` where the text with its zero byte has not the size that the header says.
     #[tactic(auto, unfolding(crate::specs::Note::note_name_of))]
     pub fn name<'a>(&self, body: &'a [u8]) -> Result<&'a str, ElfError>

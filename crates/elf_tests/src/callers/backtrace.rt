@@ -9,7 +9,7 @@ ghost use Rattle.elf_tests.specs.FunctionAt.{HasNoName, HoldsAddress, IsFunction
 ghost use Rattle.xmas_elf.specs.FileHeader.{header_of};
 ghost use Rattle.xmas_elf.specs.Symbols.{symbols_of};
 ghost use Rattle.xmas_elf.specs.Table.{table_items};
-ghost use Rattle.xmas_elf.specs.declared.ElfFile.{ElfFile};
+ghost use Rattle.xmas_elf.specs.Types.{ElfFile};
 
 use xmas_elf::bytes::{Record, Table};
 use xmas_elf::sections::SectionData;

@@ -9,7 +9,7 @@ ghost use Rattle.xmas_elf.specs.HashTable.{chain_count_of, hash_data, hash_order
 ghost use Rattle.xmas_elf.specs.SectionContent.{section_content_of};
 ghost use Rattle.xmas_elf.specs.Symbols.{IsGlobal, symbols_of};
 ghost use Rattle.xmas_elf.specs.Table.{table_data, table_order};
-ghost use Rattle.xmas_elf.specs.declared.ElfFile.{ElfFile};
+ghost use Rattle.xmas_elf.specs.Types.{ElfFile};
 
 use xmas_elf::bytes::{Record, Table};
 use xmas_elf::hash::HashTable;

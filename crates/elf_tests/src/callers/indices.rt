@@ -4,7 +4,7 @@ ghost use Rattle.std.specs.Prelude.{◌≡◌, ◌<◌, IsOkAnd, MatchOption, Ok
 ghost use Rattle.std.specs.List.{AllWithin, HoldsAt};
 ghost use Rattle.elf_tests.specs.Executable.{IsExecutable};
 ghost use Rattle.xmas_elf.specs.HeaderTable.{EachBelow};
-ghost use Rattle.xmas_elf.specs.ProgramHeader.{segment_of};
+ghost use Rattle.xmas_elf.specs.ProgramHeader.{program_of};
 ghost use Rattle.xmas_elf.specs.ProgramList.{program_list};
 
 use xmas_elf::ElfFile;
@@ -25,10 +25,10 @@ pub fn executable_place(file: &ElfFile<'_>) -> Option<usize>
 #[tactic(auto, using(xmas_elf::proofs::lemmas::HeaderList::found_segment))]
 pub fn first_executable(file: &ElfFile<'_>) -> Option<usize>
     ensures { MatchOption result
-        (EachBelow (segment_of file.now)
+        (EachBelow (program_of file.now)
         (λ program. ¬ IsExecutable program) (length (program_list file.now)))
-        (λ i. IsOkAnd (segment_of file.now i) IsExecutable
-        × EachBelow (segment_of file.now) (λ program. ¬ IsExecutable program) i) }
+        (λ i. IsOkAnd (program_of file.now i) IsExecutable
+        × EachBelow (program_of file.now) (λ program. ¬ IsExecutable program) i) }
 {
     executable_place(file)
 }
@@ -36,10 +36,10 @@ pub fn first_executable(file: &ElfFile<'_>) -> Option<usize>
 /// The first executable segment with its index, by a loop.
 pub fn executable_with_index(file: &ElfFile<'_>) -> Option<(u64, ProgramHeader)>
     ensures { MatchOption result
-        (EachBelow (segment_of file.now)
+        (EachBelow (program_of file.now)
         (λ program. ¬ IsExecutable program) (length (program_list file.now)))
-        (λ p. (segment_of file.now p.0 ≡ Ok p.1) × IsExecutable p.1
-        × EachBelow (segment_of file.now) (λ program. ¬ IsExecutable program) p.0) }
+        (λ p. (program_of file.now p.0 ≡ Ok p.1) × IsExecutable p.1
+        × EachBelow (program_of file.now) (λ program. ¬ IsExecutable program) p.0) }
 {
     let mut index = 0;
     for program in file.program_iter() {

@@ -9,7 +9,7 @@ ghost use Rattle.xmas_elf.specs.Note.{note_desc_size, note_name_size, note_type,
 ghost use Rattle.xmas_elf.specs.NoteHeader.{NoteHeader};
 ghost use Rattle.xmas_elf.specs.Number.{number};
 ghost use Rattle.xmas_elf.specs.Text.{IsText};
-ghost use Rattle.xmas_elf.specs.declared.ElfFile.{ElfFile};
+ghost use Rattle.xmas_elf.specs.Types.{ElfFile};
 
 use xmas_elf::sections::NoteHeader;
 use xmas_elf::{ElfError, ElfFile, Extensions};

@@ -1,21 +1,20 @@
 //! Callers of symbols, of a known type and of any.
 
-ghost use Rattle.std.specs.Prelude.{◌≡◌, ◌↔◌, ◌*◌, IfOk, IfSome, IsTrue, None, Ok, Some, codes, drop, take, ℕ};
+ghost use Rattle.std.specs.Prelude.{◌≡◌, ◌↔◌, ◌*◌, IfOk, IfSome, IsTrue, MatchResult, None, Ok, Some, codes, drop, take, ℕ};
 ghost use Rattle.elf_tests.specs.Numbered.{numbered_name};
 ghost use Rattle.xmas_elf.specs.Lent.{Answers, Lends};
 ghost use Rattle.xmas_elf.specs.NameTable.{section_named};
 ghost use Rattle.xmas_elf.specs.Number.{number};
-ghost use Rattle.xmas_elf.specs.SectionHeader.{section_of, section_type};
+ghost use Rattle.xmas_elf.specs.SectionHeader.{section_of};
 ghost use Rattle.xmas_elf.specs.StringTable.{IsDynString, IsString, dyn_string_of, string_of, strtab_of};
 ghost use Rattle.xmas_elf.specs.Symbol.{dyn_entry_32_fields, entry_64_fields};
 ghost use Rattle.xmas_elf.specs.SymbolSection.{IsSectionIndex};
 ghost use Rattle.xmas_elf.specs.Table.{table_data, table_order};
-ghost use Rattle.xmas_elf.specs.declared.ElfFile.{ElfFile};
-ghost use Rattle.xmas_elf.specs.declared.sections.section_header.SectionHeader.{SectionHeader};
+ghost use Rattle.xmas_elf.specs.Types.{ElfFile, SectionHeader};
 
 use crate::own::Numbered;
-use xmas_elf::bytes::{Order, Table, text_at};
-use xmas_elf::sections::{SectionHeader, ShType};
+use xmas_elf::bytes::{Order, Record, Table, text_at};
+use xmas_elf::sections::SectionHeader;
 use xmas_elf::symbol_table::{DynEntry32, Entry, Entry64};
 use xmas_elf::{ElfError, ElfFile};
 
@@ -76,21 +75,7 @@ pub fn value_at(table: &Table<'_, Entry64>, index: usize) -> Option<u64>
     Some(table.get(index)?.value())
 }
 
-/// The string table of the symbols, to be taken once for many names.
-#[tactic(auto, unfolding(xmas_elf::specs::StringTable::strtab_of))]
-pub fn symbol_strings<'a>(file: &ElfFile<'a>) -> Result<&'a [u8], ElfError>
-    ensures { Answers (strtab_of file.now) result }
-{
-    let Some(section) = file.find_section_by_name(".strtab") else {
-        return Err(ElfError::NoStrtab);
-    };
-    match section.get_type() {
-        Ok(ShType::StrTab) => section.raw_data(file),
-        _ => Err(ElfError::StrtabType),
-    }
-}
-
-/// The name of a symbol by that table: in each file that has it, what `get_name` answers.
+/// The name of a symbol by the bytes of a string table: in each file that has it, what `get_name` answers.
 #[tactic(auto, unfolding(xmas_elf::specs::StringTable::string_of))]
 pub fn name_in<'a>(strings: &'a [u8], symbol: &Entry64) -> Result<&'a str, ElfError>
     ensures { (file : ElfFile) → strtab_of file ≡ Ok strings.now
@@ -99,20 +84,34 @@ pub fn name_in<'a>(strings: &'a [u8], symbol: &Entry64) -> Result<&'a str, ElfEr
     text_at(strings, symbol.name() as usize)
 }
 
-/// The two together answer what `get_name` does.
+/// The name of a symbol by the string table that is taken once for many: what `get_name` answers.
 #[tactic(auto, unfolding(xmas_elf::specs::StringTable::string_of))]
 pub fn name_by_table<'a>(file: &ElfFile<'a>, symbol: &Entry64) -> Result<&'a str, ElfError>
     ensures { Answers (string_of file.now (entry_64_fields symbol.now).name) result }
 {
-    name_in(symbol_strings(file)?, symbol)
+    let strings = Entry64::string_table(file);
+    symbol.name_in(strings, file)
+}
+
+/// The same of any symbol: the text that it bears, or a refusal where it bears none.
+pub fn name_of_any<'a, E: Entry>(symbol: &E, file: &ElfFile<'a>) -> Result<&'a str, ElfError>
+    ensures { MatchResult result
+        (λ text. E.text_in symbol.now file.now ≡ Some text.now)
+        (λ _. E.text_in symbol.now file.now ≡ None) }
+{
+    let strings = E::string_table(file);
+    symbol.name_in(strings, file)
 }
 
 /// How many bytes the names of all symbols have together, or the greatest number if that is less.
-pub fn name_bytes(file: &ElfFile<'_>, symbols: Table<'_, Entry64>) -> Result<u64, ElfError> {
-    let strings = symbol_strings(file)?;
+pub fn name_bytes<E: Entry + Record>(
+    file: &ElfFile<'_>,
+    symbols: Table<'_, E>,
+) -> Result<u64, ElfError> {
+    let strings = E::string_table(file);
     let mut total = 0u64;
     for symbol in symbols {
-        total = total.saturating_add(name_in(strings, &symbol)?.len() as u64);
+        total = total.saturating_add(symbol.name_in(strings, file)?.len() as u64);
     }
     Ok(total)
 }

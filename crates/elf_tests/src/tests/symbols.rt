@@ -1,8 +1,8 @@
 //! Symbols: their numbers, names and printed forms.
 
 use crate::callers::symbols::{
-    dyn_name_or_refusal, first_name, name_by_table, name_bytes, name_or_refusal, own_is_named,
-    own_section, value_at,
+    dyn_name_or_refusal, first_name, name_by_table, name_bytes, name_of_any, name_or_refusal,
+    own_is_named, own_section, value_at,
 };
 use crate::files::{dynstr_file, strtab_file};
 use crate::own::Numbered;
@@ -136,6 +136,7 @@ fn symbols_have_names(rt: HostRuntime) -> Result<(), Fail> {
         set(&mut wide, 0, symbol_64::NAME, name, LITTLE);
         let narrow_symbol = symbol::<Entry32>(&narrow, LITTLE)?;
         assert_eq!(rt; narrow_symbol.get_name(&file), answer, "name {name}");
+        assert_eq!(rt; name_of_any(&narrow_symbol, &file), answer, "name {name}");
         let wide_symbol = symbol::<Entry64>(&wide, LITTLE)?;
         assert_eq!(rt; name_or_refusal(&wide_symbol, &file), answer);
         assert_eq!(rt; name_by_table(&file, &wide_symbol), answer);
@@ -143,10 +144,30 @@ fn symbols_have_names(rt: HostRuntime) -> Result<(), Fail> {
         assert_eq!(rt; wide_symbol.get_name(&dyn_file), Err(ElfError::NoStrtab));
         let narrow_symbol = symbol::<DynEntry32>(&narrow, LITTLE)?;
         assert_eq!(rt; dyn_name_or_refusal(&narrow_symbol, &dyn_file), answer);
+        assert_eq!(rt;
+            name_of_any(&narrow_symbol, &dyn_file),
+            answer,
+            "name {name}"
+        );
         assert_eq!(rt; narrow_symbol.get_name(&file), Err(ElfError::NoDynstr));
         let wide_symbol = symbol::<DynEntry64>(&wide, LITTLE)?;
         assert_eq!(rt; wide_symbol.get_name(&dyn_file), answer, "name {name}");
+        assert_eq!(rt; name_of_any(&wide_symbol, &dyn_file), answer, "name {name}");
+        assert_eq!(rt; name_of_any(&wide_symbol, &file), Err(ElfError::NoDynstr));
     }
+    Ok(())
+}
+
+#[test]
+fn symbols_of_ones_own_need_no_string_table(rt: HostRuntime) -> Result<(), Fail> {
+    let bytes = strtab_file(LITTLE);
+    let file = ElfFile::new(&bytes)?;
+    assert!(rt; Numbered::string_table(&file).is_none());
+    assert_eq!(rt; name_of_any(&Numbered { number: 1 }, &file), Ok("ab"));
+    assert_eq!(rt;
+        name_of_any(&Numbered { number: 3 }, &file),
+        Err(ElfError::TextEnd)
+    );
     Ok(())
 }
 

@@ -6,7 +6,7 @@ use Rattle.std.specs.List.{AllWithin, HoldsAt}
 use Rattle.elf_base.specs.declared.error.ElfError.{ElfError}
 use Rattle.xmas_elf.specs.Counts.{program_count_of, section_count_of}
 use Rattle.xmas_elf.specs.HeaderTable.{EachBelow, IsLongest, before, header_rest, headers_from}
-use Rattle.xmas_elf.specs.ProgramHeader.{segment_of}
+use Rattle.xmas_elf.specs.ProgramHeader.{program_of}
 use Rattle.xmas_elf.specs.ProgramList.{program_list}
 use Rattle.xmas_elf.specs.SectionHeader.{section_of}
 use Rattle.xmas_elf.specs.SectionList.{section_list}
@@ -58,9 +58,9 @@ pub found_section : (file : ElfFile) (P N : SectionHeader → Type 0) (r : Optio
 found_section file P N r found =
     found_header (section_of file) (section_count_of file) (section_list file) P N r (header_list-longest (section_of file) (section_count_of file)) found
 
-pub found_segment : (file : ElfFile) (P N : ProgramHeader → Type 0) (r : Option ℕ) → FoundAt (segment_of file) (program_count_of file) (program_list file) P N r → FoundHeader (segment_of file) (program_count_of file) (program_list file) P N r
+pub found_segment : (file : ElfFile) (P N : ProgramHeader → Type 0) (r : Option ℕ) → FoundAt (program_of file) (program_count_of file) (program_list file) P N r → FoundHeader (program_of file) (program_count_of file) (program_list file) P N r
 found_segment file P N r found =
-    found_header (segment_of file) (program_count_of file) (program_list file) P N r (header_list-longest (segment_of file) (program_count_of file)) found
+    found_header (program_of file) (program_count_of file) (program_list file) P N r (header_list-longest (program_of file) (program_count_of file)) found
 
 pub sections_within : (file : ElfFile) (P : SectionHeader → Type 0) (high : ℕ) → high ≤ length (section_list file) → AllWithin P (section_list file) 0 high → EachBelow (section_of file) P high
 sections_within file P high fits all =

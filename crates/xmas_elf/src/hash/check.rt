@@ -1,17 +1,72 @@
 //! The check of a hash table (this project's own).
 
-ghost use Rattle.std.specs.Prelude.{◌≡◌, ◌≢◌, ◌<◌, ◌/◌, ◌↔◌, ℕ, Err, IsOk, IsTrue, List, MatchResult, Ok, Result, Some, false};
+ghost use Rattle.std.specs.Prelude.{◌≡◌, ◌≢◌, ◌≤◌, ◌<◌, ◌/◌, ◌%◌, ◌↔◌, ℕ, Err, IfSome, IsOk, IsTrue, List, MatchOption, MatchResult, None, Ok, Result, Some, length};
 ghost use Rattle.elf_base.specs.Table.{table_items};
-ghost use Rattle.xmas_elf.specs.Symbols.{IsGlobal, symbols_of};
+ghost use Rattle.elf_records.specs.HashNumber.{hash_number};
+ghost use Rattle.xmas_elf.specs.Counted.{IsCount};
+ghost use Rattle.xmas_elf.specs.Good.{Belongs, MustBeHeld};
+ghost use Rattle.xmas_elf.specs.SymbolName.{HoldsNames};
+ghost use Rattle.xmas_elf.specs.Symbols.{symbols_of};
 
 use crate::bytes::{Record, Table};
-use crate::hash::{HashTable, hash};
+use crate::hash::{HashTable, Strings, hash};
 use crate::symbol_table::Entry;
 use crate::{ElfError, ElfFile};
 
+// The name of a symbol that must be held: one that isn't local.
+#[inline(always)]
+fn global_name<'a, E: Entry>(entry: &E, strings: Strings<'a>, file: &ElfFile<'a>) -> Option<&'a str>
+    requires { IfSome strings (HoldsNames E.fields (λ e. E.text_in e file.now)) }
+    ensures { MatchOption result
+        ((E.fields entry.now).info / 16 ≢ 0 → E.text_in entry.now file.now ≡ None)
+        (λ name. ((E.fields entry.now).info / 16 ≢ 0) × (E.text_in entry.now file.now ≡ Some name.now)) }
+{
+    if entry.info() / 16 == 0 {
+        return None;
+    }
+    entry.name_in(strings, file).ok()
+}
+
+// Whether the symbol at an index must be held.
+#[inline(always)]
+fn must_be_held<E: Entry + Record>(
+    index: usize,
+    symbols: &Table<'_, E>,
+    strings: Strings<'_>,
+    file: &ElfFile<'_>,
+) -> bool
+    requires names { IfSome strings (HoldsNames E.fields (λ e. E.text_in e file.now)) }
+    requires symbol { 0 < index }
+    ensures { IsTrue result
+        ↔ MustBeHeld (symbols_of E.fields E.text_in symbols.now file.now) index }
+{
+    match symbols.get(index) {
+        Some(entry) => global_name(&entry, strings, file).is_some(),
+        None => false,
+    }
+}
+
+// How many symbols must be held.
+fn global_count<E: Entry + Record>(
+    symbols: &Table<'_, E>,
+    strings: Strings<'_>,
+    file: &ElfFile<'_>,
+) -> usize
+    requires { IfSome strings (HoldsNames E.fields (λ e. E.text_in e file.now)) }
+    ensures { IsCount (MustBeHeld (symbols_of E.fields E.text_in symbols.now file.now)) result }
+{
+    let mut count = 0;
+    for index in 1..symbols.len() {
+        if must_be_held(index, symbols, strings, file) {
+            count += 1;
+        }
+    }
+    count
+}
+
 impl<'a> HashTable<'a> {
     ghost use Rattle.xmas_elf.specs.Chain.{LooksFrom, Reaches, chains_of};
-    ghost use Rattle.xmas_elf.specs.Good.{Ends, EndsBelow, IsAtFault, IsCheck, IsGood, IsReached, Nothing};
+    ghost use Rattle.xmas_elf.specs.Good.{Ends, EndsBelow, IsAtFault, IsCheck, IsGood, IsHeldBelow, IsHeldBy};
     ghost use Rattle.xmas_elf.specs.HashTable.{bucket_count_of};
 
     /// Whether all chains come to an end, and each symbol that isn't local and has a name is on the
@@ -21,11 +76,12 @@ impl<'a> HashTable<'a> {
     /// Refused as `lookup` is on the chain of the least bucket whose chain doesn't end, and with
     /// `HashMissing` where all chains end and a symbol is missing.
     ///
-    /// It takes no memory, and marks nothing. It follows each chain to its end, and then, for each
-    /// symbol that isn't local and has a name, the chain of that name up to the symbol. So a table
-    /// whose names are spread over its buckets costs about two steps a symbol, besides reading its
-    /// name; and one with B buckets, C chains and S symbols never more than (B + S) times the lesser
-    /// of C and S.
+    /// It takes no memory, and marks nothing. It follows each chain once, to its end, and counts the
+    /// symbols there that belong to its bucket by their names; and compares their number with that of
+    /// the symbols that must be there. So it reads each name twice at most, and costs so many steps as
+    /// the chains are long, and as there are symbols. But buckets may share a chain, in a table that
+    /// was made to take long: with B buckets, C chains and S symbols it is B times the lesser of C and
+    /// S steps at most, besides S.
     pub fn check<E: Entry + Record>(
         &self,
         symbols: &Table<'_, E>,
@@ -38,149 +94,121 @@ impl<'a> HashTable<'a> {
             → IsCheck self.now (symbols_of E.fields E.text_in symbols.now file.now) other
             → other ≡ result }
     {
-        match self.check_buckets(symbols) {
-            Ok(()) if self.holds_all(symbols, file) => Ok(()),
-            Ok(()) => Err(ElfError::HashMissing),
+        let strings = E::string_table(file);
+        match self.held_by_all(symbols, strings, file) {
+            Ok(held) => {
+                let global = global_count(symbols, strings, file) as u64;
+                if held < global {
+                    return Err(ElfError::HashMissing);
+                }
+                Ok(())
+            }
             Err(fault) => Err(fault),
         }
     }
 
-    // Whether the chains of all buckets end, or why that of the least bucket at fault doesn't.
-    fn check_buckets<E: Record>(&self, symbols: &Table<'_, E>) -> Result<(), ElfError>
-        ensures { let items = table_items symbols.now in MatchResult result
-            (λ _. EndsBelow self.now items (bucket_count_of self.now))
-            (λ error. (k : ℕ) × (k < bucket_count_of self.now) × EndsBelow self.now items k
-            × IsAtFault self.now items k error) }
+    // How many symbols the chains of all buckets hold, if they end; or why that of the least bucket at
+    // fault doesn't.
+    fn held_by_all<E: Entry + Record>(
+        &self,
+        symbols: &Table<'_, E>,
+        strings: Strings<'_>,
+        file: &ElfFile<'_>,
+    ) -> Result<u64, ElfError>
+        requires { IfSome strings (HoldsNames E.fields (λ e. E.text_in e file.now)) }
+        ensures { let all = symbols_of E.fields E.text_in symbols.now file.now in MatchResult result
+            (λ held. EndsBelow self.now all.items (bucket_count_of self.now)
+            × IsCount (IsHeldBelow self.now all (bucket_count_of self.now)) held)
+            (λ error. (k : ℕ) × (k < bucket_count_of self.now) × EndsBelow self.now all.items k
+            × IsAtFault self.now all.items k error) }
     {
+        let mut held: u64 = 0;
         for bucket in 0..self.bucket_count() {
-            match self.ends(bucket, symbols) {
-                Ok(()) => {}
+            held += match self.held_by(bucket, symbols, strings, file) {
+                Ok(more) => u64::from(more),
                 Err(error) => return Err(error),
-            }
+            };
         }
-        Ok(())
+        Ok(held)
     }
 
-    // Whether the chain of a bucket ends, or why it doesn't.
-    fn ends<E: Record>(&self, bucket: u32, symbols: &Table<'_, E>) -> Result<(), ElfError>
-        ensures { let items = table_items symbols.now in MatchResult result
-            (λ _. Ends self.now items bucket) (λ error. IsAtFault self.now items bucket error) }
+    // How many symbols the chain of a bucket holds that belong to it, if the chain ends; or why it
+    // doesn't.
+    fn held_by<E: Entry + Record>(
+        &self,
+        bucket: u32,
+        symbols: &Table<'_, E>,
+        strings: Strings<'_>,
+        file: &ElfFile<'_>,
+    ) -> Result<u32, ElfError>
+        requires names { IfSome strings (HoldsNames E.fields (λ e. E.text_in e file.now)) }
+        requires below { bucket < bucket_count_of self.now }
+        ensures { let all = symbols_of E.fields E.text_in symbols.now file.now in MatchResult result
+            (λ held. Ends self.now all.items bucket × IsCount (IsHeldBy self.now all bucket) held)
+            (λ error. IsAtFault self.now all.items bucket error) }
     {
         match self.get_bucket(bucket) {
-            Ok(first) => match self.meets(first, symbols, 0) {
-                Ok(_) => Ok(()),
-                Err(error) => Err(error),
-            },
+            Ok(first) => self.held_from(first, bucket, symbols, strings, file),
             Err(error) => Err(error),
         }
     }
 
-    // Whether the walk along a chain comes to an index, as it does to 0 where the chain ends; or why
-    // the chain doesn't end.
-    fn meets<E: Record>(
+    // The walk from an index on, along the whole chain.
+    fn held_from<E: Entry + Record>(
         &self,
         first: u32,
+        bucket: u32,
         symbols: &Table<'_, E>,
-        target: usize,
-    ) -> Result<bool, ElfError>
-        ensures { let chains = chains_of self.now (table_items symbols.now) in MatchResult result
-            (λ met. (IsTrue met → Reaches Nothing chains first target)
-            × (met ≡ false → Reaches Nothing chains first 0 × ¬ Reaches Nothing chains first target))
-            (λ error. (n : ℕ) × LooksFrom Nothing chains (Some (Ok first)) (Err error) n) }
+        strings: Strings<'_>,
+        file: &ElfFile<'_>,
+    ) -> Result<u32, ElfError>
+        requires names { IfSome strings (HoldsNames E.fields (λ e. E.text_in e file.now)) }
+        requires below { bucket < bucket_count_of self.now }
+        ensures { let all = symbols_of E.fields E.text_in symbols.now file.now in
+            let chains = chains_of self.now all.items in MatchResult result
+            (λ held. Reaches chains first 0
+            × IsCount (λ i. Belongs self.now all bucket i × Reaches chains first i) held)
+            (λ error. (n : ℕ) × LooksFrom (λ (e : E). ⊥) chains (Some (Ok first)) (Err error) n) }
     {
-        let chain_count = self.chain_count();
-        let symbol_count = symbols.len();
         let mut index = first;
         let mut count: u32 = 0;
-        while index as usize != target {
-            if index == 0 {
-                return Ok(false);
-            }
-            if index >= chain_count {
-                return Err(ElfError::ChainIndex);
-            }
-            if index as usize >= symbol_count {
-                return Err(ElfError::SymbolIndex);
-            }
-            if count >= chain_count || count as usize >= symbol_count {
-                return Err(ElfError::HashCycle);
-            }
+        let mut held: u32 = 0;
+        while index != 0 {
+            let entry = match self.symbol_at(index, count, symbols) {
+                Ok(entry) => entry,
+                Err(halt) => return Err(halt),
+            };
             count += 1;
+            if self.belongs(&entry, bucket, strings, file) {
+                held += 1;
+            }
             index = match self.get_chain(index) {
                 Ok(next) => next,
                 Err(error) => return Err(error),
             };
         }
-        Ok(true)
+        Ok(held)
     }
 
-    // Whether, where all chains end, each symbol is held that must be.
-    fn holds_all<E: Entry + Record>(&self, symbols: &Table<'_, E>, file: &ElfFile<'_>) -> bool
-        ensures yes { let all = symbols_of E.fields E.text_in symbols.now file.now in
-            IsTrue result → EndsBelow self.now all.items (bucket_count_of self.now)
-            → (i : ℕ) (e : E) (name : List ℕ) → IsGlobal all i e name
-            → IsReached self.now all.items name i }
-        ensures no { let all = symbols_of E.fields E.text_in symbols.now file.now in
-            result ≡ false → EndsBelow self.now all.items (bucket_count_of self.now)
-            → (i : ℕ) × (e : E) × (name : List ℕ) × IsGlobal all i e name
-            × ¬ IsReached self.now all.items name i }
-    {
-        for index in 1..symbols.len() {
-            if let Some(entry) = symbols.get(index) {
-                if !self.holds(index, &entry, symbols, file) {
-                    return false;
-                }
-            }
-        }
-        true
-    }
-
-    // Whether, where all chains end, the symbol at an index is held, if it must be: the binding is
-    // asked for first, then the name, and then the chain.
-    fn holds<E: Entry + Record>(
+    // Whether a symbol must be held, by the chain of this bucket.
+    #[inline(always)]
+    fn belongs<E: Entry>(
         &self,
-        index: usize,
         entry: &E,
-        symbols: &Table<'_, E>,
+        bucket: u32,
+        strings: Strings<'_>,
         file: &ElfFile<'_>,
     ) -> bool
-        requires { 0 < index }
-        ensures yes { let items = table_items symbols.now in
-            IsTrue result → EndsBelow self.now items (bucket_count_of self.now)
-            → (name : List ℕ) → (E.fields entry.now).info / 16 ≢ 0
-            → E.text_in entry.now file.now ≡ Some name → IsReached self.now items name index }
-        ensures no { let items = table_items symbols.now in
-            result ≡ false → EndsBelow self.now items (bucket_count_of self.now)
-            → (name : List ℕ) × ((E.fields entry.now).info / 16 ≢ 0)
-            × (E.text_in entry.now file.now ≡ Some name) × ¬ IsReached self.now items name index }
-    {
-        if entry.info() / 16 == 0 {
-            return true;
-        }
-        match entry.get_name(file) {
-            Ok(name) => self.reaches(name, index, symbols),
-            Err(_) => true,
-        }
-    }
-
-    // Whether, where all chains end, an index is on the chain of a name.
-    #[tactic(auto, unfolding(crate::specs::HashTable::start_of))]
-    fn reaches<E: Record>(&self, name: &str, index: usize, symbols: &Table<'_, E>) -> bool
-        requires { 0 < index }
-        ensures { let items = table_items symbols.now in
-            EndsBelow self.now items (bucket_count_of self.now)
-            → (IsTrue result ↔ IsReached self.now items name.now index) }
+        requires names { IfSome strings (HoldsNames E.fields (λ e. E.text_in e file.now)) }
+        requires below { bucket < bucket_count_of self.now }
+        ensures { IsTrue result ↔ ((name : List ℕ) × ((E.fields entry.now).info / 16 ≢ 0)
+            × (E.text_in entry.now file.now ≡ Some name)
+            × (hash_number name % bucket_count_of self.now ≡ bucket)) }
     {
         let bucket_count = self.bucket_count();
-        if bucket_count == 0 {
-            return false;
-        }
-        match self.get_bucket(hash(name) % bucket_count) {
-            Ok(first) => match self.meets(first, symbols, index) {
-                Ok(met) => met,
-                Err(_) => false,
-            },
-            Err(_) => false,
+        match global_name(entry, strings, file) {
+            Some(name) => hash(name) % bucket_count == bucket,
+            None => false,
         }
     }
 }

@@ -2,37 +2,50 @@
 
 ghost use Rattle.std.specs.Borrow.{Bor};
 ghost use Rattle.std.specs.Fn.{FnReturnsAt};
-ghost use Rattle.std.specs.Prelude.{◌≡◌, ◌≢◌, ◌≤◌, ◌↔◌, ℕ, Bool, true, false, Contains, IsTrue, List, Option, Result, Ok, Err, Some, length};
+ghost use Rattle.std.specs.Prelude.{◌≡◌, ◌≢◌, ◌≤◌, ◌↔◌, ℕ, Bool, true, false, Contains, IfSome, IsTrue, List, Option, Result, Ok, Err, Some, length};
 ghost use Rattle.elf_base.specs.Table.{table_items};
+ghost use Rattle.xmas_elf.specs.SymbolName.{HoldsNames};
 ghost use Rattle.xmas_elf.specs.Symbols.{Decides, IsMatch, symbols_of};
 
 use crate::bytes::{Record, Table};
-use crate::hash::{HashTable, hash};
+use crate::hash::{HashTable, Strings, hash};
 use crate::symbol_table::Entry;
 use crate::{ElfError, ElfFile};
+use elf_base::bytes::stands_at;
 
-// Whether the symbol bears the name.
+// Whether the symbol bears the name, which is compared in place where there is a string table.
 #[inline(always)]
-fn bears<E: Entry>(entry: &E, name: &str, file: &ElfFile<'_>) -> bool
+fn bears<E: Entry>(entry: &E, name: &str, strings: Strings<'_>, file: &ElfFile<'_>) -> bool
+    requires { IfSome strings (HoldsNames E.fields (λ e. E.text_in e file.now)) }
     ensures { IsTrue result ↔ (E.text_in entry.now file.now ≡ Some name.now) }
 {
-    match entry.get_name(file) {
-        Ok(text) => text == name,
-        Err(_) => false,
+    match strings {
+        Some(found) => match found {
+            Ok(table) => stands_at(table, entry.name() as usize, name),
+            Err(_) => false,
+        },
+        None => matches!(entry.get_name(file), Ok(text) if text == name),
     }
 }
 
 // Whether the symbol bears the name and passes the test, which is put to those that bear it alone.
 #[inline(always)]
-fn passes<E: Entry, F: Fn(&E) -> bool>(entry: &E, name: &str, file: &ElfFile<'_>, f: &F) -> bool
-    requires { (e : Bor E) → e.now ≡ entry.now → F.pre f.now e }
+fn passes<E: Entry, F: Fn(&E) -> bool>(
+    entry: &E,
+    name: &str,
+    strings: Strings<'_>,
+    file: &ElfFile<'_>,
+    f: &F,
+) -> bool
+    requires names { IfSome strings (HoldsNames E.fields (λ e. E.text_in e file.now)) }
+    requires callable { (e : Bor E) → e.now ≡ entry.now → F.pre f.now e }
     ensures yes { IsTrue result → (E.text_in entry.now file.now ≡ Some name.now)
         × FnReturnsAt F.Fn f.now entry.now true }
     ensures no { result ≡ false
         → (FnReturnsAt F.Fn f.now entry.now true → FnReturnsAt F.Fn f.now entry.now false → ⊥)
         → (E.text_in entry.now file.now ≡ Some name.now) × FnReturnsAt F.Fn f.now entry.now true → ⊥ }
 {
-    bears(entry, name, file) && f(entry)
+    bears(entry, name, strings, file) && f(entry)
 }
 
 impl<'a> HashTable<'a> {
@@ -118,7 +131,8 @@ impl<'a> HashTable<'a> {
             return (Ok(None), 0);
         }
         match self.get_bucket(hash(name) % bucket_count) {
-            Ok(first) => self.walk(first, name, symbols, file, f),
+            Ok(0) => (Ok(None), 0),
+            Ok(first) => self.walk(first, name, E::string_table(file), symbols, file, f),
             Err(error) => (Err(error), 0),
         }
     }
@@ -128,11 +142,13 @@ impl<'a> HashTable<'a> {
         &self,
         first: u32,
         name: &str,
+        strings: Strings<'_>,
         symbols: &Table<'_, E>,
         file: &ElfFile<'_>,
         f: &F,
     ) -> (Result<Option<(u32, E)>, ElfError>, u32)
-        requires { (e : Bor E) → Contains (table_items symbols.now) e.now → F.pre f.now e }
+        requires names { IfSome strings (HoldsNames E.fields (λ e. E.text_in e file.now)) }
+        requires callable { (e : Bor E) → Contains (table_items symbols.now) e.now → F.pre f.now e }
         ensures in_chains { result.1 ≤ chain_count_of self.now }
         ensures in_symbols { result.1 ≤ length (table_items symbols.now) }
         ensures answer { let all = symbols_of E.fields E.text_in symbols.now file.now in
@@ -140,22 +156,15 @@ impl<'a> HashTable<'a> {
             → LooksFrom (IsMatch all F.Fn f.now name.now) (chains_of self.now all.items)
             (Some (Ok first)) result.0 result.1 }
     {
-        let chain_count = self.chain_count();
-        let symbol_count = symbols.len();
         let mut index = first;
         let mut count: u32 = 0;
         while index != 0 {
-            if index >= chain_count {
-                return (Err(ElfError::ChainIndex), count);
-            }
-            let Some(entry) = symbols.get(index as usize) else {
-                return (Err(ElfError::SymbolIndex), count);
+            let entry = match self.symbol_at(index, count, symbols) {
+                Ok(entry) => entry,
+                Err(halt) => return (Err(halt), count),
             };
-            if count >= chain_count || count as usize >= symbol_count {
-                return (Err(ElfError::HashCycle), count);
-            }
             count += 1;
-            if passes(&entry, name, file, f) {
+            if passes(&entry, name, strings, file, f) {
                 return (Ok(Some((index, entry))), count);
             }
             index = match self.get_chain(index) {

@@ -25,8 +25,8 @@ impl ProgramHeader {
         ensures { result ≡ (program_fields self.now).align }
     {
         match self {
-            ProgramHeader::Ph32(header) => u64::from(header.align),
-            ProgramHeader::Ph64(header) => header.align,
+            Self::Ph32(header) => u64::from(header.align),
+            Self::Ph64(header) => header.align,
         }
     }
 
@@ -35,8 +35,8 @@ impl ProgramHeader {
         ensures { result ≡ (program_fields self.now).file_size }
     {
         match self {
-            ProgramHeader::Ph32(header) => u64::from(header.file_size),
-            ProgramHeader::Ph64(header) => header.file_size,
+            Self::Ph32(header) => u64::from(header.file_size),
+            Self::Ph64(header) => header.file_size,
         }
     }
 
@@ -45,8 +45,8 @@ impl ProgramHeader {
         ensures { result ≡ (program_fields self.now).mem_size }
     {
         match self {
-            ProgramHeader::Ph32(header) => u64::from(header.mem_size),
-            ProgramHeader::Ph64(header) => header.mem_size,
+            Self::Ph32(header) => u64::from(header.mem_size),
+            Self::Ph64(header) => header.mem_size,
         }
     }
 
@@ -55,8 +55,8 @@ impl ProgramHeader {
         ensures { result ≡ (program_fields self.now).offset }
     {
         match self {
-            ProgramHeader::Ph32(header) => u64::from(header.offset),
-            ProgramHeader::Ph64(header) => header.offset,
+            Self::Ph32(header) => u64::from(header.offset),
+            Self::Ph64(header) => header.offset,
         }
     }
 
@@ -65,8 +65,8 @@ impl ProgramHeader {
         ensures { result ≡ (program_fields self.now).physical_addr }
     {
         match self {
-            ProgramHeader::Ph32(header) => u64::from(header.physical_addr),
-            ProgramHeader::Ph64(header) => header.physical_addr,
+            Self::Ph32(header) => u64::from(header.physical_addr),
+            Self::Ph64(header) => header.physical_addr,
         }
     }
 
@@ -75,8 +75,8 @@ impl ProgramHeader {
         ensures { result ≡ (program_fields self.now).virtual_addr }
     {
         match self {
-            ProgramHeader::Ph32(header) => u64::from(header.virtual_addr),
-            ProgramHeader::Ph64(header) => header.virtual_addr,
+            Self::Ph32(header) => u64::from(header.virtual_addr),
+            Self::Ph64(header) => header.virtual_addr,
         }
     }
 
@@ -85,8 +85,8 @@ impl ProgramHeader {
         ensures { result ≡ (program_fields self.now).flags }
     {
         match self {
-            ProgramHeader::Ph32(header) => header.flags,
-            ProgramHeader::Ph64(header) => header.flags,
+            Self::Ph32(header) => header.flags,
+            Self::Ph64(header) => header.flags,
         }
     }
 
@@ -96,8 +96,8 @@ impl ProgramHeader {
         ensures { result ≡ segment_type (program_fields self.now) }
     {
         match self {
-            ProgramHeader::Ph32(header) => header.get_type(),
-            ProgramHeader::Ph64(header) => header.get_type(),
+            Self::Ph32(header) => header.get_type(),
+            Self::Ph64(header) => header.get_type(),
         }
     }
 
@@ -112,18 +112,28 @@ impl ProgramHeader {
         ensures exact { Answers (segment_data_of file.now (program_fields self.now)) result }
     {
         match self {
-            ProgramHeader::Ph32(header) => header.raw_data(file),
-            ProgramHeader::Ph64(header) => header.raw_data(file),
+            Self::Ph32(header) => header.raw_data(file),
+            Self::Ph64(header) => header.raw_data(file),
         }
     }
 
-    // What the segment is, as a number.
+    // What the segment is, as a number. That of a section is public, as in the Rust crate.
     pub(crate) fn type_(&self) -> Type_
         ensures { result ≡ (program_fields self.now).type_ }
     {
         match self {
-            ProgramHeader::Ph32(header) => header.type_,
-            ProgramHeader::Ph64(header) => header.type_,
+            Self::Ph32(header) => header.type_,
+            Self::Ph64(header) => header.type_,
+        }
+    }
+
+    // The record of the segment, in the types of class 64.
+    pub(crate) fn record_64(&self) -> ProgramHeader64
+        ensures { result ≡ program_fields self.now }
+    {
+        match self {
+            Self::Ph32(header) => header.to_64(),
+            Self::Ph64(header) => *header,
         }
     }
 
@@ -132,8 +142,8 @@ impl ProgramHeader {
         ensures { result ≡ program_record_size self.now }
     {
         match self {
-            ProgramHeader::Ph32(_) => ProgramHeader32::SIZE,
-            ProgramHeader::Ph64(_) => ProgramHeader64::SIZE,
+            Self::Ph32(_) => ProgramHeader32::SIZE,
+            Self::Ph64(_) => ProgramHeader64::SIZE,
         }
     }
 }

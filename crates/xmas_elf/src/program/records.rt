@@ -3,7 +3,8 @@
 ghost use Rattle.std.specs.Prelude.{◌≡◌, ◌↔◌, ◌+◌, ◌≤◌, ◌<◌, IsOk, length};
 ghost use Rattle.std.proofs.Common.{lit<};
 ghost use Rattle.elf_base.specs.Lent.{Answers, Lends};
-ghost use Rattle.xmas_elf.specs.ProgramHeader.{program_64, program_header_32, program_header_64, segment_type};
+ghost use Rattle.xmas_elf.specs.ProgramHeader.{program_64, program_header_32, program_header_64};
+ghost use Rattle.xmas_elf.specs.ProgramHeader.{segment_type};
 ghost use Rattle.xmas_elf.specs.SegmentData.{HasSegmentData, IsSegmentData, segment_data_of};
 
 use crate::program::{Flags, Type, Type_};

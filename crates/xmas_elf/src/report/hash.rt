@@ -1,8 +1,7 @@
 //! What the report says of the hash table of a file.
 
-ghost use Rattle.std.specs.Prelude.{◌≡◌, MatchOption, length};
-ghost use Rattle.xmas_elf.specs.HashReport.{IsFirstHash, IsHashVerdict, IsLinkedVerdict, NoHash, content_at};
-ghost use Rattle.xmas_elf.specs.SectionList.{section_list};
+ghost use Rattle.std.specs.Prelude.{◌≡◌};
+ghost use Rattle.xmas_elf.specs.HashReport.{FindsHash, IsHashVerdict, IsLinkedVerdict, content_at};
 
 use crate::hash::HashTable;
 use crate::sections::{SectionData, SectionHeader, ShType};
@@ -38,8 +37,7 @@ pub fn hash_verdict(file: &ElfFile<'_>) -> HashVerdict
 
 // The first section of type Hash.
 fn hash_section(file: &ElfFile<'_>) -> Option<SectionHeader>
-    ensures { MatchOption result
-        (NoHash file.now (length (section_list file.now))) (IsFirstHash file.now) }
+    ensures { FindsHash file.now result }
 {
     file.section_iter()
         .find(|section| matches!(section.get_type(), Ok(ShType::Hash)))

@@ -24,6 +24,25 @@ pub struct SectionHeader_<P> {
 }
 
 impl SectionHeader_<P32> {
+    // The same numbers in the record of class 64.
+    #[inline(always)]
+    pub(crate) fn to_64(&self) -> SectionHeader_<P64>
+        ensures { result ≡ self.now }
+    {
+        SectionHeader_ {
+            name: self.name,
+            type_: self.type_,
+            flags: u64::from(self.flags),
+            address: u64::from(self.address),
+            offset: u64::from(self.offset),
+            size: u64::from(self.size),
+            link: self.link,
+            info: self.info,
+            align: u64::from(self.align),
+            entry_size: u64::from(self.entry_size),
+        }
+    }
+
     // The 40 bytes from `place` on.
     #[inline(always)]
     pub(crate) fn read(bytes: &[u8], place: usize, order: Order) -> SectionHeader_<P32>

@@ -5,7 +5,7 @@ ghost use Rattle.elf_base.specs.Lent.{Answers, Lends, LendsOnly};
 ghost use Rattle.elf_records.specs.SectionNumbers.{sh_type_raw};
 ghost use Rattle.xmas_elf.specs.NameTable.{Bears, name_of, name_table_of};
 ghost use Rattle.xmas_elf.specs.SectionData.{HasSectionData, IsSectionData, section_data_of};
-ghost use Rattle.xmas_elf.specs.SectionHeader.{section_fields, section_type};
+ghost use Rattle.xmas_elf.specs.SectionHeader.{record_fields, section_fields, section_type};
 ghost use Rattle.xmas_elf.specs.declared.ElfFile.{ElfFile};
 
 use crate::ranges::range_at;
@@ -29,8 +29,8 @@ impl SectionHeader {
         ensures { result ≡ (section_fields self.now).flags }
     {
         match self {
-            SectionHeader::Sh32(header) => u64::from(header.flags),
-            SectionHeader::Sh64(header) => header.flags,
+            Self::Sh32(header) => u64::from(header.flags),
+            Self::Sh64(header) => header.flags,
         }
     }
 
@@ -39,8 +39,8 @@ impl SectionHeader {
         ensures { result ≡ (section_fields self.now).name }
     {
         match self {
-            SectionHeader::Sh32(header) => header.name,
-            SectionHeader::Sh64(header) => header.name,
+            Self::Sh32(header) => header.name,
+            Self::Sh64(header) => header.name,
         }
     }
 
@@ -49,8 +49,8 @@ impl SectionHeader {
         ensures { result ≡ (section_fields self.now).address }
     {
         match self {
-            SectionHeader::Sh32(header) => u64::from(header.address),
-            SectionHeader::Sh64(header) => header.address,
+            Self::Sh32(header) => u64::from(header.address),
+            Self::Sh64(header) => header.address,
         }
     }
 
@@ -59,8 +59,8 @@ impl SectionHeader {
         ensures { result ≡ (section_fields self.now).offset }
     {
         match self {
-            SectionHeader::Sh32(header) => u64::from(header.offset),
-            SectionHeader::Sh64(header) => header.offset,
+            Self::Sh32(header) => u64::from(header.offset),
+            Self::Sh64(header) => header.offset,
         }
     }
 
@@ -69,8 +69,8 @@ impl SectionHeader {
         ensures { result ≡ (section_fields self.now).size }
     {
         match self {
-            SectionHeader::Sh32(header) => u64::from(header.size),
-            SectionHeader::Sh64(header) => header.size,
+            Self::Sh32(header) => u64::from(header.size),
+            Self::Sh64(header) => header.size,
         }
     }
 
@@ -79,8 +79,8 @@ impl SectionHeader {
         ensures { result ≡ sh_type_raw (section_fields self.now).type_ }
     {
         match self {
-            SectionHeader::Sh32(header) => header.type_,
-            SectionHeader::Sh64(header) => header.type_,
+            Self::Sh32(header) => header.type_,
+            Self::Sh64(header) => header.type_,
         }
     }
 
@@ -89,8 +89,8 @@ impl SectionHeader {
         ensures { result ≡ (section_fields self.now).link }
     {
         match self {
-            SectionHeader::Sh32(header) => header.link,
-            SectionHeader::Sh64(header) => header.link,
+            Self::Sh32(header) => header.link,
+            Self::Sh64(header) => header.link,
         }
     }
 
@@ -99,8 +99,8 @@ impl SectionHeader {
         ensures { result ≡ (section_fields self.now).info }
     {
         match self {
-            SectionHeader::Sh32(header) => header.info,
-            SectionHeader::Sh64(header) => header.info,
+            Self::Sh32(header) => header.info,
+            Self::Sh64(header) => header.info,
         }
     }
 
@@ -109,8 +109,8 @@ impl SectionHeader {
         ensures { result ≡ (section_fields self.now).entry_size }
     {
         match self {
-            SectionHeader::Sh32(header) => u64::from(header.entry_size),
-            SectionHeader::Sh64(header) => header.entry_size,
+            Self::Sh32(header) => u64::from(header.entry_size),
+            Self::Sh64(header) => header.entry_size,
         }
     }
 
@@ -119,8 +119,8 @@ impl SectionHeader {
         ensures { result ≡ (section_fields self.now).align }
     {
         match self {
-            SectionHeader::Sh32(header) => u64::from(header.align),
-            SectionHeader::Sh64(header) => header.align,
+            Self::Sh32(header) => u64::from(header.align),
+            Self::Sh64(header) => header.align,
         }
     }
 
@@ -180,6 +180,16 @@ impl SectionHeader {
         match self.get_type()? {
             ShType::Null => Err(ElfError::NullData),
             _ => range_at(file.input, self.offset(), self.size()),
+        }
+    }
+
+    // The record of the section, in the types of class 64.
+    pub(crate) fn record_64(&self) -> SectionHeader_<P64>
+        ensures { record_fields result ≡ section_fields self.now }
+    {
+        match self {
+            Self::Sh32(header) => header.to_64(),
+            Self::Sh64(header) => *header,
         }
     }
 }

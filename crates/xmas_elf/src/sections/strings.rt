@@ -30,7 +30,8 @@ impl<'a> SectionData<'a> {
             (λ e. string_data (content self.now) ≡ None) }
     {
         match self {
-            SectionData::StrArray(bytes) => {
+            Self::StrArray(bytes) => {
+                // By this the proof of `fits` knows that the length is a number of 64 bits.
                 prove!(bytes.len() <= usize::MAX);
                 Ok(SectionStrings { rest: bytes })
             }
@@ -49,6 +50,7 @@ impl<'a> Iterator for SectionStrings<'a> {
 
     ghost remaining = { item_count strings_left };
 
+    /// The next text; for bytes that begin with none `TextEnd` or `TextUtf8`, and then nothing more.
     #[tactic(auto, using(crate::proofs::StringRuns::strings_of_next, crate::proofs::StringRuns::strings_of_refused, crate::proofs::StringRuns::strings_of_empty, crate::proofs::StringRuns::text_within))]
     fn next(&mut self) -> Option<Result<&'a str, ElfError>> {
         if self.rest.is_empty() {

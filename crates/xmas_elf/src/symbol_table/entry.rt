@@ -1,13 +1,16 @@
 //! What the entries of all symbol tables have in common (gABI, "Symbol Table").
 
-ghost use Rattle.std.specs.Prelude.{◌≡◌, ℕ, IfOk, List, MatchResult, None, Ok, Option, Some};
+ghost use Rattle.std.specs.Prelude.{◌≡◌, ℕ, IfOk, IfSome, List, MatchResult, None, Ok, Option, Some};
 ghost use Rattle.std.proofs.Common.{rules};
+ghost use Rattle.elf_base.specs.Lent.{Answers};
 ghost use Rattle.elf_records.specs.SymbolNumbers.{visibility_raw};
 ghost use Rattle.xmas_elf.specs.SectionHeader.{section_of};
 ghost use Rattle.xmas_elf.specs.Symbol.{SymbolFields, symbol_binding, symbol_type, symbol_visibility};
+ghost use Rattle.xmas_elf.specs.SymbolName.{HoldsNames, name_in_table};
 ghost use Rattle.xmas_elf.specs.SymbolSection.{IsSectionIndex, symbol_section_of};
 ghost use Rattle.xmas_elf.specs.declared.ElfFile.{ElfFile};
 
+use crate::bytes::text_at;
 use crate::sections::{SHN_ABS, SHN_COMMON, SHN_UNDEF, SHN_XINDEX, SectionHeader};
 use crate::symbol_table::wide_index::wide_index;
 use crate::symbol_table::{Binding, Binding_, Type, Type_, Visibility, Visibility_};
@@ -53,12 +56,43 @@ pub trait Entry {
     /// implementation says why there is none.
     ///
     /// The four types of this crate look for their string table by its name at each call, in one
-    /// pass over the section headers. For many symbols, take `raw_data` of that section once, and
-    /// then `bytes::text_at` of it at `name`.
+    /// pass over the section headers. For many symbols, take `string_table` once, and then `name_in`.
     fn get_name<'a>(&self, file: &ElfFile<'a>) -> Result<&'a str, ElfError>
         ensures { MatchResult result
             (λ text. text_in self.now file.now ≡ Some text.now)
             (λ _. text_in self.now file.now ≡ None) };
+
+    /// The string table of a file in which the names of such symbols stand at `name`, to be taken once
+    /// for many of them; or why there is none. `None`, as by default, where names are not texts of one
+    /// table: `name_in` then answers as `get_name`.
+    fn string_table<'a>(file: &ElfFile<'a>) -> Option<Result<&'a [u8], ElfError>>
+        ensures { IfSome result (HoldsNames fields (λ entry. text_in entry file.now)) }
+    {
+        let _file = file;
+        None
+    }
+
+    /// The text that the symbol bears in a file, by what `string_table` answers for that file.
+    ///
+    /// Refused as the string table is, and then as `bytes::text_at` of it at `name`.
+    fn name_in<'a>(
+        &self,
+        strings: Option<Result<&'a [u8], ElfError>>,
+        file: &ElfFile<'a>,
+    ) -> Result<&'a str, ElfError>
+        ensures text { IfSome strings.entry (HoldsNames fields (λ entry. text_in entry file.now))
+            → MatchResult result
+            (λ text. text_in self.now file.now ≡ Some text.now)
+            (λ _. text_in self.now file.now ≡ None) }
+        ensures exact { IfSome strings.entry
+            (λ found. Answers (name_in_table found (fields self.now).name) result) }
+    {
+        match strings {
+            Some(Ok(table)) => text_at(table, self.name() as usize),
+            Some(Err(error)) => Err(error),
+            None => self.get_name(file),
+        }
+    }
 
     /// Who sees the symbol: `other` by its remainder by four (ELF32_ST_VISIBILITY).
     fn get_other(&self) -> Visibility
@@ -88,8 +122,9 @@ pub trait Entry {
     /// Refused with `ReservedSymbolIndex` for `SHN_UNDEF`, `SHN_ABS` and `SHN_COMMON`, and else as
     /// `ElfFile::section_header` of `shndx` is. For `SHN_XINDEX` it is that at the index in word
     /// `self_index` of `.symtab_shndx`: refused with `NoShIndex` where no section bears that name,
-    /// with `ExpectedShIndex` where the first that does has another type than SymTabShIndex, as
-    /// `SectionHeader::get_data` is, with `SymbolIndex` where it has no such word, with
+    /// with `ExpectedShIndex` where the first that does has another type than SymTabShIndex, with
+    /// `DataRange` where its data passes the end of the input, with `NotMultiple` where that isn't a
+    /// whole number of words, with `SymbolIndex` where it has no such word, with
     /// `ReservedSymbolIndex` for 0, and as `ElfFile::section_header_at` is.
     #[tactic(auto, unfolding(crate::specs::SymbolSection::symbol_section_of))]
     fn get_section_header(

@@ -9,16 +9,16 @@ use crate::sections::ShType;
 use crate::{ElfError, ElfFile};
 use elf_base::header::byte_order;
 
-// The word of `.symtab_shndx` that belongs to the symbol at this place of its table.
+// The word of `.symtab_shndx` that belongs to the symbol at this index of its table.
 #[tactic(auto, unfolding(crate::specs::SymbolSection::wide_index_of))]
-pub(crate) fn wide_index(file: &ElfFile<'_>, place: usize) -> Result<u32, ElfError>
-    ensures is { IfOk result (IsWideIndex file.now place) }
-    ensures only { (index : ℕ) → IsWideIndex file.now place index → result ≡ Ok index }
-    ensures exact { result ≡ wide_index_of file.now place }
+pub(crate) fn wide_index(file: &ElfFile<'_>, self_index: usize) -> Result<u32, ElfError>
+    ensures is { IfOk result (IsWideIndex file.now self_index) }
+    ensures only { (index : ℕ) → IsWideIndex file.now self_index index → result ≡ Ok index }
+    ensures exact { result ≡ wide_index_of file.now self_index }
 {
     let order = byte_order(file.header.pt1.encoding);
     let words = Table::<u32>::new(index_table(file)?, order)?;
-    words.get(place).ok_or(ElfError::SymbolIndex)
+    words.get(self_index).ok_or(ElfError::SymbolIndex)
 }
 
 // The data of `.symtab_shndx`.

@@ -4,6 +4,6 @@ use Rattle.xmas_elf.proofs.ElfFile.dynstr.Goals as goal
 
 pub returns-clause-only : goal.returns-clause-only
 returns-clause-only c = λ part is.
-    let same : c.in-Some.section ≡ is.section = let found = c.in-Some.ensures.only is.named.index is.section is.named.first in cc in
+    let same : c.in-Some.section ≡ is.section = let found = c.in-Some.ensures.only is.index is.section is.first in cc in
     let lent = c.raw_data.ensures in
-    named_data c.args.self.now (codes ".dynstr") c.in-Some.section is.section part c.raw_data.result same is.named lent.readable lent.range
+    named_data c.args.self.now (codes ".dynstr") c.in-Some.section part c.raw_data.result is same lent.readable lent.range

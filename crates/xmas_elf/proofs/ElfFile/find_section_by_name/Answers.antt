@@ -1,5 +1,5 @@
 use Rattle.xmas_elf.proofs.NamedSections.{is-section_named}
-use Rattle.xmas_elf.proofs.Names.{found_named, missing_named, only_named}
+use Rattle.xmas_elf.proofs.FirstNamed.{found_named, missing_named, only_named}
 use Rattle.xmas_elf.proofs.ElfFile.find_section_by_name.Goals as goal
 
 pub returns-clause-found : goal.returns-clause-found

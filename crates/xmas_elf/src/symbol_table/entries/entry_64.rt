@@ -1,9 +1,10 @@
 //! What a symbol of class 64 says, read from its bytes (gABI, "Symbol Table": Elf64_Sym).
 
-ghost use Rattle.std.specs.Result.{result_ok};
+ghost use Rattle.std.specs.Prelude.{IfSome, IsSomeAnd};
 ghost use Rattle.elf_base.specs.Lent.{Answers, Lends, LendsOnly};
-ghost use Rattle.xmas_elf.specs.StringTable.{IsString, string_of};
+ghost use Rattle.xmas_elf.specs.StringTable.{IsString, string_of, strtab_of};
 ghost use Rattle.xmas_elf.specs.Symbol.{entry_64_fields};
+ghost use Rattle.xmas_elf.specs.SymbolName.{HoldsNames, entry_64_text};
 
 use crate::symbol_table::entries::Entry64;
 use crate::symbol_table::{Entry, Visibility_};
@@ -14,7 +15,7 @@ use elf_base::bytes::{read_u16, read_u32, read_u64};
 impl Entry for Entry64 {
     ghost fields = { entry_64_fields };
 
-    ghost text_in = { λ entry file. result_ok (string_of file (entry_64_fields entry).name) };
+    ghost text_in = { entry_64_text };
 
     #[inline(always)]
     fn name(&self) -> u32 {
@@ -53,5 +54,13 @@ impl Entry for Entry64 {
         ensures exact { Answers (string_of file.now (entry_64_fields self.now).name) result }
     {
         file.get_string(self.name())
+    }
+
+    /// The data of `.strtab`, with the answer of `ElfFile::get_string` where there is none.
+    fn string_table<'a>(file: &ElfFile<'a>) -> Option<Result<&'a [u8], ElfError>>
+        ensures table { IsSomeAnd result (Answers (strtab_of file.now)) }
+        ensures names { IfSome result (HoldsNames entry_64_fields (λ e. entry_64_text e file.now)) }
+    {
+        Some(file.strtab())
     }
 }

@@ -3,8 +3,7 @@ use Rattle.std.proofs.lemmas.List.{map-append}
 use Rattle.std.proofs.lemmas.List.Elements.{All-tail}
 use Rattle.elf_tests.specs.Loaded.{Image, LiesInFile, image, image_of, images, is_load}
 use Rattle.xmas_elf.specs.ProgramList.{program_rest}
-use Rattle.xmas_elf.specs.declared.ElfFile.{ElfFile}
-use Rattle.xmas_elf.specs.declared.program.program_header.ProgramHeader.{ProgramHeader}
+use Rattle.xmas_elf.specs.Types.{ElfFile, ProgramHeader}
 use Rattle.elf_tests.proofs.callers.loader.pieces.Goals as goal
 
 -- what the first segment of a list says, if it is to be loaded, and then what the others say

@@ -1,41 +1,41 @@
-use Rattle.xmas_elf.specs.Good.{good, faulty, missing}
+use Rattle.std.proofs.Common.{arith, Ok, Err, Result}
+use Rattle.elf_base.specs.declared.error.ElfError.TheVariants.{HashMissing}
+use Rattle.xmas_elf.specs.Good.{IsCheck, good, faulty, missing}
 use Rattle.xmas_elf.specs.Symbols.{symbols_of}
 use Rattle.xmas_elf.proofs.ChainChecks.{check_once, good_is_ok, ok_is_good}
+use Rattle.xmas_elf.proofs.ChainCounts.{all_held, one_missing}
 use Rattle.xmas_elf.proofs.hash.HashTable.check.Goals as goal
 
-pub returns-in-Ok-clause-exact : goal.returns-in-Ok-clause-exact
-returns-in-Ok-clause-exact g c = good (record { ends = c.in-Ok.ensures; holds = c.holds_all.ensures.yes c.if-holds_all.true c.in-Ok.ensures })
-
-pub returns-in-Ok-clause-accepts : goal.returns-in-Ok-clause-accepts
-returns-in-Ok-clause-accepts g c =
+pub returns-then-held-global : goal.returns-then-held-global
+returns-then-held-global g c =
     let all = symbols_of g.E.Entry.fields g.E.Entry.text_in c.args.symbols.now c.args.file.now in
-    (ok_is_good c.args.self.now all _ (returns-in-Ok-clause-exact g c), good_is_ok c.args.self.now all _ (returns-in-Ok-clause-exact g c))
+    let (ends, count) = c.in-Ok.ensures in
+    let (i, e, name, global, lost) = one_missing c.args.self.now all c.in-Ok.held c.global_count-global.result (omega arith) count c.global_count-global.ensures in
+    let is : IsCheck c.args.self.now all (Err HashMissing) = missing i e name ends global lost in
+    record {
+      accepts = (ok_is_good c.args.self.now all (Err HashMissing) is, good_is_ok c.args.self.now all (Err HashMissing) is);
+      exact = is;
+      only = λ other h. check_once c.args.self.now all other (Err HashMissing) h is;
+    }
 
-pub returns-in-Ok-clause-only : goal.returns-in-Ok-clause-only
-returns-in-Ok-clause-only g c = λ other h. check_once _ _ _ _ h (returns-in-Ok-clause-exact g c)
-
-pub returns-in-Ok-2-clause-exact : goal.returns-in-Ok-2-clause-exact
-returns-in-Ok-2-clause-exact g c =
-    let (i, e, name, global, lost) = c.holds_all.ensures.no c.if-holds_all.false c.in-Ok.ensures in
-    missing i e name c.in-Ok.ensures global lost
-
-pub returns-in-Ok-2-clause-accepts : goal.returns-in-Ok-2-clause-accepts
-returns-in-Ok-2-clause-accepts g c =
+pub returns-else-held-global : goal.returns-else-held-global
+returns-else-held-global g c =
     let all = symbols_of g.E.Entry.fields g.E.Entry.text_in c.args.symbols.now c.args.file.now in
-    (ok_is_good c.args.self.now all _ (returns-in-Ok-2-clause-exact g c), good_is_ok c.args.self.now all _ (returns-in-Ok-2-clause-exact g c))
+    let (ends, count) = c.in-Ok.ensures in
+    let is : IsCheck c.args.self.now all (Ok tt) = good (record { ends = ends; holds = all_held c.args.self.now all c.in-Ok.held c.global_count-global.result (omega arith) count c.global_count-global.ensures }) in
+    record {
+      accepts = (ok_is_good c.args.self.now all (Ok tt) is, good_is_ok c.args.self.now all (Ok tt) is);
+      exact = is;
+      only = λ other h. check_once c.args.self.now all other (Ok tt) h is;
+    }
 
-pub returns-in-Ok-2-clause-only : goal.returns-in-Ok-2-clause-only
-returns-in-Ok-2-clause-only g c = λ other h. check_once _ _ _ _ h (returns-in-Ok-2-clause-exact g c)
-
-pub returns-in-Err-clause-exact : goal.returns-in-Err-clause-exact
-returns-in-Err-clause-exact g c =
+pub returns-in-Err : goal.returns-in-Err
+returns-in-Err g c =
+    let all = symbols_of g.E.Entry.fields g.E.Entry.text_in c.args.symbols.now c.args.file.now in
     let (k, below, before, fault) = c.in-Err.ensures in
-    faulty k c.in-Err.fault below before fault
-
-pub returns-in-Err-clause-accepts : goal.returns-in-Err-clause-accepts
-returns-in-Err-clause-accepts g c =
-    let all = symbols_of g.E.Entry.fields g.E.Entry.text_in c.args.symbols.now c.args.file.now in
-    (ok_is_good c.args.self.now all _ (returns-in-Err-clause-exact g c), good_is_ok c.args.self.now all _ (returns-in-Err-clause-exact g c))
-
-pub returns-in-Err-clause-only : goal.returns-in-Err-clause-only
-returns-in-Err-clause-only g c = λ other h. check_once _ _ _ _ h (returns-in-Err-clause-exact g c)
+    let is : IsCheck c.args.self.now all (Err c.in-Err.fault) = faulty k c.in-Err.fault below before fault in
+    record {
+      accepts = (ok_is_good c.args.self.now all (Err c.in-Err.fault) is, good_is_ok c.args.self.now all (Err c.in-Err.fault) is);
+      exact = is;
+      only = λ other h. check_once c.args.self.now all other (Err c.in-Err.fault) h is;
+    }

@@ -1,12 +1,20 @@
-use Rattle.std.proofs.Common.{◌≡◌, ◌%◌, Ok, Err, sym, ◌∙◌}
+use Rattle.std.proofs.Common.{◌≡◌, ◌%◌, None, Ok, Err, refl, sym, ◌∙◌}
 use Rattle.elf_records.specs.HashNumber.{hash_number}
+use Rattle.xmas_elf.specs.Chain.{at_end}
 use Rattle.xmas_elf.specs.HashTable.{bucket_count_of, bucket_of}
+use Rattle.xmas_elf.proofs.ChainPaths.{looks, walked_first}
 use Rattle.xmas_elf.proofs.ChainStarts.{looks_none, looks_bad, looks_from}
 use Rattle.xmas_elf.proofs.hash.HashTable.search.Goals as goal
 
 pub returns-then-bucket_count-eq0-clause-answer : goal.returns-then-bucket_count-eq0-clause-answer
 returns-then-bucket_count-eq0-clause-answer g c = λ d.
     looks_none _ _ _ _ (sym c.bucket_count-bucket_count.ensures ∙ c.if-bucket_count-eq0.true)
+
+pub returns-in-Ok-eq0-clause-answer : goal.returns-in-Ok-eq0-clause-answer
+returns-in-Ok-eq0-clause-answer g c = λ d.
+    let at_bucket : bucket_of c.args.self.now (hash_number c.args.name.now % bucket_count_of c.args.self.now) ≡ Ok 0 = cc in
+    looks_from _ _ _ _ 0 0 (Ok None) (λ e. c.if-bucket_count-eq0.false (c.bucket_count-bucket_count.ensures ∙ e)) at_bucket
+    (looks _ _ 0 0 0 0 0 (Ok None) (walked_first _ _ 0) at_end refl)
 
 pub returns-in-Ok-clause-answer : goal.returns-in-Ok-clause-answer
 returns-in-Ok-clause-answer g c = λ d.

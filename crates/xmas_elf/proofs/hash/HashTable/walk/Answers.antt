@@ -1,64 +1,49 @@
-use Rattle.std.proofs.Common.{arith, ◌≡◌, ◌≤◌, ◌⊎◌, inl, inr, length, Some, slice_get, sym, ◌∙◌, ap}
+use Rattle.std.proofs.Common.{arith, ◌≡◌, ◌+◌, ℕ, Some, None, Ok, Err, slice_get, refl, sym, ◌∙◌, ap, subst}
 use Rattle.elf_base.specs.Table.{table_items}
-use Rattle.xmas_elf.specs.Chain.{StandsAt, found, refused, chains_of}
-use Rattle.xmas_elf.specs.HashTable.{chain_count_of}
-use Rattle.xmas_elf.proofs.ChainPaths.{contains_read, walked_first, walked_next, ends, leaves_chains, leaves_symbols, looks_standing, looks_endless}
+use Rattle.xmas_elf.specs.Chain.{StandsAt, at_end, found, refused, chains_of}
+use Rattle.xmas_elf.specs.Symbols.{IsMatch, symbols_of}
+use Rattle.xmas_elf.proofs.ChainPaths.{Walked, contains_read, looks, looks_halted, stand_once, walked_first, walked_next}
 use Rattle.xmas_elf.proofs.hash.HashTable.walk.Goals as goal
-use Rattle.xmas_elf.proofs.hash.HashTable.walk.Goals.{then-count-chain_count-via-then-count-chain_count, then-count-chain_count-via-else-count-chain_count+then-count-symbol_count}
 
 pub loop-index-init : goal.loop-index-init
 loop-index-init g c = record { in_chains = omega arith; in_symbols = omega arith; walked = λ d. walked_first _ _ _ }
 
-pub returns-then-index-chain_count-clause-answer : goal.returns-then-index-chain_count-clause-answer
-returns-then-index-chain_count-clause-answer g c = λ d.
-    leaves_chains _ _ _ _ _ (omega arith) (omega arith) (c.loop-index.invariant.walked d)
+pub returns-in-Err-clause-answer : goal.returns-in-Err-clause-answer
+returns-in-Err-clause-answer g c = λ d. looks_halted _ _ _ _ _ _ (c.loop-index.invariant.walked d) (omega arith) c.in-Err.ensures
 
-pub returns-in_default-clause-answer : goal.returns-in_default-clause-answer
-returns-in_default-clause-answer g c = λ d.
-    leaves_symbols _ _ _ _ _ (omega arith) (omega arith) (sym c.get.ensures.item ∙ c.in_default.is) (c.loop-index.invariant.walked d)
-
-pub returns-then-count-chain_count-clause-answer : goal.returns-then-count-chain_count-clause-answer
-returns-then-count-chain_count-clause-answer g c = λ d.
-    let stands : StandsAt (chains_of c.args.self.now (table_items c.args.symbols.now)) c.loop-index.index c.in-Some.entry =
-    record { not_end = omega arith; below = omega arith; symbol = sym c.get.ensures.item ∙ c.in-Some.is } in
-    let many : (chain_count_of c.args.self.now ≤ c.loop-index.count) ⊎ (length (table_items c.args.symbols.now) ≤ c.loop-index.count) =
-    elim c.then-count-chain_count.branch [ then-count-chain_count-via-then-count-chain_count w ↦ inl (omega arith) | then-count-chain_count-via-else-count-chain_count+then-count-symbol_count w ↦ inr (omega arith) ] in
-    looks_endless _ _ _ _ _ _ (c.loop-index.invariant.walked d) stands many
-
-pub passes-requires : goal.passes-requires
-passes-requires g c = λ e same.
-    let symbol : slice_get (table_items c.args.symbols.now) c.loop-index.index ≡ Some c.in-Some.entry = sym c.get.ensures.item ∙ c.in-Some.is in
-    c.requires e (contains_read (table_items c.args.symbols.now) c.loop-index.index e.now (symbol ∙ ap (λ x. Some x) (sym same)))
+pub passes-requires-clause-callable : goal.passes-requires-clause-callable
+passes-requires-clause-callable g c = λ e same.
+    let stands : StandsAt (chains_of c.args.self.now (table_items c.args.symbols.now)) c.loop-index.index c.in-Ok.entry = c.in-Ok.ensures.0 in
+    c.requires.callable e (contains_read (table_items c.args.symbols.now) c.loop-index.index e.now (stands.symbol ∙ ap (λ x. Some x) (sym same)))
 
 pub returns-then-passes-clause-answer : goal.returns-then-passes-clause-answer
 returns-then-passes-clause-answer g c = λ d.
-    let stands : StandsAt (chains_of c.args.self.now (table_items c.args.symbols.now)) c.loop-index.index c.in-Some.entry =
-    record { not_end = omega arith; below = omega arith; symbol = sym c.get.ensures.item ∙ c.in-Some.is } in
-    looks_standing _ _ _ _ _ _ _ (c.loop-index.invariant.walked d) stands (found c.loop-index.index c.in-Some.entry stands (c.passes.ensures.yes c.if-passes.true))
+    looks _ _ _ _ _ 1 _ _ (c.loop-index.invariant.walked d) (found c.loop-index.index c.in-Ok.entry c.in-Ok.ensures.0 (c.passes.ensures.yes c.if-passes.true)) refl
 
-pub returns-in-Err-clause-answer : goal.returns-in-Err-clause-answer
-returns-in-Err-clause-answer g c = λ d.
-    let symbol : slice_get (table_items c.args.symbols.now) c.loop-index.index ≡ Some c.in-Some.entry = sym c.get.ensures.item ∙ c.in-Some.is in
-    let stands : StandsAt (chains_of c.args.self.now (table_items c.args.symbols.now)) c.loop-index.index c.in-Some.entry =
-    record { not_end = omega arith; below = omega arith; symbol = symbol } in
-    looks_standing _ _ _ _ _ _ _ (c.loop-index.invariant.walked d) stands
-    (refused c.loop-index.index c.in-Some.entry c.in-Err.error stands
-    (c.passes.ensures.no c.if-passes.false (d c.in-Some.entry (contains_read (table_items c.args.symbols.now) c.loop-index.index c.in-Some.entry symbol)))
-    (sym c.get_chain.ensures.exact ∙ c.in-Err.is))
+pub returns-in-Err-get_chain-clause-answer : goal.returns-in-Err-get_chain-clause-answer
+returns-in-Err-get_chain-clause-answer g c = λ d.
+    let stands : StandsAt (chains_of c.args.self.now (table_items c.args.symbols.now)) c.loop-index.index c.in-Ok.entry = c.in-Ok.ensures.0 in
+    looks _ _ _ _ _ 1 _ _ (c.loop-index.invariant.walked d)
+    (refused c.loop-index.index c.in-Ok.entry c.in-Err-get_chain.error stands
+    (c.passes.ensures.no c.if-passes.false (d c.in-Ok.entry (contains_read (table_items c.args.symbols.now) c.loop-index.index c.in-Ok.entry stands.symbol)))
+    (sym c.get_chain.ensures.exact ∙ c.in-Err-get_chain.is)) refl
 
 pub loop-index-preserved : goal.loop-index-preserved
 loop-index-preserved g c = record {
-  in_chains = omega arith;
-  in_symbols = omega arith;
+  in_chains = (let within = c.in-Ok.ensures.1 in omega arith);
+  in_symbols = (let within = c.in-Ok.ensures.2 in omega arith);
   walked = λ d.
-      (let symbol : slice_get (table_items c.args.symbols.now) c.loop-index.index ≡ Some c.in-Some.entry = sym c.get.ensures.item ∙ c.in-Some.is in
-      walked_next _ _ _ _ _ _ (c.loop-index.invariant.walked d) (record {
-        entry = c.in-Some.entry;
-        stands = record { not_end = omega arith; below = omega arith; symbol = symbol };
-        misses = c.passes.ensures.no c.if-passes.false (d c.in-Some.entry (contains_read (table_items c.args.symbols.now) c.loop-index.index c.in-Some.entry symbol));
-        next = sym c.get_chain.ensures.exact ∙ c.in-Ok.is;
-      }));
+      (let all = symbols_of g.E.Entry.fields g.E.Entry.text_in c.args.symbols.now c.args.file.now in
+      let stands : StandsAt (chains_of c.args.self.now (table_items c.args.symbols.now)) c.loop-index.index c.in-Ok.entry = c.in-Ok.ensures.0 in
+      let misses = c.passes.ensures.no c.if-passes.false (d c.in-Ok.entry (contains_read (table_items c.args.symbols.now) c.loop-index.index c.in-Ok.entry stands.symbol)) in
+      walked_next _ _ _ _ _ _ (c.loop-index.invariant.walked d)
+      (record { entry = c.in-Ok.entry; stands = stands; next = sym c.get_chain.ensures.exact ∙ c.in-Ok-get_chain.is })
+      (λ e at holds. misses (subst (IsMatch all g.F.Fn c.args.f.now c.args.name.now) (stand_once (chains_of c.args.self.now (table_items c.args.symbols.now)) c.loop-index.index e c.in-Ok.entry at stands) holds)));
 }
 
 pub returns-clause-answer : goal.returns-clause-answer
-returns-clause-answer g c = λ d. ends _ _ _ _ _ (omega arith) (c.loop-index.invariant.walked d)
+returns-clause-answer g c = λ d.
+    let chains = chains_of c.args.self.now (table_items c.args.symbols.now) in
+    let P = IsMatch (symbols_of g.E.Entry.fields g.E.Entry.text_in c.args.symbols.now c.args.file.now) g.F.Fn c.args.f.now c.args.name.now in
+    let ended : Walked P chains c.args.first 0 c.loop-index.count = subst (λ i. Walked P chains c.args.first i c.loop-index.count) c.loop-index-test.false (c.loop-index.invariant.walked d) in
+    looks P chains c.args.first 0 c.loop-index.count 0 c.loop-index.count (Ok None) ended at_end (omega arith)

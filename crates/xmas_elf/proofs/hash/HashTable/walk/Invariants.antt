@@ -1,6 +1,7 @@
 use Rattle.std.proofs.Common.{◌≤◌, ◌-◌, length}
 use Rattle.elf_base.specs.Table.{table_items}
 use Rattle.xmas_elf.specs.Chain.{chains_of}
+use Rattle.xmas_elf.specs.HashTable.{chain_count_of}
 use Rattle.xmas_elf.specs.Symbols.{Decides, IsMatch, symbols_of}
 use Rattle.xmas_elf.proofs.ChainPaths.{Walked}
 use Rattle.xmas_elf.proofs.hash.HashTable.walk.Given as goal
@@ -9,10 +10,10 @@ abbrev pub invariant-loop-index : goal.invariant-loop-index
 invariant-loop-index g l =
     let all = symbols_of g.E.Entry.fields g.E.Entry.text_in l.symbols l.file in
     record {
-      in_chains : l.count ≤ l.chain_count;
+      in_chains : l.count ≤ chain_count_of l.self;
       in_symbols : l.count ≤ length (table_items l.symbols);
       walked : Decides all g.F.Fn l.f → Walked (IsMatch all g.F.Fn l.f l.name) (chains_of l.self all.items) l.first l.index l.count;
     }
 
 abbrev pub decreases-loop-index : goal.decreases-loop-index
-decreases-loop-index g l = l.chain_count - l.count
+decreases-loop-index g l = chain_count_of l.self - l.count

@@ -18,7 +18,7 @@ returns-clause-only c = λ index is.
     let words = c.in_ok-words.words in
     let bytes : words.bytes.now ≡ is.table = c.in_ok-words.ensures.1 ∙ c.in_ok-index_table.ensures.only is.table is.in_table in
     let order : words.order ≡ file_order c.args.file.now.header = c.in_ok-words.ensures.2 ∙ c.byte_order-order.ensures in
-    let word : ℕ → ℕ = λ place. number words.order 4 0 (take 4 (drop (place * 4) words.bytes.now)) in
-    let below : c.args.place * 4 < length words.bytes.now = rw bytes is.below in
+    let word : ℕ → ℕ = λ i. number words.order 4 0 (take 4 (drop (i * 4) words.bytes.now)) in
+    let below : c.args.self_index * 4 < length words.bytes.now = rw bytes is.below in
     c.ok_or.ensures.value
-    ∙ word_there word c.args.place (length words.bytes.now) index SymbolIndex c.get.result c.get.ensures.value below (rw (bytes, order) is.word)
+    ∙ word_there word c.args.self_index (length words.bytes.now) index SymbolIndex c.get.result c.get.ensures.value below (rw (bytes, order) is.word)

@@ -1,7 +1,7 @@
 use Rattle.std.proofs.Common.{◌≡◌, ◌≢◌, Ok, rules, sym, ◌∙◌}
 use Rattle.elf_records.specs.declared.sections.ShType.TheVariants.{Null}
 use Rattle.xmas_elf.specs.SectionHeader.{section_type}
-use Rattle.xmas_elf.proofs.Names.{bears_text, text_borne}
+use Rattle.xmas_elf.proofs.FirstNamed.{bears_text, text_borne}
 use Rattle.xmas_elf.proofs.sections.section_header.SectionHeader.bears.Goals as goal
 
 pub returns-in-Ok : goal.returns-in-Ok

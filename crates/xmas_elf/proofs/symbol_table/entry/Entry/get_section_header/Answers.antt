@@ -1,5 +1,5 @@
 use Rattle.std.proofs.Common.{◌≡◌, ◌≢◌, ◌∙◌, ap, sym}
-use Rattle.xmas_elf.specs.SectionHeader.{section_header_of, section_of}
+use Rattle.xmas_elf.specs.SectionHeader.{section_by_u16, section_of}
 use Rattle.xmas_elf.proofs.SymbolSections.{has_own_index, own_section, refused_never, same_value, wide_one}
 use Rattle.xmas_elf.proofs.symbol_table.entry.Entry.get_section_header.Goals as goal
 
@@ -9,7 +9,7 @@ returns-then-index-3-clause-value g c =
     let symbol = g.Self.Entry.fields c.args.self.now in
     let defined : symbol.shndx ≢ 0 = λ none. c.if-index-eq-SHN_UNDEF.false (c.shndx-index.ensures ∙ none) in
     has_own_index file symbol c.args.self_index c.section_header.result defined
-    (c.section_header.ensures.exact ∙ ap (section_header_of file.input.now file.header) c.shndx-index.ensures)
+    (c.section_header.ensures.exact ∙ ap (section_by_u16 file.input.now file.header) c.shndx-index.ensures)
 
 pub returns-then-index-3-clause-only : goal.returns-then-index-3-clause-only
 returns-then-index-3-clause-only g c = λ index is.
@@ -17,7 +17,7 @@ returns-then-index-3-clause-only g c = λ index is.
     let symbol = g.Self.Entry.fields c.args.self.now in
     let narrow : symbol.shndx ≢ 0xffff = λ wide. c.if-index-3.true (c.shndx-index.ensures ∙ wide) in
     own_section file symbol c.args.self_index index c.section_header.result narrow
-    (c.section_header.ensures.exact ∙ ap (section_header_of file.input.now file.header) c.shndx-index.ensures) is
+    (c.section_header.ensures.exact ∙ ap (section_by_u16 file.input.now file.header) c.shndx-index.ensures) is
 
 pub returns-in_err-index-clause-only : goal.returns-in_err-index-clause-only
 returns-in_err-index-clause-only g c = λ index is.

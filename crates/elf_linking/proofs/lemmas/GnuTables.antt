@@ -1,0 +1,16 @@
+-- For callers of look-ups with a test that every symbol passes.
+use Rattle.std.proofs.Common.{◌≡◌, ℕ, List, Option, None, Result, Ok, Bool, true, refl, subst}
+use Rattle.std.specs.Borrow.{Bor}
+use Rattle.std.specs.Fn.{Shared, FnReturnsAt}
+use Rattle.elf_linking.specs.GoodGnu.{FindsAll, IsExported}
+use Rattle.elf_linking.specs.declared.error.LinkError.{LinkError}
+use Rattle.elf_linking.specs.declared.gnu_hash.GnuHashTable.{GnuHashTable}
+use Rattle.xmas_elf.specs.Symbols.{IsMatch, Symbols}
+
+module _ {F E : Type 0} (test : Shared F (Bor E × Unit {0}) Bool) (f : F) (passes : (e : Bor E) → test.post f (e, tt) true) where
+  -- where nothing is found by a good table, it is to hold no symbol that bears the name
+  pub none_exported : (table : GnuHashTable) (symbols : Symbols E) (name : List ℕ) (answer : Result (Option (ℕ × E)) LinkError) → answer ≡ Ok None → FindsAll table symbols name (IsMatch symbols test f name) answer → (i : ℕ) (e : E) → ¬ IsExported table symbols i e name
+  none_exported table symbols name answer is_none finds i e exported =
+      let none : FindsAll table symbols name (IsMatch symbols test f name) (Ok None) = subst (FindsAll table symbols name (IsMatch symbols test f name)) is_none finds in
+      let passed : FnReturnsAt test f e true = record { shown = record { ref_ptr = (0, 0); now = e }; shows = refl; says = record { met = passes (record { ref_ptr = (0, 0); now = e }) } } in
+      none (i, e, exported, (exported.global.named, passed))

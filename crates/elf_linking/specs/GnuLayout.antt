@@ -1,0 +1,59 @@
+-- Where the parts of a GNU hash table lie in its bytes (the convention of GNU binutils and glibc: sections
+-- of type 0x6ffffff6, SHT_GNU_HASH, and the dynamic entry DT_GNU_HASH).
+use Rattle.std.specs.Prelude.{ℕ, ◌+◌, ◌*◌, ◌≤◌, Bool, true, false, IsTrue, not, nat_lt, List, [], ◌∷◌, length, Result}
+use Rattle.std.specs.Int.{is_power_of_two}
+use Rattle.elf_base.specs.Number.{number}
+use Rattle.elf_base.specs.declared.bytes.Order.{Order}
+use Rattle.elf_base.specs.declared.header.kinds.Class.{Class}
+use Rattle.elf_base.specs.declared.header.kinds.Class.TheVariants.{SixtyFour, ThirtyTwo}
+use Rattle.elf_linking.specs.Refusal.{unless}
+use Rattle.elf_linking.specs.declared.error.LinkError.{LinkError}
+use Rattle.elf_linking.specs.declared.error.LinkError.TheVariants.{BloomCount, ShortTable, UnknownClass}
+
+-- a class of files with such tables
+abbrev pub is_known : Class → Bool
+is_known ThirtyTwo = true
+is_known SixtyFour = true
+is_known _ = false
+
+-- how many bytes a Bloom word has in it
+abbrev pub bloom_size : Class → ℕ
+bloom_size ThirtyTwo = 4
+bloom_size _ = 8
+
+-- the four words of four bytes at its begin: how many buckets there are, the index of the first symbol,
+-- how many Bloom words there are, and by how many bits the hash number is shifted for the second bit
+abbrev pub bucket_count_in : Order → List ℕ → ℕ
+bucket_count_in order bytes = number order 4 0 bytes
+
+abbrev pub first_symbol_in : Order → List ℕ → ℕ
+first_symbol_in order bytes = number order 4 4 bytes
+
+abbrev pub bloom_count_in : Order → List ℕ → ℕ
+bloom_count_in order bytes = number order 4 8 bytes
+
+abbrev pub bloom_shift_in : Order → List ℕ → ℕ
+bloom_shift_in order bytes = number order 4 12 bytes
+
+-- where the buckets begin, behind the Bloom words, and where the chain words do, behind the buckets
+abbrev pub buckets_in : Class → Order → List ℕ → ℕ
+buckets_in class order bytes = 16 + bloom_size class * bloom_count_in order bytes
+
+abbrev pub chains_in : Class → Order → List ℕ → ℕ
+chains_in class order bytes = buckets_in class order bytes + 4 * bucket_count_in order bytes
+
+-- the bytes are a table of this class
+pub record IsGnuTable (class : Class) (order : Order) (bytes : List ℕ) : Type 0 where
+  pub known : IsTrue (is_known class)
+  pub long : 16 ≤ length bytes
+  pub bloom : IsTrue (is_power_of_two (bloom_count_in order bytes))
+  pub whole : chains_in class order bytes ≤ length bytes
+
+-- or else the first reason why they are not
+unfoldable pub gnu_table_of : Class → Order → List ℕ → Result (Unit {0}) LinkError
+gnu_table_of class order bytes = unless (
+    (not (is_known class), UnknownClass)
+    ∷ (nat_lt (length bytes) 16, ShortTable)
+    ∷ (not (is_power_of_two (bloom_count_in order bytes)), BloomCount)
+    ∷ (nat_lt (length bytes) (chains_in class order bytes), ShortTable)
+    ∷ []) tt

@@ -1,0 +1,9 @@
+pub mod Message
+pub mod Refusal
+pub mod GnuHashNumber
+pub mod GnuLayout
+pub mod GnuHash
+pub mod Run
+pub mod GoodGnu
+pub mod Relr
+pub mod Notes

@@ -1,0 +1,92 @@
+//! Why a part of a file that a dynamic linker reads is refused.
+
+ghost use Rattle.std.specs.Prelude.{◌≡◌, Some};
+ghost use Rattle.elf_linking.specs.Message.{link_message};
+ghost use Rattle.elf_linking.specs.declared.error.LinkError.TheVariants.{Elf};
+
+use elf_base::ElfError;
+use std::error::Error;
+use std::fmt;
+
+/// Why what a dynamic linker reads is refused. Each refusal has one text.
+#[derive(Clone, Copy, Debug, PartialEq, Eq)]
+pub enum LinkError {
+    /// A call of `xmas_elf` refuses, and this is why.
+    Elf(ElfError),
+    /// A GNU hash table has fewer than 16 bytes, or its Bloom words and buckets pass the end of the
+    /// data. Answered by `GnuHashTable::read`.
+    ShortTable,
+    /// The class is neither 1 nor 2. Answered by calls that go by the class.
+    UnknownClass,
+    /// The number of Bloom words of a GNU hash table is not a power of two; 0 is none. Answered by
+    /// `GnuHashTable::read`.
+    BloomCount,
+    /// An index is not below the number of buckets, or of Bloom words. Answered by
+    /// `GnuHashTable::get_bucket` and `get_bloom`.
+    BucketIndex,
+    /// The index of a symbol is before the first of a GNU hash table. Answered by
+    /// `GnuHashTable::get_chain`, `lookup`, `lookup_counted` and `check`.
+    ChainIndex,
+    /// The chain word of a symbol does not lie whole in the data. Answered by
+    /// `GnuHashTable::get_chain`, `lookup`, `lookup_counted` and `check`.
+    ChainData,
+    /// The index of a symbol is not below the number of symbols, or does not fit in 32 bits. Answered
+    /// by `GnuHashTable::lookup`, `lookup_counted` and `check`.
+    SymbolIndex,
+    /// A symbol is not where its name leads to. Answered by `GnuHashTable::check`.
+    Missing,
+    /// A file has no dynamic segment.
+    NoDynamic,
+    /// The dynamic segment has no entry with this tag.
+    NoEntry,
+    /// An address, or one of the bytes from it on, is in no loaded segment.
+    Address,
+    /// What is left of a list of notes holds no whole note.
+    ShortNote,
+    /// The data is not a whole number of words.
+    NotMultiple,
+}
+
+impl LinkError {
+    /// The text of the refusal: for `Elf` that of the error within.
+    pub fn message(&self) -> &'static str
+        ensures { result.now ≡ link_message self.now }
+    {
+        match self {
+            LinkError::Elf(error) => error.message(),
+            LinkError::ShortTable => "GNU hash table is too short",
+            LinkError::UnknownClass => "Class is neither 1 nor 2",
+            LinkError::BloomCount => "Number of Bloom words is not a power of two",
+            LinkError::BucketIndex => "Bucket index is out of range",
+            LinkError::ChainIndex => "Symbol index is before the first of the table",
+            LinkError::ChainData => "Chain is not in the data",
+            LinkError::SymbolIndex => "Symbol index is out of range",
+            LinkError::Missing => "Symbol is missing from the GNU hash table",
+            LinkError::NoDynamic => "No dynamic segment",
+            LinkError::NoEntry => "Dynamic segment has no such entry",
+            LinkError::Address => "Address is in no loaded segment",
+            LinkError::ShortNote => "Note is cut off",
+            LinkError::NotMultiple => "Data is not a whole number of words",
+        }
+    }
+}
+
+impl fmt::Display for LinkError {
+    ghost output = { λ error. Some (link_message error) };
+
+    ghost styled_output = { λ error spec. Some (link_message error) };
+
+    fn fmt<W: fmt::Write>(&self, f: &mut fmt::Formatter<W>) -> fmt::Result {
+        f.write_str(self.message())
+    }
+}
+
+impl Error for LinkError {}
+
+impl From<ElfError> for LinkError {
+    ghost from_gives = { λ error linked. linked ≡ Elf error };
+
+    fn from(error: ElfError) -> Self {
+        LinkError::Elf(error)
+    }
+}

@@ -1,0 +1,255 @@
+//! GNU's hash tables of symbols (the convention of GNU binutils and glibc: sections of type 0x6ffffff6,
+//! `.gnu.hash`, and the dynamic entry `DT_GNU_HASH`).
+
+ghost use Rattle.std.specs.Prelude.{◌≡◌, ◌↔◌, ◌+◌, ◌*◌, ◌/◌, ◌^◌, ◌==◌, ◌<◌, ◌≤◌, length, IfOk, IsOk, IsTrue, MatchResult};
+ghost use Rattle.elf_linking.specs.GnuHashNumber.{gnu_hash_number};
+ghost use Rattle.elf_linking.specs.GnuLayout.{IsGnuTable, bloom_count_in, bloom_size, chains_in, gnu_table_of, is_known};
+ghost use Rattle.std.specs.Int.{bit_at};
+
+mod check;
+mod lookup;
+
+use crate::LinkError;
+use elf_base::bytes::{Order, read_u32, read_u64};
+use elf_base::header::Class;
+
+/// The hash number of a name, which leads to its bucket in a GNU hash table.
+#[tactic(auto, unfolding(crate::specs::GnuHashNumber::gnu_hash_number))]
+pub fn gnu_hash(name: &str) -> u32
+    ensures { result ≡ gnu_hash_number name.now }
+{
+    let mut number: u32 = 5381;
+    for byte in name.as_bytes() {
+        number = number.wrapping_mul(33).wrapping_add(u32::from(*byte));
+    }
+    number
+}
+
+// Whether files of a class have such tables.
+fn is_known(class: Class) -> bool
+    ensures { result ≡ is_known class }
+{
+    matches!(class, Class::ThirtyTwo | Class::SixtyFour)
+}
+
+// How many bytes a Bloom word has in files of a class.
+#[inline(always)]
+fn bloom_size(class: Class) -> usize
+    ensures value { result ≡ bloom_size class }
+    ensures above { 4 ≤ result }
+    ensures below { result ≤ 8 }
+{
+    match class {
+        Class::ThirtyTwo => 4,
+        _ => 8,
+    }
+}
+
+// Whether a bit of a Bloom word is set.
+#[tactic(auto, using(std::proofs::lemmas::Nat::Bits::shr_and_one))]
+#[inline(always)]
+fn is_set(word: u64, bit: u32) -> bool
+    requires { bit < 64 }
+    ensures { result ≡ (bit_at word bit == 1) }
+{
+    (word >> bit) & 1 == 1
+}
+
+// A hash number shifted to the right, by any number of bits.
+#[tactic(auto, using(crate::proofs::Shifts::shifted_out))]
+#[inline(always)]
+fn shifted(hash: u32, shift: u32) -> u32
+    ensures { result ≡ hash / 2 ^ shift }
+{
+    hash.checked_shr(shift).unwrap_or(0)
+}
+
+/// The hash table of the symbols that a file exports: four words, the Bloom words, which tell of most
+/// other names that they aren't there, the buckets, and a chain word for each symbol from the first on.
+///
+/// It is a view: it keeps the data of its section, the class of the file, and the order of its numbers.
+#[derive(Clone, Copy, Debug)]
+pub struct GnuHashTable<'a> {
+    bytes: &'a [u8],
+    class: Class,
+    order: Order,
+    ghost counted: { 0 < bloom_count_in order bytes.now },
+    ghost whole: { chains_in class order bytes.now ≤ length bytes.now },
+}
+
+impl<'a> GnuHashTable<'a> {
+    ghost use Rattle.elf_linking.specs.GnuHash.{HasChain, bloom_count_of, bloom_of, bloom_shift_of, bloom_word, bucket_count_of, bucket_of, bucket_word, chain_of, chain_place, chain_word, first_symbol_of, gnu_class, gnu_data, gnu_order, may_hold, start_at};
+
+    /// The hash table that these bytes are, up to the end of their section.
+    ///
+    /// Refused with `UnknownClass`; with `ShortTable` below 16 bytes; with `BloomCount` where the number
+    /// of Bloom words is not a power of two; and with `ShortTable` where they and the buckets pass the
+    /// end of the bytes.
+    #[tactic(auto, unfolding(crate::specs::GnuLayout::gnu_table_of))]
+    pub fn read(bytes: &'a [u8], class: Class, order: Order) -> Result<GnuHashTable<'a>, LinkError>
+        ensures accepts { IsOk result ↔ IsGnuTable class order bytes.now }
+        ensures exact { MatchResult result
+            (λ table. (gnu_data table ≡ bytes.now) × (gnu_class table ≡ class)
+            × (gnu_order table ≡ order))
+            (λ error. gnu_table_of class order bytes.now ≡ Err error) }
+    {
+        if !is_known(class) {
+            return Err(LinkError::UnknownClass);
+        }
+        if bytes.len() < 16 {
+            return Err(LinkError::ShortTable);
+        }
+        let bloom_count = read_u32(bytes, 8, order);
+        if !bloom_count.is_power_of_two() {
+            return Err(LinkError::BloomCount);
+        }
+        let buckets = 16 + bloom_size(class) * bloom_count as usize;
+        if bytes.len() < buckets + 4 * read_u32(bytes, 0, order) as usize {
+            return Err(LinkError::ShortTable);
+        }
+        Ok(GnuHashTable {
+            bytes,
+            class,
+            order,
+        })
+    }
+
+    /// How many buckets it has.
+    pub fn bucket_count(&self) -> u32
+        ensures { result ≡ bucket_count_of self.now }
+    {
+        read_u32(self.bytes, 0, self.order)
+    }
+
+    /// The index of the first symbol that it is for.
+    pub fn first_symbol(&self) -> u32
+        ensures { result ≡ first_symbol_of self.now }
+    {
+        read_u32(self.bytes, 4, self.order)
+    }
+
+    /// How many Bloom words it has, which is a power of two.
+    pub fn bloom_count(&self) -> u32
+        ensures { result ≡ bloom_count_of self.now }
+    {
+        read_u32(self.bytes, 8, self.order)
+    }
+
+    /// By how many bits a hash number is shifted to the right for the second bit of a Bloom word.
+    pub fn bloom_shift(&self) -> u32
+        ensures { result ≡ bloom_shift_of self.now }
+    {
+        read_u32(self.bytes, 12, self.order)
+    }
+
+    /// A Bloom word, of 32 bits in class 32.
+    ///
+    /// Refused with `BucketIndex` where the index isn't below `bloom_count`.
+    #[tactic(auto, unfolding(crate::specs::GnuHash::bloom_of))]
+    pub fn get_bloom(&self, index: u32) -> Result<u64, LinkError>
+        ensures readable { IsOk result ↔ (index < bloom_count_of self.now) }
+        ensures value { IfOk result (λ word. word ≡ bloom_word self.now index) }
+        ensures exact { result ≡ bloom_of self.now index }
+    {
+        if index >= self.bloom_count() {
+            return Err(LinkError::BucketIndex);
+        }
+        Ok(self.bloom(index))
+    }
+
+    // The Bloom word at an index that is below their number.
+    #[tactic(auto, unfolding(crate::specs::GnuHash::bloom_word))]
+    #[inline(always)]
+    fn bloom(&self, index: u32) -> u64
+        requires { index < bloom_count_of self.now }
+        ensures { result ≡ bloom_word self.now index }
+    {
+        match self.class {
+            Class::ThirtyTwo => u64::from(read_u32(
+                self.bytes,
+                16 + 4 * index as usize,
+                self.order,
+            )),
+            _ => read_u64(self.bytes, 16 + 8 * index as usize, self.order),
+        }
+    }
+
+    /// The word of a bucket: the index of the first symbol of its run, or 0 where it has none.
+    ///
+    /// Refused with `BucketIndex` where the index isn't below `bucket_count`.
+    #[tactic(auto, unfolding(crate::specs::GnuHash::bucket_of))]
+    pub fn get_bucket(&self, index: u32) -> Result<u32, LinkError>
+        ensures readable { IsOk result ↔ (index < bucket_count_of self.now) }
+        ensures value { IfOk result (λ word. word ≡ bucket_word self.now index) }
+        ensures exact { result ≡ bucket_of self.now index }
+    {
+        if index >= self.bucket_count() {
+            return Err(LinkError::BucketIndex);
+        }
+        Ok(self.bucket(index))
+    }
+
+    // The word of the bucket at an index that is below their number.
+    #[tactic(auto, unfolding(crate::specs::GnuHash::bucket_word))]
+    #[inline(always)]
+    fn bucket(&self, index: u32) -> u32
+        requires { index < bucket_count_of self.now }
+        ensures { result ≡ bucket_word self.now index }
+    {
+        let buckets = 16 + bloom_size(self.class) * self.bloom_count() as usize;
+        read_u32(self.bytes, buckets + 4 * index as usize, self.order)
+    }
+
+    /// The chain word of a symbol: the hash number of its name, but for the lowest bit, which is set
+    /// where a run ends.
+    ///
+    /// Refused with `ChainIndex` below `first_symbol`, and with `ChainData` where the word doesn't lie
+    /// whole in the data.
+    #[tactic(auto, unfolding(crate::specs::GnuHash::chain_of, crate::specs::GnuHash::chain_word, crate::specs::GnuHash::chain_place))]
+    #[inline(always)]
+    pub fn get_chain(&self, index: u32) -> Result<u32, LinkError>
+        ensures readable { IsOk result ↔ HasChain self.now index }
+        ensures value { IfOk result (λ word. word ≡ chain_word self.now index) }
+        ensures exact { result ≡ chain_of self.now index }
+    {
+        let first = self.first_symbol();
+        if index < first {
+            return Err(LinkError::ChainIndex);
+        }
+        let buckets = 16 + bloom_size(self.class) * self.bloom_count() as usize;
+        let chains = buckets + 4 * self.bucket_count() as usize;
+        let place = chains + 4 * (index - first) as usize;
+        if self.bytes.len() < place + 4 {
+            return Err(LinkError::ChainData);
+        }
+        Ok(read_u32(self.bytes, place, self.order))
+    }
+
+    // Whether a name of this hash number may be in the table, as the Bloom words tell.
+    #[tactic(auto, unfolding(crate::specs::GnuHash::may_hold))]
+    #[inline(always)]
+    fn may_hold(&self, hash: u32) -> bool
+        ensures { result ≡ may_hold self.now hash }
+    {
+        let width = 8 * bloom_size(self.class) as u32;
+        let word = self.bloom(hash / width % self.bloom_count());
+        let shifted = shifted(hash, self.bloom_shift());
+        is_set(word, hash % width) && is_set(word, shifted % width)
+    }
+
+    // The index of the symbol at which a look-up by this hash number begins, if any.
+    #[tactic(auto, unfolding(crate::specs::GnuHash::start_at))]
+    #[inline(always)]
+    fn start(&self, hash: u32) -> Option<u32>
+        ensures { result ≡ start_at self.now hash }
+    {
+        let bucket_count = self.bucket_count();
+        if bucket_count == 0 || !self.may_hold(hash) {
+            return None;
+        }
+        match self.bucket(hash % bucket_count) {
+            0 => None,
+            word => Some(word),
+        }
+    }
+}

@@ -1,0 +1,28 @@
+//! Prints the value and the name of each symbol of a 64-bit ELF file: `elfnm PATH`.
+#![tactic(auto)]
+
+use anyhow::Context;
+use std::env;
+use std::fs::File;
+use std::io::{BufWriter, Read, Write};
+use xmas_elf::ElfFile;
+use xmas_elf::sections::SectionData;
+use xmas_elf::symbol_table::Entry;
+
+fn main(rt: HostRuntime) -> anyhow::Result<()> {
+    let path = env::args(&rt)?.nth(1).context("usage: elfnm PATH")?;
+    let mut input = Vec::new(rt.alloc());
+    File::open(&rt, path.as_str())?.read_to_end(&mut input)?;
+    let file = ElfFile::new(&input)?;
+    let mut out = BufWriter::new(rt.alloc(), rt.stdout())?;
+    for section in file.section_iter() {
+        if let Ok(SectionData::SymbolTable64(symbols)) = section.get_data(&file) {
+            for symbol in symbols {
+                let name = symbol.get_name(&file).unwrap_or("?");
+                writeln!(out, "{:016x} {}", symbol.value(), name)?;
+            }
+        }
+    }
+    out.flush()?;
+    Ok(())
+}

@@ -1,0 +1,6 @@
+//! Expected values are worked out by hand from the format, and never taken from the program's output.
+
+mod callers;
+mod gnu_hash;
+mod messages;
+mod shared_object;

@@ -1,0 +1,14 @@
+use Rattle.std.proofs.Common.{◌≤◌, ◌*◌}
+use Rattle.xmas_elf.specs.Counted.{IsCount}
+use Rattle.xmas_elf.specs.Good.{EndsBelow, IsHeldBelow}
+use Rattle.xmas_elf.specs.Symbols.{symbols_of}
+use Rattle.xmas_elf.proofs.hash.HashTable.held_by_all.Given as goal
+
+abbrev pub invariant-loop-bucket : goal.invariant-loop-bucket
+invariant-loop-bucket g l =
+    let all = symbols_of g.E.Entry.fields g.E.Entry.text_in l.symbols l.file in
+    record {
+      few : l.held ≤ l.bucket * 4294967296;
+      ends : EndsBelow l.self all.items l.bucket;
+      count : IsCount (IsHeldBelow l.self all l.bucket) l.held;
+    }

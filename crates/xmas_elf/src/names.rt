@@ -1,0 +1,109 @@
+//! The names of sections, and the section with a name (gABI, "String Table" and "Sections", sh_name).
+
+ghost use Rattle.std.specs.Prelude.{◌≡◌, ◌↔◌, ◌+◌, ◌≤◌, IfNone, IfSome, IsTrue, Some, length, ℕ};
+ghost use Rattle.elf_base.specs.Lent.{Answers, Lends, LendsOnly};
+ghost use Rattle.xmas_elf.specs.First.{FindsFirstAt};
+ghost use Rattle.xmas_elf.specs.HeaderTable.{EachBelow};
+ghost use Rattle.xmas_elf.specs.NameTable.{Bears, FindsNamed, IsFirstNamed, IsNameAt, IsNameTable};
+ghost use Rattle.xmas_elf.specs.NameTable.{NameCompared, name_table_of, names_section_of};
+ghost use Rattle.xmas_elf.specs.NameTable.{section_named, shstr_of};
+ghost use Rattle.xmas_elf.specs.SectionHeader.{section_of};
+ghost use Rattle.xmas_elf.specs.SectionList.{section_list};
+ghost use Rattle.xmas_elf.specs.declared.sections.section_header.SectionHeader.{SectionHeader};
+
+use crate::bytes::{text_at, text_is};
+use crate::sections::SectionHeader;
+use crate::{ElfError, ElfFile};
+
+impl<'a> ElfFile<'a> {
+    /// The text at an index of the name table, in bytes: up to the next zero byte of the input, also
+    /// where the section ends before it. It lives as long as the input.
+    ///
+    /// Refused as `shstr_index` and then as `section_header_at` of that index is, with
+    /// `ShortSectionOffset` where that section begins past the end of the input, and as
+    /// `bytes::text_at` is.
+    #[tactic(auto, unfolding(crate::specs::NameTable::shstr_of))]
+    #[inline(always)]
+    pub fn get_shstr(&self, index: u32) -> Result<&'a str, ElfError>
+        ensures name { Lends (IsNameAt self.now index) result }
+        ensures only { LendsOnly (IsNameAt self.now index) result }
+        ensures exact { Answers (shstr_of self.now index) result }
+    {
+        text_at(self.name_table()?, index as usize)
+    }
+
+    /// Whether the text at an index of the name table is this one, and how many bytes were compared
+    /// to find out: none where there is no name table, and else as by `bytes::text_is`.
+    #[inline(always)]
+    pub fn shstr_is(&self, index: u32, name: &str) -> (bool, usize)
+        ensures is { IsTrue result.0 ↔ IsNameAt self.now index name.now }
+        ensures compared { NameCompared (name_table_of self.now) index name.now result.0 result.1 }
+        ensures few { result.1 ≤ length name.now + 1 }
+    {
+        match self.name_table() {
+            Ok(names) => text_is(names, index as usize, name),
+            Err(_) => (false, 0),
+        }
+    }
+
+    // The section that holds the names.
+    #[tactic(auto, unfolding(crate::specs::NameTable::names_section_of))]
+    #[inline(always)]
+    fn names_section(&self) -> Result<SectionHeader, ElfError>
+        ensures { result ≡ names_section_of self.now }
+    {
+        self.section_header_at(u64::from(self.shstr_index()?))
+    }
+
+    // The input from the offset of the section that holds the names, whatever its type and size.
+    #[tactic(auto, unfolding(crate::specs::NameTable::name_table_of))]
+    #[inline(always)]
+    fn name_table(&self) -> Result<&'a [u8], ElfError>
+        ensures table { Lends (IsNameTable self.now) result }
+        ensures only { LendsOnly (IsNameTable self.now) result }
+        ensures exact { Answers (name_table_of self.now) result }
+    {
+        let offset = self.names_section()?.offset();
+        if offset > self.input.len() as u64 {
+            return Err(ElfError::ShortSectionOffset);
+        }
+        Ok(&self.input[offset as usize..])
+    }
+
+    /// The first section that bears this name, in the order of `section_iter`; the names are
+    /// compared in place. A section of type Null, or of one that `get_type` refuses, bears none.
+    pub fn find_section_by_name(&self, name: &str) -> Option<SectionHeader>
+        ensures list { FindsNamed self.now name.now result }
+        ensures found { IfSome result (λ section. (index : ℕ)
+            × IsFirstNamed self.now name.now index section) }
+        ensures only { (index : ℕ) (section : SectionHeader)
+            → IsFirstNamed self.now name.now index section → result ≡ Some section }
+        ensures missing { IfNone result (EachBelow (section_of self.now)
+            (λ section. ¬ Bears self.now section name.now) (length (section_list self.now))) }
+        ensures exact { result ≡ section_named self.now name.now }
+    {
+        self.first_named(name)
+    }
+
+    // The first section of the list that bears this name. It is read whole only once it is found.
+    #[inline(always)]
+    fn first_named(&self, name: &str) -> Option<SectionHeader>
+        ensures { FindsNamed self.now name.now result }
+    {
+        let position = self.position_of_name(name)?;
+        self.section_header_at(position as u64).ok()
+    }
+
+    // The position of that section in the list; the name table is found once.
+    #[inline(always)]
+    fn position_of_name(&self, name: &str) -> Option<usize>
+        ensures { FindsFirstAt (λ section. Bears self.now section name.now)
+            (section_list self.now) result }
+    {
+        let Ok(names) = self.name_table() else {
+            return None;
+        };
+        self.section_iter()
+            .position(|section| section.bears(names, name))
+    }
+}

@@ -1,0 +1,64 @@
+#!/usr/bin/env python3
+"""Makes the fixed sample that `rt ci` compares: small files, and the Rust crate's answers over them.
+
+    oracle/sample.py [FOLDER]        FOLDER: where the crate's files are, as for build.sh
+
+The files and the list of them go to crates/elfanswers/data and args, the crate's answers as they are to
+oracle/sample/NAME.txt. crates/elfanswers/stdout has the same lines, but for those where the library answers
+otherwise: a panic is a refusal there, and the like. `tools/compare_rust.py` has to know each of these
+differences by name, or nothing is written.
+"""
+import pathlib
+import sys
+
+TOP = pathlib.Path(__file__).resolve().parent.parent
+sys.path.insert(0, str(TOP / "tools"))
+import compare_rust
+import damage
+
+CRATE = TOP / "crates" / "elfanswers"
+TEXTS = TOP / "oracle" / "sample"
+
+# What stands in each file beside the names of its sections.
+FILES = {
+    "symbols": (".strtab", ".symtab"),
+    "dynamic": (".dynstr", ".dynsym", ".hash", ".dynamic"),
+    "notes": (".note.gnu.build-id", ".gnu_debuglink", ".gnu_debugaltlink"),
+    "relocations": (".rela.text", ".rel.text", ".group", ".init_array"),
+    "others": (".symtab_shndx", ".bss", ".relr.dyn", ".comment", ".texts"),
+}
+
+
+def sample():
+    for name, sections in FILES.items():
+        for wide in (False, True):
+            yield f"{name}-{64 if wide else 32}", damage.worked(wide, "little", only=sections)
+    yield "cut", damage.worked(True, "little", only=FILES["symbols"])[:-70]
+    for k, seed in enumerate((3, 17, 40)):
+        small = damage.worked(k % 2 == 0, "little", only=FILES["dynamic"])
+        yield f"damaged-{seed}", damage.mutated(small, damage.randoms.Random(f"sample/{seed}"))
+
+
+def main() -> int:
+    programs = [compare_rust.built(sys.argv[1] if len(sys.argv) > 1 else None), str(compare_rust.OURS)]
+    held, told = dict(sample()), {}
+    tally = compare_rust.Tally()
+    (CRATE / "data").mkdir(exist_ok=True)
+    for name, data in held.items():
+        path = CRATE / "data" / f"{name}.elf"
+        path.write_bytes(data)
+        told[name] = [compare_rust.run(it, [path.name], path.parent)[1] for it in programs]
+        tally.compare(name, *(compare_rust.answers(it)[0] for it in told[name]))
+    tally.told()
+    if tally.left:
+        return 1
+    TEXTS.mkdir(exist_ok=True)
+    for name, (theirs, _) in told.items():
+        (TEXTS / f"{name}.txt").write_text(theirs)
+    (CRATE / "stdout").write_text("".join(ours for _, ours in told.values()))
+    (CRATE / "args").write_text("".join(f"{name}.elf\n" for name in held))
+    return 0
+
+
+if __name__ == "__main__":
+    sys.exit(main())

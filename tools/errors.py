@@ -1,0 +1,122 @@
+#!/usr/bin/env python3
+"""Wants docs/ERRORS.md to say of each error what the docs of the calls say.
+
+A call's doc names the errors that it answers, as `DataRange`, and the calls whose refusals it hands on:
+"as `bytes::text_at` is" or "the answer of `parse_header`". The table must have the same calls in the row
+of each error, and a row for each error. Run it at the top of the repository: tools/errors.py
+"""
+import pathlib
+import re
+import sys
+
+ROOT = pathlib.Path(__file__).resolve().parent.parent
+CRATES = ("elf_base", "elf_records", "xmas_elf")
+TABLE = ROOT / "docs" / "ERRORS.md"
+
+OWNER = re.compile(r"^(?:pub )?(?:impl(?:<.*?>)? (?:(\w+)(?:<.*?>)? for )?(\w+)|trait (\w+))")
+CALL = re.compile(r"^( *)(?:pub )?fn (\w+)")
+HANDED_ON = re.compile(r"(?:\bas|answer of|answers of) `([\w:]+)`")
+NAME = re.compile(r"`([\w:]+)`")
+
+
+def sources() -> list[pathlib.Path]:
+    """The files of the three libraries, without their tests."""
+    files = [file for crate in CRATES for file in (ROOT / "crates" / crate / "src").rglob("*.rt")]
+    return sorted(file for file in files if "tests" not in file.parts and file.name != "tests.rt")
+
+
+def errors() -> list[str]:
+    """The variants of `ElfError`, in order."""
+    text = (ROOT / "crates/elf_base/src/error.rt").read_text(encoding="utf-8")
+    body = text.split("pub enum ElfError {")[1].split("\n}")[0]
+    return re.findall(r"^    (\w+),$", body, re.MULTILINE)
+
+
+def module_of(file: pathlib.Path) -> str:
+    """The public module that a file's calls are reached by."""
+    parts = file.relative_to(ROOT / "crates").parts[2:]
+    return "" if parts == ("lib.rt",) else parts[0].removesuffix(".rt")
+
+
+def qualified(owner: str, file: pathlib.Path) -> str:
+    """A type by its name, or by its module too where several have the name; without a type, the module."""
+    if owner in ("Type", "Type_"):
+        return f"{module_of(file)}::{owner}"
+    return owner or module_of(file)
+
+
+def calls_in(file: pathlib.Path) -> dict[str, str]:
+    """The docs of the calls of a file, by `Type::call`, `Trait::call` or `module::call`."""
+    found, doc, owner = {}, [], ""
+    for line in file.read_text(encoding="utf-8").splitlines():
+        if line.lstrip().startswith("///"):
+            doc.append(line.lstrip()[3:].strip())
+            continue
+        if match := OWNER.match(line):
+            owner = match[2] or match[3]
+        if line == "}":
+            owner = ""
+        if match := CALL.match(line):
+            found[f"{qualified(owner, file)}::{match[2]}"] = " ".join(doc)
+        if not line.lstrip().startswith("#["):
+            doc = []
+    return found
+
+
+def meant(name: str, caller: str, docs: dict[str, str]) -> str:
+    """The call that a doc names: by its whole name, or as one of the same owner, or of any one owner."""
+    if name in docs:
+        return name
+    sibling = f"{caller.split('::')[0]}::{name}"
+    if sibling in docs:
+        return sibling
+    ends = [call for call in docs if call.endswith(f"::{name}")]
+    if len(ends) != 1:
+        sys.exit(f"{caller}: its doc names `{name}`, which is one of {ends}")
+    return ends[0]
+
+
+def answers(call: str, docs: dict[str, str], known: set[str], seen: frozenset[str] = frozenset()) -> set[str]:
+    """The errors that a call answers by its doc, and by the docs of those whose refusals it hands on."""
+    doc = docs[call]
+    found = known & set(NAME.findall(doc))
+    for name in HANDED_ON.findall(doc):
+        other = meant(name, call, docs)
+        if other not in seen:
+            found |= answers(other, docs, known, seen | {call})
+    return found
+
+
+def table() -> dict[str, set[str]]:
+    """The calls in the row of each error."""
+    rows = {}
+    for line in TABLE.read_text(encoding="utf-8").splitlines():
+        cells = [cell.strip() for cell in line.strip("|").split("|")]
+        if len(cells) == 2 and (name := NAME.fullmatch(cells[0])):
+            rows[name[1]] = set(NAME.findall(cells[1]))
+    return rows
+
+
+def main() -> int:
+    docs = {}
+    for file in sources():
+        docs |= {call: doc for call, doc in calls_in(file).items() if doc or call not in docs}
+    names = errors()
+    said = {name: set() for name in names}
+    for call in docs:
+        for name in answers(call, docs, set(names)):
+            said[name].add(call)
+    rows = table()
+    failed = 0
+    for name in names + sorted(rows.keys() - set(names)):
+        if said.get(name) != rows.get(name):
+            failed += 1
+            more = sorted(said.get(name, set()) - rows.get(name, set()))
+            less = sorted(rows.get(name, set()) - said.get(name, set()))
+            print(f"{name}: in docs alone {more}, in the table alone {less}")
+    print(f"{len(names)} errors, {failed} whose row differs from the docs of the calls")
+    return 1 if failed else 0
+
+
+if __name__ == "__main__":
+    sys.exit(main())
