@@ -11,11 +11,14 @@ compile, that changes nothing, or with which the crate is still proved.
     tools/wrong_bodies.py --self-test            whether the script itself tells right from wrong
 
 Each crate must be proved as it stands, and is checked first; what that check and earlier ones kept in
-out/ is used again. The last line is `N refused, M failed`.
+out/ is used again. At the end stand the slowest checks and the functions at which each stayed longest,
+so that edits can be found that make the prover's search run to its limits. The last line is
+`N refused, M failed`.
 """
 import argparse
 import concurrent.futures
 import dataclasses
+import os
 import pathlib
 import re
 import shutil
@@ -23,11 +26,12 @@ import subprocess
 import sys
 import tempfile
 import threading
+import time
 
 ROOT = pathlib.Path(__file__).resolve().parent.parent
 
 # Many edits of one batch share what a check costs before the first goal; few leave work for others.
-BATCH = 16
+BATCH = 24
 
 CONTRACT = re.compile(r"what the function ensures|the invariant of the loop|the loop's invariant")
 NOTE = re.compile(r"note: (?:\./)?(src/\S+?):(\d+):\d+: it is not proved that (.*)")
@@ -35,6 +39,10 @@ ANSWER = re.compile(r"(?:\./)?proofs/(\S+)/\w+\.antt:\d+:\d+: error: (.*)")
 # A proof that only cites a name which the edit took away says nothing of the contract.
 LOST = re.compile(r"has no field|is not in scope|has no `|was not admitted")
 TOLD = re.compile(r"fn (\S+): (?:proved|not proved|no proof)")
+FAULT = re.compile(r"(?:\./)?(src/\S+?):(\d+):\d+: error")
+PROGRESS = re.compile(r"checked (\S+), \d+ of \d+")
+# How many checks are listed at the end, and functions of each.
+SLOWEST = 12
 
 
 @dataclasses.dataclass(frozen=True)
@@ -101,6 +109,32 @@ def functions_of(file: str, text: str, crate: str) -> list:
     return found
 
 
+@dataclasses.dataclass
+class Checked:
+    """What a check said, its status, its processor seconds, and at which function it stayed how long."""
+
+    said: str
+    status: int
+    seconds: float
+    stays: list
+
+
+def check(folder: pathlib.Path, *words: str) -> Checked:
+    """Checks the crate in a folder."""
+    said, stays, last = [], [], None
+    ran = ["rt", "check", *words]
+    with subprocess.Popen(ran, cwd=folder, stdout=subprocess.PIPE, stderr=subprocess.STDOUT, text=True, errors="replace") as started:
+        for line in started.stdout:
+            now, through = time.monotonic(), PROGRESS.match(line)
+            if through and last:
+                stays.append((now - last, through[1].split("::", 1)[-1]))
+            last = now
+            said.append(line)
+        _, status, used = os.wait4(started.pid, 0)
+        started.returncode = os.waitstatus_to_exitcode(status)
+    return Checked("".join(said), started.returncode, used.ru_utime + used.ru_stime, sorted(stays, reverse=True))
+
+
 class Crate:
     """The sources of a crate, and which function stands where."""
 
@@ -114,15 +148,29 @@ class Crate:
         held = [it for it in self.functions if it.file == file and it.first <= line <= it.last]
         return held[-1] if held else None
 
-    def changed(self, edits) -> dict:
-        """The texts of the changed files; ValueError says which change can't be made."""
+    def lines_of(self, edit) -> dict:
+        """The lines that an edit changes, by file and number; ValueError says which change can't be made."""
         texts = {}
+        for file, old, new in edit.changes:
+            text = texts.get(file, self.texts.get(file, ""))
+            if text.count(old) != 1:
+                raise ValueError(f"the old text stands {text.count(old)} times in {file}")
+            texts[file] = text.replace(old, new)
+        pairs = [(file, enumerate(zip(text.split("\n"), self.texts[file].split("\n")))) for file, text in texts.items()]
+        return {(file, at): line for file, lines in pairs for at, (line, before) in lines if line != before}
+
+    def changed(self, edits) -> dict:
+        """The texts of the changed files, each edit made by itself; ValueError says which can't be made."""
+        lines = {}
         for edit in edits:
-            for file, old, new in edit.changes:
-                text = texts.get(file, self.texts.get(file, ""))
-                if text.count(old) != 1:
-                    raise ValueError(f"the old text stands {text.count(old)} times in {file}")
-                texts[file] = text.replace(old, new)
+            mine = self.lines_of(edit)
+            if lines.keys() & mine.keys():
+                raise ValueError("two edits change one line")
+            lines |= mine
+        texts = {}
+        for file in {file for file, _ in lines}:
+            before = enumerate(self.texts[file].split("\n"))
+            texts[file] = "\n".join(lines.get((file, at), line) for at, line in before)
         return texts
 
     def read_edit(self, path: pathlib.Path) -> Edit:
@@ -157,7 +205,8 @@ class Crate:
 def batches_of(crate: Crate, edits) -> list:
     """The edits in few groups, each of edits of different functions that can be made together."""
     batches = []
-    for edit in edits:
+    # A file that is changed is proved again whole, so the edits of one file stand together.
+    for edit in sorted(edits, key=lambda it: (it.changes[0][0], it.name)):
         for batch in batches:
             used = set().union(*(it.functions for it in batch))
             if len(batch) < BATCH and None not in used | edit.functions and not used & edit.functions:
@@ -181,7 +230,8 @@ def goals_in(crate: Crate, said: str) -> dict:
         exact = one.path.split("::", 1)[1]
         by_path[exact if exact in told or len(alike) != 1 else alike[0]] = one
     goals = {}
-    for line in said.split("\n"):
+    # What is said of a proof may go on in indented lines.
+    for line in re.sub(r"\n {2,}(?=\S)", " ", said).split("\n"):
         note, answer = NOTE.match(line), ANSWER.match(line)
         if note:
             goals.setdefault(crate.function_at(note[1], int(note[2])), []).append(note[3])
@@ -196,6 +246,7 @@ class Room:
 
     def __init__(self, root: pathlib.Path, crate: Crate, below, place: pathlib.Path):
         self.crate, self.folder = crate, place / "crates" / crate.name
+        self.times = []
         place.mkdir()
         needed = [*below, crate.name]
         lines = (root / "crates.txt").read_text(encoding="utf-8").splitlines(keepends=True)
@@ -209,27 +260,35 @@ class Room:
             if (source / "out" / kept).is_dir():
                 shutil.copytree(source / "out" / kept, copy / "out" / kept)
 
-    def check(self, edits) -> subprocess.CompletedProcess:
-        """Checks the crate with these edits made, and takes them back."""
+    def check(self, edits) -> str:
+        """What a check says of the crate with these edits made; takes them back."""
         changed = self.crate.changed(edits)
         for file, text in changed.items():
             (self.folder / file).write_text(text, encoding="utf-8")
-        words = ["rt", "check", "--jobs", "1"]
-        ran = subprocess.run(words, cwd=self.folder, stdout=subprocess.PIPE, stderr=subprocess.STDOUT, text=True, errors="replace")
+        ran = check(self.folder, "--jobs", "1")
         for file in changed:
             (self.folder / file).write_text(self.crate.texts[file], encoding="utf-8")
-        return ran
+        what = edits[0].label() if len(edits) == 1 else f"{self.crate.name}: {len(edits)} edits"
+        slow = ", ".join(f"{name} {seconds:.0f}" for seconds, name in ran.stays[:4] if seconds >= 1)
+        self.times.append((ran.seconds, what + (f" ({slow})" if slow else "")))
+        return ran.said
+
+    def apart(self, edits, said: str) -> list:
+        """Edits that don't compile together, in parts: those of which that is said, and the others."""
+        blamed = {self.crate.function_at(it[1], int(it[2])) for it in FAULT.finditer(said)}
+        parts = [[it for it in edits if it.functions & blamed], [it for it in edits if not it.functions & blamed]]
+        return parts if all(parts) else [edits[::2], edits[1::2]]
 
     def judge(self, edits) -> list:
         """Each edit with the goal for which it is refused, or with none and a fault."""
-        ran = self.check(edits)
-        reached = re.search(r"^logic=(proved|not-proved)", ran.stdout, re.M)
+        said = self.check(edits)
+        reached = re.search(r"^logic=(proved|not-proved)", said, re.M)
         if not reached and len(edits) > 1:
-            return [*self.judge(edits[::2]), *self.judge(edits[1::2])]
+            return [it for part in self.apart(edits, said) for it in self.judge(part)]
         if not reached:
-            said = [it for it in ran.stdout.split("\n") if "error" in it] or ran.stdout.strip().split("\n")[-1:]
-            return [(edits[0], "", f"it does not compile: {said[0]}")]
-        goals = goals_in(self.crate, ran.stdout)
+            why = [it for it in said.split("\n") if "error" in it] or said.strip().split("\n")[-1:]
+            return [(edits[0], "", f"it does not compile: {why[0]}")]
+        goals = goals_in(self.crate, said)
         if len(edits) == 1:
             own = [it for one in edits[0].functions for it in goals.get(one, [])]
             others = [it for them in goals.values() for it in them]
@@ -248,7 +307,7 @@ class Trial:
 
     def __init__(self, root: pathlib.Path, names, jobs: int):
         self.root, self.jobs, self.lock = root, jobs, threading.Lock()
-        self.refused, self.failed = [], []
+        self.refused, self.failed, self.times = [], [], []
         self.tasks = []
         below = {}
         for line in (root / "crates.txt").read_text(encoding="utf-8").splitlines():
@@ -291,6 +350,7 @@ class Trial:
         while True:
             with self.lock:
                 if not batches:
+                    self.times += room.times if room else []
                     return
                 batch = batches.pop(0)
             room = room or Room(self.root, crate, below, place)
@@ -302,8 +362,7 @@ class Trial:
             for crate, below, batches in self.tasks:
                 count = sum(map(len, batches))
                 print(f"{crate.name}: {count} edits in {len(batches)} batches", flush=True)
-                ran = subprocess.run(["rt", "check"], cwd=crate.folder, stdout=subprocess.PIPE, stderr=subprocess.STDOUT, text=True, errors="replace")
-                if ran.returncode:
+                if check(crate.folder).status:
                     self.failed.append(crate.name)
                     print(f"{crate.name}: FAILED: it is not proved as it stands", flush=True)
                     continue
@@ -313,6 +372,10 @@ class Trial:
                     it.result()
                 for it in places:
                     shutil.rmtree(it, ignore_errors=True)
+        if self.times:
+            print(f"{sum(it[0] for it in self.times):.0f} processor seconds, of these")
+        for seconds, what in sorted(self.times, reverse=True)[:SLOWEST]:
+            print(f"{seconds:6.0f} {what}")
         print(f"{len(self.refused)} refused, {len(self.failed)} failed")
         return 1 if self.failed or not self.refused else 0
 
