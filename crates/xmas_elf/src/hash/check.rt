@@ -76,12 +76,12 @@ impl<'a> HashTable<'a> {
     /// Refused as `lookup` is on the chain of the least bucket whose chain doesn't end, and with
     /// `HashMissing` where all chains end and a symbol is missing.
     ///
-    /// It takes no memory, and marks nothing. It follows each chain once, to its end, and counts the
-    /// symbols there that belong to its bucket by their names; and compares their number with that of
-    /// the symbols that must be there. So it reads each name twice at most, and costs so many steps as
-    /// the chains are long, and as there are symbols. But buckets may share a chain, in a table that
-    /// was made to take long: with B buckets, C chains and S symbols it is B times the lesser of C and
-    /// S steps at most, besides S.
+    /// It takes no memory, and marks nothing. It follows the chain of each bucket once, to its end, and
+    /// counts the symbols there that belong to that bucket by their names; then it counts those that
+    /// must be held, and compares. So where buckets share no chain it takes a step for each symbol on a
+    /// chain and one for each symbol, and reads each name twice, however the names are spread. Buckets
+    /// that share a chain follow it each: with B buckets, C chains and S symbols a table that was made
+    /// to cost much takes B times the lesser of C and S steps, besides S.
     pub fn check<E: Entry + Record>(
         &self,
         symbols: &Table<'_, E>,

@@ -61,6 +61,9 @@ impl<'a> HashTable<'a> {
     /// where the chain can't be followed; and with `HashCycle` where it never comes to an end. It is
     /// never refused, and misses no symbol, where `check` is Ok with the same symbols and file.
     ///
+    /// Where the bucket isn't empty it looks the string table of the symbols up once, as
+    /// `Entry::string_table` does, and compares the names there in place.
+    ///
     /// What is promised of the answer holds for a test with one answer for each symbol. A closure
     /// says its answer by a clause, as `|_| -> bool ensures { result ≡ true } { true }`.
     pub fn lookup<E: Entry + Record, F: Fn(&E) -> bool>(
