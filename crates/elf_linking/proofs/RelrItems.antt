@@ -10,8 +10,8 @@ use Rattle.elf_linking.specs.declared.error.LinkError.{LinkError}
 use Rattle.elf_base.specs.Number.{number}
 use Rattle.elf_base.specs.Table.{records}
 use Rattle.elf_base.specs.declared.bytes.Order.{Order}
-use Rattle.elf_base.specs.declared.header.kinds.Class.{Class}
-use Rattle.elf_base.specs.declared.header.kinds.Class.TheVariants.{ThirtyTwo, SixtyFour}
+use Rattle.elf_base.specs.declared.header.numbers.Class.{Class}
+use Rattle.elf_base.specs.declared.header.numbers.Class.TheVariants.{ThirtyTwo, SixtyFour}
 use Rattle.elf_base.proofs.lemmas.RecordLemmas.{length-records}
 use Rattle.elf_linking.specs.declared.error.LinkError.TheVariants.{NotMultiple}
 use Rattle.elf_linking.specs.Relr.{addresses, addresses_in, addresses_of, marked, marks, place_after, place_behind, relr_of}

@@ -4,7 +4,7 @@ use Rattle.std.specs.Prelude.{ℕ, ◌+◌, ◌-◌, ◌*◌, ◌/◌, ◌%◌, 
 use Rattle.std.specs.Int.{bit_at}
 use Rattle.elf_base.specs.Number.{number}
 use Rattle.elf_base.specs.declared.bytes.Order.{Order}
-use Rattle.elf_base.specs.declared.header.kinds.Class.{Class}
+use Rattle.elf_base.specs.declared.header.numbers.Class.{Class}
 use Rattle.elf_linking.specs.GnuHashNumber.{gnu_hash_number}
 use Rattle.elf_linking.specs.GnuLayout.{bloom_count_in, bloom_shift_in, bloom_size, bucket_count_in, buckets_in, chains_in, first_symbol_in}
 use Rattle.elf_linking.specs.Refusal.{unless}

@@ -4,8 +4,8 @@ use Rattle.std.specs.Prelude.{ℕ, ◌+◌, ◌*◌, ◌≤◌, Bool, true, fals
 use Rattle.std.specs.Int.{is_power_of_two}
 use Rattle.elf_base.specs.Number.{number}
 use Rattle.elf_base.specs.declared.bytes.Order.{Order}
-use Rattle.elf_base.specs.declared.header.kinds.Class.{Class}
-use Rattle.elf_base.specs.declared.header.kinds.Class.TheVariants.{SixtyFour, ThirtyTwo}
+use Rattle.elf_base.specs.declared.header.numbers.Class.{Class}
+use Rattle.elf_base.specs.declared.header.numbers.Class.TheVariants.{SixtyFour, ThirtyTwo}
 use Rattle.elf_linking.specs.Refusal.{unless}
 use Rattle.elf_linking.specs.declared.error.LinkError.{LinkError}
 use Rattle.elf_linking.specs.declared.error.LinkError.TheVariants.{BloomCount, ShortTable, UnknownClass}

@@ -7,8 +7,8 @@ use Rattle.std.specs.List.{range_with_len}
 use Rattle.elf_base.specs.Number.{number}
 use Rattle.elf_base.specs.Table.{records, table_items, table_rest}
 use Rattle.elf_base.specs.declared.bytes.Order.{Order}
-use Rattle.elf_base.specs.declared.header.kinds.Class.{Class}
-use Rattle.elf_base.specs.declared.header.kinds.Class.TheVariants.{ThirtyTwo, SixtyFour}
+use Rattle.elf_base.specs.declared.header.numbers.Class.{Class}
+use Rattle.elf_base.specs.declared.header.numbers.Class.TheVariants.{ThirtyTwo, SixtyFour}
 use Rattle.elf_linking.specs.declared.error.LinkError.{LinkError}
 use Rattle.elf_linking.specs.declared.error.LinkError.TheVariants.{NotMultiple, UnknownClass}
 use Rattle.elf_linking.specs.declared.relr.Relr.{Relr}
