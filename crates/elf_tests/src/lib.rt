@@ -6,5 +6,6 @@ pub mod constants;
 pub mod files;
 pub mod own;
 pub mod places;
+pub mod tiny;
 #[cfg(test)]
 mod tests;

@@ -15,3 +15,5 @@ pub mod ChainFinds
 pub mod ChainOnce
 pub mod ChainChecks
 pub mod HashSections
+pub mod Places
+pub mod HashVerdicts

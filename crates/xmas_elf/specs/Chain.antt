@@ -68,3 +68,8 @@ pub data LooksFrom {E : Type 0} (P : E → Type 0) (chains : Chains E) : Option 
 -- the answer of a look-up for P, which begins at the bucket of the name
 abbrev pub Looks : {E : Type 0} → (E → Type 0) → HashTable → List E → List ℕ → Result (Option (ℕ × E)) ElfError → ℕ → Type 0
 Looks P table symbols name = LooksFrom P (chains_of table symbols) (start_of table name)
+
+-- a walk that looks for P begins at some index, and reaches no stop
+abbrev pub IsEndless : {E : Type 0} → (E → Type 0) → Chains E → Option (Result ℕ ElfError) → Type 0
+IsEndless {E} P chains start = (first : ℕ) × (start ≡ Some (Ok first))
+    × ((last : ℕ) (answer : Result (Option (ℕ × E)) ElfError) → Reaches P chains first last → Stops P chains last answer → ⊥)

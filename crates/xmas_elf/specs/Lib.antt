@@ -66,5 +66,6 @@ pub mod SegmentText
 pub mod Checks
 pub mod BuildId
 pub mod Link
+pub mod Place
 pub mod HashReport
 pub mod Report

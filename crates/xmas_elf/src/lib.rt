@@ -5,15 +5,16 @@
 //! input.
 #![tactic(auto)]
 
-ghost use Rattle.std.specs.Prelude.{◌≡◌, ◌↔◌, ◌+◌, ◌*◌, ◌≤◌, ◌<◌, ◌^◌, Err, IfErr, IfNone, IfOk, IfSome, IsOk, IsTrue, MatchOption, Ok, Some, length, ℕ};
+ghost use Rattle.std.specs.Prelude.{◌≡◌, ◌↔◌, ◌+◌, ◌*◌, ◌≤◌, ◌<◌, ◌^◌, Err, IfErr, IfNone, IfOk, IfSome, IsOk, IsOkAnd, IsTrue, List, MatchOption, Ok, Some, length, ℕ};
 ghost use Rattle.elf_base.specs.FileHeader.{IsAccepted, file_header, header_of};
-ghost use Rattle.elf_base.specs.Lent.{Answers, Lends, LendsOnly};
+ghost use Rattle.elf_base.specs.Lent.{Answers, Lends, LendsOnly, LiesAt};
+ghost use Rattle.elf_base.specs.TextCompared.{TextCompared};
 ghost use Rattle.xmas_elf.specs.Counts.{first_section, program_count_of, section_count_of, shstr_index_of};
 ghost use Rattle.xmas_elf.specs.HeaderTable.{EachBelow, IsLongest};
 ghost use Rattle.xmas_elf.specs.NameTable.{Bears, IsFirstInList, IsFirstNamed, IsFirstPlace, IsNameAt, IsNameTable, NameCompared, NoneBears, name_table_of, names_section_of, section_named, shstr_of};
 ghost use Rattle.xmas_elf.specs.ProgramHeader.{HasProgramHeader, HasSegment, program_at, program_header_of, segment_of};
 ghost use Rattle.xmas_elf.specs.ProgramList.{program_list, program_rest};
-ghost use Rattle.xmas_elf.specs.SectionHeader.{HasSectionEntry, HasSectionHeader, section_at, section_header_of, section_of};
+ghost use Rattle.xmas_elf.specs.SectionHeader.{HasSectionEntry, HasSectionHeader, section_at, section_fields, section_header_of, section_of};
 ghost use Rattle.xmas_elf.specs.SectionList.{section_list, section_rest};
 ghost use Rattle.xmas_elf.specs.declared.sections.section_header.SectionHeader.{SectionHeader};
 
@@ -238,6 +239,9 @@ impl<'a> ElfFile<'a> {
     pub fn shstr_is(&self, index: u32, name: &str) -> (bool, usize)
         ensures is { IsTrue result.0 ↔ IsNameAt self.now index name.now }
         ensures compared { NameCompared (name_table_of self.now) index name.now result.0 result.1 }
+        ensures in_table { (table : List ℕ) → IsNameTable self.now table
+            → TextCompared table index name.now result.0 result.1 }
+        ensures no_table { ((table : List ℕ) → ¬ IsNameTable self.now table) → result.1 ≡ 0 }
         ensures few { result.1 ≤ length name.now + 1 }
     {
         match self.name_table() {
@@ -260,6 +264,8 @@ impl<'a> ElfFile<'a> {
     #[inline(always)]
     fn name_table(&self) -> Result<&'a [u8], ElfError>
         ensures table { Lends (IsNameTable self.now) result }
+        ensures place { IfOk result (λ table. IsOkAnd (names_section_of self.now)
+            (λ section. LiesAt self.now.input (section_fields section).offset table)) }
         ensures only { LendsOnly (IsNameTable self.now) result }
         ensures exact { Answers (name_table_of self.now) result }
     {
