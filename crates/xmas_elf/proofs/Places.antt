@@ -10,8 +10,8 @@ use Rattle.xmas_elf.specs.NameTable.{IsFirstNamed}
 use Rattle.xmas_elf.specs.Place.{LiesAsBuildId, LiesAsRest, Part, PartLies, all, behind, nothing, section_part, segment_part}
 use Rattle.xmas_elf.specs.SectionHeader.{section_fields}
 use Rattle.xmas_elf.specs.declared.ElfFile.{ElfFile}
-use Rattle.xmas_elf.specs.declared.program.data.SegmentData.{SegmentData}
-use Rattle.xmas_elf.specs.declared.sections.data.SectionData.{SectionData}
+use Rattle.xmas_elf.specs.declared.program.content.SegmentData.{SegmentData}
+use Rattle.xmas_elf.specs.declared.sections.content.SectionData.{SectionData}
 use Rattle.xmas_elf.specs.declared.sections.section_header.SectionHeader.{SectionHeader}
 
 part_lies : (whole middle : Bor (List ℕ)) (start : ℕ) (part : Part) → LiesAt whole start middle → PartLies middle 0 part → PartLies whole start part

@@ -1,8 +1,6 @@
 pub mod HeaderList
 pub mod Equality
 pub mod HashTables
-pub mod Walks
-pub mod Reports
 pub mod Lent
 pub mod TypeNumbers
 pub mod Tags

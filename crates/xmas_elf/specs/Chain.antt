@@ -76,7 +76,7 @@ pub data Halts {E : Type 0} (chains : Chains E) (passed i : ℕ) : ElfError → 
   too_many : (e : E) → StandsAt chains i e → (chains.count ≤ passed) ⊎ (length chains.symbols ≤ passed)
       → Halts chains passed i HashCycle
 
--- a walk that looks for P begins at some index, and reaches no stop
+-- a walk that looks for P begins at some index, and comes to no stop
 abbrev pub IsEndless : {E : Type 0} → (E → Type 0) → Chains E → Option (Result ℕ ElfError) → Type 0
 IsEndless {E} P chains start = (first : ℕ) × (start ≡ Some (Ok first))
-    × ((last : ℕ) (answer : Result (Option (ℕ × E)) ElfError) → Reaches P chains first last → Stops P chains last answer → ⊥)
+    × ((last m more : ℕ) (answer : Result (Option (ℕ × E)) ElfError) → Comes chains first m last → NoneBefore P chains first m → Stops P chains last answer more → ⊥)
