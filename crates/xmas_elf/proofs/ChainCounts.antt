@@ -14,7 +14,7 @@ use Rattle.xmas_elf.specs.Symbols.{IsGlobal, Symbols}
 use Rattle.xmas_elf.specs.declared.hash.HashTable.{HashTable}
 use Rattle.xmas_elf.proofs.ChainPaths.{Apart, apart_before, by_order, comes_in, comes_once, end_links, goes_on}
 use Rattle.xmas_elf.proofs.ChainStarts.{start_none, start_some}
-use Rattle.xmas_elf.proofs.Counts.{In, count_all, count_join, count_lacks, count_more, count_none, count_same, distinct_cons, in_cons, in_here, in_later}
+use Rattle.xmas_elf.proofs.SymbolCounts.{In, count_all, count_join, count_lacks, count_more, count_none, count_same, distinct_cons, in_cons, in_here, in_later}
 
 module _ {E : Type 0} (chains : Chains E) (Q : ℕ → Type 0) where
   -- of the indices that a walk passes in n steps, this many have Q: where none is passed twice, a list names

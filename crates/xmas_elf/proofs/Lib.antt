@@ -10,7 +10,7 @@ pub mod SymbolNames
 pub mod SymbolSections
 pub mod StringRuns
 pub mod StringItems
-pub mod Counts
+pub mod SymbolCounts
 pub mod ChainPaths
 pub mod ChainStarts
 pub mod ChainFinds
