@@ -4,7 +4,7 @@ use Rattle.std.proofs.Common.{◌≡◌, ℕ, nat_le, ◌&&◌, ◌⊎◌, inl, 
 use Rattle.elf_base.specs.Refusal.{and_then}
 use Rattle.elf_base.specs.declared.error.ElfError.{ElfError}
 use Rattle.elf_base.specs.declared.error.ElfError.TheVariants.{InvalidTag}
-use Rattle.elf_records.specs.Tag.{pointer_in, pointer_of, row_in_range, row_of, tag_of, value_in, value_of}
+use Rattle.elf_records.specs.Dynamic.{pointer_in, pointer_of, row_in_range, row_of, tag_of, value_in, value_of}
 use Rattle.elf_records.specs.declared.dynamic.Content.{Content}
 use Rattle.elf_records.specs.declared.dynamic.Content.TheVariants.{Ignored, Value, Pointer, Unspecified}
 use Rattle.elf_records.specs.declared.dynamic.Tag.{Tag}

@@ -1,19 +1,19 @@
 //! Callers of `xmas_elf` in another crate, proved by its public contracts alone.
 
-ghost use Rattle.std.specs.Prelude.{◌≡◌, ◌≢◌, ◌+◌, ◌↔◌, ◌≤◌, ◌<◌, ◌==◌, Err, IfErr, IfNone, IfOk, IfSome, IsOk, IsOkAnd, IsTrue, List, MatchOption, MatchResult, None, Ok, Some, count_by, length, ℕ};
+ghost use Rattle.std.specs.Prelude.{◌≡◌, ◌≢◌, ◌+◌, ◌↔◌, ◌≤◌, ◌<◌, ◌==◌, Err, IfErr, IfOk, IsOk, IsOkAnd, IsTrue, List, MatchOption, MatchResult, None, Ok, Some, count_by, length, ℕ};
 ghost use Rattle.std.specs.List.{AllWithin, HoldsAt};
 ghost use Rattle.elf_tests.specs.Instructions.{instructions_in};
 ghost use Rattle.xmas_elf.specs.Checks.{header_check};
-ghost use Rattle.xmas_elf.specs.Counts.{program_count_of, section_count_of};
+ghost use Rattle.xmas_elf.specs.Counts.{section_count_of};
 ghost use Rattle.xmas_elf.specs.FileHeader.{IsAccepted, file_class, file_order, header_of};
 ghost use Rattle.xmas_elf.specs.HeaderLayout.{header_fields};
 ghost use Rattle.xmas_elf.specs.HeaderTable.{IsLongest};
 ghost use Rattle.xmas_elf.specs.Lent.{Answers};
-ghost use Rattle.xmas_elf.specs.NameTable.{Bears, IsFirstNamed, IsNameTable, name_of as section_name_of, section_named, shstr_of};
+ghost use Rattle.xmas_elf.specs.NameTable.{Bears, IsFirstNamed, IsNameTable, name_of as section_name_of, shstr_of};
 ghost use Rattle.xmas_elf.specs.Number.{byte_at, number};
 ghost use Rattle.xmas_elf.specs.ProgramHeader.{program_fields, program_by_u16};
 ghost use Rattle.xmas_elf.specs.ProgramList.{program_list};
-ghost use Rattle.xmas_elf.specs.SectionData.{HasSectionData, IsSectionData, section_data_of};
+ghost use Rattle.xmas_elf.specs.SectionData.{HasSectionData, section_data_of};
 ghost use Rattle.xmas_elf.specs.SectionHeader.{HasSectionHeader, section_fields, section_by_u16, section_header_size, section_of, section_place, section_type};
 ghost use Rattle.xmas_elf.specs.SectionList.{section_list};
 ghost use Rattle.xmas_elf.specs.SegmentData.{HasSegmentData, segment_data_of};
@@ -25,6 +25,7 @@ pub mod backtrace;
 pub mod copies;
 pub mod data;
 pub mod equality;
+pub mod first;
 pub mod hash;
 pub mod indices;
 pub mod laws;
@@ -138,17 +139,6 @@ pub fn data_len(file: &ElfFile<'_>, section: SectionHeader) -> Result<usize, Elf
 {
     let range = section.raw_data(file)?;
     Ok(range.len())
-}
-
-/// The data of the first section with this name, if the file holds them.
-pub fn data_named<'a>(file: &ElfFile<'a>, name: &str) -> Option<&'a [u8]>
-    ensures found { IfSome result (λ bytes. (index : ℕ) × (section : SectionHeader)
-        × IsFirstNamed file.now name.now index section × IsSectionData file.now section bytes.now) }
-    ensures missing { IfNone result (IfSome (section_named file.now name.now)
-        (λ section. ¬ HasSectionData file.now section)) }
-{
-    let section = file.find_section_by_name(name)?;
-    section.raw_data(file).ok()
 }
 
 /// Whether the bytes of a section that the program defines are all there.
