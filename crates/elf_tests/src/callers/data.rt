@@ -111,10 +111,12 @@ pub fn uses_of_symbol(
     ensures refused { IfErr result (λ error. section_content_of file.now section ≡ Err error) }
 {
     match section.get_data(file)? {
-        SectionData::Rela64(table) => Ok(table
-            .iter()
-            .filter(|rela| rela.get_symbol_table_index() == symbol)
-            .count()),
+        SectionData::Rela64(table) => Ok(
+            table
+                .iter()
+                .filter(|rela| rela.get_symbol_table_index() == symbol)
+                .count(),
+        ),
         _ => Ok(0),
     }
 }

@@ -6,8 +6,8 @@ ghost use Rattle.xmas_elf.specs.ElfError.{ElfError};
 ghost use Rattle.xmas_elf.specs.FileHeader.{header_of};
 
 use std::alloc::Global;
-use xmas_elf::report::{ReportFault, report};
 use xmas_elf::ElfFile;
+use xmas_elf::report::{ReportFault, report};
 
 /// The report in memory: that of the input, whole. Refused exactly as the input is, or for want of memory.
 pub fn report_of(alloc: Global, input: &[u8]) -> Result<Vec<u8>, ReportFault>
