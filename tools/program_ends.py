@@ -41,6 +41,7 @@ ENDS = {
     "a refused file": (["zeros.elf"], 1, b"", NO_MAGIC),
     "a good file": (["strtab.elf"], 0, REPORT, b""),
     "a good file through a pipe": (["/dev/stdin"], 0, REPORT, b""),
+    "a path like an option": (["-h"], 1, b"", b"elfinfo: cannot read -h\n"),
     "further arguments": (["strtab.elf", "missing.elf"], 0, REPORT, b""),
 }
 
@@ -72,6 +73,23 @@ def long_report() -> bytes:
     return report.replace(first, first + lines)
 
 
+# More bytes than a reader takes at once.
+FAR = (1 << 20) + 4096
+
+
+def far_file() -> bytes:
+    """The file of strtab.elf with its sections behind a mebibyte of zeros."""
+    names = FAR + 80
+    sections = bytearray(STRTAB[52:132])
+    sections[56:60] = names.to_bytes(4, "little")
+    header = STRTAB[:32] + FAR.to_bytes(4, "little") + STRTAB[36:52]
+    return header + bytes(FAR - len(header)) + bytes(sections) + STRTAB[132:]
+
+
+def far_report() -> bytes:
+    return REPORT.replace(b"sh_offset:        52\n", b"sh_offset:        %d\n" % FAR)
+
+
 def run(program, arguments, room, **streams):
     """Runs the program in a folder, with its output and its error text kept unless they go elsewhere."""
     kept = {"stdout": subprocess.PIPE, "stderr": subprocess.PIPE, **streams}
@@ -83,6 +101,8 @@ def told_ends(program, room):
     for name, (arguments, *wanted) in ENDS.items():
         ended = run(program, arguments, room)
         yield name, wanted, [ended.returncode, ended.stdout, ended.stderr]
+    ended = run(program, ["far.elf"], room)
+    yield "a file of more than a mebibyte", [0, far_report(), b""], [ended.returncode, ended.stdout, ended.stderr]
 
 
 def unwritten_ends(program, room):
@@ -123,6 +143,7 @@ def unlike(program: pathlib.Path) -> int:
     with tempfile.TemporaryDirectory() as room:
         os.mkdir(f"{room}/folder")
         files = {b"strtab.elf": STRTAB, NOT_UTF8: STRTAB, b"empty.elf": b"", b"zeros.elf": bytes(16)}
+        files[b"far.elf"] = far_file()
         for name, held in {**files, b"long.elf": long_file()}.items():
             pathlib.Path(room, os.fsdecode(name)).write_bytes(held)
         for ends in (told_ends, unwritten_ends, limited_ends):

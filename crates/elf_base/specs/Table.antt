@@ -1,6 +1,7 @@
 -- Tables: records of one size, one after the other in bytes (gABI, "Sections": sections that hold a table of
 -- fixed-size entries).
 use Rattle.std.specs.Prelude.{ℕ, zero, suc, ◌*◌, ◌/◌, List, [], ◌∷◌, length, drop, take}
+use Rattle.std.specs.Borrow.{Bor}
 use Rattle.elf_base.specs.declared.bytes.Order.{Order}
 use Rattle.elf_base.specs.declared.bytes.table.Table.{Table}
 use Rattle.elf_base.specs.declared.bytes.table.TableIter.{TableIter}
@@ -17,6 +18,10 @@ first_records size value (suc n) bytes = value (take size bytes) ∷ first_recor
 -- all records of bytes, as many as lie whole in them
 unfoldable pub records : {V : Type 0} → ℕ → (List ℕ → V) → List ℕ → List V
 records size value bytes = first_records size value (length bytes / size) bytes
+
+-- what a table lends: where its bytes lie, and which they are
+abbrev pub table_bytes : {T : Type 0} → {r : _} → Table T r → Bor (List ℕ)
+table_bytes table = table.bytes
 
 -- the bytes of a table
 abbrev pub table_data : {T : Type 0} → {r : _} → Table T r → List ℕ

@@ -1,1 +1,3 @@
 pub mod HashNumbers
+pub mod NamedRows
+pub mod Tags

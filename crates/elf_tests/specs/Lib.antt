@@ -5,3 +5,8 @@ pub mod Linked
 pub mod Loaded
 pub mod FunctionAt
 pub mod Sizes
+pub mod Instructions
+pub mod Kinds
+pub mod Reported
+pub mod Tiny
+pub mod Sound

@@ -1,9 +1,9 @@
 -- A hash table and the symbols that it is linked to, in a file of class 64 that a program is linked to.
-use Rattle.std.specs.Prelude.{◌≡◌, ℕ, List, Option, None, Some, MatchOption, Result, Ok, Err, codes, slice_get}
+use Rattle.std.specs.Prelude.{◌≡◌, ◌<◌, ℕ, List, Option, None, Some, MatchOption, Result, Ok, Err, codes, slice_get}
 use Rattle.xmas_elf.specs.Content.{Content, dyn_symbols_64, hash_table, table_of}
 use Rattle.xmas_elf.specs.ElfError.{ElfError}
 use Rattle.xmas_elf.specs.ElfError.TheVariants.{ShortData}
-use Rattle.xmas_elf.specs.Good.{IsCheck}
+use Rattle.xmas_elf.specs.Good.{IsCheck, IsGood}
 use Rattle.xmas_elf.specs.HashReport.{content_at}
 use Rattle.xmas_elf.specs.HashTable.{hash_data, hash_order}
 use Rattle.xmas_elf.specs.NameTable.{section_named}
@@ -34,20 +34,22 @@ pub record AreLinked (file : ElfFile) (table : HashTable) (order : Order) (bytes
 abbrev pub NotLinked : ElfFile → Type 0
 NotLinked file = (table : HashTable) (order : Order) (bytes : List ℕ) → ¬ AreLinked file table order bytes
 
--- the symbol found has this value: one of them bears the name and has it, or else none that isn't local
--- bears the name
+-- the symbol found has this value: one of them bears the name and has it, which isn't that at index 0
+-- (STN_UNDEF), or else none that isn't local bears the name
 abbrev pub IsValueOf : Symbols DynEntry64 → List ℕ → Option ℕ → Type 0
 IsValueOf symbols name found = MatchOption found
     ((i : ℕ) (e : DynEntry64) → ¬ IsGlobal symbols i e name)
-    (λ value. (i : ℕ) × (e : DynEntry64) × (slice_get symbols.items i ≡ Some e)
+    (λ value. (i : ℕ) × (e : DynEntry64) × (0 < i) × (slice_get symbols.items i ≡ Some e)
     × (symbols.text e ≡ Some name) × (value ≡ (symbols.fields e).value))
 
--- the same of the symbols of a file that its hash table is linked to
+-- the same of the symbols of a file that its hash table is linked to, which look-ups can rely on: an
+-- answer that comes before the check has passed doesn't have this
 pub record IsFileValueOf (file : ElfFile) (name : List ℕ) (found : Option ℕ) : Type 0 where
   pub table : HashTable
   pub order : Order
   pub bytes : List ℕ
   pub linked : AreLinked file table order bytes
+  pub good : IsGood table (dyn_symbols_in_64 file order bytes)
   pub value : IsValueOf (dyn_symbols_in_64 file order bytes) name found
 
 -- why no symbol is looked for: the file has no such tables, or the check finds this fault in them

@@ -9,3 +9,4 @@ pub mod places;
 pub mod recipes;
 #[cfg(test)]
 mod tests;
+pub mod tiny;

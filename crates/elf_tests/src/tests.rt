@@ -3,6 +3,7 @@
 mod backtrace;
 mod constants;
 mod headers;
+mod iterators;
 mod loader;
 mod messages;
 mod names;

@@ -75,3 +75,8 @@ pub data Halts {E : Type 0} (chains : Chains E) (passed i : ℕ) : ElfError → 
   no_symbol : i < chains.count → slice_get chains.symbols i ≡ None → Halts chains passed i SymbolIndex
   too_many : (e : E) → StandsAt chains i e → (chains.count ≤ passed) ⊎ (length chains.symbols ≤ passed)
       → Halts chains passed i HashCycle
+
+-- a walk that looks for P begins at some index, and comes to no stop
+abbrev pub IsEndless : {E : Type 0} → (E → Type 0) → Chains E → Option (Result ℕ ElfError) → Type 0
+IsEndless {E} P chains start = (first : ℕ) × (start ≡ Some (Ok first))
+    × ((last m more : ℕ) (answer : Result (Option (ℕ × E)) ElfError) → Comes chains first m last → NoneBefore P chains first m → Stops P chains last answer more → ⊥)

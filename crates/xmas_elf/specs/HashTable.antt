@@ -1,6 +1,7 @@
 -- Hash tables of symbols (gABI, "Hash Table"), in words of four bytes; how words are refused is this
 -- project's own.
 use Rattle.std.specs.Prelude.{ℕ, ◌+◌, ◌*◌, ◌%◌, ◌^◌, ◌<◌, ◌≤◌, Bool, nat_eq, nat_le, nat_lt, List, [], ◌∷◌, length, Option, Some, None, Result, if◌then◌else◌}
+use Rattle.std.specs.Borrow.{Bor}
 use Rattle.elf_base.specs.Number.{number}
 use Rattle.elf_base.specs.Refusal.{unless}
 use Rattle.elf_base.specs.declared.bytes.Order.{Order}
@@ -8,6 +9,10 @@ use Rattle.elf_base.specs.declared.error.ElfError.{ElfError}
 use Rattle.elf_base.specs.declared.error.ElfError.TheVariants.{BucketIndex, ChainIndex, ChainSum, HashData}
 use Rattle.elf_records.specs.HashNumber.{hash_number}
 use Rattle.xmas_elf.specs.declared.hash.HashTable.{HashTable}
+
+-- what a hash table lends: where its bytes lie, and which they are
+abbrev pub hash_bytes : HashTable → Bor (List ℕ)
+hash_bytes table = table.bytes
 
 -- the bytes of a hash table
 abbrev pub hash_data : HashTable → List ℕ

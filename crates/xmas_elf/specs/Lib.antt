@@ -72,6 +72,7 @@ pub mod ProgramText
 pub mod Checks
 pub mod BuildId
 pub mod Link
+pub mod Place
 pub mod HashReport
 pub mod Report
 pub mod Types

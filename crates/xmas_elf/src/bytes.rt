@@ -1,3 +1,3 @@
 //! Numbers, records, tables and texts in bytes.
 
-pub use elf_base::bytes::{Order, Record, Table, TableIter, text_at, text_is};
+pub use elf_base::bytes::{Order, Record, Table, TableIter, text_at, text_is, text_range};

@@ -1,10 +1,16 @@
 //! Build ids and links to debug information, which GNU's tools write beside the gABI.
 
-ghost use Rattle.std.specs.Prelude.{◌≡◌, IfSome, IsSomeAnd, List, ℕ};
+ghost use Rattle.std.specs.Prelude.{◌≡◌, ◌+◌, IfSome, IsSomeAnd, List, length, ℕ};
+ghost use Rattle.elf_base.specs.Lent.{LiesAt};
+ghost use Rattle.elf_records.specs.Note.{note_name_size, rounded_up};
 ghost use Rattle.elf_records.specs.declared.sections.note.NoteHeader.{NoteHeader};
 ghost use Rattle.xmas_elf.specs.BuildId.{IsBuildId, IsBuildIdNote, IsNoteSection};
 ghost use Rattle.xmas_elf.specs.Link.{IsAlternateLink, IsDebugLink, IsLink, IsTextAndRest};
+ghost use Rattle.xmas_elf.specs.NameTable.{IsFirstNamed};
 ghost use Rattle.xmas_elf.specs.NamedData.{IsDataNamed};
+ghost use Rattle.xmas_elf.specs.Place.{LiesAsBuildId, LiesAsRest};
+ghost use Rattle.xmas_elf.specs.SectionHeader.{section_fields};
+ghost use Rattle.xmas_elf.specs.declared.sections.section_header.SectionHeader.{SectionHeader};
 
 use crate::ElfFile;
 use crate::bytes::{Order, text_at};
@@ -56,18 +62,32 @@ impl<'a> Extensions<'a> for ElfFile<'a> {
 
     ghost AlternateLink = { IsAlternateLink };
 
-    fn get_gnu_buildid(&self) -> Option<&'a [u8]> {
+    fn get_gnu_buildid(&self) -> Option<&'a [u8]>
+        ensures found { IfSome result (λ id. IsBuildId self.now id.now) }
+        ensures only { (id : List ℕ) → IsBuildId self.now id
+            → IsSomeAnd result (λ lent. lent.now ≡ id) }
+        ensures place { IfSome result (LiesAsBuildId self.now) }
+    {
         let section = self.find_section_by_name(".note.gnu.build-id")?;
         let (header, body) = section_note(self, &section)?;
         build_id(&header, body)
     }
 
-    fn get_gnu_debuglink(&self) -> Option<(&'a str, u32)> {
+    fn get_gnu_debuglink(&self) -> Option<(&'a str, u32)>
+        ensures found { IfSome result (λ link. IsDebugLink self.now link.0.now link.1) }
+        ensures only { (text : List ℕ) (checksum : ℕ) → IsDebugLink self.now text checksum
+            → IsSomeAnd result (λ link. (link.0.now ≡ text) × (link.1 ≡ checksum)) }
+    {
         let bytes = named_data(self, ".gnu_debuglink")?;
         debug_link(bytes, byte_order(self.header.pt1.encoding))
     }
 
-    fn get_gnu_debugaltlink(&self) -> Option<(&'a str, &'a [u8])> {
+    fn get_gnu_debugaltlink(&self) -> Option<(&'a str, &'a [u8])>
+        ensures found { IfSome result (λ link. IsAlternateLink self.now link.0.now link.1.now) }
+        ensures only { (text rest : List ℕ) → IsAlternateLink self.now text rest
+            → IsSomeAnd result (λ link. (link.0.now ≡ text) × (link.1.now ≡ rest)) }
+        ensures place { IfSome result (λ link. LiesAsRest self.now link.0.now link.1) }
+    {
         let bytes = named_data(self, ".gnu_debugaltlink")?;
         alternate_link(bytes)
     }
@@ -79,6 +99,8 @@ fn section_note<'a>(file: &ElfFile<'a>, section: &SectionHeader) -> Option<(Note
     ensures only { (header : NoteHeader) (body : List ℕ)
         → IsNoteSection file.now section.now header body
         → IsSomeAnd result (λ note. (note.0 ≡ header) × (note.1.now ≡ body)) }
+    ensures place { IfSome result (λ note.
+        LiesAt file.now.input ((section_fields section.now).offset + 12) note.1) }
 {
     match section.get_type() {
         Ok(ShType::Note) => first_note(file, section.raw_data(file).ok()?).ok(),
@@ -91,6 +113,7 @@ fn build_id<'a>(header: &NoteHeader, body: &'a [u8]) -> Option<&'a [u8]>
     ensures found { IfSome result (λ id. IsBuildIdNote header.now body.now id.now) }
     ensures only { (id : List ℕ) → IsBuildIdNote header.now body.now id
         → IsSomeAnd result (λ lent. lent.now ≡ id) }
+    ensures place { IfSome result (LiesAt body.entry (rounded_up (note_name_size header.now))) }
 {
     let Ok(name) = header.name(body) else {
         return None;
@@ -106,6 +129,9 @@ fn named_data<'a>(file: &ElfFile<'a>, name: &str) -> Option<&'a [u8]>
     ensures found { IfSome result (λ bytes. IsDataNamed file.now name.now bytes.now) }
     ensures only { (bytes : List ℕ) → IsDataNamed file.now name.now bytes
         → IsSomeAnd result (λ lent. lent.now ≡ bytes) }
+    ensures place { IfSome result (λ bytes. (index : ℕ) × (section : SectionHeader)
+        × IsFirstNamed file.now name.now index section
+        × LiesAt file.now.input (section_fields section).offset bytes) }
 {
     match file.find_section_by_name(name) {
         Some(section) => section.raw_data(file).ok(),
@@ -136,6 +162,7 @@ fn alternate_link(bytes: &[u8]) -> Option<(&str, &[u8])>
     ensures found { IfSome result (λ link. IsTextAndRest bytes.now link.0.now link.1.now) }
     ensures only { (text rest : List ℕ) → IsTextAndRest bytes.now text rest
         → IsSomeAnd result (λ link. (link.0.now ≡ text) × (link.1.now ≡ rest)) }
+    ensures place { IfSome result (λ link. LiesAt bytes.entry (length link.0.now + 1) link.1) }
 {
     let Ok(text) = text_at(bytes, 0) else {
         return None;

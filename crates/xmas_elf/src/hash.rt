@@ -27,13 +27,13 @@ pub struct HashTable<'a> {
 
 impl<'a> HashTable<'a> {
     ghost use Rattle.xmas_elf.specs.Chain.{Halts, StandsAt, chains_of};
-    ghost use Rattle.xmas_elf.specs.HashTable.{HasBucket, HasChain, bucket_count_of, bucket_of, chain_count_of, chain_of, hash_data, hash_order, hash_word, word_of};
+    ghost use Rattle.xmas_elf.specs.HashTable.{HasBucket, HasChain, bucket_count_of, bucket_of, chain_count_of, chain_of, hash_bytes, hash_data, hash_order, hash_word, word_of};
 
     /// The hash table that these bytes are; `ShortData` below 12 bytes.
     pub fn read(bytes: &'a [u8], order: Order) -> Result<HashTable<'a>, ElfError>
         ensures { MatchResult result
             (λ table. (12 ≤ length bytes.now) × (hash_data table ≡ bytes.now)
-            × (hash_order table ≡ order))
+            × (hash_order table ≡ order) × (hash_bytes table ≡ bytes.entry))
             (λ e. (length bytes.now < 12) × (e ≡ ElfError.ShortData)) }
     {
         if bytes.len() < 12 {

@@ -1,13 +1,14 @@
 //! The names of sections, and the section with a name (gABI, "String Table" and "Sections", sh_name).
 
-ghost use Rattle.std.specs.Prelude.{◌≡◌, ◌↔◌, ◌+◌, ◌≤◌, IfNone, IfSome, IsTrue, Some, length, ℕ};
-ghost use Rattle.elf_base.specs.Lent.{Answers, Lends, LendsOnly};
+ghost use Rattle.std.specs.Prelude.{◌≡◌, ◌↔◌, ◌+◌, ◌≤◌, IfNone, IfOk, IfSome, IsOkAnd, IsTrue, List, Some, length, ℕ};
+ghost use Rattle.elf_base.specs.Lent.{Answers, Lends, LendsOnly, LiesAt};
+ghost use Rattle.elf_base.specs.TextCompared.{TextCompared};
 ghost use Rattle.xmas_elf.specs.First.{FindsFirstAt};
 ghost use Rattle.xmas_elf.specs.HeaderTable.{EachBelow};
 ghost use Rattle.xmas_elf.specs.NameTable.{Bears, FindsNamed, IsFirstNamed, IsNameAt, IsNameTable};
 ghost use Rattle.xmas_elf.specs.NameTable.{NameCompared, name_table_of, names_section_of};
 ghost use Rattle.xmas_elf.specs.NameTable.{section_named, shstr_of};
-ghost use Rattle.xmas_elf.specs.SectionHeader.{section_of};
+ghost use Rattle.xmas_elf.specs.SectionHeader.{section_fields, section_of};
 ghost use Rattle.xmas_elf.specs.SectionList.{section_list};
 ghost use Rattle.xmas_elf.specs.declared.sections.section_header.SectionHeader.{SectionHeader};
 
@@ -38,6 +39,9 @@ impl<'a> ElfFile<'a> {
     pub fn shstr_is(&self, index: u32, name: &str) -> (bool, usize)
         ensures is { IsTrue result.0 ↔ IsNameAt self.now index name.now }
         ensures compared { NameCompared (name_table_of self.now) index name.now result.0 result.1 }
+        ensures in_table { (table : List ℕ) → IsNameTable self.now table
+            → TextCompared table index name.now result.0 result.1 }
+        ensures no_table { ((table : List ℕ) → ¬ IsNameTable self.now table) → result.1 ≡ 0 }
         ensures few { result.1 ≤ length name.now + 1 }
     {
         match self.name_table() {
@@ -60,6 +64,8 @@ impl<'a> ElfFile<'a> {
     #[inline(always)]
     fn name_table(&self) -> Result<&'a [u8], ElfError>
         ensures table { Lends (IsNameTable self.now) result }
+        ensures place { IfOk result (λ table. IsOkAnd (names_section_of self.now)
+            (λ section. LiesAt self.now.input (section_fields section).offset table)) }
         ensures only { LendsOnly (IsNameTable self.now) result }
         ensures exact { Answers (name_table_of self.now) result }
     {

@@ -3,6 +3,7 @@
 ghost use Rattle.std.specs.Prelude.{◌≡◌, ◌↔◌, ◌≤◌, Ok, Err, IfOk, IsOk, MatchResult, drop, length};
 ghost use Rattle.std.specs.Prelude.{take};
 ghost use Rattle.elf_base.specs.FileHeader.{file_class, file_order};
+ghost use Rattle.elf_base.specs.Lent.{LiesAt};
 ghost use Rattle.elf_records.specs.Note.{note_header};
 ghost use Rattle.xmas_elf.specs.Content.{note_64, note_of};
 
@@ -25,6 +26,7 @@ pub(crate) fn first_note<'a>(
     ensures header { IfOk result (λ note. note.0
         ≡ note_header (file_order file.now.header) (take 12 bytes.now)) }
     ensures body { IfOk result (λ note. note.1.now ≡ drop 12 bytes.now) }
+    ensures place { IfOk result (λ note. LiesAt bytes.entry 12 note.1) }
     ensures exact { MatchResult result
         (λ note. note_of (file_class file.now.header) (file_order file.now.header) bytes.now
         ≡ Ok (note_64 note.0 note.1.now))
@@ -36,9 +38,9 @@ pub(crate) fn first_note<'a>(
             if bytes.len() < NoteHeader::SIZE {
                 return Err(ElfError::ShortData);
             }
-            let (front, body) = bytes.split_at(NoteHeader::SIZE);
             let order = byte_order(file.header.pt1.encoding);
-            Ok((NoteHeader::decode(front, order), body))
+            let header = NoteHeader::decode(&bytes[..NoteHeader::SIZE], order);
+            Ok((header, &bytes[NoteHeader::SIZE..]))
         }
         _ => Err(ElfError::UnknownClass),
     }

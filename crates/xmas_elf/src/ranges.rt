@@ -1,7 +1,7 @@
 //! Ranges of the input, whose ends are whole numbers and never wrap.
 
-ghost use Rattle.std.specs.Prelude.{◌≡◌, ◌↔◌, ◌+◌, ◌≤◌, ◌<◌, IsOk, IsTrue, MatchOption, length};
-ghost use Rattle.elf_base.specs.Lent.{Answers, Lends};
+ghost use Rattle.std.specs.Prelude.{◌≡◌, ◌↔◌, ◌+◌, ◌≤◌, ◌<◌, IfOk, IsOk, IsTrue, MatchOption, length};
+ghost use Rattle.elf_base.specs.Lent.{Answers, Lends, LiesAt};
 ghost use Rattle.xmas_elf.specs.HeaderTable.{entry_place};
 ghost use Rattle.xmas_elf.specs.Range.{IsRange, range_of};
 
@@ -30,6 +30,7 @@ pub(crate) fn ends_inside(input: &[u8], start: u64, count: u64) -> bool
 pub(crate) fn range_at(input: &[u8], start: u64, count: u64) -> Result<&[u8], ElfError>
     ensures within { IsOk result ↔ (start + count ≤ length input.now) }
     ensures range { Lends (IsRange input.now start count) result }
+    ensures place { IfOk result (LiesAt input.entry start) }
     ensures exact { Answers (range_of input.now start count) result }
 {
     if !is_within(input, start, count) {

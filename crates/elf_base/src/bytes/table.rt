@@ -33,15 +33,14 @@ impl<T: Record> Clone for Table<'_, T> {
 impl<T: Record> Copy for Table<'_, T> {}
 
 impl<'a, T: Record> Table<'a, T> {
-    ghost use Rattle.elf_base.specs.Table.{record_at, table_data, table_items, table_order};
-    ghost use Rattle.elf_base.specs.Table.{table_rest};
+    ghost use Rattle.elf_base.specs.Table.{record_at, table_bytes, table_data, table_items, table_order, table_rest};
 
     /// The table of the records in `bytes`; `NotMultiple` where their length is no multiple of `SIZE`.
     #[inline(always)]
     pub fn new(bytes: &'a [u8], order: Order) -> Result<Self, ElfError>
         ensures { MatchResult result
             (λ t. (length bytes.now % T.SIZE ≡ 0) × (table_data t ≡ bytes.now)
-            × (table_order t ≡ order))
+            × (table_order t ≡ order) × (table_bytes t ≡ bytes.entry))
             (λ e. (length bytes.now % T.SIZE ≢ 0) × (e ≡ ElfError.NotMultiple)) }
     {
         if bytes.len() % T::SIZE != 0 {
@@ -70,9 +69,10 @@ impl<'a, T: Record> Table<'a, T> {
         self.len() == 0
     }
 
-    /// All its bytes.
+    /// All its bytes: the very slice that it was made of.
     pub fn bytes(&self) -> &'a [u8]
-        ensures { result.now ≡ table_data self.now }
+        ensures bytes { result.now ≡ table_data self.now }
+        ensures place { result ≡ table_bytes self.now }
     {
         self.bytes
     }

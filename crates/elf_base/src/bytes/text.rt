@@ -1,8 +1,9 @@
 //! Texts that a zero byte ends (gABI, "String Table").
 
-ghost use Rattle.std.specs.Prelude.{◌≡◌, ◌↔◌, ◌+◌, ◌≤◌, IfErr, IsErrOf, IsTrue, length};
+ghost use Rattle.std.specs.Prelude.{◌≡◌, ◌↔◌, ◌+◌, ◌<◌, ◌≤◌, ℕ, Err, IfErr, IfOk, IsErrOf, IsTrue, List, MatchResult, Ok, drop, length, take};
 ghost use Rattle.elf_base.specs.Lent.{Answers, Lends, LendsOnly};
-ghost use Rattle.elf_base.specs.Text.{IsText, TextRefused, text_of};
+ghost use Rattle.elf_base.specs.Text.{EndsInZero, IsText, NoZeroFrom, TextRefused, text_of};
+ghost use Rattle.std.specs.Str.{IsUtf8};
 ghost use Rattle.elf_base.specs.TextCompared.{FrontCompared, TextCompared};
 ghost use Rattle.elf_base.specs.declared.error.ElfError.{ElfError};
 
@@ -19,6 +20,11 @@ pub fn text_at(data: &[u8], start: usize) -> Result<&str, ElfError>
     ensures only { LendsOnly (IsText «data».now start) result }
     ensures refused { IfErr result (TextRefused «data».now start) }
     ensures refuses { (why : ElfError) → TextRefused «data».now start why → IsErrOf result why }
+    ensures past { length «data».now < start → IsErrOf result ElfError.TextStart }
+    ensures endless { start ≤ length «data».now → NoZeroFrom «data».now start
+        → IsErrOf result ElfError.TextEnd }
+    ensures not_utf8 { (text : List ℕ) → EndsInZero «data».now start text → (IsUtf8 text → ⊥)
+        → IsErrOf result ElfError.TextUtf8 }
     ensures exact { Answers (text_of «data».now start) result }
 {
     if start > data.len() {
@@ -31,6 +37,23 @@ pub fn text_at(data: &[u8], start: usize) -> Result<&str, ElfError>
     match std::str::from_utf8(&rest[..end]) {
         Ok(text) => Ok(text),
         Err(_) => Err(ElfError::TextUtf8),
+    }
+}
+
+/// Where in `data` the text from `start` on stands: its first byte and its length, both in bytes.
+///
+/// Refused as `text_at` is, whose text has these bytes. A zero byte follows them.
+pub fn text_range(data: &[u8], start: usize) -> Result<(usize, usize), ElfError>
+    ensures text { IfOk result (λ range. (range.0 ≡ start)
+        × IsText «data».now start (take range.1 (drop start «data».now))) }
+    ensures within { IfOk result (λ range. range.0 + range.1 < length «data».now) }
+    ensures exact { MatchResult result
+        (λ range. text_of «data».now start ≡ Ok (take range.1 (drop start «data».now)))
+        (λ error. text_of «data».now start ≡ Err error) }
+{
+    match text_at(data, start) {
+        Ok(text) => Ok((start, text.len())),
+        Err(error) => Err(error),
     }
 }
 

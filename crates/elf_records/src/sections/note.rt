@@ -1,8 +1,8 @@
 //! Notes (gABI, "Note Section").
 
-ghost use Rattle.std.specs.Prelude.{◌≡◌, ◌≢◌, ◌<◌, ◌+◌, ℕ, List, length, IfErr, IsErrOf};
+ghost use Rattle.std.specs.Prelude.{◌≡◌, ◌≢◌, ◌<◌, ◌+◌, ℕ, List, length, IfErr, IfOk, IsErrOf};
 ghost use Rattle.std.proofs.Common.{lit<};
-ghost use Rattle.elf_base.specs.Lent.{Answers, Lends, LendsOnly};
+ghost use Rattle.elf_base.specs.Lent.{Answers, Lends, LendsOnly, LiesAt};
 ghost use Rattle.elf_base.specs.Text.{IsText};
 ghost use Rattle.elf_base.specs.declared.error.ElfError.{ElfError};
 ghost use Rattle.elf_records.specs.Note.{IsNoteDescription, IsNoteName, NoteNameRefused};
@@ -83,13 +83,14 @@ impl NoteHeader {
         Ok(text)
     }
 
-    /// The description of the note; `NoteDesc` where it passes the end of `body`.
+    /// The description of the note, a part of `body`; `NoteDesc` where it passes the end of that.
     #[tactic(auto, unfolding(crate::specs::Note::note_desc_of))]
     pub fn desc<'a>(&self, body: &'a [u8]) -> Result<&'a [u8], ElfError>
         ensures desc { Lends (IsNoteDescription body.now (note_name_size self.now)
             (note_desc_size self.now)) result }
         ensures only { LendsOnly (IsNoteDescription body.now (note_name_size self.now)
             (note_desc_size self.now)) result }
+        ensures place { IfOk result (LiesAt body.entry (rounded_up (note_name_size self.now))) }
         ensures refused { IfErr result (λ error. (error ≡ ElfError.NoteDesc)
             × (length body.now < rounded_up (note_name_size self.now) + note_desc_size self.now)) }
         ensures refuses { length body.now

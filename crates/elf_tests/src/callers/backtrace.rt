@@ -3,7 +3,7 @@
 //! An address is what the values of the symbols are: one of memory in a program, and an offset in some
 //! section in an object file.
 
-ghost use Rattle.std.specs.Prelude.{◌≡◌, ◌↔◌, ◌<◌, ℕ, None, IfErr, IfOk, IsTrue, MatchOption, MatchResult, length};
+ghost use Rattle.std.specs.Prelude.{◌≡◌, ◌↔◌, ◌<◌, ℕ, None, IfErr, IfOk, IsOkAnd, IsTrue, MatchOption, MatchResult, length};
 ghost use Rattle.std.specs.List.{HoldsAt};
 ghost use Rattle.elf_tests.specs.FunctionAt.{HasNoName, HoldsAddress, IsFunctionAt, IsFunctionName, IsFunctionNameOf, IsNameRefused, NoneHolds};
 ghost use Rattle.xmas_elf.specs.FileHeader.{header_of};
@@ -90,7 +90,7 @@ pub fn function_name<'a>(file: &ElfFile<'a>, address: u64) -> Result<Option<&'a 
 
 /// The same, from the bytes of the file.
 pub fn function_name_in(input: &[u8], address: u64) -> Result<Option<&str>, ElfError>
-    ensures name { IfOk result (λ found. IfOk (header_of input.now) (λ header.
+    ensures name { IfOk result (λ found. IsOkAnd (header_of input.now) (λ header.
         let file : ElfFile = record { input = input.entry; header = header } in
         IsFunctionNameOf file address found)) }
     ensures refused { IfErr result (λ error. MatchResult (header_of input.now) (λ header.

@@ -1,14 +1,17 @@
 //! Callers that look symbols up by their names, as a model of a dynamic linker would.
 
-ghost use Rattle.std.specs.Prelude.{◌≡◌, ◌↔◌, ◌≤◌, ℕ, IfErr, IfOk, IsTrue, MatchOption, MatchResult, None, Some, slice_get, true};
+ghost use Rattle.std.specs.Borrow.{Bor};
+ghost use Rattle.std.specs.Prelude.{◌≡◌, ◌↔◌, ◌<◌, ◌≤◌, ℕ, Contains, IfErr, IfOk, IsOkAnd, IsTrue, MatchOption, MatchResult, None, Option, Result, Some, length, slice_get, true};
 ghost use Rattle.elf_tests.specs.Linked.{AreLinked, IsFileValueOf, IsLinkRefused, NotLinked, symbols_in, table_in};
+ghost use Rattle.xmas_elf.specs.Chain.{Looks};
+ghost use Rattle.xmas_elf.specs.ElfError.{ElfError};
 ghost use Rattle.xmas_elf.specs.FileHeader.{header_of};
 ghost use Rattle.xmas_elf.specs.Good.{IsGood};
 ghost use Rattle.xmas_elf.specs.HashReport.{content_at};
 ghost use Rattle.xmas_elf.specs.HashTable.{chain_count_of, hash_data, hash_order};
 ghost use Rattle.xmas_elf.specs.SectionContent.{section_content_of};
-ghost use Rattle.xmas_elf.specs.Symbols.{IsGlobal, symbols_of};
-ghost use Rattle.xmas_elf.specs.Table.{table_data, table_order};
+ghost use Rattle.xmas_elf.specs.Symbols.{Decides, IsGlobal, IsMatch, symbols_of};
+ghost use Rattle.xmas_elf.specs.Table.{table_data, table_items, table_order};
 ghost use Rattle.xmas_elf.specs.Types.{ElfFile};
 
 use xmas_elf::bytes::{Record, Table};
@@ -29,8 +32,8 @@ pub fn finds_all<E: Entry + Record>(
     table.check(symbols, file).is_ok()
 }
 
-/// The symbol with this name, by a table that passes the check: a symbol that bears it, or none where
-/// no symbol does but local ones.
+/// The symbol with this name, by a table that passes the check: a symbol that bears it, which isn't the
+/// one at index 0, or none where no symbol does but local ones.
 pub fn symbol_with_name<E: Entry + Record>(
     table: &HashTable<'_>,
     name: &str,
@@ -40,7 +43,8 @@ pub fn symbol_with_name<E: Entry + Record>(
     requires good { IsGood table.now (symbols_of E.fields E.text_in symbols.now file.now) }
     ensures { let all = symbols_of E.fields E.text_in symbols.now file.now in MatchOption result
         ((i : ℕ) (e : E) → ¬ IsGlobal all i e name.now)
-        (λ found. (slice_get all.items found.0 ≡ Some found.1) × (all.text found.1 ≡ Some name.now)) }
+        (λ found. (0 < found.0) × (slice_get all.items found.0 ≡ Some found.1)
+        × (all.text found.1 ≡ Some name.now)) }
 {
     match table.lookup(
         name,
@@ -56,16 +60,24 @@ pub fn symbol_with_name<E: Entry + Record>(
     }
 }
 
-/// How many symbols a look-up compares with the name, of which there are never more than chains.
-pub fn comparisons<E: Entry + Record>(
+/// How many symbols a look-up compares with the name: as many as its answer takes, and never more than
+/// there are chains or symbols.
+pub fn comparisons<E: Entry + Record, F: Fn(&E) -> bool>(
     table: &HashTable<'_>,
     name: &str,
     symbols: &Table<'_, E>,
     file: &ElfFile<'_>,
+    f: F,
 ) -> u32
-    ensures { result ≤ chain_count_of table.now }
+    requires callable { (e : Bor E) → Contains (table_items symbols.now) e.now → F.pre f e }
+    requires decides { Decides (symbols_of E.fields E.text_in symbols.now file.now) F.Fn f }
+    ensures counted { let all = symbols_of E.fields E.text_in symbols.now file.now in
+        (answer : Result (Option (ℕ × E)) ElfError)
+        × Looks (IsMatch all F.Fn f name.now) table.now all.items name.now answer result }
+    ensures in_chains { result ≤ chain_count_of table.now }
+    ensures in_symbols { result ≤ length (table_items symbols.now) }
 {
-    table.lookup_counted(name, symbols, file, |_| true).1
+    table.lookup_counted(name, symbols, file, f).1
 }
 
 // The hash table that a section has, if it has one.
@@ -123,7 +135,7 @@ pub fn value_of_name(file: &ElfFile<'_>, name: &str) -> Result<Option<u64>, ElfE
 
 /// The same, from the bytes of the file.
 pub fn value_in_bytes(input: &[u8], name: &str) -> Result<Option<u64>, ElfError>
-    ensures value { IfOk result (λ found. IfOk (header_of input.now) (λ header.
+    ensures value { IfOk result (λ found. IsOkAnd (header_of input.now) (λ header.
         let file : ElfFile = record { input = input.entry; header = header } in
         IsFileValueOf file name.now found)) }
     ensures refused { IfErr result (λ error. MatchResult (header_of input.now) (λ header.

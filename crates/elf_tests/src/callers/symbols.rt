@@ -1,6 +1,6 @@
 //! Callers of symbols, of a known type and of any.
 
-ghost use Rattle.std.specs.Prelude.{◌≡◌, ◌↔◌, ◌*◌, IfOk, IfSome, IsTrue, MatchResult, None, Ok, Some, codes, drop, take, ℕ};
+ghost use Rattle.std.specs.Prelude.{◌≡◌, ◌↔◌, ◌*◌, ◌<◌, ◌≤◌, IfOk, IfSome, IsTrue, MatchOption, MatchResult, None, Ok, Some, codes, drop, length, take, ℕ};
 ghost use Rattle.elf_tests.specs.Numbered.{numbered_name};
 ghost use Rattle.xmas_elf.specs.Lent.{Answers, Lends};
 ghost use Rattle.xmas_elf.specs.NameTable.{section_named};
@@ -8,7 +8,7 @@ ghost use Rattle.xmas_elf.specs.Number.{number};
 ghost use Rattle.xmas_elf.specs.SectionHeader.{section_of};
 ghost use Rattle.xmas_elf.specs.StringTable.{IsDynString, IsString, dyn_string_of, string_of, strtab_of};
 ghost use Rattle.xmas_elf.specs.Symbol.{dyn_entry_32_fields, entry_64_fields};
-ghost use Rattle.xmas_elf.specs.SymbolSection.{IsSectionIndex};
+ghost use Rattle.xmas_elf.specs.SymbolSection.{IsSectionIndex, symbol_section_of};
 ghost use Rattle.xmas_elf.specs.Table.{table_data, table_order};
 ghost use Rattle.xmas_elf.specs.Types.{ElfFile, SectionHeader};
 
@@ -53,24 +53,29 @@ pub fn is_named<E: Entry>(symbol: &E, name: &str, file: &ElfFile<'_>) -> bool
     }
 }
 
-/// Any symbol: its section is that at the index that it has.
+/// Any symbol: its section is that at the index that it has, or the very refusal.
 pub fn section_of_any<E: Entry>(
     symbol: &E,
     file: &ElfFile<'_>,
     place: usize,
 ) -> Result<SectionHeader, ElfError>
-    ensures { IfOk result (λ section. (index : ℕ)
+    ensures value { IfOk result (λ section. (index : ℕ)
         × IsSectionIndex file.now (E.fields symbol.now) place index
         × (section_of file.now index ≡ Ok section)) }
+    ensures only { (index : ℕ) → IsSectionIndex file.now (E.fields symbol.now) place index
+        → result ≡ section_of file.now index }
+    ensures exact { result ≡ symbol_section_of file.now (E.fields symbol.now) place }
 {
     symbol.get_section_header(file, place)
 }
 
-/// The value of a symbol of class 64: the number of eight bytes that stands 8 behind its place.
+/// The value of a symbol of class 64: the number of eight bytes that stands 8 behind its place. None
+/// where that is at the end of the table or past it.
 #[tactic(auto, unfolding(xmas_elf::specs::Symbol::entry_64_fields))]
 pub fn value_at(table: &Table<'_, Entry64>, index: usize) -> Option<u64>
-    ensures { IfSome result (λ value. value
-        ≡ number (table_order table.now) 8 8 (take 24 (drop (index * 24) (table_data table.now)))) }
+    ensures { MatchOption result (length (table_data table.now) ≤ index * 24)
+        (λ value. (index * 24 < length (table_data table.now)) × (value
+        ≡ number (table_order table.now) 8 8 (take 24 (drop (index * 24) (table_data table.now))))) }
 {
     Some(table.get(index)?.value())
 }

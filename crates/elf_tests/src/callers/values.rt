@@ -1,4 +1,4 @@
-//! Callers that rest on what is derived: clones, defaults, equality, and numbers there and back.
+//! Callers that rest on what is derived: copies, equality, and numbers there and back.
 
 ghost use Rattle.std.specs.Prelude.{◌≡◌, ◌↔◌, ◌<◌, IsTrue, length};
 ghost use Rattle.xmas_elf.specs.ElfError.{ElfError};
@@ -7,7 +7,7 @@ ghost use Rattle.elf_tests.specs.Refusals.{is_short};
 use xmas_elf::ElfError;
 use xmas_elf::bytes::{Order, text_at};
 use xmas_elf::header::{Class, Class_, Header};
-use xmas_elf::program::{Flags, ProgramHeader64, Type_};
+use xmas_elf::program::{Flags, Type_};
 use xmas_elf::sections::{SectionHeader, ShType, ShType_};
 
 /// A text refused for its start: exactly where that is past the end.
@@ -37,18 +37,11 @@ pub fn is_short_input(error: ElfError) -> bool
     )
 }
 
-/// A clone is its original.
-pub fn cloned(header: &Header, section: &SectionHeader) -> (Header, SectionHeader)
+/// A copy is its original.
+pub fn copied(header: &Header, section: &SectionHeader) -> (Header, SectionHeader)
     ensures { (result.0 ≡ header.now) × (result.1 ≡ section.now) }
 {
     (*header, *section)
-}
-
-/// Each number of a default is 0.
-pub fn default_program_header() -> ProgramHeader64
-    ensures { (result.offset ≡ 0) × (result.file_size ≡ 0) × (result.flags ≡ record { 0 = 0 }) }
-{
-    ProgramHeader64::default()
 }
 
 /// A number made a value and read again.

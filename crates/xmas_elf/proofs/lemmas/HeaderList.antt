@@ -1,17 +1,19 @@
 -- What a caller knows of the header at an index of a list, of a search by position, and of one more turn
 -- of a loop.
-use Rattle.std.proofs.Common.{◌≡◌, ℕ, zero, suc, ◌+◌, ◌-◌, ◌≤◌, ◌<◌, List, [], ◌∷◌, length, slice_index_or, Option, None, Some, MatchOption, Result, Ok, Err, IsOkAnd, sym, ap, ◌∙◌, subst, arith}
+use Rattle.std.proofs.Common.{◌≡◌, ℕ, zero, suc, ◌+◌, ◌-◌, ◌≤◌, ◌<◌, List, [], ◌∷◌, length, slice_index_or, Option, None, Some, MatchOption, Result, Ok, Err, IsOkAnd, refl, sym, ap, ◌∙◌, subst, arith}
 use borrow.Author.Count.{below_more}
 use Rattle.std.specs.List.{AllWithin, HoldsAt}
 use Rattle.elf_base.specs.declared.error.ElfError.{ElfError}
 use Rattle.xmas_elf.specs.Counts.{program_count_of, section_count_of}
 use Rattle.xmas_elf.specs.HeaderTable.{EachBelow, IsLongest, before, header_rest, headers_from}
 use Rattle.xmas_elf.specs.ProgramHeader.{program_of}
-use Rattle.xmas_elf.specs.ProgramList.{program_list}
+use Rattle.xmas_elf.specs.ProgramList.{ProgramStep, program_list}
 use Rattle.xmas_elf.specs.SectionHeader.{section_of}
-use Rattle.xmas_elf.specs.SectionList.{section_list}
+use Rattle.xmas_elf.specs.SectionList.{SectionStep, section_list}
 use Rattle.xmas_elf.specs.declared.ElfFile.{ElfFile}
+use Rattle.xmas_elf.specs.declared.program.ProgramIter.{ProgramIter}
 use Rattle.xmas_elf.specs.declared.program.program_header.ProgramHeader.{ProgramHeader}
+use Rattle.xmas_elf.specs.declared.sections.SectionIter.{SectionIter}
 use Rattle.xmas_elf.specs.declared.sections.section_header.SectionHeader.{SectionHeader}
 use Rattle.xmas_elf.proofs.HeaderLists.{header_list-longest}
 
@@ -108,3 +110,25 @@ has_passed_one header_at limit P index rest others h is holds before =
       counted = omega (arith, one, counted);
       passed = each_below-next header_at P index h first.0 holds before.passed;
     }
+
+-- one call of `next`: it gives the header at the index, wherever that is below the limit and can be read
+rest_some : {H : Type 0} (header_at : ℕ → Result H ElfError) (index count : ℕ) (h : H) → 0 < count → header_at index ≡ Ok h → headers_from header_at index count ≡ [] → ⊥
+rest_some header_at index zero h some is empty = omega arith
+rest_some header_at index (suc count) h some is empty =
+    let first : before (header_at index) (headers_from header_at (suc index) count) ≡ h ∷ headers_from header_at (suc index) count = ap (λ r. before r (headers_from header_at (suc index) count)) is in cc
+
+step_gives : {H : Type 0} (header_at : ℕ → Result H ElfError) (limit index : ℕ) (h : H) (rest others : List H) (r : Option H) → index < limit → header_at index ≡ Ok h → rest ≡ header_rest header_at limit index → MatchOption r ((rest ≡ []) × (others ≡ [])) (λ x. rest ≡ x ∷ others) → r ≡ Some h
+step_gives header_at limit index h rest others None below is rest_is step =
+    let some : 0 < limit - index = omega arith in
+    absurd (rest_some header_at index (limit - index) h some is (sym rest_is ∙ step.0))
+step_gives header_at limit index h rest others (Some x) below is rest_is step =
+    let first = first_of_rest header_at limit index x others (sym rest_is ∙ step) in
+    let same : x ≡ h = let there = first.0 in cc in ap (λ y. Some y) same
+
+pub next_section_gives : (old new : SectionIter) (r : Option SectionHeader) (h : SectionHeader) → SectionStep old r new → old.next_index < section_count_of old.file.now → section_of old.file.now old.next_index ≡ Ok h → r ≡ Some h
+next_section_gives old new r h step below is =
+    step_gives (section_of old.file.now) (section_count_of old.file.now) old.next_index h _ _ r below is refl step.1.0
+
+pub next_segment_gives : (old new : ProgramIter) (r : Option ProgramHeader) (h : ProgramHeader) → ProgramStep old r new → old.next_index < program_count_of old.file.now → program_of old.file.now old.next_index ≡ Ok h → r ≡ Some h
+next_segment_gives old new r h step below is =
+    step_gives (program_of old.file.now) (program_count_of old.file.now) old.next_index h _ _ r below is refl step.1.0

@@ -1,8 +1,9 @@
 //! What the data of a segment is taken for, by its type (gABI, "Program Header").
 
-ghost use Rattle.std.specs.Prelude.{◌≡◌, Ok, Err, IfOk, MatchResult};
+ghost use Rattle.std.specs.Prelude.{◌≡◌, ◌≢◌, Ok, Err, IfOk, MatchResult};
 ghost use Rattle.elf_base.specs.FileHeader.{file_class, file_order};
 ghost use Rattle.xmas_elf.specs.Content.{Holds};
+ghost use Rattle.xmas_elf.specs.Place.{PartLies, segment_part};
 ghost use Rattle.xmas_elf.specs.ProgramHeader.{program_64, program_fields};
 ghost use Rattle.xmas_elf.specs.SegmentData.{IsSegmentData};
 
@@ -46,6 +47,8 @@ impl ProgramHeader {
             (λ e. segment_content_of file.now (program_fields self.now) ≡ Err e) }
         ensures holds { IfOk result (λ d. Holds (IsSegmentData file.now (program_fields self.now))
             (file_order file.now.header) (segment_content d)) }
+        ensures place { IfOk result (λ d. (program_fields self.now).file_size ≢ 0
+            → PartLies file.now.input (program_fields self.now).offset (segment_part d)) }
     {
         match self {
             Self::Ph32(header) => header.get_data(file),
@@ -64,6 +67,8 @@ impl ProgramHeader32 {
             (λ e. segment_content_of file.now (program_64 self.now) ≡ Err e) }
         ensures holds { IfOk result (λ d. Holds (IsSegmentData file.now (program_64 self.now))
             (file_order file.now.header) (segment_content d)) }
+        ensures place { IfOk result (λ d. (program_64 self.now).file_size ≢ 0
+            → PartLies file.now.input (program_64 self.now).offset (segment_part d)) }
     {
         self.to_64().get_data(file)
     }
@@ -73,13 +78,15 @@ impl ProgramHeader64 {
     ghost use Rattle.xmas_elf.specs.SegmentContent.{segment_content, segment_content_of};
 
     /// The data of the segment by its type, with the answer of `ProgramHeader::get_data`.
-    #[tactic(auto, unfolding(crate::specs::SegmentContent::segment_content_of))]
+    #[tactic(auto, using(crate::proofs::Places::segment_lies), unfolding(crate::specs::SegmentContent::segment_content_of))]
     pub fn get_data<'a>(&self, file: &ElfFile<'a>) -> Result<SegmentData<'a>, ElfError>
         ensures exact { MatchResult result
             (λ d. segment_content_of file.now self.now ≡ Ok (segment_content d))
             (λ e. segment_content_of file.now self.now ≡ Err e) }
         ensures holds { IfOk result (λ d. Holds (IsSegmentData file.now self.now)
             (file_order file.now.header) (segment_content d)) }
+        ensures place { IfOk result (λ d. self.now.file_size ≢ 0
+            → PartLies file.now.input self.now.offset (segment_part d)) }
     {
         let kind = self.get_type()?;
         if kind == Type::Null {

@@ -1,7 +1,8 @@
 //! A program header of either width (gABI, "Program Header").
 
-ghost use Rattle.std.specs.Prelude.{◌≡◌, ◌↔◌, IsOk};
+ghost use Rattle.std.specs.Prelude.{◌≡◌, ◌≢◌, ◌↔◌, Err, IfOk, IsOk, MatchResult, Ok, drop, take};
 ghost use Rattle.elf_base.specs.Lent.{Answers, Lends};
+ghost use Rattle.xmas_elf.specs.Place.{LiesAsSegment};
 ghost use Rattle.xmas_elf.specs.ProgramHeader.{program_fields, program_record_size, segment_type};
 ghost use Rattle.xmas_elf.specs.SegmentData.{HasSegmentData, IsSegmentData, segment_data_of};
 
@@ -109,12 +110,34 @@ impl ProgramHeader {
     pub fn raw_data<'a>(&self, file: &ElfFile<'a>) -> Result<&'a [u8], ElfError>
         ensures readable { IsOk result ↔ HasSegmentData file.now (program_fields self.now) }
         ensures range { Lends (IsSegmentData file.now (program_fields self.now)) result }
+        ensures place { IfOk result (LiesAsSegment file.now (program_fields self.now)) }
         ensures exact { Answers (segment_data_of file.now (program_fields self.now)) result }
     {
         match self {
             Self::Ph32(header) => header.raw_data(file),
             Self::Ph64(header) => header.raw_data(file),
         }
+    }
+
+    /// Where in the input the data of the segment stands: the place of its first byte and how many
+    /// bytes they are. Refused as `raw_data` is, which gives these bytes; both are 0 for an empty
+    /// segment.
+    #[tactic(auto, unfolding(crate::specs::SegmentData::segment_data_of))]
+    pub fn file_range(&self, file: &ElfFile<'_>) -> Result<(usize, usize), ElfError>
+        ensures readable { IsOk result ↔ HasSegmentData file.now (program_fields self.now) }
+        ensures count { IfOk result (λ range. range.1 ≡ (program_fields self.now).file_size) }
+        ensures start { IfOk result (λ range. (program_fields self.now).file_size ≢ 0
+            → range.0 ≡ (program_fields self.now).offset) }
+        ensures exact { MatchResult result
+            (λ range. segment_data_of file.now (program_fields self.now)
+            ≡ Ok (take range.1 (drop range.0 file.now.input.now)))
+            (λ error. segment_data_of file.now (program_fields self.now) ≡ Err error) }
+    {
+        let bytes = self.raw_data(file)?;
+        if bytes.is_empty() {
+            return Ok((0, 0));
+        }
+        Ok((self.offset() as usize, bytes.len()))
     }
 
     // What the segment is, as a number. That of a section is public, as in the Rust crate.

@@ -1,8 +1,9 @@
 //! Program headers as records in bytes (gABI, "Program Header": Elf32_Phdr and Elf64_Phdr).
 
-ghost use Rattle.std.specs.Prelude.{◌≡◌, ◌↔◌, ◌+◌, ◌≤◌, ◌<◌, IsOk, length};
+ghost use Rattle.std.specs.Prelude.{◌≡◌, ◌↔◌, ◌+◌, ◌≤◌, ◌<◌, IfOk, IsOk, length};
 ghost use Rattle.std.proofs.Common.{lit<};
 ghost use Rattle.elf_base.specs.Lent.{Answers, Lends};
+ghost use Rattle.xmas_elf.specs.Place.{LiesAsSegment};
 ghost use Rattle.xmas_elf.specs.ProgramHeader.{program_64, program_header_32, program_header_64};
 ghost use Rattle.xmas_elf.specs.ProgramHeader.{segment_type};
 ghost use Rattle.xmas_elf.specs.SegmentData.{HasSegmentData, IsSegmentData, segment_data_of};
@@ -71,6 +72,7 @@ impl ProgramHeader32 {
     pub fn raw_data<'a>(&self, file: &ElfFile<'a>) -> Result<&'a [u8], ElfError>
         ensures readable { IsOk result ↔ HasSegmentData file.now (program_64 self.now) }
         ensures range { Lends (IsSegmentData file.now (program_64 self.now)) result }
+        ensures place { IfOk result (LiesAsSegment file.now (program_64 self.now)) }
         ensures exact { Answers (segment_data_of file.now (program_64 self.now)) result }
     {
         self.to_64().raw_data(file)
@@ -144,6 +146,7 @@ impl ProgramHeader64 {
     pub fn raw_data<'a>(&self, file: &ElfFile<'a>) -> Result<&'a [u8], ElfError>
         ensures readable { IsOk result ↔ HasSegmentData file.now self.now }
         ensures range { Lends (IsSegmentData file.now self.now) result }
+        ensures place { IfOk result (LiesAsSegment file.now self.now) }
         ensures exact { Answers (segment_data_of file.now self.now) result }
     {
         match self.get_type()? {

@@ -3,6 +3,7 @@
 ghost use Rattle.std.specs.Prelude.{◌≡◌, Ok, Err, IfOk, MatchResult};
 ghost use Rattle.elf_base.specs.FileHeader.{file_class, file_order};
 ghost use Rattle.xmas_elf.specs.SectionData.{IsSectionData};
+ghost use Rattle.xmas_elf.specs.SectionHeader.{section_fields};
 ghost use Rattle.xmas_elf.specs.declared.ElfFile.{ElfFile};
 ghost use Rattle.xmas_elf.specs.declared.sections.section_header.SectionHeader.{SectionHeader};
 
@@ -68,6 +69,7 @@ pub enum SectionData<'a> {
 
 impl SectionHeader {
     ghost use Rattle.xmas_elf.specs.Content.{Holds};
+    ghost use Rattle.xmas_elf.specs.Place.{PartLies, section_part};
     ghost use Rattle.xmas_elf.specs.SectionContent.{content, section_content_of};
 
     /// The data of the section by its type, which lives as long as the input. The class and the order
@@ -79,13 +81,14 @@ impl SectionHeader {
     /// with `NotMultiple` where they aren't a whole number of records; groups below 4 bytes with
     /// `ShortData`, and then with `NotMultiple`; notes with `Note32` in class 1, with `UnknownClass`,
     /// and below 12 bytes with `ShortData`; hash tables below 12 bytes with `ShortData`.
-    #[tactic(auto, unfolding(crate::specs::SectionContent::section_content_of))]
+    #[tactic(auto, using(crate::proofs::Places::section_lies), unfolding(crate::specs::SectionContent::section_content_of))]
     pub fn get_data<'a>(&self, file: &ElfFile<'a>) -> Result<SectionData<'a>, ElfError>
         ensures exact { MatchResult result
             (λ d. section_content_of file.now self.now ≡ Ok (content d))
             (λ e. section_content_of file.now self.now ≡ Err e) }
         ensures holds { IfOk result (λ d. Holds (IsSectionData file.now self.now)
             (file_order file.now.header) (content d)) }
+        ensures place { IfOk result (λ d. PartLies file.now.input (section_fields self.now).offset (section_part d)) }
     {
         match self.get_type()? {
             ShType::Null | ShType::NoBits => Ok(SectionData::Empty),
@@ -100,6 +103,7 @@ impl SectionHeader {
 impl<'a> SectionData<'a> {
     ghost use Rattle.xmas_elf.specs.SectionContent.{content, content_of};
     ghost use Rattle.xmas_elf.specs.Content.{Holds, group_of};
+    ghost use Rattle.xmas_elf.specs.Place.{PartLies, section_part};
 
     // What these bytes are in a section of this type.
     fn read(kind: ShType, file: &ElfFile<'a>, bytes: &'a [u8]) -> Result<SectionData<'a>, ElfError>
@@ -111,6 +115,7 @@ impl<'a> SectionData<'a> {
         ensures holds { (f : ElfFile) (section : SectionHeader) → IsSectionData f section bytes.now
             → IfOk result (λ d. Holds (IsSectionData f section)
             (file_order file.now.header) (content d)) }
+        ensures place { IfOk result (λ d. PartLies bytes.entry 0 (section_part d)) }
     {
         let order = byte_order(file.header.pt1.encoding);
         match (kind, file.header.pt1.class()) {
@@ -158,6 +163,7 @@ impl<'a> SectionData<'a> {
             (λ e. group_of order bytes.now ≡ Err e) }
         ensures holds { (f : ElfFile) (section : SectionHeader) → IsSectionData f section bytes.now
             → IfOk result (λ d. Holds (IsSectionData f section) order (content d)) }
+        ensures place { IfOk result (λ d. PartLies bytes.entry 0 (section_part d)) }
     {
         if bytes.len() < 4 {
             return Err(ElfError::ShortData);

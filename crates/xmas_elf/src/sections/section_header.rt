@@ -1,9 +1,10 @@
 //! A section header of either width (gABI, "Sections").
 
-ghost use Rattle.std.specs.Prelude.{◌≡◌, ◌↔◌, IsOk, IsTrue, Ok};
+ghost use Rattle.std.specs.Prelude.{◌≡◌, ◌↔◌, Err, IfOk, IsOk, IsTrue, MatchResult, Ok, drop, take};
 ghost use Rattle.elf_base.specs.Lent.{Answers, Lends, LendsOnly};
 ghost use Rattle.elf_records.specs.SectionNumbers.{sh_type_raw};
 ghost use Rattle.xmas_elf.specs.NameTable.{Bears, name_of, name_table_of};
+ghost use Rattle.xmas_elf.specs.Place.{LiesAsSection};
 ghost use Rattle.xmas_elf.specs.SectionData.{HasSectionData, IsSectionData, section_data_of};
 ghost use Rattle.xmas_elf.specs.SectionHeader.{record_fields, section_fields, section_type};
 ghost use Rattle.xmas_elf.specs.declared.ElfFile.{ElfFile};
@@ -175,12 +176,29 @@ impl SectionHeader {
     pub fn raw_data<'a>(&self, file: &ElfFile<'a>) -> Result<&'a [u8], ElfError>
         ensures readable { IsOk result ↔ HasSectionData file.now self.now }
         ensures range { Lends (IsSectionData file.now self.now) result }
+        ensures place { IfOk result (LiesAsSection file.now self.now) }
         ensures exact { Answers (section_data_of file.now self.now) result }
     {
         match self.get_type()? {
             ShType::Null => Err(ElfError::NullData),
             _ => range_at(file.input, self.offset(), self.size()),
         }
+    }
+
+    /// Where in the input the data of the section stands: the place of its first byte and how many
+    /// bytes they are. Refused as `raw_data` is, which gives these bytes.
+    #[tactic(auto, unfolding(crate::specs::SectionData::section_data_of))]
+    pub fn file_range(&self, file: &ElfFile<'_>) -> Result<(usize, usize), ElfError>
+        ensures readable { IsOk result ↔ HasSectionData file.now self.now }
+        ensures range { IfOk result (λ range. (range.0 ≡ (section_fields self.now).offset)
+            × (range.1 ≡ (section_fields self.now).size)) }
+        ensures exact { MatchResult result
+            (λ range. section_data_of file.now self.now
+            ≡ Ok (take range.1 (drop range.0 file.now.input.now)))
+            (λ error. section_data_of file.now self.now ≡ Err error) }
+    {
+        let bytes = self.raw_data(file)?;
+        Ok((self.offset() as usize, bytes.len()))
     }
 
     // The record of the section, in the types of class 64.

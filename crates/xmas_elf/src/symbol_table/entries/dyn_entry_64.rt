@@ -56,7 +56,8 @@ impl Entry for DynEntry64 {
         file.get_dyn_string(self.name())
     }
 
-    /// The data of `.dynstr`, with the answer of `ElfFile::get_dyn_string` where there is none.
+    /// The data of `.dynstr`. Refused with `NoDynstr` where no section bears that name, and with
+    /// `DataRange` where the first that does passes the end of the input.
     fn string_table<'a>(file: &ElfFile<'a>) -> Option<Result<&'a [u8], ElfError>>
         ensures table { IsSomeAnd result (Answers (dynstr_of file.now)) }
         ensures names { IfSome result (HoldsNames dyn_entry_64_fields (λ e. dyn_entry_64_text e file.now)) }

@@ -56,7 +56,9 @@ impl Entry for Entry32 {
         file.get_string(self.name())
     }
 
-    /// The data of `.strtab`, with the answer of `ElfFile::get_string` where there is none.
+    /// The data of `.strtab`. Refused with `NoStrtab` where no section bears that name, with
+    /// `StrtabType` where the first that does isn't a string table, and with `DataRange` where it
+    /// passes the end of the input.
     fn string_table<'a>(file: &ElfFile<'a>) -> Option<Result<&'a [u8], ElfError>>
         ensures table { IsSomeAnd result (Answers (strtab_of file.now)) }
         ensures names { IfSome result (HoldsNames entry_32_fields (λ e. entry_32_text e file.now)) }

@@ -1,3 +1,4 @@
+use Rattle.std.proofs.Common.{rules}
 use Rattle.elf_tests.specs.Linked.{unchecked, unlinked}
 use Rattle.xmas_elf.specs.Table.{table_data, table_order}
 use Rattle.elf_tests.proofs.callers.hash.value_of_name.Goals as goal
@@ -8,7 +9,18 @@ returns-in-None-clause-value c = record {
   order = table_order c.in-Some.symbols;
   bytes = table_data c.in-Some.symbols;
   linked = c.in-Some.ensures;
+  good = search rules;
   value = c.in-None.ensures;
+}
+
+pub returns-in-Some-symbol_with_name-clause-value : goal.returns-in-Some-symbol_with_name-clause-value
+returns-in-Some-symbol_with_name-clause-value c = record {
+  table = c.in-Some.table;
+  order = table_order c.in-Some.symbols;
+  bytes = table_data c.in-Some.symbols;
+  linked = c.in-Some.ensures;
+  good = search rules;
+  value = search rules;
 }
 
 pub returns-in-Err-clause-refused : goal.returns-in-Err-clause-refused

@@ -1,5 +1,6 @@
 use Rattle.std.proofs.Common.{◌≡◌, subst, sym}
 use Rattle.xmas_elf.specs.Link.{IsTextAndRest}
+use Rattle.xmas_elf.proofs.Places.{rest_lies}
 use Rattle.xmas_elf.proofs.extensions.ElfFileExtensions.get_gnu_debugaltlink.Goals as goal
 
 pub returns-in_err-bytes-clause-only : goal.returns-in_err-bytes-clause-only
@@ -9,3 +10,8 @@ pub returns-clause-only : goal.returns-clause-only
 returns-clause-only c text rest is =
     let same : c.in_ok-bytes.bytes.now ≡ is.bytes = c.in_ok-bytes.ensures.only is.bytes is.is_data in
     c.alternate_link.ensures.only text rest (subst (λ b. IsTextAndRest b text rest) (sym same) is.is_link)
+
+pub returns-clause-place : goal.returns-clause-place
+returns-clause-place c =
+    let found = c.in_ok-bytes.ensures.place in
+    rest_lies c.args.self.now found.0 found.1 c.in_ok-bytes.bytes c.alternate_link.result found.2 found.3 c.alternate_link.ensures.place

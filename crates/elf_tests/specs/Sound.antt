@@ -1,0 +1,52 @@
+-- What the three checks of headers accept, and which data is symbols, in words.
+use Rattle.std.specs.Prelude.{◌≡◌, ◌≢◌, ◌+◌, ◌%◌, ◌<◌, ◌≤◌, Ok, length}
+use Rattle.xmas_elf.specs.Checks.{part_class}
+use Rattle.xmas_elf.specs.Counts.{program_count_of, section_count_of}
+use Rattle.xmas_elf.specs.FileHeader.{file_class, magic_number}
+use Rattle.xmas_elf.specs.HeaderLayout.{header_fields, pt2_size}
+use Rattle.xmas_elf.specs.HeaderNumbers.{encoding_number, version_number}
+use Rattle.xmas_elf.specs.ProgramHeader.{program_fields, program_place, program_record_size, segment_type}
+use Rattle.xmas_elf.specs.SectionHeader.{section_fields, section_place, section_type}
+use Rattle.xmas_elf.specs.SegmentType as segment_types
+use Rattle.xmas_elf.specs.SegmentType.TheVariants.{ShLib}
+use Rattle.xmas_elf.specs.ShType.{ShType}
+use Rattle.xmas_elf.specs.ShType.TheVariants.{SymTab}
+use Rattle.xmas_elf.specs.declared.ElfFile.{ElfFile}
+use Rattle.xmas_elf.specs.declared.program.program_header.ProgramHeader.{ProgramHeader}
+use Rattle.xmas_elf.specs.declared.sections.section_header.SectionHeader.{SectionHeader}
+
+-- an ELF header makes sense over its file: it says its size and class, and both header tables end in the
+-- input
+pub record IsSoundHeader (file : ElfFile) : Type 0 where
+  pub magic : file.header.pt1.magic ≡ magic_number
+  pub size : 16 + pt2_size file.header.pt2 ≡ (header_fields file.header.pt2).header_size
+  pub class : file_class file.header ≢ 0
+  pub width : file_class file.header ≡ part_class file.header.pt2
+  pub version : version_number file.header.pt1.version ≢ 0
+  pub encoding : encoding_number file.header.pt1.encoding ≢ 0
+  pub segments : program_place file.header (program_count_of file) ≤ length file.input.now
+  pub sections : section_place file.header (section_count_of file) ≤ length file.input.now
+
+-- a section header makes sense: its type is known
+abbrev pub IsSoundSection : SectionHeader → Type 0
+IsSoundSection section = (kind : ShType) × (section_type section ≡ Ok kind)
+
+-- a program header makes sense over a file: its table's entries have its size, its bytes end before the
+-- input does, its type is known and isn't ShLib, and its address and its offset agree modulo its alignment
+pub record IsSoundSegment (file : ElfFile) (program : ProgramHeader) : Type 0 where
+  pub size : (header_fields file.header.pt2).ph_entry_size ≡ program_record_size program
+  pub ends : (program_fields program).offset + (program_fields program).file_size < length file.input.now
+  pub kind : segment_types.Type
+  pub typed : segment_type (program_fields program) ≡ Ok kind
+  pub not_sh_lib : kind ≢ ShLib
+  pub aligned : 1 < (program_fields program).align
+      → (program_fields program).virtual_addr % (program_fields program).align
+      ≡ (program_fields program).offset % (program_fields program).align
+
+-- a section is a symbol table of class 64: by its type and the class of the file, with its bytes there and
+-- a whole number of symbols
+pub record HasSymbols (file : ElfFile) (section : SectionHeader) : Type 0 where
+  pub typed : section_type section ≡ Ok SymTab
+  pub class : file_class file.header ≡ 2
+  pub within : (section_fields section).offset + (section_fields section).size ≤ length file.input.now
+  pub whole : (section_fields section).size % 24 ≡ 0

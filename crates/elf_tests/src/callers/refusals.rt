@@ -1,0 +1,36 @@
+//! Callers that conclude a refusal of a text from its reason.
+
+ghost use Rattle.std.specs.Prelude.{◌≡◌, ◌<◌, ◌≤◌, List, Some, ℕ, length};
+ghost use Rattle.std.specs.Str.{IsUtf8};
+ghost use Rattle.xmas_elf.specs.Text.{EndsInZero, NoZeroFrom};
+
+use xmas_elf::ElfError;
+use xmas_elf::bytes::text_at;
+
+/// A start past the end is refused for that.
+pub fn refused_past_the_end(bytes: &[u8], start: usize) -> Option<ElfError>
+    requires { length bytes.now < start }
+    ensures { result ≡ Some ElfError.TextStart }
+{
+    text_at(bytes, start).err()
+}
+
+/// Where no zero byte follows, that is why.
+pub fn refused_without_end(bytes: &[u8], start: usize) -> Option<ElfError>
+    requires within { start ≤ length bytes.now }
+    requires endless { NoZeroFrom bytes.now start }
+    ensures { result ≡ Some ElfError.TextEnd }
+{
+    text_at(bytes, start).err()
+}
+
+/// Bytes before the first zero byte that aren't UTF-8 are refused for that.
+pub fn refused_as_no_text(bytes: &[u8], start: usize) -> Option<ElfError>
+    ensures { (text : List ℕ) → EndsInZero bytes.now start text → ¬ IsUtf8 text
+        → result ≡ Some ElfError.TextUtf8 }
+{
+    match text_at(bytes, start) {
+        Ok(_) => None,
+        Err(error) => Some(error),
+    }
+}

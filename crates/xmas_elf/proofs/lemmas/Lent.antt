@@ -1,0 +1,10 @@
+-- For callers of parts that are lent: of two parts of one whole, the place of the one in the other.
+use Rattle.std.proofs.Common.{◌≡◌, ℕ, ◌+◌, List, sym, ◌∙◌, arith}
+use Rattle.std.specs.Borrow.{Bor}
+use Rattle.elf_base.specs.Lent.{LiesAt}
+
+pub lies_between : (whole outer inner : Bor (List ℕ)) (start place later : ℕ) → LiesAt whole start outer → LiesAt whole later inner → start + place ≡ later → LiesAt outer place inner
+lies_between whole outer inner start place later one other behind = record {
+  block = other.block ∙ sym one.block;
+  place_is = omega (arith, one.place_is, other.place_is, behind);
+}

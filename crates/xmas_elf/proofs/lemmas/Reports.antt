@@ -1,0 +1,74 @@
+-- A file has one report: the verdict on its hash table is one thing alone.
+use Rattle.std.proofs.Common.{◌≡◌, ◌≢◌, ◌<◌, ◌≤◌, ◌⊎◌, inl, inr, ℕ, List, length, Some, None, Result, Ok, Err, slice_index_or, refl, sym, ap, ◌∙◌, subst, arith}
+use Rattle.std.proofs.lemmas.Bool.{cases_order}
+use Rattle.elf_base.specs.declared.bytes.Order.{Order}
+use Rattle.elf_base.specs.declared.error.ElfError.{ElfError}
+use Rattle.elf_records.specs.declared.sections.ShType.TheVariants.{Hash}
+use Rattle.xmas_elf.specs.Content.{Content, empty, undefined, strings, table_of, symbols_32, symbols_64, dyn_symbols_32, dyn_symbols_64, functions_32, functions_64, rela_32, rela_64, rel_32, rel_64, dynamic_32, dynamic_64, section_indices, group, note_64, hash_table}
+use Rattle.xmas_elf.specs.Good.{IsCheck}
+use Rattle.xmas_elf.specs.HashReport.{FindsHash, IsHashVerdict, IsLinkedVerdict, IsVerdictOf, content_at, linked, none, refused}
+use Rattle.xmas_elf.specs.HashTable.{hash_data, hash_order}
+use Rattle.xmas_elf.specs.SectionContent.{section_content_of}
+use Rattle.xmas_elf.specs.SectionHeader.{section_fields, section_type}
+use Rattle.xmas_elf.specs.SectionList.{section_list}
+use Rattle.xmas_elf.specs.Symbols.{Symbols, dyn_symbols_in_32, dyn_symbols_in_64, symbols_in_32, symbols_in_64}
+use Rattle.xmas_elf.specs.declared.ElfFile.{ElfFile}
+use Rattle.xmas_elf.specs.declared.hash.HashTable.{HashTable}
+use Rattle.xmas_elf.specs.declared.report.hash.HashVerdict.{HashVerdict}
+use Rattle.xmas_elf.specs.declared.report.hash.HashVerdict.TheVariants.{NoTable, NoSymbols, Checked}
+use Rattle.xmas_elf.specs.declared.sections.section_header.SectionHeader.{SectionHeader}
+use Rattle.xmas_elf.proofs.ChainChecks.{check_once}
+use Rattle.xmas_elf.proofs.HashVerdicts.{check_on}
+
+first_once : (file : ElfFile) (a b : SectionHeader) → FindsHash file (Some a) → FindsHash file (Some b) → a ≡ b
+first_once file a b (ta, (i, lowi, hi, ni)) (tb, (j, lowj, hj, nj)) = go (cases_order i j)
+  where
+    go : (i ≡ j) ⊎ ((i < j) ⊎ (j < i)) → a ≡ b
+    go (inl same) = let x = hi a in let y = hj a in cc
+    go (inr (inl earlier)) = absurd (nj i a (omega arith) earlier (ap section_type (hi a) ∙ ta))
+    go (inr (inr later)) = absurd (ni j b (omega arith) later (ap section_type (hj b) ∙ tb))
+
+no_first : (file : ElfFile) (a : SectionHeader) → FindsHash file None → FindsHash file (Some a) → ⊥
+no_first file a n (ta, (i, low, h, _)) = n i a (omega arith) low (ap section_type (h a) ∙ ta)
+
+module _ {E : Type 0} (one other : HashTable) (order : hash_order one ≡ hash_order other) (bytes : hash_data one ≡ hash_data other) where
+  of_once : (symbols : Symbols E) (v w : HashVerdict) → IsVerdictOf one symbols v → IsVerdictOf other symbols w → v ≡ w
+  of_once symbols v w (a, is, c) (a', is', c') =
+      let same : a ≡ a' = check_once other symbols a a' (check_on one other order bytes symbols a c) c' in cc
+
+linked_once : (file : ElfFile) (one other : HashTable) → hash_order one ≡ hash_order other → hash_data one ≡ hash_data other → (c : Result Content ElfError) (v w : HashVerdict) → IsLinkedVerdict file one c v → IsLinkedVerdict file other c w → v ≡ w
+linked_once file one other o b (Ok (table_of symbols_32 order bytes)) v w l m = of_once one other o b (symbols_in_32 file order bytes) v w l m
+linked_once file one other o b (Ok (table_of symbols_64 order bytes)) v w l m = of_once one other o b (symbols_in_64 file order bytes) v w l m
+linked_once file one other o b (Ok (table_of dyn_symbols_32 order bytes)) v w l m = of_once one other o b (dyn_symbols_in_32 file order bytes) v w l m
+linked_once file one other o b (Ok (table_of dyn_symbols_64 order bytes)) v w l m = of_once one other o b (dyn_symbols_in_64 file order bytes) v w l m
+linked_once file one other o b (Ok empty) v w l m = l ∙ sym m
+linked_once file one other o b (Ok (undefined bytes)) v w l m = l ∙ sym m
+linked_once file one other o b (Ok (strings bytes)) v w l m = l ∙ sym m
+linked_once file one other o b (Ok (table_of functions_32 order bytes)) v w l m = l ∙ sym m
+linked_once file one other o b (Ok (table_of functions_64 order bytes)) v w l m = l ∙ sym m
+linked_once file one other o b (Ok (table_of rela_32 order bytes)) v w l m = l ∙ sym m
+linked_once file one other o b (Ok (table_of rela_64 order bytes)) v w l m = l ∙ sym m
+linked_once file one other o b (Ok (table_of rel_32 order bytes)) v w l m = l ∙ sym m
+linked_once file one other o b (Ok (table_of rel_64 order bytes)) v w l m = l ∙ sym m
+linked_once file one other o b (Ok (table_of dynamic_32 order bytes)) v w l m = l ∙ sym m
+linked_once file one other o b (Ok (table_of dynamic_64 order bytes)) v w l m = l ∙ sym m
+linked_once file one other o b (Ok (table_of section_indices order bytes)) v w l m = l ∙ sym m
+linked_once file one other o b (Ok (group flags order bytes)) v w l m = l ∙ sym m
+linked_once file one other o b (Ok (note_64 header bytes)) v w l m = l ∙ sym m
+linked_once file one other o b (Ok (hash_table order bytes)) v w l m = l ∙ sym m
+linked_once file one other o b (Err error) v w l m = l ∙ sym m
+
+pub verdict_once : (file : ElfFile) (v w : HashVerdict) → IsHashVerdict file v → IsHashVerdict file w → v ≡ w
+verdict_once file _ _ (none n) (none m) = refl
+verdict_once file _ _ (none n) (refused s e f c) = absurd (no_first file s n f)
+verdict_once file _ _ (none n) (linked s t w f c l) = absurd (no_first file s n f)
+verdict_once file _ _ (refused s e f c) (none n) = absurd (no_first file s n f)
+verdict_once file _ _ (refused s e f c) (refused s' e' f' c') = let same = first_once file s s' f f' in let is : e ≡ e' = cc in ap (λ x. Checked (Err x)) is
+verdict_once file _ _ (refused s e f c) (linked s' t w f' c' l) = let same = first_once file s s' f f' in absurd (cc)
+verdict_once file _ _ (linked s t v f c l) (none n) = absurd (no_first file s n f)
+verdict_once file _ _ (linked s t v f c l) (refused s' e f' c') = let same = first_once file s s' f f' in absurd (cc)
+verdict_once file _ _ (linked s t v f c l) (linked s' t' w f' c' l') =
+    let same : s ≡ s' = first_once file s s' f f' in
+    let order : hash_order t ≡ hash_order t' = cc in
+    let bytes : hash_data t ≡ hash_data t' = cc in
+    linked_once file t t' order bytes (content_at file (section_fields s').link) v w (subst (λ x. IsLinkedVerdict file t (content_at file (section_fields x).link) v) same l) l'

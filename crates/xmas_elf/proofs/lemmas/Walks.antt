@@ -1,0 +1,63 @@
+-- A look-up answers HashCycle exactly where its walk reaches no stop: no refusal of a bucket or a chain is
+-- HashCycle.
+use Rattle.std.proofs.Common.{◌≡◌, ◌%◌, ◌^◌, ◌+◌, ◌*◌, ℕ, Bool, true, false, List, [], ◌∷◌, Option, Some, None, Result, Ok, Err, if◌then◌else◌, nat_eq, refl, sym, ◌∙◌, subst}
+use Rattle.elf_base.specs.Refusal.{unless}
+use Rattle.elf_base.specs.declared.error.ElfError.{ElfError}
+use Rattle.elf_base.specs.declared.error.ElfError.TheVariants.{BucketIndex, ChainIndex, ChainSum, HashCycle, HashData, SymbolIndex}
+use Rattle.elf_records.specs.HashNumber.{hash_number}
+use Rattle.xmas_elf.specs.Chain.{Chains, Stops, at_end, past_chains, past_symbols, found, refused, IsEndless, LooksFrom, no_bucket, bad_bucket, reaches, endless, chains_of}
+use Rattle.xmas_elf.specs.HashTable.{bucket_count_of, bucket_of, chain_of, start_of}
+use Rattle.xmas_elf.specs.declared.hash.HashTable.{HashTable}
+
+two_rows : (a b : Bool) (v : ℕ) → unless ((a, BucketIndex) ∷ (b, HashData) ∷ []) v ≡ Err HashCycle → ⊥
+two_rows true b v e = cc
+two_rows false true v e = cc
+two_rows false false v e = cc
+
+three_rows : (a b c : Bool) (v : ℕ) → unless ((a, ChainIndex) ∷ (b, ChainSum) ∷ (c, HashData) ∷ []) v ≡ Err HashCycle → ⊥
+three_rows true b c v e = cc
+three_rows false true c v e = cc
+three_rows false false true v e = cc
+three_rows false false false v e = cc
+
+bucket_no_cycle : (table : HashTable) (i : ℕ) → bucket_of table i ≡ Err HashCycle → ⊥
+unfolding bucket_of
+bucket_no_cycle table i e = two_rows _ _ _ e
+
+chain_no_cycle : (table : HashTable) (i : ℕ) → chain_of table i ≡ Err HashCycle → ⊥
+unfolding chain_of
+chain_no_cycle table i e = three_rows _ _ _ _ e
+
+start_if : (b : Bool) (table : HashTable) (k : ℕ) → (if b then None else Some (bucket_of table k)) ≡ Some (Err HashCycle) → ⊥
+start_if true table k e = cc
+start_if false table k e = let same : bucket_of table k ≡ Err HashCycle = cc in bucket_no_cycle table k same
+
+start_no_cycle : (table : HashTable) (name : List ℕ) → start_of table name ≡ Some (Err HashCycle) → ⊥
+unfolding start_of
+start_no_cycle table name e = start_if _ table _ e
+
+stop_no_cycle : {E : Type 0} (P : E → Type 0) (table : HashTable) (symbols : List E) (i n : ℕ) (a : Result (Option (ℕ × E)) ElfError) → Stops P (chains_of table symbols) i a n → a ≡ Err HashCycle → ⊥
+stop_no_cycle P table symbols _ _ _ at_end e = cc
+stop_no_cycle P table symbols _ _ _ (past_chains i h k) e = cc
+stop_no_cycle P table symbols _ _ _ (past_symbols i h k l) e = cc
+stop_no_cycle P table symbols _ _ _ (found i d stands holds) e = cc
+stop_no_cycle P table symbols _ _ _ (refused i d error stands misses refuses) e =
+    let same : error ≡ HashCycle = cc in
+    let at : chain_of table i ≡ Err HashCycle = cc in
+    chain_no_cycle table i at
+
+cycle_from : {E : Type 0} (P : E → Type 0) (table : HashTable) (symbols : List E) (name : List ℕ) (s : Option (Result ℕ ElfError)) (a : Result (Option (ℕ × E)) ElfError) (n : ℕ) → start_of table name ≡ s → LooksFrom P (chains_of table symbols) s a n → a ≡ Err HashCycle → IsEndless P (chains_of table symbols) (start_of table name)
+cycle_from P table symbols name _ _ _ start no_bucket e = absurd (cc)
+cycle_from P table symbols name _ _ _ start (bad_bucket error) e =
+    let same : error ≡ HashCycle = cc in
+    let at : start_of table name ≡ Some (Err HashCycle) = cc in
+    absurd (start_no_cycle table name at)
+cycle_from P table symbols name _ _ _ start (reaches first last n more a c before s) e = absurd (stop_no_cycle P table symbols last more a s e)
+cycle_from P table symbols name _ _ _ start (endless first n none) e = (first, start, none)
+
+pub cycle_is_endless : {E : Type 0} (P : E → Type 0) (table : HashTable) (symbols : List E) (name : List ℕ) (a : Result (Option (ℕ × E)) ElfError) (n : ℕ) → LooksFrom P (chains_of table symbols) (start_of table name) a n → a ≡ Err HashCycle → IsEndless P (chains_of table symbols) (start_of table name)
+cycle_is_endless P table symbols name a n looks e = cycle_from P table symbols name _ a n refl looks e
+
+pub endless_looks : {E : Type 0} (P : E → Type 0) (table : HashTable) (symbols : List E) (name : List ℕ) → IsEndless P (chains_of table symbols) (start_of table name) → LooksFrom P (chains_of table symbols) (start_of table name) (Err HashCycle) 0
+endless_looks P table symbols name (first, start, none) =
+    subst (λ s. LooksFrom P (chains_of table symbols) s (Err HashCycle) 0) (sym start) (endless first 0 none)

@@ -1,0 +1,87 @@
+-- Where the parts lie that are lent of a file (this project's own): each is the input's memory, and no copy.
+use Rattle.std.specs.Prelude.{◌≢◌, ℕ, ◌+◌, List, codes, length}
+use Rattle.std.specs.Borrow.{Bor}
+use Rattle.elf_base.specs.Lent.{LiesAt}
+use Rattle.elf_base.specs.Table.{table_bytes}
+use Rattle.elf_records.specs.Note.{note_name_size, rounded_up}
+use Rattle.elf_records.specs.declared.sections.note.NoteHeader.{NoteHeader}
+use Rattle.xmas_elf.specs.BuildId.{IsNoteSection}
+use Rattle.xmas_elf.specs.HashTable.{hash_bytes}
+use Rattle.xmas_elf.specs.NameTable.{IsFirstNamed}
+use Rattle.xmas_elf.specs.SectionHeader.{section_fields}
+use Rattle.xmas_elf.specs.declared.ElfFile.{ElfFile}
+use Rattle.xmas_elf.specs.declared.program.content.SegmentData.{SegmentData}
+use Rattle.xmas_elf.specs.declared.program.content.SegmentData.TheVariants as segment_data
+use Rattle.xmas_elf.specs.declared.program.records.ProgramHeader64.{ProgramHeader64}
+use Rattle.xmas_elf.specs.declared.sections.content.SectionData.{SectionData}
+use Rattle.xmas_elf.specs.declared.sections.content.SectionData.TheVariants as section_data
+use Rattle.xmas_elf.specs.declared.sections.section_header.SectionHeader.{SectionHeader}
+
+-- the data of a section lies at its offset in the input
+abbrev pub LiesAsSection : ElfFile → SectionHeader → Bor (List ℕ) → Type 0
+LiesAsSection file section = LiesAt file.input (section_fields section).offset
+
+-- that of a segment does too, but for the empty slice of an empty segment, which lies nowhere in it
+abbrev pub LiesAsSegment : ElfFile → ProgramHeader64 → Bor (List ℕ) → Type 0
+LiesAsSegment file segment part = segment.file_size ≢ 0 → LiesAt file.input segment.offset part
+
+-- what is lent of some data: nothing, all of it, or what lies behind so many bytes
+pub data Part : Type 0 where
+  nothing : Part
+  all : Bor (List ℕ) → Part
+  behind : ℕ → Bor (List ℕ) → Part
+
+-- what a value of `SectionData` lends: all data, or what follows the flags of a group or the header of
+-- a note
+abbrev pub section_part : SectionData → Part
+section_part section_data.Empty = nothing
+section_part (section_data.Undefined bytes) = all bytes
+section_part (section_data.StrArray bytes) = all bytes
+section_part (section_data.SymbolTable32 table) = all (table_bytes table)
+section_part (section_data.SymbolTable64 table) = all (table_bytes table)
+section_part (section_data.DynSymbolTable32 table) = all (table_bytes table)
+section_part (section_data.DynSymbolTable64 table) = all (table_bytes table)
+section_part (section_data.FnArray32 table) = all (table_bytes table)
+section_part (section_data.FnArray64 table) = all (table_bytes table)
+section_part (section_data.Rela32 table) = all (table_bytes table)
+section_part (section_data.Rela64 table) = all (table_bytes table)
+section_part (section_data.Rel32 table) = all (table_bytes table)
+section_part (section_data.Rel64 table) = all (table_bytes table)
+section_part (section_data.Dynamic32 table) = all (table_bytes table)
+section_part (section_data.Dynamic64 table) = all (table_bytes table)
+section_part (section_data.SymTabShIndex table) = all (table_bytes table)
+section_part (section_data.Group flags table) = behind 4 (table_bytes table)
+section_part (section_data.Note64 header body) = behind 12 body
+section_part (section_data.HashTable table) = all (hash_bytes table)
+
+-- what a value of `SegmentData` lends
+abbrev pub segment_part : SegmentData → Part
+segment_part segment_data.Empty = nothing
+segment_part (segment_data.Undefined bytes) = all bytes
+segment_part (segment_data.Dynamic32 table) = all (table_bytes table)
+segment_part (segment_data.Dynamic64 table) = all (table_bytes table)
+segment_part (segment_data.Note64 header body) = behind 12 body
+
+-- it lies in data that begin at place `start` of these bytes
+abbrev pub PartLies : Bor (List ℕ) → ℕ → Part → Type 0
+PartLies whole start nothing = Unit {0}
+PartLies whole start (all bytes) = LiesAt whole start bytes
+PartLies whole start (behind count bytes) = LiesAt whole (start + count) bytes
+
+-- a build id lies in a note section with this name: behind the note's header, and its name with what
+-- fills that up to a multiple of four
+pub record LiesAsBuildId (file : ElfFile) (id : Bor (List ℕ)) : Type 0 where
+  pub index : ℕ
+  pub section : SectionHeader
+  pub header : NoteHeader
+  pub body : List ℕ
+  pub named : IsFirstNamed file (codes ".note.gnu.build-id") index section
+  pub in_section : IsNoteSection file section header body
+  pub lies : LiesAt file.input ((section_fields section).offset + (12 + rounded_up (note_name_size header))) id
+
+-- what follows the text of an alternate link lies behind the text's zero byte in the section
+pub record LiesAsRest (file : ElfFile) (text : List ℕ) (rest : Bor (List ℕ)) : Type 0 where
+  pub index : ℕ
+  pub section : SectionHeader
+  pub named : IsFirstNamed file (codes ".gnu_debugaltlink") index section
+  pub lies : LiesAt file.input ((section_fields section).offset + (length text + 1)) rest
