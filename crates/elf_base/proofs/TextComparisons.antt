@@ -32,13 +32,18 @@ differs_before ys text after k count stop begins =
     let same : slice_index ys k ≡ slice_index (text ++ (0 ∷ [])) k = ap (λ l. slice_index l k) begins ∙ same_front text after k stop.place in
     elim stop.differs as (λ s. ⊥) [ inl short ↦ (let e = short.0 in omega (arith, e, long)) | inr other ↦ other.1 same ]
 
+-- bytes whose front is a text, with a zero byte behind it
+zero_behind : (ys text : List ℕ) → length text < length ys → take (length text) ys ≡ text → slice_index ys (length text) ≡ 0 → ys ≡ text ++ (0 ∷ drop (suc (length text)) ys)
+zero_behind ys text long front ends =
+    let cut : drop (length text) ys ≡ 0 ∷ drop (suc (length text)) ys = drop-cons ys (length text) 0 long ∙ ap (λ b. b ∷ drop (suc (length text)) ys) ends in
+    sym (take-append-drop (length text) ys) ∙ ap (λ r. take (length text) ys ++ r) cut ∙ ap (λ f. f ++ (0 ∷ drop (suc (length text)) ys)) front
+
 -- bytes that agree with a text up to a zero byte begin with them
 front_begins : (ys text : List ℕ) → length text < length ys → SameBelow ys text (length text) → slice_index ys (length text) ≡ 0 → ys ≡ text ++ (0 ∷ drop (suc (length text)) ys)
 front_begins ys text long same ends =
     let len : length (take (length text) ys) ≡ length text = length-take-le (length text) ys (omega arith) in
     let front : take (length text) ys ≡ text = ext_get_or 0 (take (length text) ys) text len (λ i below. let h : i < length text = omega (arith, len, below) in get_or-take (length text) ys i 0 h ∙ same i h) in
-    let cut : drop (length text) ys ≡ 0 ∷ drop (suc (length text)) ys = drop-cons ys (length text) 0 long ∙ ap (λ b. b ∷ drop (suc (length text)) ys) ends in
-    sym (take-append-drop (length text) ys) ∙ ap (λ r. take (length text) ys ++ r) cut ∙ ap (λ f. f ++ (0 ∷ drop (suc (length text)) ys)) front
+    zero_behind ys text long front ends
 
 -- what a comparison at the front of `&bytes[start..]` says of the text at `start`
 pub record Answers (bytes : List ℕ) (start : ℕ) (text : List ℕ) (b : Bool) (count : ℕ) : Type 0 where
@@ -67,12 +72,28 @@ pub answers : (bytes : List ℕ) (start : ℕ) (text : List ℕ) (b : Bool) (cou
 answers bytes start text b count there utf8 none front =
     at_rest bytes start text b count there utf8 none (subst (λ ys. FrontCompared ys text b count) (rest start bytes) front)
 
--- where the bytes agree with a text and a zero byte, the text stands there unless it has a zero byte
-pub stands : (bytes : List ℕ) (start : ℕ) (text : List ℕ) (b none : Bool) (count : ℕ) (zero_at : Option ℕ) → start ≤ length bytes → IsUtf8 text → IsTrue b → FrontCompared (take (length bytes - start) (drop start bytes)) text b count → IsFirstByte (is_byte 0) text zero_at → is_some zero_at ≡ not none → IsTrue none ↔ IsText bytes start text
-stands bytes start text false none count zero_at there utf8 agree front first is_none = cc
-stands bytes start text true true count None there utf8 agree front first is_none =
-    ((λ _. (answers bytes start text true count there utf8 (has_no_zero text None first refl) front).yes refl), λ _. refl)
-stands bytes start text true false count None there utf8 agree front first is_none = cc
-stands bytes start text true true count (Some k) there utf8 agree front first is_none = cc
-stands bytes start text true false count (Some k) there utf8 agree front first is_none =
+-- where a text and a zero byte stand at the front of `&bytes[start..]`, the text stands at `start` unless
+-- it has a zero byte
+stands_by : (bytes : List ℕ) (start : ℕ) (text : List ℕ) (none : Bool) (zero_at : Option ℕ) → IsUtf8 text → drop start bytes ≡ text ++ (0 ∷ drop (suc (length text)) (drop start bytes)) → IsFirstByte (is_byte 0) text zero_at → is_some zero_at ≡ not none → IsTrue none ↔ IsText bytes start text
+stands_by bytes start text true None utf8 begins first is_none = (
+  (λ _. record {
+    utf8 = utf8;
+    ended = record {
+      after = drop (suc (length text)) (drop start bytes);
+      begins = begins;
+      no_zero = λ k below zero. has_no_zero text None first refl (k, below, zero);
+    };
+  }),
+  λ _. refl,
+)
+stands_by bytes start text false None utf8 begins first is_none = cc
+stands_by bytes start text true (Some k) utf8 begins first is_none = cc
+stands_by bytes start text false (Some k) utf8 begins first is_none =
     ((λ none. cc), λ stood. absurd (stood.ended.no_zero k first.0.high (eqb-true (slice_index text k) 0 first.1)))
+
+pub stands : (bytes : List ℕ) (start : ℕ) (text : List ℕ) (none : Bool) (zero_at : Option ℕ) → start ≤ length bytes → IsUtf8 text → length text < length (take (length bytes - start) (drop start bytes)) → take (length text) (take (length bytes - start) (drop start bytes)) ≡ text → slice_index (take (length bytes - start) (drop start bytes)) (length text) ≡ 0 → IsFirstByte (is_byte 0) text zero_at → is_some zero_at ≡ not none → IsTrue none ↔ IsText bytes start text
+stands bytes start text none zero_at there utf8 long front ends first is_none =
+    let all : take (length bytes - start) (drop start bytes) ≡ drop start bytes = rest start bytes in
+    let begins : drop start bytes ≡ text ++ (0 ∷ drop (suc (length text)) (drop start bytes)) =
+    zero_behind (drop start bytes) text (subst (λ ys. length text < length ys) all long) (subst (λ ys. take (length text) ys ≡ text) all front) (subst (λ ys. slice_index ys (length text) ≡ 0) all ends) in
+    stands_by bytes start text none zero_at utf8 begins first is_none

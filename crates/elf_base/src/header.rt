@@ -23,7 +23,7 @@ use crate::{ElfError, P32, P64};
 /// The four bytes that every ELF file begins with.
 pub const MAGIC: [u8; 4] = [0x7f, b'E', b'L', b'F'];
 
-/// The ELF header of a file, in two parts.
+/// The ELF header of a file, in two parts (gABI, "ELF Header").
 #[derive(Clone, Copy, Debug)]
 pub struct Header {
     /// What lies the same way in every file.
@@ -32,7 +32,7 @@ pub struct Header {
     pub pt2: HeaderPt2,
 }
 
-/// The first 16 bytes of a file (`e_ident`).
+/// The first 16 bytes of a file (gABI, "ELF Header", e_ident).
 #[derive(Clone, Copy, Debug)]
 pub struct HeaderPt1 {
     /// `MAGIC` in every accepted file.
@@ -51,7 +51,7 @@ pub struct HeaderPt1 {
     pub padding: [u8; 7],
 }
 
-/// The part of the header that follows the first 16 bytes, of either width.
+/// The part of the header that follows the first 16 bytes, of either width (gABI, "ELF Header").
 #[derive(Clone, Copy, Debug)]
 pub enum HeaderPt2 {
     /// The 36 bytes of class 32.
@@ -60,7 +60,7 @@ pub enum HeaderPt2 {
     Header64(HeaderPt2_<P64>),
 }
 
-/// Part 2 with addresses and offsets of type `P`.
+/// Part 2 with addresses and offsets of type `P` (gABI, "ELF Header", Elf32_Ehdr and Elf64_Ehdr).
 #[derive(Clone, Copy, Debug)]
 pub struct HeaderPt2_<P> {
     /// What the file is for.

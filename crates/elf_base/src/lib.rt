@@ -5,8 +5,6 @@ pub mod bytes;
 mod error;
 pub mod header;
 pub mod print;
-#[cfg(test)]
-mod tests;
 
 pub use crate::error::ElfError;
 

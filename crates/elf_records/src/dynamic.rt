@@ -93,7 +93,7 @@ pub const FLAG_1_STUB: u64 = 0x400_0000;
 /// The program may be loaded at any address.
 pub const FLAG_1_PIE: u64 = 0x800_0000;
 
-/// An entry of the dynamic section: a tag, and a number whose meaning is the tag's.
+/// A tag, and a number whose meaning is the tag's (gABI, "Dynamic Section", Elf32_Dyn, Elf64_Dyn).
 #[derive(Clone, Copy, Debug)]
 pub struct Dynamic<P> {
     tag: Tag_<P>,
@@ -204,6 +204,7 @@ enum Content {
 
 impl Content {
     // The number of an entry as a value.
+    #[inline(always)]
     fn value<P: Copy>(self, number: P) -> Result<P, ElfError>
         ensures { result ≡ value_in number self }
     {
@@ -214,6 +215,7 @@ impl Content {
     }
 
     // The number of an entry as a pointer.
+    #[inline(always)]
     fn pointer<P: Copy>(self, number: P) -> Result<P, ElfError>
         ensures { result ≡ pointer_in number self }
     {
@@ -227,6 +229,7 @@ impl Content {
 // The tag that a number means, and what the number of its entries is; `raw` is that number as the
 // file has it.
 #[tactic(auto, unfolding(crate::specs::Dynamic::row_of))]
+#[inline(always)]
 fn row<P: Copy>(number: u64, raw: P) -> Result<(Tag<P>, Content), ElfError>
     ensures { result ≡ row_of raw number }
 {
@@ -327,6 +330,7 @@ impl<P: Copy> Tag_<P> {
 
 impl Tag_<P32> {
     /// What the number means; `InvalidTag` for 31, 38 to 0x6000000c and from 0x80000000 on.
+    #[inline(always)]
     pub fn as_tag(self) -> Result<Tag<P32>, ElfError>
         ensures { result ≡ tag_of (tag_number self) }
     {
@@ -337,6 +341,7 @@ impl Tag_<P32> {
 
 impl Dynamic<P32> {
     /// What the entry is; `InvalidTag` where the tag's number has no meaning.
+    #[inline(always)]
     pub fn get_tag(&self) -> Result<Tag<P32>, ElfError>
         ensures { result ≡ tag_of (dynamic_tag self.now) }
     {
@@ -344,6 +349,7 @@ impl Dynamic<P32> {
     }
 
     /// The entry's number as a value; `InvalidTag`, or `InvalidValue` where the tag has none.
+    #[inline(always)]
     pub fn get_val(&self) -> Result<P32, ElfError>
         ensures { result ≡ value_of (dynamic_tag self.now) (dynamic_value self.now) }
     {
@@ -352,6 +358,7 @@ impl Dynamic<P32> {
     }
 
     /// The entry's number as a pointer; `InvalidTag`, or `InvalidPtr` where the tag has none.
+    #[inline(always)]
     pub fn get_ptr(&self) -> Result<P32, ElfError>
         ensures { result ≡ pointer_of (dynamic_tag self.now) (dynamic_value self.now) }
     {
@@ -362,6 +369,7 @@ impl Dynamic<P32> {
 
 impl Tag_<P64> {
     /// What the number means; `InvalidTag` for 31, 38 to 0x6000000c and from 0x80000000 on.
+    #[inline(always)]
     pub fn as_tag(self) -> Result<Tag<P64>, ElfError>
         ensures { result ≡ tag_of (tag_number self) }
     {
@@ -372,6 +380,7 @@ impl Tag_<P64> {
 
 impl Dynamic<P64> {
     /// What the entry is; `InvalidTag` where the tag's number has no meaning.
+    #[inline(always)]
     pub fn get_tag(&self) -> Result<Tag<P64>, ElfError>
         ensures { result ≡ tag_of (dynamic_tag self.now) }
     {
@@ -379,6 +388,7 @@ impl Dynamic<P64> {
     }
 
     /// The entry's number as a value; `InvalidTag`, or `InvalidValue` where the tag has none.
+    #[inline(always)]
     pub fn get_val(&self) -> Result<P64, ElfError>
         ensures { result ≡ value_of (dynamic_tag self.now) (dynamic_value self.now) }
     {
@@ -387,6 +397,7 @@ impl Dynamic<P64> {
     }
 
     /// The entry's number as a pointer; `InvalidTag`, or `InvalidPtr` where the tag has none.
+    #[inline(always)]
     pub fn get_ptr(&self) -> Result<P64, ElfError>
         ensures { result ≡ pointer_of (dynamic_tag self.now) (dynamic_value self.now) }
     {

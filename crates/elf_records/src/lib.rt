@@ -6,5 +6,3 @@ pub mod hash;
 pub mod program;
 pub mod sections;
 pub mod symbol_table;
-#[cfg(test)]
-mod tests;

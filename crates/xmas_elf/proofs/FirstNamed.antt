@@ -1,7 +1,9 @@
 -- The section with a name, in the list and by its index.
-use Rattle.std.proofs.Common.{◌≡◌, ◌≢◌, ℕ, ◌⊎◌, inl, inr, ◌<◌, ◌≤◌, nat_lt, Bool, true, false, Result, Err, drop, List, [], ◌∷◌, refl, length, Ok, Option, None, Some, IfSome, IfNone, slice_index_or, ap, sym, subst, ◌∙◌, arith}
+use Rattle.std.proofs.Common.{◌≡◌, ◌≢◌, ℕ, ◌⊎◌, inl, inr, ◌<◌, ◌≤◌, nat_lt, Bool, true, false, IsTrue, ◌↔◌, Result, Err, drop, List, [], ◌∷◌, refl, length, Ok, Option, None, Some, IfSome, IfNone, ap, sym, subst, ◌∙◌, arith}
 use Rattle.std.proofs.lemmas.Bool.{cases_order, le-ltb, ltb-false}
-use Rattle.std.specs.Result.{result_ok}
+use Rattle.std.specs.Borrow.{Bor}
+use Rattle.std.specs.Result.{ForErr, ForOk}
+use Rattle.elf_base.specs.Lent.{Answers, Lends, LendsOnly}
 use Rattle.elf_base.specs.Refusal.{and_then, unless}
 use Rattle.elf_base.specs.Text.{IsText}
 use Rattle.elf_base.specs.declared.error.ElfError.{ElfError}
@@ -9,7 +11,6 @@ use Rattle.elf_base.specs.declared.error.ElfError.TheVariants.{ShortSectionOffse
 use Rattle.elf_records.specs.declared.sections.ShType.{ShType}
 use Rattle.elf_records.specs.declared.sections.ShType.TheVariants.{Null}
 use Rattle.xmas_elf.specs.Counts.{section_count_of}
-use Rattle.xmas_elf.specs.First.{IsFirstAt}
 use Rattle.xmas_elf.specs.HeaderTable.{EachBelow, IsLongest}
 use Rattle.xmas_elf.specs.NameTable.{Bears, FindsNamed, IsFirstNamed, IsNameTable, name_table_of, names_section_of}
 use Rattle.xmas_elf.specs.SectionHeader.{section_fields, section_of, section_type}
@@ -18,7 +19,7 @@ use Rattle.xmas_elf.specs.declared.ElfFile.{ElfFile}
 use Rattle.xmas_elf.specs.declared.sections.section_header.SectionHeader.{SectionHeader}
 use Rattle.xmas_elf.proofs.HeaderLists.{header_list-longest}
 use Rattle.xmas_elf.proofs.SectionLists.{section_in_list}
-use Rattle.xmas_elf.proofs.lemmas.HeaderList.{first_item, sections_within}
+use Rattle.xmas_elf.proofs.lemmas.HeaderList.{sections_within}
 
 -- an answer that isn't refused for its place
 not_short : (short : Bool) (table t : List ℕ) → unless ((short, ShortSectionOffset) ∷ []) table ≡ Ok t → (short ≡ false) × (t ≡ table)
@@ -68,6 +69,38 @@ pub text_borne : (file : ElfFile) (section : SectionHeader) (names name : List �
 text_borne file section names name table bears =
     subst (λ t. IsText t (section_fields section).name name) (one_table file bears.named.table names bears.named.in_table (name_table-is file names table)) bears.named.is_text
 
+-- whether the name stands at its index tells whether a section of a type that has a name bears it
+pub borne_by : (file : ElfFile) (section : SectionHeader) (kind : ShType) (names name : List ℕ) (stands : Bool) → name_table_of file ≡ Ok names → section_type section ≡ Ok kind → kind ≢ Null → IsTrue stands ↔ IsText names (section_fields section).name name → stands ≡ true → IsTrue true ↔ Bears file section name
+borne_by file section kind names name true table typed not_null is stood =
+    ((λ yes. bears_text file section kind names name table typed not_null (is.0 refl)), λ bears. refl)
+borne_by file section kind names name false table typed not_null is stood = cc
+
+pub unborne_by : (file : ElfFile) (section : SectionHeader) (names name : List ℕ) (stands : Bool) → name_table_of file ≡ Ok names → IsTrue stands ↔ IsText names (section_fields section).name name → stands ≡ false → IsTrue false ↔ Bears file section name
+unborne_by file section names name true table is stood = cc
+unborne_by file section names name false table is stood =
+    ((λ yes. cc), λ bears. is.1 (text_borne file section names name table bears))
+
+-- the name table that is kept, or why there is none
+pub kept_named : (file : ElfFile) (names : Result (Bor (List ℕ)) ElfError) → Answers (name_table_of file) names → ForOk names (λ table. name_table_of file ≡ Ok table.now)
+kept_named file (Ok table) is = λ other same. let one : table ≡ other = cc in is ∙ ap (λ t. Ok t.now) one
+kept_named file (Err error) is = λ other same. cc
+
+pub kept_nameless : (file : ElfFile) (names : Result (Bor (List ℕ)) ElfError) → Answers (name_table_of file) names → ForErr names (λ error. name_table_of file ≡ Err error)
+kept_nameless file (Ok table) is = λ other same. cc
+kept_nameless file (Err error) is = λ other same. let one : error ≡ other = cc in is ∙ ap Err one
+
+pub names_lent : (file : ElfFile) (names : Result (Bor (List ℕ)) ElfError) → ForOk names (λ table. name_table_of file ≡ Ok table.now) → Lends (IsNameTable file) names
+names_lent file (Ok table) is = name_table-is file table.now (is table refl)
+names_lent file (Err error) is = tt
+
+pub names_only : (file : ElfFile) (names : Result (Bor (List ℕ)) ElfError) → ForOk names (λ table. name_table_of file ≡ Ok table.now) → ForErr names (λ error. name_table_of file ≡ Err error) → LendsOnly (IsNameTable file) names
+names_only file (Ok table) is isnt = λ part has. one_table file table.now part (name_table-is file table.now (is table refl)) has
+names_only file (Err error) is isnt = λ part has. let there = is-name_table file part has in let none = isnt error refl in cc
+
+pub names_exact : (file : ElfFile) (names : Result (Bor (List ℕ)) ElfError) → ForOk names (λ table. name_table_of file ≡ Ok table.now) → ForErr names (λ error. name_table_of file ≡ Err error) → Answers (name_table_of file) names
+names_exact file (Ok table) is isnt = is table refl
+names_exact file (Err error) is isnt = isnt error refl
+
 longest : (file : ElfFile) → IsLongest (section_of file) (section_count_of file) (section_list file)
 longest file = header_list-longest (section_of file) (section_count_of file)
 
@@ -108,14 +141,3 @@ only_named file name None found index section first =
 only_named file name (Some other) found index section first =
     let (i, is) = first_named file name other found in
     ap Some (one_first file name i index other section is first (cases_order i index))
-
--- the section header at the first position in the list is the first of the list
-pub named_at : (file : ElfFile) (name : List ℕ) (i : ℕ) (r : Result SectionHeader ElfError) → section_of file i ≡ r → IsFirstAt (λ section. Bears file section name) (section_list file) i → FindsNamed file name (result_ok r)
-named_at file name i (Ok section) is (below, holds, none) =
-    let longest = header_list-longest (section_of file) (section_count_of file) in
-    let item : (d : SectionHeader) → slice_index_or (section_list file) i d ≡ section = λ d. let at = longest.each i below d in cc in
-    (subst (λ s. Bears file s name) (item section) (holds section), (i, below, item, none))
-named_at file name i (Err error) is (below, holds, none) =
-    let longest = header_list-longest (section_of file) (section_count_of file) in
-    let at = longest.each i below (first_item (section_list file) i below) in
-    cc

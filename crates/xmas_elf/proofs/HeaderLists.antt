@@ -1,9 +1,10 @@
 -- Lists of headers, as they are computed and as they are meant.
-use Rattle.std.proofs.Common.{◌≡◌, ◌≢◌, ℕ, zero, suc, ◌+◌, ◌-◌, ◌*◌, ◌≤◌, ◌<◌, List, [], ◌∷◌, inl, inr, Bool, true, false, length, slice_get, slice_index_or, Some, Result, Ok, Err, IsOk, refl, sym, ap, ◌∙◌, subst, arith, add-zero}
+use Rattle.std.proofs.Common.{◌≡◌, ◌≢◌, ℕ, zero, suc, ◌+◌, ◌-◌, ◌*◌, ◌≤◌, ◌<◌, ◌==◌, ◌||◌, List, [], ◌∷◌, inl, inr, Bool, true, false, not, length, slice_get, slice_index_or, Some, Result, Ok, Err, IsOk, refl, sym, ap, ◌∙◌, subst, arith, add-zero}
 use Rattle.elf_base.specs.Refusal.{unless}
 use Rattle.elf_base.specs.declared.error.ElfError.{ElfError}
 use Rattle.elf_base.specs.declared.header.HeaderPt2.{HeaderPt2}
 use Rattle.elf_base.specs.declared.header.HeaderPt2.TheVariants.{Header32, Header64}
+use Rattle.std.proofs.lemmas.Bool.{eqb-true}
 use Rattle.std.proofs.lemmas.Option.{slice_get-get_or}
 use Rattle.xmas_elf.specs.Checks.{part_class}
 use Rattle.xmas_elf.specs.HeaderTable.{IsKnownClass, IsLongest, before, entry_place, header_list, headers_from, is_known_class}
@@ -98,6 +99,11 @@ entries_fit offset size least i len large within =
     let same : suc i ≡ i + 1 = omega arith in
     rw same (omega (arith, more, within))
 
+-- and so do its first bytes
+pub entry_room : (offset size least i len : ℕ) → least ≤ size → entry_place offset size (i + 1) ≤ len → entry_place offset size i + least ≤ len
+entry_room offset size least i len large within =
+    let next : (i + 1) * size ≡ i * size + size = grind arith in omega (arith, next, large, within)
+
 -- a call that answers has passed each of its refusals
 abbrev pub AllPassed : List (Bool × ElfError) → Type 0
 AllPassed [] = Unit {0}
@@ -112,6 +118,14 @@ unless-passed ((false, e) ∷ rows) value x is = (refl, unless-passed rows value
 pub is_known_class-known : (class : ℕ) → IsKnownClass class → is_known_class class ≡ true
 is_known_class-known class (inl one) = rw one refl
 is_known_class-known class (inr two) = rw two refl
+
+known_by : (class : ℕ) (one two : Bool) → (class == 1) ≡ one → (class == 2) ≡ two → not (one || two) ≡ false → IsKnownClass class
+known_by class true two is_one is_two known = inl (eqb-true class 1 is_one)
+known_by class false true is_one is_two known = inr (eqb-true class 2 is_two)
+known_by class false false is_one is_two known = cc
+
+pub known_class : (class : ℕ) → not (is_known_class class) ≡ false → IsKnownClass class
+known_class class known = known_by class (class == 1) (class == 2) refl refl known
 
 -- part 2 is of one of the two classes
 pub part_class-known : (class : ℕ) (part : HeaderPt2) → class ≡ part_class part → IsKnownClass class

@@ -12,15 +12,24 @@ use Rattle.xmas_elf.specs.SectionHeader.{HasSectionEntry, section_at_index, sect
 use Rattle.xmas_elf.specs.SectionList.{section_list}
 use Rattle.xmas_elf.specs.declared.ElfFile.{ElfFile}
 use Rattle.xmas_elf.specs.declared.sections.section_header.SectionHeader.{SectionHeader}
-use Rattle.xmas_elf.proofs.HeaderLists.{AllPassed, entries_fit, entry_place-within, header_list-fits, header_list-longest, header_list-whole, is_known_class-known, unless-passed}
+use Rattle.xmas_elf.proofs.HeaderLists.{AllPassed, entries_fit, entry_place-within, entry_room, header_list-fits, header_list-longest, header_list-whole, is_known_class-known, known_class, unless-passed}
 
-section_entry-has : (input : List ℕ) (header : Header) (index : ℕ) → HasSectionEntry input header index → IsOk (section_entry input header index)
+-- an entry that can be read is the header at its index
+pub section_entry-at : (input : List ℕ) (header : Header) (index : ℕ) → HasSectionEntry input header index → section_entry input header index ≡ Ok (section_at_index input header index)
 unfolding section_entry
-section_entry-has input header index can =
+section_entry-at input header index can =
     let within : nat_lt (length input) (section_place header (index + 1)) ≡ false = le-ltb _ _ can.within in
     let known : is_known_class (file_class header) ≡ true = is_known_class-known (file_class header) can.class in
     let large : nat_lt (header_fields header.pt2).sh_entry_size (section_header_size (file_class header)) ≡ false = le-ltb _ _ can.large in
     rw (within, known, large) refl
+
+section_entry-has : (input : List ℕ) (header : Header) (index : ℕ) → HasSectionEntry input header index → IsOk (section_entry input header index)
+section_entry-has input header index can = let is = section_entry-at input header index can in rw is refl
+
+-- and ends within the input
+pub section_entry_room : (input : List ℕ) (header : Header) (index : ℕ) → HasSectionEntry input header index → section_place header index + section_header_size (file_class header) ≤ length input
+section_entry_room input header index can =
+    entry_room (header_fields header.pt2).sh_offset (header_fields header.pt2).sh_entry_size (section_header_size (file_class header)) index (length input) can.large can.within
 
 -- where the table lies in the input and its entries are large enough, no section is missing
 pub length-section_list : (file : ElfFile) → IsKnownClass (file_class file.header)
@@ -49,6 +58,16 @@ rows input header index = (nat_lt (length input) (section_place header (index + 
 section_entry-passed : (input : List ℕ) (header : Header) (index : ℕ) (h : SectionHeader) → section_entry input header index ≡ Ok h → AllPassed (rows input header index)
 unfolding section_entry
 section_entry-passed input header index h is = unless-passed (rows input header index) (section_at_index input header index) h is
+
+pub section_entry-can : (input : List ℕ) (header : Header) (index : ℕ) (h : SectionHeader) → section_entry input header index ≡ Ok h → HasSectionEntry input header index
+section_entry-can input header index h is = let passed = section_entry-passed input header index h is in record {
+  within = ltb-false _ _ passed.0;
+  class = known_class (file_class header) passed.1.0;
+  large = ltb-false _ _ passed.1.1.0;
+}
+
+pub section_entry-is : (input : List ℕ) (header : Header) (index : ℕ) (h : SectionHeader) → section_entry input header index ≡ Ok h → h ≡ section_at_index input header index
+section_entry-is input header index h is = let at = section_entry-at input header index (section_entry-can input header index h is) in cc
 
 -- so it has bytes of its own
 section_entry-ends : (input : List ℕ) (header : Header) (index : ℕ) (h : SectionHeader) → section_entry input header index ≡ Ok h → suc index * 40 ≤ length input

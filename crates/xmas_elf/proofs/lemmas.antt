@@ -6,3 +6,5 @@ pub mod TypeNumbers
 pub mod Tags
 pub mod Walks
 pub mod Reports
+pub mod Extensions
+pub mod Enums

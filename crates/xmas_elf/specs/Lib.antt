@@ -46,6 +46,8 @@ pub mod HeaderTable
 pub mod SectionHeader
 pub mod Counts
 pub mod SectionList
+pub mod Laid
+pub mod SectionTable
 pub mod Range
 pub mod SectionData
 pub mod Symbol
@@ -66,6 +68,7 @@ pub mod SymbolText
 pub mod SectionText
 pub mod ProgramHeader
 pub mod ProgramList
+pub mod ProgramTable
 pub mod SegmentData
 pub mod SegmentContent
 pub mod ProgramText

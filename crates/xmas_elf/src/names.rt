@@ -1,9 +1,9 @@
 //! The names of sections, and the section with a name (gABI, "String Table" and "Sections", sh_name).
 
-ghost use Rattle.std.specs.Prelude.{◌≡◌, ◌↔◌, ◌+◌, ◌≤◌, IfNone, IfOk, IfSome, IsOkAnd, IsTrue, List, Some, length, ℕ};
+ghost use Rattle.std.specs.Prelude.{◌≡◌, ◌↔◌, ◌+◌, ◌≤◌, Err, IfNone, IfOk, IfSome, IsOkAnd, IsTrue, List, Ok, Some, length, ℕ};
+ghost use Rattle.std.specs.Result.{ForErr, ForOk};
 ghost use Rattle.elf_base.specs.Lent.{Answers, Lends, LendsOnly, LiesAt};
 ghost use Rattle.elf_base.specs.TextCompared.{TextCompared};
-ghost use Rattle.xmas_elf.specs.First.{FindsFirstAt};
 ghost use Rattle.xmas_elf.specs.HeaderTable.{EachBelow};
 ghost use Rattle.xmas_elf.specs.NameTable.{Bears, FindsNamed, IsFirstNamed, IsNameAt, IsNameTable};
 ghost use Rattle.xmas_elf.specs.NameTable.{NameCompared, name_table_of, names_section_of};
@@ -59,6 +59,15 @@ impl<'a> ElfFile<'a> {
         self.section_header_at(u64::from(self.shstr_index()?))
     }
 
+    // The name table, as a table of sections keeps it.
+    #[inline(always)]
+    pub(crate) fn kept_names(&self) -> Result<&'a [u8], ElfError>
+        ensures named { ForOk result (λ table. name_table_of self.now ≡ Ok table.now) }
+        ensures nameless { ForErr result (λ error. name_table_of self.now ≡ Err error) }
+    {
+        self.name_table()
+    }
+
     // The input from the offset of the section that holds the names, whatever its type and size.
     #[tactic(auto, unfolding(crate::specs::NameTable::name_table_of))]
     #[inline(always)]
@@ -88,28 +97,6 @@ impl<'a> ElfFile<'a> {
             (λ section. ¬ Bears self.now section name.now) (length (section_list self.now))) }
         ensures exact { result ≡ section_named self.now name.now }
     {
-        self.first_named(name)
-    }
-
-    // The first section of the list that bears this name. It is read whole only once it is found.
-    #[inline(always)]
-    fn first_named(&self, name: &str) -> Option<SectionHeader>
-        ensures { FindsNamed self.now name.now result }
-    {
-        let position = self.position_of_name(name)?;
-        self.section_header_at(position as u64).ok()
-    }
-
-    // The position of that section in the list; the name table is found once.
-    #[inline(always)]
-    fn position_of_name(&self, name: &str) -> Option<usize>
-        ensures { FindsFirstAt (λ section. Bears self.now section name.now)
-            (section_list self.now) result }
-    {
-        let Ok(names) = self.name_table() else {
-            return None;
-        };
-        self.section_iter()
-            .position(|section| section.bears(names, name))
+        self.section_table().find_by_name(name)
     }
 }

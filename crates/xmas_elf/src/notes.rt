@@ -17,6 +17,7 @@ use elf_base::header::byte_order;
 //
 // Refused with `Note32` in class 1, with `UnknownClass` where the class is not 2, and with
 // `ShortData` below 12 bytes.
+#[inline(always)]
 pub(crate) fn first_note<'a>(
     file: &ElfFile<'_>,
     bytes: &'a [u8],

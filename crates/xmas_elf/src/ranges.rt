@@ -1,6 +1,6 @@
 //! Ranges of the input, whose ends are whole numbers and never wrap.
 
-ghost use Rattle.std.specs.Prelude.{◌≡◌, ◌↔◌, ◌+◌, ◌≤◌, ◌<◌, IfOk, IsOk, IsTrue, MatchOption, length};
+ghost use Rattle.std.specs.Prelude.{◌≡◌, ◌↔◌, ◌+◌, ◌≤◌, ◌<◌, IfOk, IsOk, IsTrue, MatchOption, length, ℕ};
 ghost use Rattle.elf_base.specs.Lent.{Answers, Lends, LiesAt};
 ghost use Rattle.xmas_elf.specs.HeaderTable.{entry_place};
 ghost use Rattle.xmas_elf.specs.Range.{IsRange, range_of};
@@ -54,6 +54,22 @@ pub(crate) fn entry_at(input: &[u8], offset: u64, entry_size: u16, index: u64) -
         return None;
     }
     Some(place as usize)
+}
+
+// How many entries of a table end within the input, of so many.
+#[inline(always)]
+pub(crate) fn entries_within(input: &[u8], offset: u64, entry_size: u16, limit: u64) -> usize
+    requires { 0 < entry_size }
+    ensures few { result ≤ limit }
+    ensures each { (i : ℕ) → i < result → entry_place offset entry_size (i + 1) ≤ length input.now }
+    ensures most { result < limit → length input.now < entry_place offset entry_size (result + 1) }
+{
+    let len = input.len() as u64;
+    if offset > len {
+        return 0;
+    }
+    let room = (len - offset) / u64::from(entry_size);
+    room.min(limit) as usize
 }
 
 // Whether a table with so many entries ends within the input.

@@ -1,14 +1,15 @@
 //! The sections of a file, by index and by iterator (gABI, "Sections").
 
-ghost use Rattle.std.specs.Prelude.{◌≡◌, ◌↔◌, ◌+◌, ◌*◌, ◌^◌, ◌<◌, ◌≤◌, [], ◌∷◌, IfOk, IsOk, length};
+ghost use Rattle.std.specs.Prelude.{◌≡◌, ◌↔◌, ◌+◌, ◌*◌, ◌^◌, ◌<◌, ◌≤◌, [], ◌∷◌, IfOk, IsOk, length, ℕ};
 ghost use Rattle.std.specs.Prelude.{nat_lt, not};
 ghost use Rattle.std.specs.Iterator.{YieldsFirst, item_count};
-ghost use Rattle.elf_base.specs.FileHeader.{file_class};
+ghost use Rattle.elf_base.specs.FileHeader.{file_class, file_order};
 ghost use Rattle.elf_base.specs.HeaderLayout.{header_fields};
 ghost use Rattle.elf_base.specs.Refusal.{unless};
 ghost use Rattle.xmas_elf.specs.Checks.{section_check};
 ghost use Rattle.xmas_elf.specs.Counts.{section_count_of};
 ghost use Rattle.xmas_elf.specs.HeaderTable.{IsLongest, is_known_class};
+ghost use Rattle.xmas_elf.specs.Laid.{IsLaid};
 ghost use Rattle.xmas_elf.specs.SectionHeader.{section_header_size, section_at_place};
 ghost use Rattle.xmas_elf.specs.SectionHeader.{HasSectionEntry, HasSectionHeader, section_at_index};
 ghost use Rattle.xmas_elf.specs.SectionHeader.{section_entry, section_by_u16, section_of};
@@ -18,15 +19,17 @@ mod content;
 mod records;
 mod section_header;
 mod strings;
+mod table;
 mod text;
 
 use crate::header::Class::{SixtyFour, ThirtyTwo};
 use crate::header::Header;
-use crate::ranges::entry_at;
+use crate::ranges::{entries_within, entry_at};
 pub use crate::sections::content::SectionData;
 pub use crate::sections::records::SectionHeader_;
 pub use crate::sections::section_header::SectionHeader;
 pub use crate::sections::strings::SectionStrings;
+pub use crate::sections::table::{SectionTable, SectionTableIter};
 pub(crate) use crate::sections::text::SectionType;
 use crate::{ElfError, ElfFile, P32, P64};
 use elf_base::bytes::{Order, Record};
@@ -40,6 +43,8 @@ pub use elf_records::sections::{
 };
 
 impl<'a> ElfFile<'a> {
+    ghost use Rattle.xmas_elf.specs.SectionTable.{table_file, table_sections};
+
     /// The section header at this index, with the answer of `sections::parse_section_header`.
     #[inline(always)]
     pub fn section_header(&self, index: u16) -> Result<SectionHeader, ElfError>
@@ -86,6 +91,59 @@ impl<'a> ElfFile<'a> {
             next_index: 0,
         }
     }
+
+    /// The section headers for many calls: the same as by `section_iter`.
+    #[inline(always)]
+    pub fn section_table(&self) -> SectionTable<'_, 'a>
+        ensures file { table_file result ≡ self.now }
+        ensures longest { IsLongest (section_of self.now) (section_count_of self.now)
+            (table_sections result) }
+    {
+        SectionTable {
+            file: self,
+            names: self.kept_names(),
+            offset: self.header.pt2.sh_offset() as usize,
+            entry_size: usize::from(self.header.pt2.sh_entry_size()),
+            len: readable_sections(self),
+            class: self.header.pt1.class.raw(),
+            order: byte_order(self.header.pt1.encoding),
+        }
+    }
+}
+
+// How many section headers can be read, from index 0 on, and where they lie.
+#[inline(always)]
+fn readable_sections(file: &ElfFile<'_>) -> usize
+    ensures counted { result ≡ length (section_list file.now) }
+    ensures laid { IsLaid (section_of file.now) (λ place. section_at_place
+        (file_class file.now.header) (file_order file.now.header) place file.now.input.now)
+        (header_fields file.now.header.pt2).sh_offset
+        (header_fields file.now.header.pt2).sh_entry_size
+        (section_header_size (file_class file.now.header)) result (length file.now.input.now) }
+{
+    whole_sections(file)
+}
+
+// How many entries of the section header table are whole and large enough, from index 0 on.
+#[inline(always)]
+fn whole_sections(file: &ElfFile<'_>) -> usize
+    ensures few { result ≤ section_count_of file.now }
+    ensures each { (i : ℕ) → i < result
+        → HasSectionEntry file.now.input.now file.now.header i }
+    ensures most { result < section_count_of file.now
+        → ¬ HasSectionEntry file.now.input.now file.now.header result }
+{
+    let entry_size = file.header.pt2.sh_entry_size();
+    let least = match file.header.pt1.class() {
+        ThirtyTwo => 40,
+        SixtyFour => 64,
+        _ => return 0,
+    };
+    if entry_size < least {
+        return 0;
+    }
+    let offset = file.header.pt2.sh_offset();
+    entries_within(file.input, offset, entry_size, file.section_count())
 }
 
 /// The section header at this index of the section header table.
@@ -168,6 +226,29 @@ fn header_at_place(
             Ok(SectionHeader::Sh64(record))
         }
         _ => Err(ElfError::UnknownClass),
+    }
+}
+
+// The section header at a place of the input, of 32 bits for class 1 and else of 64.
+#[inline(always)]
+fn section_at(input: &[u8], place: usize, class: u8, order: Order) -> SectionHeader
+    requires { place + section_header_size class ≤ length input.now }
+    ensures { result ≡ section_at_place class order place input.now }
+{
+    // One choice of the order for all fields.
+    match (class, order) {
+        (1, Order::Little) => {
+            SectionHeader::Sh32(SectionHeader_::<P32>::read(input, place, Order::Little))
+        }
+        (1, Order::Big) => {
+            SectionHeader::Sh32(SectionHeader_::<P32>::read(input, place, Order::Big))
+        }
+        (_, Order::Little) => {
+            SectionHeader::Sh64(SectionHeader_::<P64>::read(input, place, Order::Little))
+        }
+        (_, Order::Big) => {
+            SectionHeader::Sh64(SectionHeader_::<P64>::read(input, place, Order::Big))
+        }
     }
 }
 

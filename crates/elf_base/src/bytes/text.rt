@@ -8,6 +8,7 @@ ghost use Rattle.elf_base.specs.TextCompared.{FrontCompared, TextCompared};
 ghost use Rattle.elf_base.specs.declared.error.ElfError.{ElfError};
 
 use crate::ElfError;
+use memchr::arch::all::is_equal;
 use memchr::memchr;
 
 /// The text from `start`, which is in bytes, up to the first zero byte.
@@ -91,7 +92,7 @@ pub fn stands_at(data: &[u8], start: usize, text: &str) -> bool
     if wanted.len() >= rest.len() || rest[wanted.len()] != 0 {
         return false;
     }
-    front_is(rest, wanted).0 && memchr(0, wanted).is_none()
+    is_equal(&rest[..wanted.len()], wanted) && memchr(0, wanted).is_none()
 }
 
 // Whether the bytes begin with these and a zero byte, and how many were compared.

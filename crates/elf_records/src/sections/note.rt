@@ -12,7 +12,7 @@ ghost use Rattle.elf_records.specs.Note.{note_name_size, note_type, rounded_up};
 use elf_base::ElfError;
 use elf_base::bytes::{Order, Record, read_u32, text_at};
 
-/// The header of a note, kept as its twelve bytes.
+/// The header of a note, kept as its twelve bytes (gABI, "Note Section").
 ///
 /// Its calls take the bytes that follow the header, up to the end of the section or segment.
 #[derive(Clone, Copy, Debug)]
@@ -30,6 +30,7 @@ impl Record for NoteHeader {
 
     ghost size_above_zero = { lit< tt };
 
+    #[inline(always)]
     fn decode(bytes: &[u8], order: Order) -> NoteHeader {
         match <[u8; 12]>::try_from(bytes) {
             Ok(kept) => NoteHeader { bytes: kept, order },
@@ -41,6 +42,7 @@ impl Record for NoteHeader {
 #[tactic(auto, unfolding(crate::specs::Note::note_name_size, crate::specs::Note::note_desc_size, crate::specs::Note::note_type))]
 impl NoteHeader {
     /// What the description means, by the note's name.
+    #[inline(always)]
     pub fn type_(&self) -> u32
         ensures { result ≡ note_type self.now }
     {
@@ -48,6 +50,7 @@ impl NoteHeader {
     }
 
     // How many bytes the name has, with its zero byte.
+    #[inline(always)]
     fn name_size(&self) -> u32
         ensures { result ≡ note_name_size self.now }
     {
@@ -55,6 +58,7 @@ impl NoteHeader {
     }
 
     // How many bytes the description has.
+    #[inline(always)]
     fn desc_size(&self) -> u32
         ensures { result ≡ note_desc_size self.now }
     {
@@ -66,6 +70,7 @@ impl NoteHeader {
     /// The name of the note, without its zero byte: `TextEnd` where no zero byte follows, `TextUtf8`, and
     /// `NoteName` where the text with its zero byte has not the size that the header says.
     #[tactic(auto, unfolding(crate::specs::Note::note_name_of))]
+    #[inline(always)]
     pub fn name<'a>(&self, body: &'a [u8]) -> Result<&'a str, ElfError>
         ensures text { Lends (IsNoteName body.now (note_name_size self.now)) result }
         ensures only { LendsOnly (IsNoteName body.now (note_name_size self.now)) result }
@@ -85,6 +90,7 @@ impl NoteHeader {
 
     /// The description of the note, a part of `body`; `NoteDesc` where it passes the end of that.
     #[tactic(auto, unfolding(crate::specs::Note::note_desc_of))]
+    #[inline(always)]
     pub fn desc<'a>(&self, body: &'a [u8]) -> Result<&'a [u8], ElfError>
         ensures desc { Lends (IsNoteDescription body.now (note_name_size self.now)
             (note_desc_size self.now)) result }

@@ -9,14 +9,14 @@ ghost use Rattle.elf_records.specs.Relocation.{symbol_in_32, symbol_in_64, type_
 use elf_base::bytes::{Order, Record, read_u32, read_u64};
 use elf_base::{P32, P64};
 
-/// A relocation whose addend stands at the place that is changed.
+/// A relocation whose addend stands at the place that is changed (gABI, "Relocation").
 #[derive(Clone, Copy, Debug)]
 pub struct Rel<P> {
     offset: P,
     info: P,
 }
 
-/// A relocation with its addend.
+/// A relocation with its addend (gABI, "Relocation").
 #[derive(Clone, Copy, Debug)]
 pub struct Rela<P> {
     offset: P,

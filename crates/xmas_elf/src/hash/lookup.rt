@@ -59,7 +59,8 @@ impl<'a> HashTable<'a> {
     /// Refused as the bucket of the name is by `get_bucket`; with `ChainIndex` or `SymbolIndex` where
     /// the chain leads to an index from `chain_count` or from `symbols.len()` on; as `get_chain` is
     /// where the chain can't be followed; and with `HashCycle` where it never comes to an end. It is
-    /// never refused, and misses no symbol, where `check` is Ok with the same symbols and file.
+    /// never refused where `check` is Ok with the same symbols and file, and then finds something
+    /// wherever a symbol that isn't local bears the name and passes: of several the chain's first.
     ///
     /// Where the bucket isn't empty it looks the string table of the symbols up once, as
     /// `Entry::string_table` does, and compares the names there in place.
@@ -88,8 +89,9 @@ impl<'a> HashTable<'a> {
         self.lookup_counted(name, symbols, file, f).0
     }
 
-    /// The answer of `lookup`, and how many symbols were compared with the name: exact where the
-    /// answer isn't `HashCycle`, and never more than there are chains or symbols.
+    /// The answer of `lookup`, and the number of symbols on the way to it: exact where the answer
+    /// isn't `HashCycle`, and never more than there are chains or symbols. No clause says that the
+    /// code compares no more.
     pub fn lookup_counted<E: Entry + Record, F: Fn(&E) -> bool>(
         &self,
         name: &str,

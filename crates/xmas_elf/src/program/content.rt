@@ -16,7 +16,7 @@ use crate::sections::NoteHeader;
 use crate::{ElfError, ElfFile, P32, P64};
 use elf_base::header::byte_order;
 
-/// The data of a segment, by its type; the numbers in the names are the class.
+/// The data of a segment by its type, with the class in the names (gABI, "Program Header", p_type).
 #[derive(Debug, Drop)]
 pub enum SegmentData<'a> {
     /// No bytes: type Null.

@@ -11,7 +11,7 @@ use crate::program::{Flags, Type, Type_};
 use crate::{ElfError, ElfFile};
 use elf_base::bytes::Record;
 
-/// A program header of either width.
+/// A program header of either width (gABI, "Program Header").
 #[derive(Clone, Copy, Debug)]
 pub enum ProgramHeader {
     /// The 32 bytes of class 32.

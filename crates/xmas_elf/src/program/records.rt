@@ -13,7 +13,7 @@ use crate::ranges::range_at;
 use crate::{ElfError, ElfFile};
 use elf_base::bytes::{Order, Record, read_u32, read_u64};
 
-/// A program header of class 32.
+/// A program header of class 32 (gABI, "Program Header", Elf32_Phdr).
 #[derive(Clone, Copy, Debug, Default)]
 pub struct ProgramHeader32 {
     /// What the segment is.
@@ -34,7 +34,7 @@ pub struct ProgramHeader32 {
     pub align: u32,
 }
 
-/// A program header of class 64.
+/// A program header of class 64 (gABI, "Program Header", Elf64_Phdr).
 #[derive(Clone, Copy, Debug, Default)]
 pub struct ProgramHeader64 {
     /// What the segment is.

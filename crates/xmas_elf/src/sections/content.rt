@@ -19,7 +19,7 @@ use crate::{ElfError, ElfFile, P32, P64};
 use elf_base::bytes::read_u32;
 use elf_base::header::byte_order;
 
-/// The data of a section, by its type; the numbers in the names are the class.
+/// The data of a section by its type, with the class in the names (gABI, "Sections", sh_type).
 #[derive(Debug, Drop)]
 pub enum SectionData<'a> {
     /// No bytes: type Null or NoBits.
@@ -82,6 +82,7 @@ impl SectionHeader {
     /// `ShortData`, and then with `NotMultiple`; notes with `Note32` in class 1, with `UnknownClass`,
     /// and below 12 bytes with `ShortData`; hash tables below 12 bytes with `ShortData`.
     #[tactic(auto, using(crate::proofs::Places::section_lies), unfolding(crate::specs::SectionContent::section_content_of))]
+    #[inline(always)]
     pub fn get_data<'a>(&self, file: &ElfFile<'a>) -> Result<SectionData<'a>, ElfError>
         ensures exact { MatchResult result
             (λ d. section_content_of file.now self.now ≡ Ok (content d))
@@ -106,6 +107,7 @@ impl<'a> SectionData<'a> {
     ghost use Rattle.xmas_elf.specs.Place.{PartLies, section_part};
 
     // What these bytes are in a section of this type.
+    #[inline(always)]
     fn read(kind: ShType, file: &ElfFile<'a>, bytes: &'a [u8]) -> Result<SectionData<'a>, ElfError>
         ensures exact { MatchResult result
             (λ d. content_of kind (file_class file.now.header) (file_order file.now.header)
@@ -157,6 +159,7 @@ impl<'a> SectionData<'a> {
     }
 
     // A group of sections.
+    #[inline(always)]
     fn group(bytes: &'a [u8], order: Order) -> Result<SectionData<'a>, ElfError>
         ensures exact { MatchResult result
             (λ d. group_of order bytes.now ≡ Ok (content d))

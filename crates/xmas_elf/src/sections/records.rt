@@ -8,7 +8,7 @@ use crate::sections::ShType_;
 use crate::{P32, P64};
 use elf_base::bytes::{Order, Record, read_u32, read_u64};
 
-/// A section header with addresses and offsets of type `P`; the calls of `SectionHeader` read it.
+/// A section header with numbers of type `P`, which `SectionHeader` reads (gABI, "Sections").
 #[derive(Clone, Copy, Debug)]
 pub struct SectionHeader_<P> {
     pub(crate) name: u32,

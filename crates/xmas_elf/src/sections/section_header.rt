@@ -15,7 +15,7 @@ use crate::sections::{ShType, ShType_};
 use crate::{ElfError, ElfFile, P32, P64};
 use elf_base::bytes::stands_at;
 
-/// A section header of either width.
+/// A section header of either width (gABI, "Sections").
 #[derive(Clone, Copy, Debug)]
 pub enum SectionHeader {
     /// The 40 bytes of class 32.
@@ -159,9 +159,13 @@ impl SectionHeader {
         ensures { (file : ElfFile) → name_table_of file ≡ Ok names.now
             → (IsTrue result ↔ Bears file self.now name.now) }
     {
+        // The name tells most sections apart, so the type is asked second.
+        if !stands_at(names, self.name() as usize, name) {
+            return false;
+        }
         match self.get_type() {
             Err(_) | Ok(ShType::Null) => false,
-            Ok(_) => stands_at(names, self.name() as usize, name),
+            Ok(_) => true,
         }
     }
 

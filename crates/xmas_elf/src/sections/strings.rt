@@ -6,7 +6,7 @@ use crate::ElfError;
 use crate::bytes::text_at;
 use crate::sections::SectionData;
 
-/// The texts at the front of a string table, up to its end or the first that is empty.
+/// The texts at the front of a string table, up to its end or an empty one (gABI, "String Table").
 ///
 /// A fault is the last item: `TextEnd` where no zero byte follows, and `TextUtf8`.
 #[derive(Clone, Debug, Drop)]

@@ -12,28 +12,28 @@ mod printed;
 
 use crate::bytes::{Order, Record};
 
-/// A symbol of class 32, whose name stands in `.strtab`.
+/// A symbol of class 32, with its name in `.strtab` (gABI, "Symbol Table", Elf32_Sym).
 #[derive(Clone, Copy, Debug)]
 pub struct Entry32 {
     bytes: [u8; 16],
     order: Order,
 }
 
-/// A symbol of class 64, whose name stands in `.strtab`.
+/// A symbol of class 64, with its name in `.strtab` (gABI, "Symbol Table", Elf64_Sym).
 #[derive(Clone, Copy, Debug)]
 pub struct Entry64 {
     bytes: [u8; 24],
     order: Order,
 }
 
-/// A symbol of the dynamic linker in class 32, whose name stands in `.dynstr`.
+/// A symbol of the dynamic linker in class 32, with its name in `.dynstr` (gABI, "Symbol Table").
 #[derive(Clone, Copy, Debug)]
 pub struct DynEntry32 {
     bytes: [u8; 16],
     order: Order,
 }
 
-/// A symbol of the dynamic linker in class 64, whose name stands in `.dynstr`.
+/// A symbol of the dynamic linker in class 64, with its name in `.dynstr` (gABI, "Symbol Table").
 #[derive(Clone, Copy, Debug)]
 pub struct DynEntry64 {
     bytes: [u8; 24],

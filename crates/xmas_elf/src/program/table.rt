@@ -1,0 +1,110 @@
+//! The program header table, prepared once for many calls (gABI, "Program Header").
+
+ghost use Rattle.std.specs.Prelude.{◌≡◌, ◌+◌, ◌^◌, ◌<◌, ◌≤◌, ◌∷◌, [], drop, length, slice_get, MatchOption};
+ghost use Rattle.std.specs.Iterator.{YieldsFirst, item_count};
+ghost use Rattle.xmas_elf.specs.Laid.{IsLaid};
+ghost use Rattle.xmas_elf.specs.ProgramHeader.{program_at_index, program_at_place};
+ghost use Rattle.xmas_elf.specs.ProgramHeader.{program_header_size, program_of};
+ghost use Rattle.xmas_elf.specs.ProgramList.{program_list};
+
+use crate::ElfFile;
+use crate::program::{ProgramHeader, program_at};
+use elf_base::bytes::Order;
+
+/// The program headers of a file, for many calls: where they lie, their width and their order are asked
+/// once.
+///
+/// It is a view: it holds no headers, and each call decodes what it gives.
+#[derive(Clone, Copy, Debug)]
+pub struct ProgramTable<'b, 'a> {
+    pub(crate) file: &'b ElfFile<'a>,
+    pub(crate) offset: usize,
+    pub(crate) entry_size: usize,
+    pub(crate) len: usize,
+    pub(crate) class: u8,
+    pub(crate) order: Order,
+    ghost counted: { len ≡ length (program_list file.now) },
+    ghost laid: { IsLaid (program_of file.now)
+        (λ place. program_at_place class order place file.now.input.now) offset entry_size
+        (program_header_size class) len (length file.now.input.now) },
+}
+
+impl<'b, 'a> ProgramTable<'b, 'a> {
+    ghost use Rattle.xmas_elf.specs.ProgramTable.{program_table_file, table_programs, table_programs_rest};
+
+    /// How many program headers it has.
+    #[inline(always)]
+    pub fn len(&self) -> usize
+        ensures { result ≡ length (table_programs self.now) }
+    {
+        self.len
+    }
+
+    /// The program header at an index, which is `None` from `len` on.
+    #[inline(always)]
+    pub fn get(&self, index: usize) -> Option<ProgramHeader>
+        ensures item { result ≡ slice_get (table_programs self.now) index }
+        ensures value { MatchOption result (length (table_programs self.now) ≤ index)
+            (λ program. (index < length (table_programs self.now)) × (program
+            ≡ program_at_index (program_table_file self.now).input.now
+            (program_table_file self.now).header index)) }
+    {
+        if index >= self.len {
+            return None;
+        }
+        let place = self.offset + index * self.entry_size;
+        Some(program_at(self.file.input, place, self.class, self.order))
+    }
+
+    // The program header at an index, and the index after it.
+    #[inline(always)]
+    fn step(&self, index: usize) -> Option<(ProgramHeader, usize)>
+        ensures { MatchOption result (drop index (table_programs self.now) ≡ [])
+            (λ step. drop index (table_programs self.now) ≡ step.0 ∷ drop step.1 (table_programs self.now)) }
+    {
+        let Some(program) = self.get(index) else {
+            return None;
+        };
+        // By this the sum is known to be a number of 64 bits.
+        prove!(index < self.len());
+        Some((program, index + 1))
+    }
+
+    /// The program headers in order.
+    #[inline(always)]
+    pub fn iter(&self) -> ProgramTableIter<'b, 'a>
+        ensures all { table_programs_rest result ≡ table_programs self.now }
+        ensures fits { length (table_programs_rest result) < 2 ^ 64 }
+    {
+        // By this the proof of `fits` knows that the length is a number of 64 bits.
+        let _count = self.len();
+        ProgramTableIter {
+            table: *self,
+            next_index: 0,
+        }
+    }
+}
+
+/// The program headers of a table in order.
+#[derive(Clone, Debug, Drop)]
+pub struct ProgramTableIter<'b, 'a> {
+    table: ProgramTable<'b, 'a>,
+    next_index: usize,
+}
+
+impl Iterator for ProgramTableIter<'_, '_> {
+    ghost use Rattle.xmas_elf.specs.ProgramTable.{table_programs_rest};
+
+    type Item = ProgramHeader;
+
+    ghost next_gives = { YieldsFirst table_programs_rest };
+
+    ghost remaining = { item_count table_programs_rest };
+
+    #[inline(always)]
+    fn next(&mut self) -> Option<ProgramHeader> {
+        let (program, next_index) = self.table.step(self.next_index)?;
+        self.next_index = next_index;
+        Some(program)
+    }
+}

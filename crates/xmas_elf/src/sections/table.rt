@@ -1,0 +1,183 @@
+//! The section header table, prepared once for many calls (gABI, "Sections": the section header table).
+
+ghost use Rattle.std.specs.Prelude.{◌≡◌, ◌+◌, ◌^◌, ◌<◌, ◌≤◌, ◌∷◌, [], drop, length, slice_get};
+ghost use Rattle.std.specs.Prelude.{Err, MatchOption, Ok};
+ghost use Rattle.std.specs.Result.{ForErr, ForOk};
+ghost use Rattle.std.specs.Iterator.{YieldsFirst, item_count};
+ghost use Rattle.elf_base.specs.Lent.{Answers, Lends, LendsOnly};
+ghost use Rattle.xmas_elf.specs.First.{FindsFirstAt};
+ghost use Rattle.xmas_elf.specs.Laid.{IsLaid};
+ghost use Rattle.xmas_elf.specs.NameTable.{Bears, FindsNamed, IsNameAt, IsNameTable, name_of};
+ghost use Rattle.xmas_elf.specs.NameTable.{name_table_of, section_named, shstr_of};
+ghost use Rattle.xmas_elf.specs.SectionHeader.{section_at_index, section_at_place, section_header_size, section_of};
+ghost use Rattle.xmas_elf.specs.SectionList.{section_list};
+
+use crate::bytes::text_at;
+use crate::sections::{SectionHeader, ShType, section_at};
+use crate::{ElfError, ElfFile};
+use elf_base::bytes::Order;
+
+/// The section headers of a file, for many calls: where they lie, their width and their order are asked
+/// once, and so is the name table.
+///
+/// It is a view: it holds no headers, and each call decodes what it gives.
+#[derive(Clone, Copy, Debug)]
+pub struct SectionTable<'b, 'a> {
+    pub(crate) file: &'b ElfFile<'a>,
+    pub(crate) names: Result<&'a [u8], ElfError>,
+    pub(crate) offset: usize,
+    pub(crate) entry_size: usize,
+    pub(crate) len: usize,
+    pub(crate) class: u8,
+    pub(crate) order: Order,
+    ghost counted: { len ≡ length (section_list file.now) },
+    ghost named: { ForOk names (λ table. name_table_of file.now ≡ Ok table.now) },
+    ghost nameless: { ForErr names (λ error. name_table_of file.now ≡ Err error) },
+    ghost laid: { IsLaid (section_of file.now)
+        (λ place. section_at_place class order place file.now.input.now) offset entry_size
+        (section_header_size class) len (length file.now.input.now) },
+}
+
+impl<'b, 'a> SectionTable<'b, 'a> {
+    ghost use Rattle.xmas_elf.specs.SectionTable.{table_file, table_sections, table_sections_rest};
+
+    /// How many section headers it has.
+    #[inline(always)]
+    pub fn len(&self) -> usize
+        ensures { result ≡ length (table_sections self.now) }
+    {
+        self.len
+    }
+
+    /// The section header at an index, which is `None` from `len` on.
+    #[inline(always)]
+    pub fn get(&self, index: usize) -> Option<SectionHeader>
+        ensures item { result ≡ slice_get (table_sections self.now) index }
+        ensures value { MatchOption result (length (table_sections self.now) ≤ index)
+            (λ section. (index < length (table_sections self.now)) × (section
+            ≡ section_at_index (table_file self.now).input.now (table_file self.now).header index)) }
+    {
+        if index >= self.len {
+            return None;
+        }
+        let place = self.offset + index * self.entry_size;
+        Some(section_at(self.file.input, place, self.class, self.order))
+    }
+
+    /// The name of a section, with the answer of `SectionHeader::get_name`.
+    #[tactic(auto, unfolding(crate::specs::NameTable::name_of))]
+    #[inline(always)]
+    pub fn name_of(&self, section: &SectionHeader) -> Result<&'a str, ElfError>
+        ensures name { Lends (Bears (table_file self.now) section.now) result }
+        ensures only { LendsOnly (Bears (table_file self.now) section.now) result }
+        ensures exact { Answers (name_of (table_file self.now) section.now) result }
+    {
+        match section.get_type()? {
+            ShType::Null => Err(ElfError::NullName),
+            _ => self.text(section.name()),
+        }
+    }
+
+    // The text at an index of the name table, with the answer of `ElfFile::get_shstr`.
+    #[tactic(auto, unfolding(crate::specs::NameTable::shstr_of))]
+    #[inline(always)]
+    fn text(&self, index: u32) -> Result<&'a str, ElfError>
+        ensures name { Lends (IsNameAt (table_file self.now) index) result }
+        ensures only { LendsOnly (IsNameAt (table_file self.now) index) result }
+        ensures exact { Answers (shstr_of (table_file self.now) index) result }
+    {
+        text_at(self.name_table()?, index as usize)
+    }
+
+    // The name table, or why there is none.
+    #[inline(always)]
+    fn name_table(&self) -> Result<&'a [u8], ElfError>
+        ensures table { Lends (IsNameTable (table_file self.now)) result }
+        ensures only { LendsOnly (IsNameTable (table_file self.now)) result }
+        ensures exact { Answers (name_table_of (table_file self.now)) result }
+    {
+        self.names
+    }
+
+    /// The first section that bears this name, with the answer of `ElfFile::find_section_by_name`.
+    #[inline(always)]
+    pub fn find_by_name(&self, name: &str) -> Option<SectionHeader>
+        ensures list { FindsNamed (table_file self.now) name.now result }
+        ensures exact { result ≡ section_named (table_file self.now) name.now }
+    {
+        self.first_named(name)
+    }
+
+    // The first section that bears this name. It is read whole only once it is found.
+    #[inline(always)]
+    fn first_named(&self, name: &str) -> Option<SectionHeader>
+        ensures { FindsNamed (table_file self.now) name.now result }
+    {
+        let position = self.position_of_name(name)?;
+        self.get(position)
+    }
+
+    // The position of that section.
+    #[inline(always)]
+    fn position_of_name(&self, name: &str) -> Option<usize>
+        ensures { FindsFirstAt (λ section. Bears (table_file self.now) section name.now)
+            (table_sections self.now) result }
+    {
+        let Ok(names) = self.name_table() else {
+            return None;
+        };
+        self.iter().position(|section| section.bears(names, name))
+    }
+
+    // The section header at an index, and the index after it.
+    #[inline(always)]
+    fn step(&self, index: usize) -> Option<(SectionHeader, usize)>
+        ensures { MatchOption result (drop index (table_sections self.now) ≡ [])
+            (λ step. drop index (table_sections self.now) ≡ step.0 ∷ drop step.1 (table_sections self.now)) }
+    {
+        let Some(section) = self.get(index) else {
+            return None;
+        };
+        // By this the sum is known to be a number of 64 bits.
+        prove!(index < self.len());
+        Some((section, index + 1))
+    }
+
+    /// The section headers in order.
+    #[inline(always)]
+    pub fn iter(&self) -> SectionTableIter<'b, 'a>
+        ensures all { table_sections_rest result ≡ table_sections self.now }
+        ensures fits { length (table_sections_rest result) < 2 ^ 64 }
+    {
+        // By this the proof of `fits` knows that the length is a number of 64 bits.
+        let _count = self.len();
+        SectionTableIter {
+            table: *self,
+            next_index: 0,
+        }
+    }
+}
+
+/// The section headers of a table in order.
+#[derive(Clone, Debug, Drop)]
+pub struct SectionTableIter<'b, 'a> {
+    table: SectionTable<'b, 'a>,
+    next_index: usize,
+}
+
+impl Iterator for SectionTableIter<'_, '_> {
+    ghost use Rattle.xmas_elf.specs.SectionTable.{table_sections_rest};
+
+    type Item = SectionHeader;
+
+    ghost next_gives = { YieldsFirst table_sections_rest };
+
+    ghost remaining = { item_count table_sections_rest };
+
+    #[inline(always)]
+    fn next(&mut self) -> Option<SectionHeader> {
+        let (section, next_index) = self.table.step(self.next_index)?;
+        self.next_index = next_index;
+        Some(section)
+    }
+}
