@@ -1,9 +1,9 @@
 -- What passes the check of a GNU hash table, and what doesn't.
-use Rattle.std.proofs.Common.{◌≡◌, ◌≢◌, ◌<◌, ◌≤◌, ◌+◌, ◌/◌, ℕ, ◌⊎◌, inl, inr, List, Some, None, Result, Ok, Err, slice_get, refl, ap, subst, arith, below_more}
+use Rattle.std.proofs.Common.{◌≡◌, ◌≢◌, ◌<◌, ◌/◌, ℕ, ◌⊎◌, inl, inr, List, Some, None, Result, Err, slice_get, refl, ap, subst, arith}
 use Rattle.std.proofs.lemmas.Bool.{cases_order}
 use Rattle.std.specs.Prelude.{IsOk}
-use Rattle.elf_linking.specs.GnuHash.{bucket_count_of, bucket_word, first_symbol_of}
-use Rattle.elf_linking.specs.GoodGnu.{AreGoodBelow, Ends, IsAtFault, IsBucketGood, IsCheck, IsCut, IsExported, IsGood, IsHeld, cut, faulty, good, missing, too_early}
+use Rattle.elf_linking.specs.GnuHash.{bucket_word}
+use Rattle.elf_linking.specs.GoodGnu.{IsAtFault, IsBucketGood, IsCheck, IsExported, IsGood, IsHeld, cut, faulty, good, missing, too_early}
 use Rattle.elf_linking.specs.declared.error.LinkError.{LinkError}
 use Rattle.elf_linking.specs.declared.gnu_hash.GnuHashTable.{GnuHashTable}
 use Rattle.elf_linking.proofs.Runs.{cut_once, ends_cut}

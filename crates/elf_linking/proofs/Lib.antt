@@ -8,3 +8,8 @@ pub mod Scans
 pub mod GnuChecks
 pub mod RelrItems
 pub mod NoteItems
+pub mod Firsts
+pub mod LoadedBytes
+pub mod EntryItems
+pub mod NeededItems
+pub mod LinkedNames

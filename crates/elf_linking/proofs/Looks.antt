@@ -1,14 +1,13 @@
 -- One look-up has one answer; and on a good table it is never refused and finds what must be found.
-use Rattle.std.proofs.Common.{◌≡◌, ◌≢◌, ◌+◌, ◌-◌, ◌/◌, ◌%◌, ◌<◌, ◌≤◌, ℕ, ◌⊎◌, inl, inr, Bool, true, false, List, Option, Some, None, Result, Ok, Err, slice_get, refl, sym, ◌∙◌, ap, subst, arith}
+use Rattle.std.proofs.Common.{◌≡◌, ◌≢◌, ◌%◌, ◌<◌, ◌≤◌, ℕ, ◌⊎◌, inl, inr, Bool, true, false, List, Option, Some, None, Result, refl, subst, arith}
 use Rattle.std.proofs.Math.Dec.{eqb}
 use Rattle.std.proofs.lemmas.Bool.{cases_order, eqb-false}
 use Rattle.std.specs.Prelude.{◌||◌, not, if◌then◌else◌}
-use Rattle.elf_linking.specs.GnuHash.{bucket_count_of, bucket_word, chain_word, first_symbol_of, may_hold, start_at, start_of}
+use Rattle.elf_linking.specs.GnuHash.{bucket_count_of, bucket_word, first_symbol_of, may_hold, start_at, start_of}
 use Rattle.elf_linking.specs.GnuHashNumber.{gnu_hash_number}
 use Rattle.elf_linking.specs.GoodGnu.{AreGoodBelow, Ends, FindsAll, IsBucketGood, IsExported, IsGood, IsHeld}
-use Rattle.elf_linking.specs.Run.{EndsRun, IsHit, IsThere, Lacks, Looks, LooksFrom, NoHit, Run, Stops, ended, found, goes, no_run, refused, too_early}
+use Rattle.elf_linking.specs.Run.{EndsRun, IsHit, Looks, LooksFrom, NoHit, Run, Stops, ended, found, goes, no_run, refused, too_early}
 use Rattle.elf_linking.specs.declared.error.LinkError.{LinkError}
-use Rattle.elf_linking.specs.declared.error.LinkError.TheVariants.{ChainIndex}
 use Rattle.elf_linking.specs.declared.gnu_hash.GnuHashTable.{GnuHashTable}
 use Rattle.elf_linking.proofs.Runs.{ends_cut, looks_from_once}
 use Rattle.xmas_elf.specs.Symbols.{Symbols}

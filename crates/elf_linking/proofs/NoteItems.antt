@@ -1,11 +1,11 @@
 -- The notes of bytes, as they are computed and as they are meant.
-use Rattle.std.proofs.Common.{◌≡◌, ◌≢◌, ℕ, zero, suc, ◌+◌, ◌-◌, ◌≤◌, ◌*◌, ◌/◌, ◌<◌, ◌==◌, ◌&&◌, Bool, true, false, if◌then◌else◌, IsTrue, List, [], ◌∷◌, length, length-drop, drop, Result, Ok, Err, refl, sym, ap, ◌∙◌, arith}
+use Rattle.std.proofs.Common.{◌≡◌, ℕ, zero, suc, ◌+◌, ◌-◌, ◌≤◌, ◌*◌, ◌/◌, ◌<◌, ◌==◌, ◌&&◌, Bool, true, false, if◌then◌else◌, List, [], ◌∷◌, length, length-drop, drop, Result, Ok, Err, refl, sym, ap, ◌∙◌, arith}
 use Rattle.std.specs.Prelude.{nat_le}
 use Rattle.std.proofs.lemmas.Bool.{eq-eqb, eqb-true, eqb-false, ne_eqb, leb-true, le-leb}
 use Rattle.elf_base.specs.declared.bytes.Order.{Order}
 use Rattle.elf_linking.specs.declared.error.LinkError.{LinkError}
 use Rattle.elf_linking.specs.declared.error.LinkError.TheVariants.{ShortNote}
-use Rattle.elf_linking.specs.Notes.{AreNotes, at_end, cut_off, whole, BeginsWithNote, NoteParts, begins_with_note, desc_end, desc_size, desc_start, first_note, name_size, next_note, next_step, notes_of, notes_within}
+use Rattle.elf_linking.specs.Notes.{AreNotes, at_end, cut_off, whole, BeginsWithNote, NoteParts, begins_with_note, desc_end, first_note, name_size, next_note, next_step, notes_of, notes_within}
 
 -- a step goes on
 step_by : (eight : Bool) (n : ℕ) → n ≤ (if eight then (n + 7) / 8 * 8 else (n + 3) / 4 * 4)

@@ -1,11 +1,11 @@
 -- The runs of a GNU hash table, index by index.
-use Rattle.std.proofs.Common.{◌≡◌, ◌≢◌, ◌+◌, ◌-◌, ◌%◌, ◌<◌, ◌≤◌, ℕ, ◌⊎◌, inl, inr, List, Option, Some, None, Result, Ok, Err, slice_get, length, refl, sym, ap, subst, arith, below_more}
+use Rattle.std.proofs.Common.{◌≡◌, ◌+◌, ◌-◌, ◌<◌, ◌≤◌, ℕ, ◌⊎◌, inl, inr, List, Option, Some, Result, Ok, Err, slice_get, length, refl, sym, ap, subst, arith, below_more}
 use Rattle.std.proofs.lemmas.Bool.{cases_lt, cases_order}
-use Rattle.elf_linking.specs.GnuHash.{HasChain, chain_place, chain_word, first_symbol_of, gnu_data}
+use Rattle.elf_linking.specs.GnuHash.{chain_place, first_symbol_of, gnu_data}
 use Rattle.elf_linking.specs.GoodGnu.{Ends, IsCut}
 use Rattle.elf_linking.specs.Run.{ComeFrom, EndsRun, IsHit, IsThere, Lacks, LooksFrom, NoHit, Run, Stops, ended, found, no_symbol, no_word, refused, symbol_end}
 use Rattle.elf_linking.specs.declared.error.LinkError.{LinkError}
-use Rattle.elf_linking.specs.declared.error.LinkError.TheVariants.{ChainData, SymbolIndex}
+use Rattle.elf_linking.specs.declared.error.LinkError.TheVariants.{SymbolIndex}
 use Rattle.elf_linking.specs.declared.gnu_hash.GnuHashTable.{GnuHashTable}
 
 module _ {E : Type 0} (table : GnuHashTable) (symbols : List E) where

@@ -1,9 +1,9 @@
 -- A pass over chain words that keeps the index behind the last one that ends a run.
-use Rattle.std.proofs.Common.{◌≡◌, ◌+◌, ◌<◌, ◌≤◌, ℕ, ◌⊎◌, inl, inr, List, arith, below_more}
+use Rattle.std.proofs.Common.{◌+◌, ◌<◌, ◌≤◌, ℕ, ◌⊎◌, inl, inr, List, arith, below_more}
 use Rattle.std.proofs.lemmas.Bool.{cases_lt}
 use Rattle.elf_linking.specs.GnuHash.{first_symbol_of}
 use Rattle.elf_linking.specs.GoodGnu.{Ends}
-use Rattle.elf_linking.specs.Run.{EndsRun, IsThere, Run}
+use Rattle.elf_linking.specs.Run.{EndsRun, IsThere}
 use Rattle.elf_linking.specs.declared.gnu_hash.GnuHashTable.{GnuHashTable}
 
 -- up to an index all is there; runs from before `end` end; and from `end` on no word ends one

@@ -7,3 +7,9 @@ pub mod Run
 pub mod GoodGnu
 pub mod Relr
 pub mod Notes
+pub mod Loaded
+pub mod DynamicLayout
+pub mod DynamicEntries
+pub mod DynamicView
+pub mod LinkedName
+pub mod DynamicTables

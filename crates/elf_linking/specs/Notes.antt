@@ -1,6 +1,6 @@
 -- Notes, one after the other (gABI, "Note Section"; steps of eight bytes, and that the padding behind
 -- the last may be missing, are GNU's).
-use Rattle.std.specs.Prelude.{◌≡◌, ◌≢◌, ℕ, zero, suc, ◌+◌, ◌*◌, ◌/◌, ◌≤◌, ◌==◌, ◌&&◌, nat_le, Bool, List, [], ◌∷◌, drop, length, take, Result, Ok, Err, if◌then◌else◌}
+use Rattle.std.specs.Prelude.{◌≢◌, ℕ, zero, suc, ◌+◌, ◌*◌, ◌/◌, ◌≤◌, ◌==◌, ◌&&◌, nat_le, Bool, List, [], ◌∷◌, drop, length, take, Result, Ok, Err, if◌then◌else◌}
 use Rattle.elf_base.specs.Number.{number}
 use Rattle.elf_base.specs.declared.bytes.Order.{Order}
 use Rattle.elf_linking.specs.declared.error.LinkError.{LinkError}

@@ -10,8 +10,12 @@ mod check;
 mod lookup;
 
 use crate::LinkError;
+use elf_base::ElfError;
 use elf_base::bytes::{Order, read_u32, read_u64};
 use elf_base::header::Class;
+
+// What `Entry::string_table` answers, once for many names.
+type Strings<'a> = Option<Result<&'a [u8], ElfError>>;
 
 /// The hash number of a name, which leads to its bucket in a GNU hash table.
 #[tactic(auto, unfolding(crate::specs::GnuHashNumber::gnu_hash_number))]

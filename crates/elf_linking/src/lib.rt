@@ -5,5 +5,6 @@ mod error;
 pub mod gnu_hash;
 pub mod notes;
 pub mod relr;
+pub mod view;
 
 pub use crate::error::LinkError;

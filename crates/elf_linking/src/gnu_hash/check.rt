@@ -1,12 +1,13 @@
 //! The check of a GNU hash table (this project's own).
 
-ghost use Rattle.std.specs.Prelude.{◌≡◌, ◌≢◌, ◌+◌, ◌^◌, ◌<◌, ◌≤◌, ◌/◌, ◌%◌, ◌↔◌, ℕ, Err, IsOk, IsTrue, List, MatchResult, Ok, Result, Some, false, length, slice_get};
+ghost use Rattle.std.specs.Prelude.{◌≡◌, ◌≢◌, ◌+◌, ◌^◌, ◌<◌, ◌≤◌, ◌/◌, ◌%◌, ◌↔◌, ℕ, Err, IfSome, IsOk, IsTrue, List, MatchResult, Ok, Result, Some, false, length, slice_get};
 ghost use Rattle.elf_base.specs.Table.{table_items};
+ghost use Rattle.xmas_elf.specs.SymbolName.{HoldsNames};
 ghost use Rattle.xmas_elf.specs.Symbols.{symbols_of};
 
 use crate::LinkError;
 use crate::gnu_hash::lookup::symbol_end;
-use crate::gnu_hash::{GnuHashTable, gnu_hash};
+use crate::gnu_hash::{GnuHashTable, Strings, gnu_hash};
 use elf_base::bytes::{Record, Table};
 use xmas_elf::ElfFile;
 use xmas_elf::symbol_table::Entry;
@@ -25,8 +26,8 @@ impl<'a> GnuHashTable<'a> {
     /// none and a symbol is missing.
     ///
     /// It takes no memory, and marks nothing. It costs one pass over the buckets, one over the chain
-    /// words and one over the symbols, whatever the bytes are, and calls `Entry::get_name` of each symbol
-    /// at most once.
+    /// words and one over the symbols, whatever the bytes are. It looks the string table of the symbols
+    /// up once, as `Entry::string_table` does, and reads each name there at most once.
     pub fn check<E: Entry + Record>(
         &self,
         symbols: &Table<'_, E>,
@@ -142,11 +143,12 @@ impl<'a> GnuHashTable<'a> {
             result ≡ false → (i : ℕ) × (e : E) × (name : List ℕ) × IsExported self.now all i e name
             × ¬ IsHeld self.now all.items name i }
     {
+        let strings = E::string_table(file);
         let first = (self.first_symbol() as usize).max(1);
         let mut from = first;
         for index in first..symbols.len() {
             if let Some(entry) = symbols.get(index) {
-                if !self.holds(index, from, &entry, symbols, file) {
+                if !self.holds(index, from, &entry, strings, symbols, file) {
                     return false;
                 }
             }
@@ -188,9 +190,11 @@ impl<'a> GnuHashTable<'a> {
         index: usize,
         from: usize,
         entry: &E,
+        strings: Strings<'_>,
         symbols: &Table<'_, E>,
         file: &ElfFile<'_>,
     ) -> bool
+        requires names { IfSome strings (HoldsNames E.fields (λ e. E.text_in e file.now)) }
         requires below { index < length (table_items symbols.now) }
         requires runs { ComeFrom self.now (table_items symbols.now) from index }
         ensures yes { let items = table_items symbols.now in
@@ -205,7 +209,7 @@ impl<'a> GnuHashTable<'a> {
         if entry.info() / 16 == 0 || entry.shndx() == 0 {
             return true;
         }
-        match entry.get_name(file) {
+        match entry.name_in(strings, file) {
             Ok(name) => self.is_on_run(index, from, name, symbols),
             Err(_) => true,
         }

@@ -2,39 +2,51 @@
 
 ghost use Rattle.std.specs.Borrow.{Bor};
 ghost use Rattle.std.specs.Fn.{FnReturnsAt};
-ghost use Rattle.std.specs.Prelude.{◌≡◌, ◌≢◌, ◌≤◌, ◌<◌, ◌+◌, ◌-◌, ◌/◌, ◌↔◌, ℕ, Bool, true, false, Contains, IsTrue, List, MatchOption, Option, Result, Ok, Err, Some, length, slice_get};
+ghost use Rattle.std.specs.Prelude.{◌≡◌, ◌≢◌, ◌≤◌, ◌<◌, ◌+◌, ◌-◌, ◌/◌, ◌↔◌, ℕ, Bool, true, false, Contains, IfSome, IsTrue, List, MatchOption, Option, Result, Ok, Err, Some, length, slice_get};
 ghost use Rattle.elf_base.specs.Table.{table_items};
 ghost use Rattle.elf_linking.specs.Run.{symbol_end};
+ghost use Rattle.xmas_elf.specs.SymbolName.{HoldsNames};
 ghost use Rattle.xmas_elf.specs.Symbols.{Decides, IsMatch, symbols_of};
 
 use crate::LinkError;
-use crate::gnu_hash::{GnuHashTable, gnu_hash};
-use elf_base::bytes::{Record, Table};
+use crate::gnu_hash::{GnuHashTable, Strings, gnu_hash};
+use elf_base::bytes::{Record, Table, stands_at};
 use xmas_elf::ElfFile;
 use xmas_elf::symbol_table::Entry;
 
-// Whether the symbol bears the name.
+// Whether the symbol bears the name, which is compared in place where there is a string table.
 #[inline(always)]
-fn bears<E: Entry>(entry: &E, name: &str, file: &ElfFile<'_>) -> bool
+fn bears<E: Entry>(entry: &E, name: &str, strings: Strings<'_>, file: &ElfFile<'_>) -> bool
+    requires { IfSome strings (HoldsNames E.fields (λ e. E.text_in e file.now)) }
     ensures { IsTrue result ↔ (E.text_in entry.now file.now ≡ Some name.now) }
 {
-    match entry.get_name(file) {
-        Ok(text) => text == name,
-        Err(_) => false,
+    match strings {
+        Some(found) => match found {
+            Ok(table) => stands_at(table, entry.name() as usize, name),
+            Err(_) => false,
+        },
+        None => matches!(entry.get_name(file), Ok(text) if text == name),
     }
 }
 
 // Whether the symbol bears the name and passes the test, which is put to those that bear it alone.
 #[inline(always)]
-fn passes<E: Entry, F: Fn(&E) -> bool>(entry: &E, name: &str, file: &ElfFile<'_>, f: &F) -> bool
-    requires { (e : Bor E) → e.now ≡ entry.now → F.pre f.now e }
+fn passes<E: Entry, F: Fn(&E) -> bool>(
+    entry: &E,
+    name: &str,
+    strings: Strings<'_>,
+    file: &ElfFile<'_>,
+    f: &F,
+) -> bool
+    requires names { IfSome strings (HoldsNames E.fields (λ e. E.text_in e file.now)) }
+    requires callable { (e : Bor E) → e.now ≡ entry.now → F.pre f.now e }
     ensures yes { IsTrue result → (E.text_in entry.now file.now ≡ Some name.now)
         × FnReturnsAt F.Fn f.now entry.now true }
     ensures no { result ≡ false
         → (FnReturnsAt F.Fn f.now entry.now true → FnReturnsAt F.Fn f.now entry.now false → ⊥)
         → (E.text_in entry.now file.now ≡ Some name.now) × FnReturnsAt F.Fn f.now entry.now true → ⊥ }
 {
-    bears(entry, name, file) && f(entry)
+    bears(entry, name, strings, file) && f(entry)
 }
 
 // The symbol at an index, if it bears the name and passes the test.
@@ -42,11 +54,13 @@ fn passes<E: Entry, F: Fn(&E) -> bool>(entry: &E, name: &str, file: &ElfFile<'_>
 fn symbol_at<E: Entry + Record, F: Fn(&E) -> bool>(
     index: usize,
     name: &str,
+    strings: Strings<'_>,
     symbols: &Table<'_, E>,
     file: &ElfFile<'_>,
     f: &F,
 ) -> Option<E>
-    requires { (e : Bor E) → Contains (table_items symbols.now) e.now → F.pre f.now e }
+    requires names { IfSome strings (HoldsNames E.fields (λ e. E.text_in e file.now)) }
+    requires callable { (e : Bor E) → Contains (table_items symbols.now) e.now → F.pre f.now e }
     ensures yes { let all = symbols_of E.fields E.text_in symbols.now file.now in
         (e : E) → result ≡ Some e → (slice_get all.items index ≡ Some e)
         × IsMatch all F.Fn f.now name.now e }
@@ -55,7 +69,7 @@ fn symbol_at<E: Entry + Record, F: Fn(&E) -> bool>(
         → IsMatch all F.Fn f.now name.now e → ⊥ }
 {
     let entry = symbols.get(index)?;
-    if passes(&entry, name, file, f) {
+    if passes(&entry, name, strings, file, f) {
         Some(entry)
     } else {
         None
@@ -77,9 +91,11 @@ impl<'a> GnuHashTable<'a> {
     /// in the data. It is never refused, and misses no symbol, where `check` is Ok with the same symbols
     /// and file.
     ///
-    /// It looks at no more chain words than there are symbols. What is promised of the answer holds for
-    /// a test with one answer for each symbol. A closure says its answer by a clause, as
-    /// `|_| -> bool ensures { result ≡ true } { true }`.
+    /// It looks at no more chain words than there are symbols. Where there is a run it looks the string
+    /// table of the symbols up once, as `Entry::string_table` does, and compares the names there in place.
+    ///
+    /// What is promised of the answer holds for a test with one answer for each symbol. A closure says
+    /// its answer by a clause, as `|_| -> bool ensures { result ≡ true } { true }`.
     pub fn lookup<E: Entry + Record, F: Fn(&E) -> bool>(
         &self,
         name: &str,
@@ -169,6 +185,7 @@ impl<'a> GnuHashTable<'a> {
             Decides all F.Fn f.now → LooksFrom (IsMatch all F.Fn f.now name.now) hash
             self.now all.items from result.0 result.1 }
     {
+        let strings = E::string_table(file);
         let end = symbol_end(symbols);
         for index in u64::from(from)..end {
             let passed = index - u64::from(from);
@@ -177,7 +194,7 @@ impl<'a> GnuHashTable<'a> {
                 Err(error) => return (Err(error), passed as u32),
             };
             if word / 2 == hash / 2 {
-                if let Some(entry) = symbol_at(index as usize, name, symbols, file, f) {
+                if let Some(entry) = symbol_at(index as usize, name, strings, symbols, file, f) {
                     return (Ok(Some((index as u32, entry))), passed as u32 + 1);
                 }
             }

@@ -1,7 +1,7 @@
-use Rattle.std.proofs.Common.{◌≡◌, ◌≤◌, ◌<◌, inl, inr, sym, ◌∙◌, subst, arith}
+use Rattle.std.proofs.Common.{◌≡◌, inl, inr, sym, ◌∙◌, subst, arith}
 use Rattle.elf_base.specs.Table.{table_items}
-use Rattle.elf_linking.specs.GnuHash.{bucket_word, first_symbol_of}
-use Rattle.elf_linking.specs.GoodGnu.{Ends, IsCut, cut, too_early}
+use Rattle.elf_linking.specs.GnuHash.{bucket_word}
+use Rattle.elf_linking.specs.GoodGnu.{IsCut, cut, too_early}
 use Rattle.elf_linking.proofs.gnu_hash.GnuHashTable.check_bucket.Goals as goal
 
 pub returns-then-from-eq0 : goal.returns-then-from-eq0

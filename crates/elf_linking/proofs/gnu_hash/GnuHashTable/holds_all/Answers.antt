@@ -1,4 +1,4 @@
-use Rattle.std.proofs.Common.{arith, ℕ, ◌<◌, ◌≤◌, ◌≡◌, length, sym, ◌∙◌, below_more}
+use Rattle.std.proofs.Common.{arith, ℕ, ◌<◌, ◌≤◌, length, sym, ◌∙◌, below_more}
 use Rattle.std.proofs.lemmas.Option.{slice_get_within}
 use Rattle.elf_base.specs.Table.{table_items}
 use Rattle.xmas_elf.specs.Symbols.{symbols_of}

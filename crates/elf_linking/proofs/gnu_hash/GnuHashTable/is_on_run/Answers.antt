@@ -1,9 +1,9 @@
-use Rattle.std.proofs.Common.{◌≡◌, ◌≤◌, ◌<◌, ◌/◌, Some, refl, sym, ◌∙◌, subst, arith}
+use Rattle.std.proofs.Common.{◌≡◌, ◌≤◌, ◌<◌, ◌/◌, Some, refl, sym, subst, arith}
 use Rattle.std.proofs.lemmas.Bool.{eq-eqb, eqb-true}
 use Rattle.elf_base.specs.Table.{table_items}
 use Rattle.elf_linking.specs.GnuHash.{HasChain, chain_word, start_of}
 use Rattle.elf_linking.specs.GnuHashNumber.{gnu_hash_number}
-use Rattle.elf_linking.specs.Run.{IsThere, symbol_end}
+use Rattle.elf_linking.specs.Run.{symbol_end}
 use Rattle.elf_linking.proofs.Looks.{start_bucket}
 use Rattle.elf_linking.proofs.gnu_hash.GnuHashTable.is_on_run.Goals as goal
 use Rattle.elf_linking.proofs.gnu_hash.GnuHashTable.is_on_run.Goals.{then-start-from-via-then-start-from, then-start-from-via-else-start-from+then-start-index, then-start-from-via-else-start-from+else-start-index+then-index}

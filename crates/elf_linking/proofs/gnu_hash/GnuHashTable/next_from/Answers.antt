@@ -1,4 +1,4 @@
-use Rattle.std.proofs.Common.{◌≡◌, ◌^◌, ◌≤◌, ◌<◌, arith}
+use Rattle.std.proofs.Common.{◌<◌, arith}
 use Rattle.elf_base.specs.Table.{table_items}
 use Rattle.elf_linking.specs.Run.{IsThere, symbol_end}
 use Rattle.elf_linking.proofs.Runs.{come_on, come_stop}

@@ -1,6 +1,6 @@
-use Rattle.std.proofs.Common.{◌≡◌, ◌+◌, ◌-◌, ◌≤◌, ◌<◌, ℕ, refl, arith}
+use Rattle.std.proofs.Common.{◌≡◌, ◌-◌, ◌≤◌, ◌<◌, ℕ, refl, arith}
 use Rattle.elf_base.specs.Table.{table_items}
-use Rattle.elf_linking.specs.GnuHash.{HasChain, chain_place, first_symbol_of}
+use Rattle.elf_linking.specs.GnuHash.{HasChain, first_symbol_of}
 use Rattle.elf_linking.specs.Run.{IsThere, no_symbol, no_word, symbol_end}
 use Rattle.elf_linking.proofs.Runs.{run_first, run_to}
 use Rattle.elf_linking.proofs.Words.{chain_before, chain_end}

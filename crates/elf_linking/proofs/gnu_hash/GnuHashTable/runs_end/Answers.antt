@@ -1,8 +1,8 @@
-use Rattle.std.proofs.Common.{◌≡◌, ◌+◌, ◌≤◌, ◌<◌, ◌%◌, ℕ, ◌⊎◌, inl, inr, refl, sym, subst, arith}
+use Rattle.std.proofs.Common.{◌≡◌, ◌+◌, ◌≤◌, ◌<◌, ◌%◌, ◌⊎◌, inl, inr, refl, sym, subst, arith}
 use Rattle.std.proofs.lemmas.Bool.{cases_lt}
 use Rattle.elf_base.specs.Table.{table_items}
-use Rattle.elf_linking.specs.GnuHash.{HasChain, chain_word, first_symbol_of}
-use Rattle.elf_linking.specs.Run.{EndsRun, IsThere, symbol_end}
+use Rattle.elf_linking.specs.GnuHash.{HasChain, chain_word}
+use Rattle.elf_linking.specs.Run.{IsThere, symbol_end}
 use Rattle.elf_linking.proofs.Scans.{Scanned, scanned_end, scanned_first, scanned_on}
 use Rattle.elf_linking.proofs.Words.{chain_before}
 use Rattle.elf_linking.proofs.gnu_hash.GnuHashTable.runs_end.Goals as goal

@@ -1,4 +1,4 @@
-use Rattle.std.proofs.Common.{◌≡◌, ◌<◌, ◌≤◌, None, Some, arith}
+use Rattle.std.proofs.Common.{◌≡◌, None, Some, arith}
 use Rattle.elf_linking.specs.GnuHash.{start_at, start_of}
 use Rattle.elf_linking.specs.GnuHashNumber.{gnu_hash_number}
 use Rattle.elf_linking.specs.Run.{no_run, too_early}

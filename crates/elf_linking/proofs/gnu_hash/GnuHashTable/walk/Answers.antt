@@ -1,8 +1,7 @@
-use Rattle.std.proofs.Common.{◌≡◌, ◌≤◌, ◌<◌, ◌%◌, ◌/◌, Ok, Err, Some, refl, sym, ◌∙◌, subst, arith}
+use Rattle.std.proofs.Common.{◌≡◌, ◌≤◌, ◌<◌, ◌%◌, ◌/◌, Err, refl, sym, ◌∙◌, subst, arith}
 use Rattle.elf_base.specs.Table.{table_items}
-use Rattle.xmas_elf.specs.Symbols.{IsMatch, symbols_of}
 use Rattle.elf_linking.specs.GnuHash.{HasChain, chain_of, chain_word, first_symbol_of}
-use Rattle.elf_linking.specs.Run.{IsHit, IsThere, ended, found, refused, symbol_end}
+use Rattle.elf_linking.specs.Run.{IsThere, ended, found, refused, symbol_end}
 use Rattle.elf_linking.proofs.Runs.{looks_past}
 use Rattle.elf_linking.proofs.Words.{chain_refused}
 use Rattle.elf_linking.proofs.gnu_hash.GnuHashTable.walk.Goals as goal

@@ -1,5 +1,4 @@
-use Rattle.std.proofs.Common.{◌≡◌, Ok}
-use Rattle.elf_linking.specs.Relr.{relr_of, relr_rest, word_size, words_left, words_of}
+use Rattle.elf_linking.specs.Relr.{word_size, words_left, words_of}
 use Rattle.elf_linking.proofs.RelrItems.{relr_fits, starts}
 use Rattle.elf_linking.proofs.relr.Relr.new.Goals as goal
 

@@ -1,0 +1,45 @@
+-- The entries that an iterator has left, one by one.
+use Rattle.std.proofs.Common.{◌≡◌, ◌≢◌, ℕ, Bool, true, false, List, [], ◌∷◌, None, Some, if◌then◌else◌, refl, sym, ap, ◌∙◌}
+use Rattle.std.proofs.lemmas.Bool.{eq-eqb, ne_eqb}
+use Rattle.std.specs.List.{find}
+use Rattle.elf_linking.specs.DynamicEntries.{entries_left, has_tag, pairs_left, until_null}
+use Rattle.elf_linking.proofs.Firsts.{find_hit, find_none, find_other}
+use Rattle.elf_linking.specs.declared.view.entries.DynamicEntries.{DynamicEntries}
+use Rattle.elf_linking.specs.declared.view.entry.DynamicEntry.{DynamicEntry}
+
+pub left_ended : (iter : DynamicEntries) → iter.ended ≡ true → entries_left iter ≡ []
+left_ended iter is = rw is refl
+
+pub left_none : (iter : DynamicEntries) → pairs_left iter.rest ≡ [] → entries_left iter ≡ []
+left_none iter is = by_end iter.ended
+  where
+    by_end : (b : Bool) → (if b then [] else until_null (pairs_left iter.rest)) ≡ []
+    by_end true = refl
+    by_end false = ap until_null is
+
+pub left_null : (iter : DynamicEntries) (entry : DynamicEntry ℕ) (others : List (DynamicEntry ℕ)) → pairs_left iter.rest ≡ entry ∷ others → entry.tag ≡ 0 → entries_left iter ≡ []
+left_null iter entry others is null = by_end iter.ended
+  where
+    by_end : (b : Bool) → (if b then [] else until_null (pairs_left iter.rest)) ≡ []
+    by_end true = refl
+    by_end false = ap until_null is ∙ rw (eq-eqb entry.tag 0 null) refl
+
+pub left_first : (iter : DynamicEntries) (entry : DynamicEntry ℕ) (others : List (DynamicEntry ℕ)) → iter.ended ≡ false → pairs_left iter.rest ≡ entry ∷ others → entry.tag ≢ 0 → entries_left iter ≡ entry ∷ until_null others
+left_first iter entry others going is other = rw going (ap until_null is ∙ rw (ne_eqb entry.tag 0 other) refl)
+
+pub left_going : (iter : DynamicEntries) → iter.ended ≡ false → entries_left iter ≡ until_null (pairs_left iter.rest)
+left_going iter going = rw going refl
+
+-- an entry that is read of narrow numbers
+pub widened : (entry : DynamicEntry ℕ) (entries others : List (DynamicEntry ℕ)) (tag number : ℕ) → entries ≡ entry ∷ others → tag ≡ entry.tag → number ≡ entry.number → entries ≡ record { tag = tag; number = number } ∷ others
+widened entry entries others tag number is same_tag same_number = is ∙ sym (rw (same_tag, same_number) refl)
+
+-- a search for a tag, entry by entry
+pub number_none : (tag : ℕ) (entries : List (DynamicEntry ℕ)) → entries ≡ [] → find (has_tag tag) entries ≡ None
+number_none tag entries is = find_none (has_tag tag) entries is
+
+pub number_hit : (tag : ℕ) (entries others : List (DynamicEntry ℕ)) (entry : DynamicEntry ℕ) → entries ≡ entry ∷ others → entry.tag ≡ tag → find (has_tag tag) entries ≡ Some entry
+number_hit tag entries others entry is same = find_hit (has_tag tag) entries others entry is (eq-eqb entry.tag tag same)
+
+pub number_other : (tag : ℕ) (entries others : List (DynamicEntry ℕ)) (entry : DynamicEntry ℕ) → entries ≡ entry ∷ others → entry.tag ≢ tag → find (has_tag tag) entries ≡ find (has_tag tag) others
+number_other tag entries others entry is other = find_other (has_tag tag) entries others entry is (ne_eqb entry.tag tag other)

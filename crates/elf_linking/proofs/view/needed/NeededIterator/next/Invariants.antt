@@ -1,0 +1,10 @@
+use Rattle.std.proofs.Common.{◌≡◌, length}
+use Rattle.elf_linking.specs.DynamicEntries.{entries_left}
+use Rattle.elf_linking.specs.DynamicView.{needed_left}
+use Rattle.elf_linking.proofs.view.needed.NeededIterator.next.Given as goal
+
+abbrev pub invariant-loop-entry : goal.invariant-loop-entry
+invariant-loop-entry l = needed_left l.self ≡ needed_left l.initial.self
+
+abbrev pub decreases-loop-entry : goal.decreases-loop-entry
+decreases-loop-entry l = length (entries_left l.self.entries)

@@ -1,0 +1,48 @@
+//! The hash table that a dynamic segment names (gABI, "Dynamic Section": DT_HASH).
+
+ghost use Rattle.std.specs.Prelude.{◌≡◌, Ok, Err, MatchResult};
+ghost use Rattle.elf_base.specs.FileHeader.{file_order};
+ghost use Rattle.elf_linking.specs.Loaded.{lent};
+
+use crate::LinkError;
+use crate::view::dynamic::DynamicView;
+use crate::view::loaded::bytes_from;
+use elf_base::header::byte_order;
+use xmas_elf::ElfFile;
+use xmas_elf::hash::HashTable;
+
+// The tags of entries that are read here (gABI, "Dynamic Section", d_tag).
+const HASH: u64 = 4;
+
+impl<'a> DynamicView<'a> {
+    ghost use Rattle.elf_linking.specs.DynamicTables.{bytes_with, hash_table_of};
+    ghost use Rattle.elf_linking.specs.DynamicView.{view_entries};
+    ghost use Rattle.xmas_elf.specs.HashTable.{hash_data, hash_order};
+
+    /// The hash table of the ELF standard: the bytes from the entry Hash on, up to the end of what the
+    /// segment has in the file.
+    ///
+    /// Refused with `NoEntry` where there is no such entry, as `bytes_from` is, and as `HashTable::read`
+    /// is.
+    pub fn hash_table(&self, file: &ElfFile<'a>) -> Result<HashTable<'a>, LinkError>
+        ensures { let answer = hash_table_of file.now (view_entries self.now) in MatchResult result
+            (λ table. (answer ≡ Ok (hash_data table)) × (hash_order table ≡ file_order file.now.header))
+            (λ error. answer ≡ Err error) }
+    {
+        let bytes = self.bytes_with(HASH, file)?;
+        match HashTable::read(bytes, byte_order(file.header.pt1.encoding)) {
+            Ok(table) => Ok(table),
+            Err(error) => Err(LinkError::Elf(error)),
+        }
+    }
+
+    // The bytes from the number of the first entry with this tag on.
+    fn bytes_with(&self, tag: u64, file: &ElfFile<'a>) -> Result<&'a [u8], LinkError>
+        ensures { lent result ≡ bytes_with tag file.now (view_entries self.now) }
+    {
+        match self.entry(tag) {
+            Some(address) => bytes_from(file, address),
+            None => Err(LinkError::NoEntry),
+        }
+    }
+}
