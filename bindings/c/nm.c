@@ -1,0 +1,55 @@
+/* nm FILE: the symbols of a file, as their value, the section index and the name. */
+#include "xmas_elf.h"
+#include <stdio.h>
+#include <stdlib.h>
+
+static uint8_t *read_file(const char *path, size_t *size)
+{
+    FILE *file = fopen(path, "rb");
+    if (file == NULL) return NULL;
+    uint8_t *bytes = NULL;
+    if (fseek(file, 0, SEEK_END) == 0) {
+        long end = ftell(file);
+        rewind(file);
+        bytes = end < 0 ? NULL : malloc((size_t)end + 1);
+        *size = bytes == NULL ? 0 : fread(bytes, 1, (size_t)end, file);
+    }
+    fclose(file);
+    return bytes;
+}
+
+static void print_symbols(const uint8_t *input, size_t size, const struct xmas_elf_header *header, uint64_t index)
+{
+    struct xmas_elf_section section;
+    struct xmas_elf_range strings, name;
+    struct xmas_elf_symbol symbol;
+    if (xmas_elf_section(input, size, header, index, &section) != XMAS_ELF_OK) return;
+    if (section.type != 2 && section.type != 11) return; /* SHT_SYMTAB, SHT_DYNSYM */
+    if (xmas_elf_section_data(input, size, header, section.link, &strings) != XMAS_ELF_OK) return;
+    for (uint64_t i = 1; xmas_elf_symbol(input, size, header, index, i, &symbol) == XMAS_ELF_OK; i++)
+        if (xmas_elf_text(input, size, &strings, symbol.name, &name) == XMAS_ELF_OK)
+            printf("%016llx %5u %.*s\n", (unsigned long long)symbol.value, symbol.shndx, (int)name.size,
+                   (const char *)input + name.offset);
+}
+
+int main(int argc, char **argv)
+{
+    size_t size = 0;
+    struct xmas_elf_header header;
+    struct xmas_elf_counts counts;
+    uint8_t *input = argc == 2 ? read_file(argv[1], &size) : NULL;
+    if (input == NULL) {
+        fprintf(stderr, "usage: nm FILE\n");
+        return 2;
+    }
+    uint32_t status = xmas_elf_open(input, size, &header);
+    if (status == XMAS_ELF_OK) status = xmas_elf_counts(input, size, &header, &counts);
+    if (status != XMAS_ELF_OK) {
+        fprintf(stderr, "%s: %s\n", argv[1], xmas_elf_message(status));
+        free(input);
+        return 1;
+    }
+    for (uint64_t index = 0; index < counts.sections; index++) print_symbols(input, size, &header, index);
+    free(input);
+    return 0;
+}

@@ -1,0 +1,129 @@
+/* speed FILE: nanoseconds for an item of each pass through the exports, the least of many rounds. */
+#define _POSIX_C_SOURCE 199309L
+#include "xmas_elf.h"
+#include <stdio.h>
+#include <stdlib.h>
+#include <time.h>
+
+struct input {
+    const uint8_t *bytes;
+    size_t size;
+    struct xmas_elf_header header;
+    uint64_t sections, symbols_at;
+};
+
+/* Each pass adds numbers up, and says how many items it saw. */
+typedef uint64_t pass(const struct input *input, uint64_t *sum);
+
+static uint64_t open_pass(const struct input *input, uint64_t *sum)
+{
+    struct xmas_elf_header header;
+    if (xmas_elf_open(input->bytes, input->size, &header) == XMAS_ELF_OK) *sum += header.sh_offset;
+    return 1;
+}
+
+static uint64_t sections_pass(const struct input *input, uint64_t *sum)
+{
+    struct xmas_elf_section section;
+    for (uint64_t i = 0; i < input->sections; i++)
+        if (xmas_elf_section(input->bytes, input->size, &input->header, i, &section) == XMAS_ELF_OK) *sum += section.size;
+    return input->sections;
+}
+
+static uint64_t names_pass(const struct input *input, uint64_t *sum)
+{
+    struct xmas_elf_range name;
+    for (uint64_t i = 0; i < input->sections; i++)
+        if (xmas_elf_section_name(input->bytes, input->size, &input->header, i, &name) == XMAS_ELF_OK) *sum += name.size;
+    return input->sections;
+}
+
+static uint64_t symbols_pass(const struct input *input, uint64_t *sum)
+{
+    struct xmas_elf_symbol symbol;
+    uint64_t i = 0;
+    while (xmas_elf_symbol(input->bytes, input->size, &input->header, input->symbols_at, i, &symbol) == XMAS_ELF_OK) {
+        *sum += symbol.value;
+        i++;
+    }
+    return i;
+}
+
+static uint64_t symbol_names_pass(const struct input *input, uint64_t *sum)
+{
+    struct xmas_elf_section section;
+    struct xmas_elf_range strings, name;
+    struct xmas_elf_symbol symbol;
+    uint64_t i = 0;
+    if (xmas_elf_section(input->bytes, input->size, &input->header, input->symbols_at, &section) != XMAS_ELF_OK) return 1;
+    if (xmas_elf_section_data(input->bytes, input->size, &input->header, section.link, &strings) != XMAS_ELF_OK) return 1;
+    while (xmas_elf_symbol(input->bytes, input->size, &input->header, input->symbols_at, i, &symbol) == XMAS_ELF_OK) {
+        if (xmas_elf_text(input->bytes, input->size, &strings, symbol.name, &name) == XMAS_ELF_OK) *sum += symbol.value + name.size;
+        i++;
+    }
+    return i;
+}
+
+/* The last section that has a name, by it. */
+static uint64_t find_pass(const struct input *input, uint64_t *sum)
+{
+    struct xmas_elf_section section;
+    struct xmas_elf_range name;
+    uint64_t i = input->sections;
+    while (i > 0 && xmas_elf_section_name(input->bytes, input->size, &input->header, i - 1, &name) != XMAS_ELF_OK) i--;
+    if (i > 0 && xmas_elf_find_section(input->bytes, input->size, &input->header, input->bytes + name.offset,
+                                       (size_t)name.size, &section) == XMAS_ELF_OK)
+        *sum += section.size;
+    return 1;
+}
+
+static double now(void)
+{
+    struct timespec time;
+    clock_gettime(CLOCK_MONOTONIC, &time);
+    return (double)time.tv_sec * 1e9 + (double)time.tv_nsec;
+}
+
+static void measure(const char *name, pass *run, const struct input *input)
+{
+    uint64_t sum = 0;
+    double least = 1e300, until = now() + 5e8;
+    while (now() < until) {
+        uint64_t items = 0;
+        double start = now();
+        for (int round = 0; round < 16; round++) items += run(input, &sum);
+        double each = (now() - start) / (double)(items ? items : 1);
+        if (each < least) least = each;
+    }
+    printf("%-40s %8.2f ns   (%llx)\n", name, least, (unsigned long long)sum);
+}
+
+int main(int argc, char **argv)
+{
+    struct input input = {0};
+    struct xmas_elf_counts counts;
+    FILE *file = argc == 2 ? fopen(argv[1], "rb") : NULL;
+    if (file == NULL || fseek(file, 0, SEEK_END) != 0) return 2;
+    size_t size = (size_t)ftell(file);
+    uint8_t *bytes = malloc(size + 1);
+    rewind(file);
+    if (bytes == NULL || fread(bytes, 1, size, file) != size) return 2;
+    fclose(file);
+    input.bytes = bytes;
+    input.size = size;
+    if (xmas_elf_open(bytes, size, &input.header) != XMAS_ELF_OK) return 1;
+    if (xmas_elf_counts(bytes, size, &input.header, &counts) != XMAS_ELF_OK) return 1;
+    input.sections = counts.sections;
+    struct xmas_elf_section section;
+    for (uint64_t i = 0; i < input.sections; i++)
+        if (xmas_elf_section(bytes, size, &input.header, i, &section) == XMAS_ELF_OK && (section.type == 2 || (section.type == 11 && !input.symbols_at)))
+            input.symbols_at = i;
+    measure("header", open_pass, &input);
+    measure("section headers by index", sections_pass, &input);
+    measure("names of sections", names_pass, &input);
+    measure("the last section by its name", find_pass, &input);
+    measure("symbols", symbols_pass, &input);
+    measure("symbols with names", symbol_names_pass, &input);
+    free(bytes);
+    return 0;
+}

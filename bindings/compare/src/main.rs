@@ -1,0 +1,215 @@
+//! compare FILE..: asks `xmas-elf-proved` and `object` for all parts of each file, and tells each difference.
+
+use object::elf::{FileHeader32, FileHeader64};
+use object::read::elf::{Dyn, FileHeader, ProgramHeader, Rel, Rela, SectionHeader, SectionTable, Sym};
+use object::{Endianness, SectionIndex};
+use std::fmt::Debug;
+use xmas_elf_proved::{ElfFile, Section};
+
+// Counts answers, and tells of those that differ.
+struct Answers<'p> {
+    path: &'p str,
+    asked: u64,
+    differ: u64,
+}
+
+impl Answers<'_> {
+    fn same<T: PartialEq + Debug>(&mut self, what: &str, here: T, there: T) {
+        self.asked += 1;
+        if here != there {
+            self.differ += 1;
+            if self.differ <= 5 {
+                println!("{}: {what}: here {here:?}, object {there:?}", self.path);
+            }
+        }
+    }
+}
+
+type Sections<'d, Elf> = SectionTable<'d, Elf, &'d [u8]>;
+
+fn compare<Elf: FileHeader<Endian = Endianness>>(input: &[u8], file: &ElfFile<'_>, answers: &mut Answers<'_>) -> object::Result<()> {
+    let header = Elf::parse(input)?;
+    let endian = header.endian()?;
+    answers.same("entry point", file.header().entry_point, header.e_entry(endian).into());
+    answers.same("machine", file.header().machine, header.e_machine(endian));
+    let sections = header.sections(endian, input)?;
+    answers.same("section count", file.section_count(), sections.len() as u64);
+    compare_segments::<Elf>(input, file, header.program_headers(endian, input)?, endian, answers);
+    for (index, theirs) in sections.iter().enumerate() {
+        let Ok(ours) = file.section(index as u64) else {
+            answers.same("section is read", false, true);
+            continue;
+        };
+        compare_section::<Elf>(input, &ours, theirs, &sections, endian, answers);
+        compare_symbols::<Elf>(input, &ours, &sections, endian, answers)?;
+        compare_records::<Elf>(input, &ours, theirs, endian, answers)?;
+        compare_notes::<Elf>(input, &ours, theirs, endian, answers)?;
+    }
+    Ok(())
+}
+
+fn compare_segments<Elf: FileHeader<Endian = Endianness>>(
+    input: &[u8],
+    file: &ElfFile<'_>,
+    theirs: &[Elf::ProgramHeader],
+    endian: Endianness,
+    answers: &mut Answers<'_>,
+) {
+    answers.same("segment count", file.segment_count() as usize, theirs.len());
+    for (ours, theirs) in file.segments().zip(theirs) {
+        answers.same("segment type", ours.type_, theirs.p_type(endian));
+        answers.same("segment flags", ours.flags, theirs.p_flags(endian));
+        answers.same("segment address", ours.virtual_addr, theirs.p_vaddr(endian).into());
+        answers.same("segment size", ours.mem_size, theirs.p_memsz(endian).into());
+        answers.same("segment alignment", ours.align, theirs.p_align(endian).into());
+        // A type that this library refuses, or Null, has no data here.
+        if let Ok(data) = ours.data() {
+            answers.same("segment data", Some(data), theirs.data(endian, input).ok());
+        }
+    }
+}
+
+fn compare_section<Elf: FileHeader<Endian = Endianness>>(
+    input: &[u8],
+    ours: &Section<'_, '_>,
+    theirs: &Elf::SectionHeader,
+    sections: &Sections<'_, Elf>,
+    endian: Endianness,
+    answers: &mut Answers<'_>,
+) {
+    let wide = |word: Elf::Word| -> u64 { word.into() };
+    answers.same("section type", ours.type_, theirs.sh_type(endian));
+    answers.same("section flags", ours.flags, wide(theirs.sh_flags(endian)));
+    answers.same("section address", ours.address, wide(theirs.sh_addr(endian)));
+    answers.same("section offset", ours.offset, wide(theirs.sh_offset(endian)));
+    answers.same("section size", ours.size, wide(theirs.sh_size(endian)));
+    answers.same("section link", ours.link, theirs.sh_link(endian));
+    answers.same("section info", ours.info, theirs.sh_info(endian));
+    answers.same("section alignment", ours.align, wide(theirs.sh_addralign(endian)));
+    answers.same("entry size", ours.entry_size, wide(theirs.sh_entsize(endian)));
+    // A type that this library refuses, as RELR, or Null, has neither a name nor data here.
+    if let Ok(name) = ours.name() {
+        answers.same("section name", Some(name.as_bytes()), sections.section_name(endian, theirs).ok());
+    }
+    // `object` gives no bytes for type NoBits.
+    if let (Ok(data), true) = (ours.data(), ours.type_ != object::elf::SHT_NOBITS) {
+        answers.same("section data", Some(data), theirs.data(endian, input).ok());
+    }
+}
+
+fn compare_symbols<Elf: FileHeader<Endian = Endianness>>(
+    input: &[u8],
+    ours: &Section<'_, '_>,
+    sections: &Sections<'_, Elf>,
+    endian: Endianness,
+    answers: &mut Answers<'_>,
+) -> object::Result<()> {
+    if ours.type_ != object::elf::SHT_SYMTAB && ours.type_ != object::elf::SHT_DYNSYM {
+        answers.same("other sections have no symbols", ours.symbols().count(), 0);
+        return Ok(());
+    }
+    let table = sections.symbol_table_by_index(endian, input, SectionIndex(ours.index() as usize))?;
+    answers.same("symbol count", ours.symbols().count(), table.len());
+    for (ours, theirs) in ours.symbols().zip(table.iter()) {
+        answers.same("symbol value", ours.value, theirs.st_value(endian).into());
+        answers.same("symbol size", ours.size, theirs.st_size(endian).into());
+        answers.same("symbol info", ours.info, theirs.st_info());
+        answers.same("symbol visibility", ours.other, theirs.st_other());
+        answers.same("symbol section", ours.shndx, theirs.st_shndx(endian));
+        let name = theirs.name(endian, table.strings()).ok().and_then(|name| std::str::from_utf8(name).ok());
+        answers.same("symbol name", ours.name().ok(), name);
+    }
+    Ok(())
+}
+
+fn compare_records<Elf: FileHeader<Endian = Endianness>>(
+    input: &[u8],
+    ours: &Section<'_, '_>,
+    theirs: &Elf::SectionHeader,
+    endian: Endianness,
+    answers: &mut Answers<'_>,
+) -> object::Result<()> {
+    if let Some((relocations, _)) = theirs.rela(endian, input)? {
+        answers.same("relocation count", ours.relocations().count(), relocations.len());
+        for (ours, theirs) in ours.relocations().zip(relocations) {
+            answers.same("relocation place", ours.offset, theirs.r_offset(endian).into());
+            answers.same("relocation symbol", ours.symbol, theirs.r_sym(endian, false));
+            answers.same("relocation type", ours.type_, theirs.r_type(endian, false));
+            let addend: i64 = theirs.r_addend(endian).into();
+            let addend = if is_64::<Elf>() { addend as u64 } else { u64::from(addend as u32) };
+            answers.same("relocation addend", ours.addend, addend);
+        }
+    }
+    if let Some((relocations, _)) = theirs.rel(endian, input)? {
+        answers.same("relocation count", ours.relocations().count(), relocations.len());
+        for (ours, theirs) in ours.relocations().zip(relocations) {
+            answers.same("relocation place", ours.offset, theirs.r_offset(endian).into());
+            answers.same("relocation symbol", ours.symbol, theirs.r_sym(endian));
+            answers.same("relocation type", ours.type_, theirs.r_type(endian));
+            answers.same("relocation has no addend", (ours.addend, ours.has_addend), (0, 0));
+        }
+    }
+    if let Some((entries, _)) = theirs.dynamic(endian, input)? {
+        answers.same("dynamic count", ours.dynamic().count(), entries.len());
+        for (ours, theirs) in ours.dynamic().zip(entries) {
+            answers.same("dynamic tag", ours.tag, theirs.d_tag(endian).into());
+            answers.same("dynamic value", ours.value, theirs.d_val(endian).into());
+        }
+    }
+    Ok(())
+}
+
+fn is_64<Elf: FileHeader>() -> bool {
+    std::mem::size_of::<Elf>() == 64
+}
+
+fn compare_notes<Elf: FileHeader<Endian = Endianness>>(
+    input: &[u8],
+    ours: &Section<'_, '_>,
+    theirs: &Elf::SectionHeader,
+    endian: Endianness,
+    answers: &mut Answers<'_>,
+) -> object::Result<()> {
+    let Some(mut theirs) = theirs.notes(endian, input)? else {
+        return Ok(());
+    };
+    for note in ours.notes().into_iter().flatten() {
+        let found = theirs.next().ok().flatten();
+        let parts = found.map(|note| (note.n_type(endian), note.name(), note.desc()));
+        // `object` takes the zero byte off that ends a name.
+        let ours = note.ok().map(|note| (note.type_, note.name.strip_suffix(&[0]).unwrap_or(note.name), note.desc));
+        answers.same("note", ours, parts);
+    }
+    answers.same("no more notes", theirs.next().ok().flatten().is_none(), true);
+    Ok(())
+}
+
+fn compare_file(path: &str, input: &[u8]) -> Option<(u64, u64)> {
+    let file = ElfFile::new(input).ok()?;
+    let mut answers = Answers { path, asked: 0, differ: 0 };
+    let whole = if file.is_64() {
+        compare::<FileHeader64<Endianness>>(input, &file, &mut answers)
+    } else {
+        compare::<FileHeader32<Endianness>>(input, &file, &mut answers)
+    };
+    if let Err(error) = whole {
+        println!("{path}: object refuses: {error}");
+    }
+    Some((answers.asked, answers.differ))
+}
+
+fn main() {
+    let (mut files, mut asked, mut differ) = (0, 0, 0);
+    for path in std::env::args().skip(1) {
+        let Ok(input) = std::fs::read(&path) else {
+            continue;
+        };
+        if let Some(found) = compare_file(&path, &input) {
+            files += 1;
+            asked += found.0;
+            differ += found.1;
+        }
+    }
+    println!("{files} files, {asked} answers, {differ} differ");
+    std::process::exit(i32::from(differ > 0 || files == 0));
+}

@@ -1,0 +1,181 @@
+//! Sections, segments, symbols and notes, each with the file that it belongs to.
+
+use crate::ffi::{self, Range};
+use crate::{Dynamic, ElfFile, Entry, Error, ProgramHeader, Relocation, SectionHeader};
+use core::ops::Deref;
+
+/// A section; the fields of its header are its own.
+#[derive(Clone, Copy, Debug)]
+pub struct Section<'f, 'a> {
+    pub(crate) file: &'f ElfFile<'a>,
+    pub(crate) index: u64,
+    pub(crate) header: SectionHeader,
+}
+
+impl Deref for Section<'_, '_> {
+    type Target = SectionHeader;
+
+    fn deref(&self) -> &SectionHeader {
+        &self.header
+    }
+}
+
+impl<'f, 'a> Section<'f, 'a> {
+    /// The index of the section.
+    pub fn index(&self) -> u64 {
+        self.index
+    }
+
+    /// The name of the section.
+    pub fn name(&self) -> Result<&'a str, Error> {
+        let range = ffi::section_name(self.file.input, &self.file.header, self.index)?;
+        Ok(self.file.text(range))
+    }
+
+    /// The data of the section. For type NoBits these bytes belong to other sections, or to none.
+    pub fn data(&self) -> Result<&'a [u8], Error> {
+        Ok(self.file.bytes(self.data_range()?))
+    }
+
+    fn data_range(&self) -> Result<Range, Error> {
+        ffi::section_data(self.file.input, &self.file.header, self.index)
+    }
+
+    /// The symbols of the section, from index 0 on; none where it holds others.
+    pub fn symbols(&self) -> impl Iterator<Item = Symbol<'a>> + 'f {
+        let (file, section) = (self.file, self.index);
+        let strings = ffi::section_data(file.input, &file.header, u64::from(self.header.link));
+        (0u64..).map_while(move |index| {
+            let entry = ffi::symbol(file.input, &file.header, section, index).ok()?;
+            Some(Symbol { file: *file, strings, index, entry })
+        })
+    }
+
+    /// The relocations of the section; none where it holds others.
+    pub fn relocations(&self) -> impl Iterator<Item = Relocation> + 'f {
+        let (file, section) = (self.file, self.index);
+        (0u64..).map_while(move |index| ffi::relocation(file.input, &file.header, section, index).ok())
+    }
+
+    /// The dynamic entries of the section, those behind the entry of tag 0 too; none where it holds others.
+    pub fn dynamic(&self) -> impl Iterator<Item = Dynamic> + 'f {
+        let (file, section) = (self.file, self.index);
+        (0u64..).map_while(move |index| ffi::dynamic(file.input, &file.header, section, index).ok())
+    }
+
+    /// The notes that the data of the section is.
+    pub fn notes(&self) -> Result<Notes<'f, 'a>, Error> {
+        Ok(Notes { file: self.file, rest: self.data_range()?, align: self.header.align })
+    }
+}
+
+/// A segment; the fields of its header are its own.
+#[derive(Clone, Copy, Debug)]
+pub struct Segment<'f, 'a> {
+    pub(crate) file: &'f ElfFile<'a>,
+    pub(crate) index: u32,
+    pub(crate) header: ProgramHeader,
+}
+
+impl Deref for Segment<'_, '_> {
+    type Target = ProgramHeader;
+
+    fn deref(&self) -> &ProgramHeader {
+        &self.header
+    }
+}
+
+impl<'f, 'a> Segment<'f, 'a> {
+    /// The data of the segment.
+    pub fn data(&self) -> Result<&'a [u8], Error> {
+        Ok(self.file.bytes(self.data_range()?))
+    }
+
+    fn data_range(&self) -> Result<Range, Error> {
+        ffi::segment_data(self.file.input, &self.file.header, self.index)
+    }
+
+    /// The notes that the data of the segment is.
+    pub fn notes(&self) -> Result<Notes<'f, 'a>, Error> {
+        Ok(Notes { file: self.file, rest: self.data_range()?, align: self.header.align })
+    }
+}
+
+/// A symbol; its numbers are its own.
+#[derive(Clone, Copy)]
+pub struct Symbol<'a> {
+    file: ElfFile<'a>,
+    strings: Result<Range, Error>,
+    index: u64,
+    entry: Entry,
+}
+
+impl Deref for Symbol<'_> {
+    type Target = Entry;
+
+    fn deref(&self) -> &Entry {
+        &self.entry
+    }
+}
+
+impl<'a> Symbol<'a> {
+    /// The index of the symbol in its table.
+    pub fn index(&self) -> u64 {
+        self.index
+    }
+
+    /// The name of the symbol, in the string table that its section is linked to.
+    pub fn name(&self) -> Result<&'a str, Error> {
+        let range = ffi::text(self.file.input, &self.strings?, u64::from(self.entry.name))?;
+        Ok(self.file.text(range))
+    }
+
+    /// How files share the symbol.
+    pub fn binding(&self) -> u8 {
+        self.entry.info / 16
+    }
+
+    /// What the symbol stands for.
+    pub fn kind(&self) -> u8 {
+        self.entry.info % 16
+    }
+}
+
+/// A note.
+#[derive(Clone, Copy, Debug)]
+pub struct Note<'a> {
+    /// What the description means, by the name.
+    pub type_: u32,
+    /// The name, as many bytes as the note says: with the zero byte that ends it.
+    pub name: &'a [u8],
+    /// The description.
+    pub desc: &'a [u8],
+}
+
+/// The notes of a section or a segment in order. Where what is left holds no whole note, the last item is
+/// the refusal.
+#[derive(Clone, Copy)]
+pub struct Notes<'f, 'a> {
+    file: &'f ElfFile<'a>,
+    rest: Range,
+    align: u64,
+}
+
+impl<'a> Iterator for Notes<'_, 'a> {
+    type Item = Result<Note<'a>, Error>;
+
+    fn next(&mut self) -> Option<Self::Item> {
+        match ffi::note(self.file.input, &self.file.header, &self.rest, self.align) {
+            Ok(note) => {
+                self.rest = note.rest;
+                let (name, desc) = (self.file.bytes(note.name), self.file.bytes(note.desc));
+                Some(Ok(Note { type_: note.type_, name, desc }))
+            }
+            Err(Error::NoRecord) => None,
+            Err(error) => {
+                self.rest = Range::default();
+                Some(Err(error))
+            }
+        }
+    }
+}

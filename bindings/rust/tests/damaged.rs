@@ -1,0 +1,94 @@
+//! Damaged files: every call returns, and each part that it gives lies in the input.
+
+use xmas_elf_proved::{ElfFile, Section};
+
+// A stream of numbers (Marsaglia's xorshift of 64 bits), the same in each run.
+struct Numbers(u64);
+
+impl Numbers {
+    fn below(&mut self, limit: usize) -> usize {
+        self.0 ^= self.0 << 13;
+        self.0 ^= self.0 >> 7;
+        self.0 ^= self.0 << 17;
+        (self.0 % limit as u64) as usize
+    }
+}
+
+fn lies_in(input: &[u8], part: &[u8]) -> bool {
+    part.is_empty() || input.as_ptr_range().start <= part.as_ptr() && part.as_ptr_range().end <= input.as_ptr_range().end
+}
+
+fn visit_section(input: &[u8], section: &Section<'_, '_>) -> usize {
+    let mut found = 0;
+    for symbol in section.symbols().take(200) {
+        found += 1;
+        assert!(symbol.name().map_or(true, |name| lies_in(input, name.as_bytes())));
+    }
+    found += section.relocations().take(200).count() + section.dynamic().take(200).count();
+    for note in section.notes().into_iter().flatten().take(200).flatten() {
+        found += 1;
+        assert!(lies_in(input, note.name) && lies_in(input, note.desc));
+    }
+    assert!(section.data().map_or(true, |data| lies_in(input, data) && data.len() as u64 == section.size));
+    assert!(section.name().map_or(true, |name| lies_in(input, name.as_bytes())));
+    found
+}
+
+fn visit(input: &[u8]) -> usize {
+    let Ok(file) = ElfFile::new(input) else {
+        return 0;
+    };
+    let _checked = file.check_header();
+    let _id = file.build_id();
+    let segments = file.segments().take(200).map(|segment| {
+        assert!(segment.data().map_or(true, |data| lies_in(input, data)));
+        1
+    });
+    segments.sum::<usize>() + file.sections().take(200).map(|section| visit_section(input, &section)).sum::<usize>()
+}
+
+#[test]
+fn damaged_files_are_read_or_refused() {
+    let whole = std::fs::read(std::env::current_exe().expect("a path")).expect("the test itself is a file");
+    let mut numbers = Numbers(0x9e37_79b9_7f4a_7c15);
+    assert!(visit(&whole) > 100);
+    let table = ElfFile::new(&whole).expect("an ELF file").header().sh_offset as usize;
+    for _round in 0..400 {
+        let mut bytes = whole.clone();
+        for _edit in 0..1 + numbers.below(8) {
+            // Half of the edits fall on the two headers, where they tell most.
+            let place = match numbers.below(4) {
+                0 => numbers.below(64),
+                1 => table + numbers.below(bytes.len() - table),
+                _ => numbers.below(bytes.len()),
+            };
+            bytes[place] = [0, 1, 0x7f, 0x80, 0xff, numbers.below(256) as u8][numbers.below(6)];
+        }
+        if numbers.below(4) == 0 {
+            bytes.truncate(numbers.below(bytes.len()));
+        }
+        visit(&bytes);
+    }
+}
+
+#[test]
+fn short_inputs_are_refused() {
+    let whole = std::fs::read(std::env::current_exe().expect("a path")).expect("the test itself is a file");
+    for len in 0..64 {
+        assert!(ElfFile::new(&whole[..len]).is_err());
+    }
+    assert!(ElfFile::new(&whole[..64]).is_ok());
+}
+
+// tools/bindings.sh puts the files of tools/damage.py there.
+#[test]
+fn files_of_the_folder_are_read_or_refused() {
+    let Some(folder) = std::env::var_os("XMAS_ELF_DAMAGED") else {
+        return;
+    };
+    let mut found = 0;
+    for file in std::fs::read_dir(folder).expect("a folder") {
+        found += visit(&std::fs::read(file.expect("a file").path()).expect("its bytes"));
+    }
+    assert!(found > 0);
+}

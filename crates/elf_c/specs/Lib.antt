@@ -1,0 +1,7 @@
+pub mod Status
+pub mod Parsed
+pub mod Records
+pub mod Symbols
+pub mod Relocations
+pub mod Dynamics
+pub mod FirstNote

@@ -1,0 +1,104 @@
+-- The records that the exports fill, by what the library says (this project's own).
+use Rattle.std.specs.Prelude.{ℕ, ◌+◌, ◌-◌, ◌==◌, nat_lt, List, [], ◌∷◌, length, slice_get, Option, None, Some, Result, Ok, Err, if◌then◌else◌}
+use Rattle.std.specs.Str.{is_utf8}
+use Rattle.elf_base.specs.Refusal.{and_then, unless}
+use Rattle.elf_base.specs.Text.{text_of}
+use Rattle.elf_base.specs.declared.error.ElfError.{ElfError}
+use Rattle.elf_base.specs.declared.error.ElfError.TheVariants.{NullName, ShortSectionOffset}
+use Rattle.elf_records.specs.ProgramNumbers.{ph_type_number}
+use Rattle.elf_records.specs.SectionNumbers.{is_sh_type}
+use Rattle.elf_records.specs.declared.sections.ShType.TheVariants.{Null}
+use Rattle.xmas_elf.specs.Counts.{program_count_of, section_count_of}
+use Rattle.xmas_elf.specs.NameTable.{names_section_of, section_named}
+use Rattle.xmas_elf.specs.Range.{range_of}
+use Rattle.xmas_elf.specs.SectionData.{section_data_of}
+use Rattle.xmas_elf.specs.SectionHeader.{section_fields, section_type}
+use Rattle.xmas_elf.specs.SegmentData.{segment_data_of}
+use Rattle.xmas_elf.specs.declared.ElfFile.{ElfFile}
+use Rattle.xmas_elf.specs.declared.program.records.ProgramHeader64.{ProgramHeader64}
+use Rattle.xmas_elf.specs.declared.sections.section_header.SectionHeader.{SectionHeader}
+use Rattle.elf_c.specs.declared.file.Counts.{Counts}
+use Rattle.elf_c.specs.declared.names.Range.{Range}
+use Rattle.elf_c.specs.declared.sections.Section.{Section}
+use Rattle.elf_c.specs.declared.segments.Segment.{Segment}
+use Rattle.elf_c.specs.declared.status.Refusal.{Refusal}
+use Rattle.elf_c.specs.declared.status.Refusal.TheVariants.{NoRecord, NotFound}
+
+-- what the item at an index is taken for, or that there is none
+abbrev pub taken_for : {A T : Type 0} → (A → T) → Option A → Result T Refusal
+taken_for value None = Err NoRecord
+taken_for value (Some item) = Ok (value item)
+
+abbrev pub found_in : {A T : Type 0} → (A → T) → List A → ℕ → Result T Refusal
+found_in value items index = taken_for value (slice_get items index)
+
+-- how many sections and segments a file has
+abbrev pub counts_of : ElfFile → Counts
+counts_of file = record { sections = section_count_of file; segments = program_count_of file }
+
+-- as many bytes of the input from a place on
+abbrev pub range_at : ℕ → ℕ → Range
+range_at offset size = record { offset = offset; size = size }
+
+-- what a section header says
+abbrev pub section_record : SectionHeader → Section
+section_record section = let fields = section_fields section in record {
+  flags = fields.flags;
+  address = fields.address;
+  offset = fields.offset;
+  size = fields.size;
+  align = fields.align;
+  entry_size = fields.entry_size;
+  name = fields.name;
+  type_ = fields.type_;
+  link = fields.link;
+  info = fields.info;
+}
+
+-- what was found among sections
+abbrev pub section_found : Option SectionHeader → Result Section Refusal
+section_found None = Err NotFound
+section_found (Some section) = Ok (section_record section)
+
+-- the first section with a name; a name is UTF-8
+abbrev pub found_section : ElfFile → List ℕ → Result Section Refusal
+found_section file name = if is_utf8 name then section_found (section_named file name) else Err NotFound
+
+-- where the data of a section stands, or why it has none
+abbrev pub section_range : ElfFile → SectionHeader → Result Range ElfError
+section_range file section = and_then (section_data_of file section)
+    (λ _. Ok (range_at (section_fields section).offset (section_fields section).size))
+
+-- what a program header says
+abbrev pub segment_record : ProgramHeader64 → Segment
+segment_record segment = record {
+  offset = segment.offset;
+  virtual_addr = segment.virtual_addr;
+  physical_addr = segment.physical_addr;
+  file_size = segment.file_size;
+  mem_size = segment.mem_size;
+  align = segment.align;
+  type_ = ph_type_number segment.type_;
+  flags = segment.flags.0;
+}
+
+-- where the data of a segment stands, or why it has none: an empty one at place 0
+abbrev pub segment_range : ElfFile → ProgramHeader64 → Result Range ElfError
+segment_range file segment = and_then (segment_data_of file segment)
+    (λ _. Ok (range_at (if segment.file_size == 0 then 0 else segment.offset) segment.file_size))
+
+-- where the text at an index of a part of the input stands, or why there is none
+abbrev pub text_range : List ℕ → Range → ℕ → Result Range ElfError
+text_range input part index = and_then (range_of input part.offset part.size) (λ bytes.
+    and_then (text_of bytes index) (λ text. Ok (range_at (part.offset + index) (length text))))
+
+-- where the name table stands, or why there is none: from the offset of its section to the end of the input
+abbrev pub names_range : ElfFile → Result Range ElfError
+names_range file = and_then (names_section_of file) (λ section. unless (
+    (nat_lt (length file.input.now) (section_fields section).offset, ShortSectionOffset)
+    ∷ []) (range_at (section_fields section).offset (length file.input.now - (section_fields section).offset)))
+
+-- where the name of a section stands, or why it has none: in the name table, at the section's index
+abbrev pub name_range : ElfFile → SectionHeader → Result Range ElfError
+name_range file section = and_then (section_type section) (λ kind. if is_sh_type Null kind then Err NullName
+    else and_then (names_range file) (λ names. text_range file.input.now names (section_fields section).name))

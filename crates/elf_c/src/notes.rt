@@ -1,0 +1,110 @@
+//! Notes, one after the other (gABI, "Note Section").
+
+ghost use Rattle.std.specs.Prelude.{◌≡◌, ◌+◌, ◌≤◌, ◌<◌, ◌^◌, length};
+ghost use Rattle.elf_base.specs.HeaderNumbers.{order_of};
+ghost use Rattle.elf_c.specs.FirstNote.{note_at, note_in};
+ghost use Rattle.elf_c.specs.Status.{GivesHere};
+ghost use Rattle.elf_linking.specs.Notes.{next_step};
+
+use crate::file::Parsed;
+use crate::names::{Range, bytes_in};
+use crate::status::{Refusal, give};
+use elf_base::bytes::{Order, read_u32};
+use elf_base::header::{Data_, byte_order};
+use elf_linking::LinkError;
+
+/// A note, and where the next one begins.
+#[repr(C)]
+#[derive(Clone, Copy, Debug)]
+pub struct NoteRange {
+    /// The name, as many bytes as the note says: with the zero byte that ends it.
+    pub name: Range,
+    /// The description.
+    pub desc: Range,
+    /// What follows the note and its padding: the next notes.
+    pub rest: Range,
+    /// What the description means, by the name.
+    pub type_: u32,
+}
+
+// The next multiple of a step from here on: of 8 where the alignment is 8, and else of 4.
+#[tactic(auto, unfolding(elf_linking::specs::Notes::next_step))]
+#[inline(always)]
+fn next_step(align: u64, place: u64) -> u64
+    requires { place < 2 ^ 63 }
+    ensures value { result ≡ next_step align place }
+    ensures near { result < place + 8 }
+    ensures above { place ≤ result }
+{
+    match align {
+        8 => (place + 7) / 8 * 8,
+        _ => (place + 3) / 4 * 4,
+    }
+}
+
+// The note at the front of these bytes, which stand at `start`.
+fn first_note(bytes: &[u8], start: u64, order: Order, align: u64) -> Result<NoteRange, Refusal>
+    requires { start + length bytes.now < 2 ^ 64 }
+    ensures { result ≡ note_at start align order bytes.now }
+{
+    if bytes.is_empty() {
+        return Err(Refusal::NoRecord);
+    }
+    if bytes.len() < 12 {
+        return Err(Refusal::Link(LinkError::ShortNote));
+    }
+    let (name_size, desc_size) = (read_u32(bytes, 0, order), read_u32(bytes, 4, order));
+    let desc_start = next_step(align, 12 + u64::from(name_size));
+    let desc_end = desc_start + u64::from(desc_size);
+    let len = bytes.len() as u64;
+    if desc_end > len {
+        return Err(Refusal::Link(LinkError::ShortNote));
+    }
+    let after = next_step(align, desc_end);
+    let next = if after <= len { after } else { len };
+    Ok(NoteRange {
+        name: Range {
+            offset: start + 12,
+            size: u64::from(name_size),
+        },
+        desc: Range {
+            offset: start + desc_start,
+            size: u64::from(desc_size),
+        },
+        rest: Range {
+            offset: start + next,
+            size: len - next,
+        },
+        type_: read_u32(bytes, 8, order),
+    })
+}
+
+// The note at the front of a range.
+#[inline(always)]
+fn note_in(input: &[u8], header: &Parsed, part: &Range, align: u64) -> Result<NoteRange, Refusal>
+    ensures { result ≡ note_in input.now (order_of header.now.encoding) part.now align }
+{
+    let bytes = bytes_in(input, part)?;
+    prove!(input.len() <= usize::MAX);
+    let order = byte_order(Data_::from_raw(header.encoding));
+    first_note(bytes, part.offset, order, align)
+}
+
+/// The note that a range begins with, and the range of what follows it: as `elf_linking::notes::Notes`
+/// gives its next item, by the alignment of the section or segment.
+///
+/// Refused with `DataRange` where the range passes the end of the input, with `NoRecord` where it is
+/// empty, and with `ShortNote` where it holds no whole note.
+#[unsafe(no_mangle)]
+pub extern "C" fn xmas_elf_note(
+    input: &[u8],
+    header: &Parsed,
+    part: &Range,
+    align: u64,
+    out: &mut NoteRange,
+) -> u32
+    ensures { GivesHere (note_in input.now (order_of header.now.encoding) part.now align)
+        out.old result out.new }
+{
+    give(note_in(input, header, part, align), out)
+}
