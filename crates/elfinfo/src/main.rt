@@ -1,7 +1,8 @@
 //! Prints what an ELF file holds: `elfinfo PATH` writes the report of the file to standard output.
 #![tactic(auto)]
 
-ghost use Rattle.std.specs.Prelude.{◌≡◌, [], OnOk};
+ghost use Rattle.std.specs.Borrow.{Bor};
+ghost use Rattle.std.specs.Prelude.{◌≡◌, ◌≤◌, [], IfOk, IfSome, IsSomeAnd, List, OnOk, ℕ};
 ghost use Rattle.std.specs.Io.Buffered.{writer_buffer, writer_inner};
 ghost use Rattle.xmas_elf.specs.Report.{WritesReport};
 
@@ -35,15 +36,18 @@ enum Fault<'a> {
 /// Writes the report of the file to `out`, or says on `err` why it can't, and answers the exit status.
 ///
 /// `file` is `None` where there is a path that does not open. The status is 0 once the whole report is
-/// written and flushed, and 1 otherwise; it says nothing of `err`.
+/// written and flushed, and 1 otherwise; the contract says nothing of `err`.
 pub fn run<R: Read + Drop, W: Write, E: Write>(
     alloc: Global,
     path: Option<&str>,
     file: Option<R>,
     out: &mut W,
     err: &mut E,
-) -> u8 {
-    match print_report(alloc, path, file, out) {
+) -> u8
+    ensures { result ≤ 1 }
+{
+    let printed = print_report(alloc, path, file, &mut *out).map(|_| ());
+    match printed {
         Ok(()) => 0,
         Err(Fault::Usage) => say(&Fault::Usage, out),
         Err(fault) => say(&fault, err),
@@ -58,12 +62,17 @@ fn say<W: Write>(fault: &Fault<'_>, to: &mut W) -> u8
     1
 }
 
-fn print_report<'a, R: Read + Drop, W: Write>(
+// Writes the report of all that the reader has left, whole, and gives the writer back.
+fn print_report<'a, R: Read + Drop, W: Write + Drop>(
     alloc: Global,
     path: Option<&'a str>,
     file: Option<R>,
-    out: &mut W,
-) -> Result<(), Fault<'a>> {
+    out: W,
+) -> Result<W, Fault<'a>>
+    ensures { IfOk result (λ back. IsSomeAnd file (λ reader. IfSome (R.remaining reader)
+        (λ bytes. (input : Bor (List ℕ)) × (input.now ≡ bytes)
+        × WritesReport input (W.contents out) (W.contents back)))) }
+{
     let path = path.ok_or(Fault::Usage)?;
     let mut file = file.ok_or(Fault::Read { path })?;
     let mut input = Vec::new(alloc);
@@ -77,12 +86,17 @@ fn print_report<'a, R: Read + Drop, W: Write>(
 }
 
 // Writes the report through a buffer, which is thrown away after a fault.
-fn write_buffered<W: Write>(alloc: Global, input: &[u8], out: &mut W) -> Result<(), ReportFault> {
+fn write_buffered<W: Write + Drop>(alloc: Global, input: &[u8], out: W) -> Result<W, ReportFault>
+    ensures { IfOk result (λ back. WritesReport input.entry (W.contents out) (W.contents back)) }
+{
     let mut buffered = BufWriter::new(alloc, out).map_err(|_| ReportFault::Write)?;
     let written = write_flushed(input, &mut buffered);
     // Unlike a drop, this writes nothing more after a fault.
-    let _ = buffered.into_parts();
-    written
+    let (out, _) = buffered.into_parts();
+    match written {
+        Ok(()) => Ok(out),
+        Err(fault) => Err(fault),
+    }
 }
 
 fn write_flushed<W: Write + Drop>(

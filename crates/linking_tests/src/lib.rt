@@ -1,6 +1,5 @@
-//! Callers of `elf_linking`, and worked tables with their answers, through its public surface alone.
+//! Tests of `elf_linking`: worked tables with their answers, and small shared objects that a linker made.
 #![tactic(auto)]
 
-pub mod callers;
 #[cfg(test)]
 mod tests;

@@ -6,3 +6,4 @@ mod messages;
 mod notes;
 mod relr;
 mod shared_object;
+mod view;

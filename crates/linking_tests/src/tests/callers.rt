@@ -1,14 +1,14 @@
 //! The callers, at a table of each kind.
 
-use crate::callers::{AnyTable, finds_all, value_by_name, words_looked_at};
 use elf_base::ElfError;
 use elf_base::bytes::{Order, Table};
 use elf_base::header::Class;
 use elf_linking::LinkError;
 use elf_linking::gnu_hash::GnuHashTable;
-use elf_tests::files::{put_words, strtab_file};
-use elf_tests::places::{set, symbol_32};
+use linking_callers::callers::{AnyTable, finds_all, value_by_name, words_looked_at};
 use std::test::Fail;
+use worked_files::files::{put_words, strtab_file};
+use worked_files::places::{set, symbol_32};
 use xmas_elf::ElfFile;
 use xmas_elf::hash::HashTable;
 use xmas_elf::symbol_table::Entry32;

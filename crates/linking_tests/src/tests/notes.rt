@@ -1,13 +1,13 @@
 //! Which notes sections and segments have.
 
-use crate::callers::notes::{build_id_of_section, build_id_of_segments};
 use elf_base::ElfError;
 use elf_base::bytes::Order;
 use elf_linking::LinkError;
 use elf_linking::notes::{Notes, section_notes, segment_notes};
-use elf_tests::places::{header_32, program_32, put, section_32, set};
+use linking_callers::callers::notes::{build_id_of_section, build_id_of_segments};
 use std::process::Abort;
 use std::test::Fail;
+use worked_files::places::{header_32, program_32, put, section_32, set};
 use xmas_elf::{ElfFile, Extensions};
 
 const LITTLE: Order = Order::Little;

@@ -1,13 +1,13 @@
 //! Which addresses packed relative relocations name.
 
-use crate::callers::relr::{is_relocated, relocation_count};
 use elf_base::bytes::Order;
 use elf_base::header::Class;
 use elf_linking::LinkError;
 use elf_linking::relr::Relr;
-use elf_tests::places::{Place, set};
+use linking_callers::callers::relr::{is_relocated, relocation_count};
 use std::process::Abort;
 use std::test::Fail;
+use worked_files::places::{Place, set};
 
 const LITTLE: Order = Order::Little;
 

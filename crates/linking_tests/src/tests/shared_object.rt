@@ -27,8 +27,8 @@ use elf_base::bytes::{Order, Record, Table};
 use elf_base::header::Class;
 use elf_linking::LinkError;
 use elf_linking::gnu_hash::GnuHashTable;
-use elf_tests::places::put;
 use std::process::Abort;
+use worked_files::places::put;
 use xmas_elf::ElfFile;
 use xmas_elf::sections::SectionData;
 use xmas_elf::symbol_table::Entry;
@@ -43,8 +43,8 @@ const NARROW_VALUES: [u64; 7] = [0x2c8, 0x201, 0x238, 0x207, 0x1f0, 0x1f6, 0x212
 
 const WIDE_VALUES: [u64; 7] = [0x3e0, 0x2ba, 0x2cb, 0x2c0, 0x2b0, 0x2b6, 0x2c6];
 
-// Of class 32.
-const NARROW: &[u8; 1332] = b"\
+/// Of class 32.
+pub const NARROW: &[u8; 1332] = b"\
     \x7fELF\x01\x01\x01\0\0\0\0\0\0\0\0\0\x03\0\x03\0\x01\0\0\0\0\0\0\0\x34\0\0\0,\x03\0\0\0\0\0\0\
     \x34\0\x20\0\x04\0(\0\x0d\0\x0c\0\x01\0\0\0\0\0\0\0\0\0\0\0\0\0\0\0@\x02\0\0@\x02\0\0\x05\0\0\
     \0\x10\0\0\0\x01\0\0\0@\x02\0\0@\x02\0\0@\x02\0\0\x8c\0\0\0\x8c\0\0\0\x06\0\0\0\x10\0\0\0\x02\

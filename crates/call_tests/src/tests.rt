@@ -1,5 +1,0 @@
-//! Expected values are worked out by hand from the format, and never taken from the program's output.
-
-mod every_call;
-mod every_prefix;
-mod printed;

@@ -1,0 +1,84 @@
+//! What is wanted of a file's answers, as tests of damaged files share it.
+
+use crate::tests::every_call::{WantedData, WantedSection};
+use xmas_elf::ElfError;
+use xmas_elf::sections::ShType;
+
+pub const STRTAB_HEADER: &str = "ELF header:
+    magic:            [127, 69, 76, 70]
+    class:            ThirtyTwo
+    data:             LittleEndian
+    version:          Current
+    os abi:           SystemV
+    abi version:      0
+    padding:          [0, 0, 0, 0, 0, 0, 0]
+    type:             None
+    machine:          None
+    version:          0
+    entry_point:      0
+    ph_offset:        0
+    sh_offset:        52
+    flags:            0
+    header_size:      52
+    ph_entry_size:    0
+    ph_count:         0
+    sh_entry_size:    40
+    sh_count:         2
+    sh_str_index:     1
+";
+
+pub const LINK_HEADER: &str = "ELF header:
+    magic:            [127, 69, 76, 70]
+    class:            SixtyFour
+    data:             LittleEndian
+    version:          Current
+    os abi:           SystemV
+    abi version:      0
+    padding:          [0, 0, 0, 0, 0, 0, 0]
+    type:             None
+    machine:          None
+    version:          0
+    entry_point:      0
+    ph_offset:        0
+    sh_offset:        64
+    flags:            0
+    header_size:      64
+    ph_entry_size:    0
+    ph_count:         0
+    sh_entry_size:    64
+    sh_count:         4
+    sh_str_index:     1
+";
+
+pub const CUT: &str = " ! section header table out of range";
+
+pub fn first<'a>() -> WantedSection<'a> {
+    WantedSection {
+        numbers: [0; 9],
+        kind: Ok(ShType::Null),
+        name: Err(ElfError::NullName),
+        bytes: Err(ElfError::NullData),
+        contents: WantedData::Empty,
+    }
+}
+
+/// What is wanted of the text from one byte up to a zero byte, in a prefix of so many bytes.
+pub fn text(
+    len: usize,
+    start: usize,
+    zero: usize,
+    text: &'static str,
+) -> Result<&'static str, ElfError> {
+    if len < start {
+        Err(ElfError::TextStart)
+    } else if len <= zero {
+        Err(ElfError::TextEnd)
+    } else {
+        Ok(text)
+    }
+}
+
+/// What is wanted of the bytes from one up to another, which isn't among them.
+pub fn bytes(input: &[u8], start: usize, end: usize) -> Result<&[u8], ElfError> {
+    input.get(start..end).ok_or(ElfError::DataRange)
+}

@@ -1,0 +1,5 @@
+use Rattle.xmas_elf.proofs.lemmas.HeaderList.{next_section_gives}
+use Rattle.elf_callers.proofs.callers.steps.next_section.Goals as goal
+
+pub returns-clause-there : goal.returns-clause-there
+returns-clause-there c = λ h below is. next_section_gives _ _ _ h c.next.ensures below is

@@ -1,0 +1,15 @@
+pub mod Executable
+pub mod Refusals
+pub mod Numbered
+pub mod Linked
+pub mod Loaded
+pub mod FunctionAt
+pub mod Sizes
+pub mod Instructions
+pub mod Kinds
+pub mod Reported
+pub mod Tiny
+pub mod Sound
+pub mod Shapes
+pub mod Parts
+pub mod SegmentShapes

@@ -1,0 +1,267 @@
+//! Callers of `xmas_elf` in another crate, proved by its public contracts, and where their `using` or their
+//! answers name one by a lemma of `xmas_elf/proofs/lemmas`.
+
+ghost use Rattle.std.specs.Prelude.{◌≡◌, ◌≢◌, ◌+◌, ◌↔◌, ◌≤◌, ◌<◌, ◌==◌, Err, IfErr, IfOk, IsOk, IsOkAnd, IsTrue, List, MatchOption, MatchResult, None, Ok, Some, count_by, length, ℕ};
+ghost use Rattle.std.specs.List.{AllWithin, HoldsAt};
+ghost use Rattle.elf_callers.specs.Instructions.{instructions_in};
+ghost use Rattle.xmas_elf.specs.Checks.{header_check};
+ghost use Rattle.xmas_elf.specs.Counts.{section_count_of};
+ghost use Rattle.xmas_elf.specs.FileHeader.{IsAccepted, file_class, file_order, header_of};
+ghost use Rattle.xmas_elf.specs.HeaderLayout.{header_fields};
+ghost use Rattle.xmas_elf.specs.HeaderTable.{IsLongest};
+ghost use Rattle.xmas_elf.specs.Lent.{Answers};
+ghost use Rattle.xmas_elf.specs.NameTable.{Bears, IsFirstNamed, IsNameTable, name_of as section_name_of, shstr_of};
+ghost use Rattle.xmas_elf.specs.Number.{byte_at, number};
+ghost use Rattle.xmas_elf.specs.ProgramHeader.{program_fields, program_by_u16};
+ghost use Rattle.xmas_elf.specs.ProgramList.{program_list};
+ghost use Rattle.xmas_elf.specs.SectionData.{HasSectionData, section_data_of};
+ghost use Rattle.xmas_elf.specs.SectionHeader.{HasSectionHeader, section_fields, section_by_u16, section_header_size, section_of, section_place, section_type};
+ghost use Rattle.xmas_elf.specs.SectionList.{section_list};
+ghost use Rattle.xmas_elf.specs.SegmentData.{HasSegmentData, segment_data_of};
+ghost use Rattle.xmas_elf.specs.Text.{IsText};
+ghost use Rattle.xmas_elf.specs.Types.{ElfFile, SectionHeader};
+
+pub mod accepted;
+pub mod backtrace;
+pub mod clones;
+pub mod contents;
+pub mod copies;
+pub mod data;
+pub mod enums;
+pub mod equality;
+pub mod first;
+pub mod hash;
+pub mod header_tables;
+pub mod indices;
+pub mod laws;
+pub mod lent;
+pub mod loader;
+pub mod lookups;
+pub mod names;
+pub mod notes;
+pub mod opened;
+pub mod parts;
+pub mod printed;
+pub mod refusals;
+pub mod reports;
+pub mod size_report;
+pub mod sound;
+pub mod steps;
+pub mod symbols;
+pub mod tables;
+pub mod values;
+
+use std::alloc::{AllocError, Global};
+use xmas_elf::program::{ProgramHeader, ProgramHeader64};
+use xmas_elf::sections::{SectionHeader, ShType};
+use xmas_elf::{ElfError, ElfFile, header};
+
+/// The class of a file, which is its byte 4, or why it has none.
+pub fn class_byte(input: &[u8]) -> Result<u8, ElfError>
+    ensures accepted { IsOk result ↔ IsAccepted input.now }
+    ensures value { IfOk result (λ class. class ≡ byte_at 4 input.now) }
+    ensures refused { IfErr result (λ error. header_of input.now ≡ Err error) }
+{
+    let file = ElfFile::new(input)?;
+    Ok(file.header.pt1.class.raw())
+}
+
+/// The size of a section of class 64: the number of eight bytes that stands 32 behind its place; or why
+/// its header can't be read.
+pub fn size_64(file: &ElfFile<'_>, index: u16) -> Result<u64, ElfError>
+    requires { file_class file.now.header ≡ 2 }
+    ensures readable { IsOk result ↔ HasSectionHeader file.now.input.now file.now.header index }
+    ensures value { IfOk result (λ size. size
+        ≡ number (file_order file.now.header) 8 (section_place file.now.header index + 32) file.now.input.now) }
+    ensures refused { IfErr result (λ error.
+        section_by_u16 file.now.input.now file.now.header index ≡ Err error) }
+{
+    let section = file.section_header(index)?;
+    Ok(section.size())
+}
+
+/// How many sections of a file can be read, by its iterator.
+pub fn readable_sections(file: &ElfFile<'_>) -> usize
+    ensures counted { result ≡ length (section_list file.now) }
+    ensures longest { IsLongest (section_of file.now) (section_count_of file.now) (section_list file.now) }
+{
+    file.section_iter().count()
+}
+
+/// How many segments of a file can be read, by its iterator.
+pub fn readable_segments(file: &ElfFile<'_>) -> usize
+    ensures { result ≡ length (program_list file.now) }
+{
+    file.program_iter().count()
+}
+
+/// How many sections are empty, by a chain.
+pub fn empty_sections(file: &ElfFile<'_>) -> usize
+    ensures { result ≡ count_by (λ section. (section_fields section).size == 0) (section_list file.now) }
+{
+    file.section_iter()
+        .filter(|section| section.size() == 0)
+        .count()
+}
+
+/// The place in the list of the first section at this offset.
+pub fn section_at(file: &ElfFile<'_>, offset: u64) -> Option<usize>
+    ensures { let sections = section_list file.now in MatchOption result
+        (AllWithin (λ section. (section_fields section).offset ≢ offset) sections 0 (length sections))
+        (λ i. (i < length sections) × HoldsAt
+        (λ section. (section_fields section).offset ≡ offset) sections i
+        × AllWithin (λ section. (section_fields section).offset ≢ offset) sections 0 i) }
+{
+    file.section_iter()
+        .position(|section| section.offset() == offset)
+}
+
+/// How many sections a file has, by a loop.
+pub fn counted_sections(file: &ElfFile<'_>) -> u64
+    ensures { result ≡ length (section_list file.now) }
+{
+    let mut count = 0;
+    for _section in file.section_iter() {
+        count += 1;
+    }
+    count
+}
+
+/// The first section at this address, by `find`.
+pub fn section_with_address(file: &ElfFile<'_>, address: u64) -> Option<SectionHeader>
+    ensures { let sections = section_list file.now in MatchOption result
+        (AllWithin (λ section. (section_fields section).address ≢ address) sections 0 (length sections))
+        (λ section. (section_fields section).address ≡ address
+        × ((i : ℕ) × (i < length sections) × HoldsAt (λ item. item ≡ section) sections i
+        × AllWithin (λ before. (section_fields before).address ≢ address) sections 0 i)) }
+{
+    file.section_iter()
+        .find(|section| section.address() == address)
+}
+
+/// How many bytes the data of a section has: as many as its header says; or why it has none.
+pub fn data_len(file: &ElfFile<'_>, section: SectionHeader) -> Result<usize, ElfError>
+    ensures readable { IsOk result ↔ HasSectionData file.now section }
+    ensures value { IfOk result (λ len. len ≡ (section_fields section).size) }
+    ensures refused { IfErr result (λ error. section_data_of file.now section ≡ Err error) }
+{
+    let range = section.raw_data(file)?;
+    Ok(range.len())
+}
+
+/// Whether the bytes of a section that the program defines are all there.
+pub fn is_whole(file: &ElfFile<'_>, section: SectionHeader) -> bool
+    requires { section_type section ≡ Ok ShType.ProgBits }
+    ensures { IsTrue result
+        ↔ ((section_fields section).offset + (section_fields section).size ≤ length file.now.input.now) }
+{
+    section.raw_data(file).is_ok()
+}
+
+/// Whether a section of type Null has data, which it never has.
+pub fn null_has_data(file: &ElfFile<'_>, section: SectionHeader) -> bool
+    requires { section_type section ≡ Ok ShType.Null }
+    ensures { ¬ IsTrue result }
+{
+    section.raw_data(file).is_ok()
+}
+
+/// How many bytes the data of a segment has: as many as its header says; or why its header can't be
+/// read, or it has no data.
+pub fn segment_data_len(file: &ElfFile<'_>, index: u16) -> Result<usize, ElfError>
+    ensures value { IfOk result (λ len. IsOkAnd (program_by_u16 file.now.input.now file.now.header index)
+        (λ program. HasSegmentData file.now (program_fields program)
+        × (len ≡ (program_fields program).file_size))) }
+    ensures refused { IfErr result (λ error.
+        MatchResult (program_by_u16 file.now.input.now file.now.header index)
+        (λ program. segment_data_of file.now (program_fields program) ≡ Err error)
+        (λ why. why ≡ error)) }
+{
+    let range = file.program_header(index)?.raw_data(file)?;
+    Ok(range.len())
+}
+
+/// How many sections a file has, where its header makes sense and its entries are at least as large as
+/// the record: their count. Refused as the check is.
+pub fn checked_section_count(file: &ElfFile<'_>) -> Result<usize, ElfError>
+    ensures readable { IfOk result (λ count. count ≡ length (section_list file.now)) }
+    ensures checked { MatchResult result (λ _. IsOk (header_check file.now))
+        (λ error. header_check file.now ≡ Err error) }
+    ensures count { IfOk result (λ count.
+        section_header_size (file_class file.now.header) ≤ (header_fields file.now.header.pt2).sh_entry_size
+        → count ≡ section_count_of file.now) }
+{
+    header::sanity_check(file)?;
+    Ok(readable_sections(file))
+}
+
+/// The first section with this name: some section header below the count, before which none bears it.
+pub fn named_section(file: &ElfFile<'_>, name: &str) -> Option<SectionHeader>
+    ensures { MatchOption result
+        ((i : ℕ) (section : SectionHeader) → i < length (section_list file.now)
+        → section_of file.now i ≡ Ok section → ¬ Bears file.now section name.now)
+        (λ section. (i : ℕ) × IsFirstNamed file.now name.now i section) }
+{
+    file.find_section_by_name(name)
+}
+
+/// The name of a section, which stands at its index in the name table, or the very refusal.
+pub fn name_of<'a>(file: &ElfFile<'a>, section: SectionHeader) -> Result<&'a str, ElfError>
+    ensures name { IfOk result (λ name. (table : List ℕ)
+        × IsNameTable file.now table × IsText table (section_fields section).name name.now) }
+    ensures exact { Answers (section_name_of file.now section) result }
+{
+    section.get_name(file)
+}
+
+/// A name, which outlives the `ElfFile` that it was read by; or the very refusal, of the bytes or of the
+/// name.
+pub fn name_in<'a>(input: &'a [u8], index: u32) -> Result<&'a str, ElfError>
+    ensures name { IfOk result (λ name. IsOkAnd (header_of input.now) (λ header.
+        let file : ElfFile = record { input = input.entry; header = header } in shstr_of file index
+        ≡ Ok name.now)) }
+    ensures refused { IfErr result (λ error. MatchResult (header_of input.now) (λ header.
+        let file : ElfFile = record { input = input.entry; header = header } in shstr_of file index
+        ≡ Err error) (λ why. why ≡ error)) }
+{
+    let file = ElfFile::new(input)?;
+    file.get_shstr(index)
+}
+
+/// How many bytes the string tables of a file have together, or the greatest number if that is less.
+pub fn string_bytes(input: &[u8]) -> Result<u64, ElfError> {
+    let file = ElfFile::new(input)?;
+    let mut total = 0u64;
+    for section in file.section_iter() {
+        if section.get_type() == Ok(ShType::StrTab) {
+            total = total.saturating_add(section.raw_data(&file)?.len() as u64);
+        }
+    }
+    Ok(total)
+}
+
+/// The instructions of a program, which live as long as its bytes; none where the file doesn't hold
+/// them.
+pub fn text_section(input: &[u8]) -> Option<&[u8]>
+    ensures { MatchOption result (instructions_in input.entry ≡ None)
+        (λ bytes. instructions_in input.entry ≡ Some bytes.now) }
+{
+    let file = ElfFile::new(input).ok()?;
+    let section = file.find_section_by_name(".text")?;
+    match section.get_type() {
+        Ok(ShType::ProgBits) => section.raw_data(&file).ok(),
+        _ => None,
+    }
+}
+
+/// The length of the first name in a copy of some bytes.
+pub fn copied_name_len(alloc: Global, bytes: &[u8]) -> Result<usize, AllocError> {
+    let buffer = Vec::from_slice(alloc, bytes)?;
+    let name = name_in(buffer.as_slice(), 1);
+    let length = match name {
+        Ok(text) => text.len(),
+        Err(_) => 0,
+    };
+    drop(buffer);
+    Ok(length)
+}

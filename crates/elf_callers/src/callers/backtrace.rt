@@ -1,0 +1,102 @@
+//! What a backtrace says of an address: the name of the function that it lies in.
+//!
+//! An address is what the values of the symbols are: one of memory in a program, and an offset in some
+//! section in an object file.
+
+ghost use Rattle.std.specs.Prelude.{◌≡◌, ◌↔◌, ◌<◌, ℕ, None, IfErr, IfOk, IsOkAnd, IsTrue, MatchOption, MatchResult, length};
+ghost use Rattle.std.specs.List.{HoldsAt};
+ghost use Rattle.elf_callers.specs.FunctionAt.{HasNoName, HoldsAddress, IsFunctionAt, IsFunctionName, IsFunctionNameOf, IsNameRefused, NoneHolds};
+ghost use Rattle.xmas_elf.specs.FileHeader.{header_of};
+ghost use Rattle.xmas_elf.specs.Symbols.{symbols_of};
+ghost use Rattle.xmas_elf.specs.Table.{table_items};
+ghost use Rattle.xmas_elf.specs.Types.{ElfFile};
+
+use xmas_elf::bytes::{Record, Table};
+use xmas_elf::sections::SectionData;
+use xmas_elf::symbol_table::{Entry, Type};
+use xmas_elf::{ElfError, ElfFile};
+
+/// Whether a symbol is a function that the address lies in.
+pub fn holds_address<E: Entry>(symbol: &E, address: u64) -> bool
+    ensures { IsTrue result ↔ HoldsAddress (E.fields symbol.now) address }
+{
+    let start = symbol.value();
+    matches!(symbol.get_type(), Ok(Type::Func))
+        && start <= address
+        && address - start < symbol.size()
+}
+
+/// The place in the table of the first function that the address lies in, in std's words.
+pub fn function_place<E: Entry + Record>(symbols: &Table<'_, E>, address: u64) -> Option<usize>
+    ensures { let all = table_items symbols.now in MatchOption result
+        (NoneHolds E.fields all address (length all))
+        (λ place. (place < length all)
+        × HoldsAt (λ symbol. HoldsAddress (E.fields symbol) address) all place
+        × NoneHolds E.fields all address place) }
+{
+    symbols
+        .iter()
+        .position(|symbol| holds_address(&symbol, address))
+}
+
+/// The first function that the address lies in, with its index.
+pub fn function_at<E: Entry + Record>(symbols: &Table<'_, E>, address: u64) -> Option<(usize, E)>
+    ensures { let all = table_items symbols.now in MatchOption result
+        (NoneHolds E.fields all address (length all))
+        (λ found. IsFunctionAt E.fields all address found.0 found.1) }
+{
+    let Some(index) = function_place(symbols, address) else {
+        return None;
+    };
+    match symbols.get(index) {
+        Some(symbol) => Some((index, symbol)),
+        None => unreachable!(),
+    }
+}
+
+/// The name of that function, or none where the address lies in none; refused as `Entry::get_name` is,
+/// where the function has no name.
+pub fn function_name_at<'a, E: Entry + Record>(
+    file: &ElfFile<'a>,
+    symbols: &Table<'_, E>,
+    address: u64,
+) -> Result<Option<&'a str>, ElfError>
+    ensures found { IfOk result (IsFunctionName (symbols_of E.fields E.text_in symbols.now file.now) address) }
+    ensures nameless { IfErr result (λ _.
+        HasNoName (symbols_of E.fields E.text_in symbols.now file.now) address) }
+{
+    match function_at(symbols, address) {
+        Some((_index, symbol)) => Ok(Some(symbol.get_name(file)?)),
+        None => Ok(None),
+    }
+}
+
+/// The name of the function that the address lies in, by the symbols of the file, in either class.
+///
+/// Refused as `SectionHeader::get_data` is for `.symtab`, and as `Entry::get_name` is.
+pub fn function_name<'a>(file: &ElfFile<'a>, address: u64) -> Result<Option<&'a str>, ElfError>
+    ensures name { IfOk result (IsFunctionNameOf file.now address) }
+    ensures refused { IfErr result (IsNameRefused file.now address) }
+{
+    let Some(section) = file.find_section_by_name(".symtab") else {
+        return Ok(None);
+    };
+    match section.get_data(file)? {
+        SectionData::SymbolTable32(symbols) => function_name_at(file, &symbols, address),
+        SectionData::SymbolTable64(symbols) => function_name_at(file, &symbols, address),
+        _ => Ok(None),
+    }
+}
+
+/// The same, from the bytes of the file.
+pub fn function_name_in(input: &[u8], address: u64) -> Result<Option<&str>, ElfError>
+    ensures name { IfOk result (λ found. IsOkAnd (header_of input.now) (λ header.
+        let file : ElfFile = record { input = input.entry; header = header } in
+        IsFunctionNameOf file address found)) }
+    ensures refused { IfErr result (λ error. MatchResult (header_of input.now) (λ header.
+        let file : ElfFile = record { input = input.entry; header = header } in
+        IsNameRefused file address error) (λ why. why ≡ error)) }
+{
+    let file = ElfFile::new(input)?;
+    function_name(&file, address)
+}

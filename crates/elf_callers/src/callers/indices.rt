@@ -1,0 +1,52 @@
+//! Callers that want the index of a header with the header: each index is that of `program_header_at`.
+
+ghost use Rattle.std.specs.Prelude.{◌≡◌, ◌<◌, IsOkAnd, MatchOption, Ok, length};
+ghost use Rattle.std.specs.List.{AllWithin, HoldsAt};
+ghost use Rattle.elf_callers.specs.Executable.{IsExecutable};
+ghost use Rattle.xmas_elf.specs.HeaderTable.{EachBelow};
+ghost use Rattle.xmas_elf.specs.ProgramHeader.{program_of};
+ghost use Rattle.xmas_elf.specs.ProgramList.{program_list};
+
+use xmas_elf::ElfFile;
+use xmas_elf::program::ProgramHeader;
+
+/// The place in the list of the first executable segment, in std's words.
+pub fn executable_place(file: &ElfFile<'_>) -> Option<usize>
+    ensures { let programs = program_list file.now in MatchOption result
+        (AllWithin (λ program. ¬ IsExecutable program) programs 0 (length programs))
+        (λ i. (i < length programs) × HoldsAt IsExecutable programs i
+        × AllWithin (λ program. ¬ IsExecutable program) programs 0 i) }
+{
+    file.program_iter()
+        .position(|program| program.flags().is_execute())
+}
+
+/// The index of the first executable segment: that of its program header.
+#[tactic(auto, using(xmas_elf::proofs::lemmas::HeaderList::found_segment))]
+pub fn first_executable(file: &ElfFile<'_>) -> Option<usize>
+    ensures { MatchOption result
+        (EachBelow (program_of file.now)
+        (λ program. ¬ IsExecutable program) (length (program_list file.now)))
+        (λ i. IsOkAnd (program_of file.now i) IsExecutable
+        × EachBelow (program_of file.now) (λ program. ¬ IsExecutable program) i) }
+{
+    executable_place(file)
+}
+
+/// The first executable segment with its index, by a loop.
+pub fn executable_with_index(file: &ElfFile<'_>) -> Option<(u64, ProgramHeader)>
+    ensures { MatchOption result
+        (EachBelow (program_of file.now)
+        (λ program. ¬ IsExecutable program) (length (program_list file.now)))
+        (λ p. (program_of file.now p.0 ≡ Ok p.1) × IsExecutable p.1
+        × EachBelow (program_of file.now) (λ program. ¬ IsExecutable program) p.0) }
+{
+    let mut index = 0;
+    for program in file.program_iter() {
+        if program.flags().is_execute() {
+            return Some((index, program));
+        }
+        index += 1;
+    }
+    None
+}

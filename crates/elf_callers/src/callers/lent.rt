@@ -1,0 +1,113 @@
+//! Callers that go by where a lent slice lies.
+
+ghost use Rattle.std.specs.Prelude.{◌≡◌, ◌≢◌, ◌≤◌, ◌-◌, Err, IfErr, IfOk, IsOkAnd, MatchOption, MatchResult, None, Ok};
+ghost use Rattle.elf_callers.specs.Kinds.{symbols_64_in};
+ghost use Rattle.xmas_elf.specs.FileHeader.{header_of};
+ghost use Rattle.xmas_elf.specs.Lent.{LiesAt};
+ghost use Rattle.xmas_elf.specs.Place.{LiesAsSection};
+ghost use Rattle.xmas_elf.specs.ProgramHeader.{program_fields, program_by_u16};
+ghost use Rattle.xmas_elf.specs.SectionContent.{content, section_content_of};
+ghost use Rattle.xmas_elf.specs.SectionData.{HasSectionData, IsSectionData};
+ghost use Rattle.xmas_elf.specs.SectionHeader.{section_fields, section_by_u16};
+ghost use Rattle.xmas_elf.specs.SegmentContent.{segment_content, segment_content_of};
+ghost use Rattle.xmas_elf.specs.SegmentData.{HasSegmentData, IsSegmentData};
+ghost use Rattle.xmas_elf.specs.declared.ElfFile.{ElfFile};
+
+use xmas_elf::bytes::{Order, Table};
+use xmas_elf::program::{ProgramHeader, SegmentData};
+use xmas_elf::sections::{SectionData, SectionHeader};
+use xmas_elf::symbol_table::Entry64;
+use xmas_elf::{ElfError, ElfFile};
+
+/// The data of a segment and of a section of one file.
+#[derive(Clone, Copy, Debug)]
+pub struct Overlay<'a> {
+    /// The segment's.
+    pub outer: &'a [u8],
+    /// The section's.
+    pub inner: &'a [u8],
+    /// How many bytes behind the first of the segment's the section's begin.
+    pub place: u64,
+}
+
+/// The data of a section that begins in a segment, and its place there: both parts are the memory of the
+/// input, so what stands behind the place in the one is the other.
+#[tactic(auto, using(xmas_elf::proofs::lemmas::Lent::lies_between))]
+pub fn section_in_segment<'a>(
+    file: &ElfFile<'a>,
+    segment: &ProgramHeader,
+    section: &SectionHeader,
+) -> Overlay<'a>
+    requires segment { HasSegmentData file.now (program_fields segment.now) }
+    requires full { (program_fields segment.now).file_size ≢ 0 }
+    requires section { HasSectionData file.now section.now }
+    requires behind { (program_fields segment.now).offset ≤ (section_fields section.now).offset }
+    ensures outer { IsSegmentData file.now (program_fields segment.now) result.outer.now }
+    ensures inner { IsSectionData file.now section.now result.inner.now }
+    ensures place { result.place ≡ (section_fields section.now).offset - (program_fields segment.now).offset }
+    ensures lies { LiesAt result.outer result.place result.inner }
+{
+    let Ok(outer) = segment.raw_data(file) else {
+        unreachable!()
+    };
+    let Ok(inner) = section.raw_data(file) else {
+        unreachable!()
+    };
+    let place = section.offset() - segment.offset();
+    Overlay {
+        outer,
+        inner,
+        place,
+    }
+}
+
+/// The bytes of the symbols of a section of class 64, which are the section's own in the input.
+pub fn symbol_bytes<'a>(file: &ElfFile<'a>, section: &SectionHeader) -> Option<&'a [u8]>
+    ensures { MatchOption result (symbols_64_in (section_content_of file.now section.now) ≡ None)
+        (LiesAsSection file.now section.now) }
+{
+    match section.get_data(file) {
+        Ok(SectionData::SymbolTable64(table)) => Some(table.bytes()),
+        _ => None,
+    }
+}
+
+/// The data of a section by its index, each part of which outlives the `ElfFile` that it was read by.
+pub fn section_data_in(input: &[u8], index: u16) -> Result<SectionData<'_>, ElfError>
+    ensures found { IfOk result (λ part. IsOkAnd (header_of input.now) (λ header.
+        let file : ElfFile = record { input = input.entry; header = header } in
+        IsOkAnd (section_by_u16 input.now header index)
+        (λ section. section_content_of file section ≡ Ok (content part)))) }
+    ensures refused { IfErr result (λ error. MatchResult (header_of input.now) (λ header.
+        let file : ElfFile = record { input = input.entry; header = header } in
+        MatchResult (section_by_u16 input.now header index)
+        (λ section. section_content_of file section ≡ Err error) (λ why. why ≡ error)) (λ why. why ≡ error)) }
+{
+    let file = ElfFile::new(input)?;
+    let section = file.section_header(index)?;
+    section.get_data(&file)
+}
+
+/// The same of a segment.
+pub fn segment_data_in(input: &[u8], index: u16) -> Result<SegmentData<'_>, ElfError>
+    ensures found { IfOk result (λ part. IsOkAnd (header_of input.now) (λ header.
+        let file : ElfFile = record { input = input.entry; header = header } in
+        IsOkAnd (program_by_u16 input.now header index)
+        (λ segment. segment_content_of file (program_fields segment) ≡ Ok (segment_content part)))) }
+    ensures refused { IfErr result (λ error. MatchResult (header_of input.now) (λ header.
+        let file : ElfFile = record { input = input.entry; header = header } in
+        MatchResult (program_by_u16 input.now header index)
+        (λ segment. segment_content_of file (program_fields segment) ≡ Err error) (λ why. why ≡ error)) (λ why. why ≡ error)) }
+{
+    let file = ElfFile::new(input)?;
+    let segment = file.program_header(index)?;
+    segment.get_data(&file)
+}
+
+/// The bytes of some symbols, which outlive the table that they were read by.
+pub fn table_bytes(bytes: &[u8], order: Order) -> Result<&[u8], ElfError>
+    ensures { MatchResult result (LiesAt bytes.entry 0) (λ error. error ≡ ElfError.NotMultiple) }
+{
+    let table = Table::<Entry64>::new(bytes, order)?;
+    Ok(table.bytes())
+}

@@ -1,0 +1,39 @@
+//! Callers that ask what the checks accept, and when data is of a kind, in words.
+
+ghost use Rattle.std.specs.Prelude.{◌↔◌, IsTrue};
+ghost use Rattle.elf_callers.specs.Sound.{HasSymbols, IsSoundHeader, IsSoundSection, IsSoundSegment};
+
+use xmas_elf::program::ProgramHeader;
+use xmas_elf::sections::{SectionData, SectionHeader};
+use xmas_elf::{ElfFile, header, program, sections};
+
+/// Whether the ELF header makes sense over the file.
+#[tactic(auto, unfolding(xmas_elf::specs::Checks::header_check))]
+pub fn is_sound_header(file: &ElfFile<'_>) -> bool
+    ensures { IsTrue result ↔ IsSoundHeader file.now }
+{
+    header::sanity_check(file).is_ok()
+}
+
+/// Whether a section header makes sense.
+pub fn is_sound_section(file: &ElfFile<'_>, section: SectionHeader) -> bool
+    ensures { IsTrue result ↔ IsSoundSection section }
+{
+    sections::sanity_check(section, file).is_ok()
+}
+
+/// Whether a program header makes sense over the file.
+#[tactic(auto, unfolding(xmas_elf::specs::Checks::program_check))]
+pub fn is_sound_segment(file: &ElfFile<'_>, segment: ProgramHeader) -> bool
+    ensures { IsTrue result ↔ IsSoundSegment file.now segment }
+{
+    program::sanity_check(segment, file).is_ok()
+}
+
+/// Whether the data of a section is symbols of class 64.
+#[tactic(auto, unfolding(xmas_elf::specs::SectionContent::section_content_of))]
+pub fn has_symbols(file: &ElfFile<'_>, section: SectionHeader) -> bool
+    ensures { IsTrue result ↔ HasSymbols file.now section }
+{
+    matches!(section.get_data(file), Ok(SectionData::SymbolTable64(_)))
+}

@@ -1,0 +1,145 @@
+//! Callers of symbols, of a known type and of any.
+
+ghost use Rattle.std.specs.Prelude.{◌≡◌, ◌↔◌, ◌*◌, ◌<◌, ◌≤◌, IfOk, IfSome, IsTrue, MatchOption, MatchResult, None, Ok, Some, codes, drop, length, take, ℕ};
+ghost use Rattle.elf_callers.specs.Numbered.{numbered_name};
+ghost use Rattle.xmas_elf.specs.Lent.{Answers, Lends};
+ghost use Rattle.xmas_elf.specs.NameTable.{section_named};
+ghost use Rattle.xmas_elf.specs.Number.{number};
+ghost use Rattle.xmas_elf.specs.SectionHeader.{section_of};
+ghost use Rattle.xmas_elf.specs.StringTable.{IsDynString, IsString, dyn_string_of, string_of, strtab_of};
+ghost use Rattle.xmas_elf.specs.Symbol.{dyn_entry_32_fields, entry_64_fields};
+ghost use Rattle.xmas_elf.specs.SymbolSection.{IsSectionIndex, symbol_section_of};
+ghost use Rattle.xmas_elf.specs.Table.{table_data, table_order};
+ghost use Rattle.xmas_elf.specs.Types.{ElfFile, SectionHeader};
+
+use crate::own::Numbered;
+use xmas_elf::bytes::{Order, Record, Table, text_at};
+use xmas_elf::sections::SectionHeader;
+use xmas_elf::symbol_table::{DynEntry32, Entry, Entry64};
+use xmas_elf::{ElfError, ElfFile};
+
+/// The name of a symbol of class 64, or the very refusal.
+pub fn name_or_refusal<'a>(symbol: &Entry64, file: &ElfFile<'a>) -> Result<&'a str, ElfError>
+    ensures name { Lends (IsString file.now (entry_64_fields symbol.now).name) result }
+    ensures exact { Answers (string_of file.now (entry_64_fields symbol.now).name) result }
+{
+    symbol.get_name(file)
+}
+
+/// The name of a symbol of the dynamic linker, or the very refusal, by the path of the trait.
+pub fn dyn_name_or_refusal<'a>(symbol: &DynEntry32, file: &ElfFile<'a>) -> Result<&'a str, ElfError>
+    ensures name { Lends (IsDynString file.now (dyn_entry_32_fields symbol.now).name) result }
+    ensures exact { Answers (dyn_string_of file.now (dyn_entry_32_fields symbol.now).name) result }
+{
+    Entry::get_name(symbol, file)
+}
+
+/// Why a symbol has no name where no section is named `.strtab`.
+#[tactic(auto, unfolding(xmas_elf::specs::StringTable::string_of, xmas_elf::specs::StringTable::strtab_of))]
+pub fn without_strtab(symbol: &Entry64, file: &ElfFile<'_>) -> Option<ElfError>
+    requires { section_named file.now (codes ".strtab") ≡ None }
+    ensures { result ≡ Some ElfError.NoStrtab }
+{
+    symbol.get_name(file).err()
+}
+
+/// Any symbol: whether it bears this name.
+pub fn is_named<E: Entry>(symbol: &E, name: &str, file: &ElfFile<'_>) -> bool
+    ensures { IsTrue result ↔ (E.text_in symbol.now file.now ≡ Some name.now) }
+{
+    match symbol.get_name(file) {
+        Ok(text) => text == name,
+        Err(_) => false,
+    }
+}
+
+/// Any symbol: its section is that at the index that it has, or the very refusal.
+pub fn section_of_any<E: Entry>(
+    symbol: &E,
+    file: &ElfFile<'_>,
+    place: usize,
+) -> Result<SectionHeader, ElfError>
+    ensures value { IfOk result (λ section. (index : ℕ)
+        × IsSectionIndex file.now (E.fields symbol.now) place index
+        × (section_of file.now index ≡ Ok section)) }
+    ensures only { (index : ℕ) → IsSectionIndex file.now (E.fields symbol.now) place index
+        → result ≡ section_of file.now index }
+    ensures exact { result ≡ symbol_section_of file.now (E.fields symbol.now) place }
+{
+    symbol.get_section_header(file, place)
+}
+
+/// The value of a symbol of class 64: the number of eight bytes that stands 8 behind its place. None
+/// where that is at the end of the table or past it.
+#[tactic(auto, unfolding(xmas_elf::specs::Symbol::entry_64_fields))]
+pub fn value_at(table: &Table<'_, Entry64>, index: usize) -> Option<u64>
+    ensures { MatchOption result (length (table_data table.now) ≤ index * 24)
+        (λ value. (index * 24 < length (table_data table.now)) × (value
+        ≡ number (table_order table.now) 8 8 (take 24 (drop (index * 24) (table_data table.now))))) }
+{
+    Some(table.get(index)?.value())
+}
+
+/// The name of a symbol by the bytes of a string table: in each file that has it, what `get_name` answers.
+#[tactic(auto, unfolding(xmas_elf::specs::StringTable::string_of))]
+pub fn name_in<'a>(strings: &'a [u8], symbol: &Entry64) -> Result<&'a str, ElfError>
+    ensures { (file : ElfFile) → strtab_of file ≡ Ok strings.now
+        → Answers (string_of file (entry_64_fields symbol.now).name) result }
+{
+    text_at(strings, symbol.name() as usize)
+}
+
+/// The name of a symbol by the string table that is taken once for many: what `get_name` answers.
+#[tactic(auto, unfolding(xmas_elf::specs::StringTable::string_of))]
+pub fn name_by_table<'a>(file: &ElfFile<'a>, symbol: &Entry64) -> Result<&'a str, ElfError>
+    ensures { Answers (string_of file.now (entry_64_fields symbol.now).name) result }
+{
+    let strings = Entry64::string_table(file);
+    symbol.name_in(strings, file)
+}
+
+/// The same of any symbol: the text that it bears, or a refusal where it bears none.
+pub fn name_of_any<'a, E: Entry>(symbol: &E, file: &ElfFile<'a>) -> Result<&'a str, ElfError>
+    ensures { MatchResult result
+        (λ text. E.text_in symbol.now file.now ≡ Some text.now)
+        (λ _. E.text_in symbol.now file.now ≡ None) }
+{
+    let strings = E::string_table(file);
+    symbol.name_in(strings, file)
+}
+
+/// How many bytes the names of all symbols have together, or the greatest number if that is less.
+pub fn name_bytes<E: Entry + Record>(
+    file: &ElfFile<'_>,
+    symbols: Table<'_, E>,
+) -> Result<u64, ElfError> {
+    let strings = E::string_table(file);
+    let mut total = 0u64;
+    for symbol in symbols {
+        total = total.saturating_add(symbol.name_in(strings, file)?.len() as u64);
+    }
+    Ok(total)
+}
+
+/// The name of the first symbol in some bytes, which outlives the symbol and the `ElfFile`.
+pub fn first_name<'a>(input: &'a [u8], symbols: &[u8], order: Order) -> Result<&'a str, ElfError> {
+    let file = ElfFile::new(input)?;
+    let table = Table::<Entry64>::new(symbols, order)?;
+    let symbol = table.get(0).ok_or(ElfError::SymbolIndex)?;
+    symbol.get_name(&file)
+}
+
+/// A symbol of one's own, through the function for any.
+pub fn own_is_named(symbol: &Numbered, name: &str, file: &ElfFile<'_>) -> bool
+    ensures { IsTrue result ↔ (numbered_name symbol.now.number ≡ Some name.now) }
+{
+    is_named(symbol, name, file)
+}
+
+/// A symbol of one's own belongs to no section, by the body of the trait.
+#[tactic(auto, unfolding(xmas_elf::specs::SymbolSection::symbol_section_of))]
+pub fn own_section(symbol: &Numbered, file: &ElfFile<'_>, place: usize) -> Option<ElfError>
+    ensures { result ≡ Some ElfError.ReservedSymbolIndex }
+{
+    symbol.get_section_header(file, place).err()
+}

@@ -1,4 +1,0 @@
-use Rattle.elf_tests.proofs.callers.lookups.same_answers.Goals as goal
-
-pub returns : goal.returns
-returns g c = (c.lookup_counted-other.ensures.only c.requires.decides _ _ (c.lookup-one.ensures.answer c.requires.decides).1).0

@@ -1,0 +1,101 @@
+//! What a shared object says without its section headers, as `readelf -l` and `-d` show it.
+
+use crate::tests::shared_object::NARROW;
+use elf_base::ElfError;
+use elf_base::bytes::Order;
+use elf_linking::LinkError;
+use elf_linking::view::{DynamicView, bytes_at, segment_at, strings};
+use linking_callers::callers::view::{dynamic_number, word_at};
+use std::test::Fail;
+use worked_files::files::put_words;
+use worked_files::places::{program_32, set};
+use xmas_elf::ElfFile;
+
+const LITTLE: Order = Order::Little;
+
+// Where the dynamic segment of the narrow file is, in bytes, and its headers of segments.
+const DYNAMIC: usize = 0x240;
+
+const FIRST_LOAD: usize = 52;
+
+const SECOND_LOAD: usize = 84;
+
+const DYNAMIC_HEADER: usize = 116;
+
+#[test]
+fn reads_bytes_at_addresses(rt: HostRuntime) -> Result<(), Fail> {
+    let mut bytes = *NARROW;
+    set(
+        &mut bytes,
+        SECOND_LOAD,
+        program_32::VIRTUAL_ADDR,
+        0x1240,
+        LITTLE,
+    );
+    let file = ElfFile::new(&bytes)?;
+    let rows: [(u64, u64, Option<(usize, usize)>); 10] = [
+        (0x184, 6, Some((0x184, 0x18a))),
+        (0, 0x240, Some((0, 0x240))),
+        (0x23f, 1, Some((0x23f, 0x240))),
+        (0x240, 0, Some((0x240, 0x240))),
+        (0x240, 1, None),
+        (0x1240, 0x8c, Some((0x240, 0x2cc))),
+        (0x12cb, 2, None),
+        (0x123f, 2, None),
+        (u64::MAX, 1, None),
+        (0, u64::MAX, None),
+    ];
+    for (address, count, range) in rows {
+        let want = range.map(|(start, end)| bytes.get(start..end).unwrap_or(b"past the end"));
+        let want = want.ok_or(LinkError::Address);
+        assert_eq!(rt; bytes_at(&file, address, count), want, "{address}");
+        let segment = segment_at(&file, address, count);
+        assert_eq!(rt; segment.is_some(), range.is_some(), "{address}");
+    }
+    assert_eq!(rt; word_at(&file, 0x1240), Ok(0x6fff_fef5));
+    assert_eq!(rt; word_at(&file, 0x12c9), Err(LinkError::Address));
+    Ok(())
+}
+
+#[test]
+fn tells_where_a_loaded_segment_is_cut_off(rt: HostRuntime) -> Result<(), Fail> {
+    let mut bytes = *NARROW;
+    set(
+        &mut bytes,
+        FIRST_LOAD,
+        program_32::FILE_SIZE,
+        0x10000,
+        LITTLE,
+    );
+    let file = ElfFile::new(&bytes)?;
+    let cut_off = LinkError::Elf(ElfError::DataRange);
+    assert_eq!(rt; bytes_at(&file, 0x184, 1), Err(cut_off));
+    assert_eq!(rt; strings(&file), Err(cut_off));
+    Ok(())
+}
+
+#[test]
+fn tells_what_a_dynamic_segment_lacks(rt: HostRuntime) -> Result<(), Fail> {
+    let mut bytes = *NARROW;
+    put_words(&mut bytes, DYNAMIC + 8, &[0x50, 0x184, 29, 7, 15, 7]);
+    let file = ElfFile::new(&bytes)?;
+    let view = DynamicView::read(&file)?;
+    assert_eq!(rt; strings(&file), Err(LinkError::NoEntry));
+    assert_eq!(rt; view.run_path(), Some(Err(LinkError::NoEntry)));
+    assert_eq!(rt; view.r_path(), Some(Err(LinkError::NoEntry)));
+    set(
+        &mut bytes,
+        DYNAMIC_HEADER,
+        program_32::FILE_SIZE,
+        0x77,
+        LITTLE,
+    );
+    let file = ElfFile::new(&bytes)?;
+    let not_multiple = LinkError::Elf(ElfError::NotMultiple);
+    assert_eq!(rt; strings(&file), Err(not_multiple));
+    set(&mut bytes, DYNAMIC_HEADER, program_32::TYPE, 4, LITTLE);
+    let file = ElfFile::new(&bytes)?;
+    assert_eq!(rt; strings(&file), Err(LinkError::NoDynamic));
+    assert_eq!(rt; dynamic_number(&file, 5), Err(LinkError::NoDynamic));
+    Ok(())
+}

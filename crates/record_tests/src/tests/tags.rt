@@ -1,0 +1,162 @@
+//! Tags of the dynamic section.
+
+use elf_base::bytes::{Order, Record};
+use elf_base::{ElfError, P32, P64};
+use elf_records::dynamic::{Dynamic, Tag, Tag_};
+use std::process::Abort;
+
+const LITTLE: Order = Order::Little;
+
+// A 32-bit entry with this tag, and the number 8.
+fn narrow_entry(tag: u32) -> Dynamic<P32> {
+    let mut bytes = [0u8; 8];
+    bytes[0] = (tag % 256) as u8;
+    bytes[1] = (tag / 256 % 256) as u8;
+    bytes[2] = (tag / 65536 % 256) as u8;
+    bytes[3] = (tag / 16777216 % 256) as u8;
+    bytes[4] = 8;
+    Dynamic::<P32>::decode(&bytes, LITTLE)
+}
+
+// A 64-bit entry with this tag, and the number 2 to the 63.
+fn wide_entry(tag: u32) -> Dynamic<P64> {
+    let mut bytes = [0u8; 16];
+    bytes[7] = (tag % 256) as u8;
+    bytes[6] = (tag / 256 % 256) as u8;
+    bytes[5] = (tag / 65536 % 256) as u8;
+    bytes[4] = (tag / 16777216 % 256) as u8;
+    bytes[8] = 0x80;
+    Dynamic::<P64>::decode(&bytes, Order::Big)
+}
+
+// What an entry has as its value and as its pointer, where it has them.
+fn numbers<P>(number: P, has_value: bool, has_pointer: bool) -> [Result<P, ElfError>; 2]
+where
+    P: Copy,
+{
+    let value = if has_value {
+        Ok(number)
+    } else {
+        Err(ElfError::InvalidValue)
+    };
+    let pointer = if has_pointer {
+        Ok(number)
+    } else {
+        Err(ElfError::InvalidPtr)
+    };
+    [value, pointer]
+}
+
+// Wants of a 32-bit entry with this tag its name, and whether it has a value and a pointer.
+fn check_narrow(rt: &impl Abort, number: u32, name: &Tag<P32>, has_value: bool, has_pointer: bool) {
+    let entry = narrow_entry(number);
+    assert!(rt; entry.get_tag().ok().as_ref() == Some(name), "{number}");
+    let found = [entry.get_val(), entry.get_ptr()];
+    assert_eq!(rt; found, numbers(8, has_value, has_pointer), "{number}");
+}
+
+#[test]
+fn names_the_tags_up_to_16(rt: HostRuntime) {
+    let tags = [
+        (0, Tag::Null, false, false),
+        (1, Tag::Needed, true, false),
+        (2, Tag::PltRelSize, true, false),
+        (3, Tag::Pltgot, false, true),
+        (4, Tag::Hash, false, true),
+        (5, Tag::StrTab, false, true),
+        (6, Tag::SymTab, false, true),
+        (7, Tag::Rela, false, true),
+        (8, Tag::RelaSize, true, false),
+        (9, Tag::RelaEnt, true, false),
+        (10, Tag::StrSize, true, false),
+        (11, Tag::SymEnt, true, false),
+        (12, Tag::Init, false, true),
+        (13, Tag::Fini, false, true),
+        (14, Tag::SoName, true, false),
+        (15, Tag::RPath, true, false),
+        (16, Tag::Symbolic, false, false),
+    ];
+    for (number, name, has_value, has_pointer) in &tags {
+        check_narrow(&rt, *number, name, *has_value, *has_pointer);
+    }
+}
+
+#[test]
+fn names_the_tags_from_17_on(rt: HostRuntime) {
+    let tags = [
+        (17, Tag::Rel, false, true),
+        (18, Tag::RelSize, true, false),
+        (19, Tag::RelEnt, true, false),
+        (20, Tag::PltRel, true, false),
+        (21, Tag::Debug, false, true),
+        (22, Tag::TextRel, false, false),
+        (23, Tag::JmpRel, false, true),
+        (24, Tag::BindNow, false, false),
+        (25, Tag::InitArray, false, true),
+        (26, Tag::FiniArray, false, true),
+        (27, Tag::InitArraySize, true, false),
+        (28, Tag::FiniArraySize, true, false),
+        (29, Tag::RunPath, true, false),
+        (30, Tag::Flags, true, false),
+        (32, Tag::PreInitArray, false, true),
+        (33, Tag::PreInitArraySize, true, false),
+        (34, Tag::SymTabShIndex, false, true),
+        (35, Tag::RelrSize, true, false),
+        (36, Tag::Relr, false, true),
+        (37, Tag::RelrEnt, true, false),
+        (0x6fff_fffb, Tag::Flags1, true, false),
+    ];
+    for (number, name, has_value, has_pointer) in &tags {
+        check_narrow(&rt, *number, name, *has_value, *has_pointer);
+    }
+}
+
+// The ends of the two ranges, whose tags have both.
+#[test]
+fn names_the_ranges_of_tags(rt: HostRuntime) {
+    for number in [0x6000_000d, 0x6fff_fef5, 0x6fff_fffa, 0x6fff_ffff] {
+        check_narrow(&rt, number, &Tag::OsSpecific(number), true, true);
+    }
+    for number in [0x7000_0000, 0x7fff_ffff] {
+        check_narrow(&rt, number, &Tag::ProcessorSpecific(number), true, true);
+    }
+}
+
+// The same table serves class 64.
+#[test]
+fn names_the_tags_of_class_64(rt: HostRuntime) {
+    let tags = [
+        (0, Tag::Null, false, false),
+        (1, Tag::Needed, true, false),
+        (3, Tag::Pltgot, false, true),
+        (37, Tag::RelrEnt, true, false),
+        (0x6000_000d, Tag::OsSpecific(0x6000_000d), true, true),
+        (0x7fff_ffff, Tag::ProcessorSpecific(0x7fff_ffff), true, true),
+    ];
+    for (number, name, has_value, has_pointer) in &tags {
+        let entry = wide_entry(*number);
+        assert!(rt; entry.get_tag().ok().as_ref() == Some(name), "{number}");
+        let found = [entry.get_val(), entry.get_ptr()];
+        assert_eq!(rt;
+            found,
+            numbers(1 << 63, *has_value, *has_pointer),
+            "{number}"
+        );
+    }
+    assert!(rt; Tag_::<P64>::from_raw(0x1_0000_0001).as_tag().is_err());
+}
+
+#[test]
+fn refuses_other_tags(rt: HostRuntime) {
+    for number in [31, 38, 0x6000_000c, 0x8000_0000, 0xffff_ffff] {
+        let refused = Some(ElfError::InvalidTag);
+        let entry = narrow_entry(number);
+        let found = [
+            entry.get_tag().err(),
+            entry.get_val().err(),
+            entry.get_ptr().err(),
+        ];
+        assert_eq!(rt; found, [refused; 3], "{number}");
+        assert_eq!(rt; wide_entry(number).get_tag().err(), refused, "{number}");
+    }
+}

@@ -1,0 +1,7 @@
+//! Expected values are worked out by hand from the format, and never taken from the program's output.
+
+mod messages;
+mod printed;
+mod reports;
+mod reports_of_hash;
+mod writers;

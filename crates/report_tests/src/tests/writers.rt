@@ -1,0 +1,140 @@
+//! The report into writers that take little, nothing, or only some calls.
+
+use std::alloc::Global;
+use std::io;
+use std::io::Write;
+use std::process::Abort;
+use std::test::Fail;
+use worked_files::files::{debug_link_file, hash_file, strtab_file};
+use xmas_elf::ElfError;
+use xmas_elf::bytes::Order;
+use xmas_elf::report::{ReportFault, report};
+
+// What a writer does with the call that passes no more.
+#[derive(Clone, Copy)]
+enum Then {
+    // It fails, and so does each call after it.
+    Fails,
+    // It takes no byte, and so does each call after it.
+    TakesNothing,
+    // It is interrupted, and all calls after it pass.
+    IsInterrupted,
+}
+
+// Takes at most `most` bytes a call and passes so many calls.
+#[derive(Drop)]
+struct Limited {
+    held: Vec<u8>,
+    most: usize,
+    passes: u32,
+    then: Then,
+}
+
+impl Write for Limited {
+    fn write(&mut self, buf: &[u8]) -> io::Result<usize> {
+        if self.passes == 0 {
+            return match self.then {
+                Then::Fails => Err(io::Error::from(io::ErrorKind::Other)),
+                Then::TakesNothing => Ok(0),
+                Then::IsInterrupted => {
+                    self.passes = u32::MAX;
+                    Err(io::Error::from(io::ErrorKind::Interrupted))
+                }
+            };
+        }
+        self.passes -= 1;
+        let count = buf.len().min(self.most);
+        self.held.write(&buf[..count])
+    }
+
+    fn flush(&mut self) -> io::Result<()> {
+        Ok(())
+    }
+}
+
+fn make_writer(alloc: Global, most: usize, passes: u32, then: Then) -> Limited {
+    Limited {
+        held: Vec::new(alloc),
+        most,
+        passes,
+        then,
+    }
+}
+
+// Wants the same report one byte a call, and where one of the calls is interrupted.
+fn check_slow_writers(rt: &impl Abort, alloc: Global, input: &[u8]) -> Result<(), ReportFault> {
+    let mut whole = Vec::new(alloc);
+    report(input, &mut whole)?;
+    for (most, passes) in [(1, u32::MAX), (usize::MAX, 0), (usize::MAX, 7), (1, 100)] {
+        let mut slow = make_writer(alloc, most, passes, Then::IsInterrupted);
+        assert_eq!(rt; report(input, &mut slow), Ok(()));
+        assert_eq!(rt; slow.held.as_slice(), whole.as_slice());
+    }
+    Ok(())
+}
+
+#[test]
+fn writes_the_same_to_slow_writers(rt: HostRuntime) -> Result<(), Fail> {
+    check_slow_writers(&rt, rt.alloc(), &strtab_file(Order::Little))?;
+    check_slow_writers(&rt, rt.alloc(), &debug_link_file())?;
+    check_slow_writers(&rt, rt.alloc(), &hash_file())?;
+    Ok(())
+}
+
+// Each call failed in turn, until a run ends with Ok: no run before it does, nor is one refused.
+fn check_faults(
+    rt: &impl Abort,
+    alloc: Global,
+    input: &[u8],
+    then: Then,
+) -> Result<(), ReportFault> {
+    let mut whole = Vec::new(alloc);
+    report(input, &mut whole)?;
+    let mut ended = false;
+    for passes in 0..2000 {
+        let mut writer = make_writer(alloc, usize::MAX, passes, then);
+        let answer = report(input, &mut writer);
+        if answer == Ok(()) {
+            assert_eq!(rt; writer.held.as_slice(), whole.as_slice());
+            ended = true;
+            break;
+        }
+        assert_eq!(rt; answer, Err(ReportFault::Write), "after {passes} calls");
+    }
+    assert!(rt; ended);
+    Ok(())
+}
+
+#[test]
+fn fails_as_its_writer_does(rt: HostRuntime) -> Result<(), Fail> {
+    for then in [Then::Fails, Then::TakesNothing] {
+        check_faults(&rt, rt.alloc(), &strtab_file(Order::Little), then)?;
+        check_faults(&rt, rt.alloc(), &debug_link_file(), then)?;
+        check_faults(&rt, rt.alloc(), &hash_file(), then)?;
+    }
+    Ok(())
+}
+
+// On a refused input the writer is never called.
+#[test]
+fn refuses_whatever_the_writer_does(rt: HostRuntime) {
+    let file = strtab_file(Order::Little);
+    let refusals = [
+        (0, ElfError::ShortPart1),
+        (3, ElfError::ShortPart1),
+        (15, ElfError::ShortPart1),
+        (51, ElfError::ShortHeaders),
+    ];
+    for (len, error) in refusals {
+        let input = file.get(..len).unwrap_or(b"");
+        for then in [Then::Fails, Then::TakesNothing, Then::IsInterrupted] {
+            let mut writer = make_writer(rt.alloc(), usize::MAX, 0, then);
+            let answer = report(input, &mut writer);
+            assert_eq!(rt; answer, Err(ReportFault::Elf(error)), "{len} bytes");
+            assert_eq!(rt; writer.passes, 0);
+        }
+        let mut text = Vec::new(rt.alloc());
+        assert_eq!(rt; report(input, &mut text), Err(ReportFault::Elf(error)));
+        assert!(rt; text.is_empty());
+    }
+}

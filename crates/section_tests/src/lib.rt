@@ -1,0 +1,5 @@
+//! Tests of section headers, their names, and string tables.
+#![tactic(auto)]
+
+#[cfg(test)]
+mod tests;

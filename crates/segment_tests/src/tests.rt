@@ -1,0 +1,4 @@
+//! Expected values are worked out by hand from the format, and never taken from the program's output.
+
+mod segments;
+mod wide;

@@ -1,0 +1,5 @@
+//! Tests of symbols and their sections.
+#![tactic(auto)]
+
+#[cfg(test)]
+mod tests;

@@ -1,0 +1,303 @@
+//! Small files, field by field.
+
+ghost use Rattle.std.specs.Prelude.{◌≤◌};
+
+use crate::places::{
+    WORD, header_32, header_64, program_32, put, section_32, section_64, set, symbol_32,
+};
+use std::alloc::{AllocError, Global};
+use xmas_elf::ElfFile;
+use xmas_elf::bytes::Order;
+use xmas_elf::header::{Class_, Header};
+
+const LITTLE: Order = Order::Little;
+
+/// The first seven bytes of a header of this class, and zeros, in room for the longest header.
+pub fn plain_header(class: u8) -> [u8; 64] {
+    let mut header = [0; 64];
+    put(&mut header, 0, &[0x7f, b'E', b'L', b'F', class, 1, 1]);
+    header
+}
+
+/// How many bytes of `plain_header` a file of this class has: 52, 64, or 16 for all others.
+pub fn plain_header_len(class: u8) -> usize
+    ensures { result ≤ 64 }
+{
+    match class {
+        1 => 52,
+        2 => 64,
+        _ => 16,
+    }
+}
+
+// The byte that says the order of a file's numbers.
+fn data_byte(order: Order) -> u8 {
+    match order {
+        Order::Little => 1,
+        Order::Big => 2,
+    }
+}
+
+/// Class 32, in either order: section 1, `.strtab`, names itself and holds `ab`.
+pub fn strtab_file(order: Order) -> [u8; 144] {
+    let mut file = [0; 144];
+    put(
+        &mut file,
+        0,
+        &[0x7f, b'E', b'L', b'F', 1, data_byte(order), 1],
+    );
+    set(&mut file, 0, header_32::SH_OFFSET, 52, order);
+    set(&mut file, 0, header_32::HEADER_SIZE, 52, order);
+    set(&mut file, 0, header_32::SH_ENTRY_SIZE, 40, order);
+    set(&mut file, 0, header_32::SH_COUNT, 2, order);
+    set(&mut file, 0, header_32::SH_STR_INDEX, 1, order);
+    set(&mut file, 92, section_32::NAME, 1, order);
+    set(&mut file, 92, section_32::TYPE, 3, order);
+    set(&mut file, 92, section_32::OFFSET, 132, order);
+    set(&mut file, 92, section_32::SIZE, 12, order);
+    set(&mut file, 92, section_32::ALIGN, 1, order);
+    put(&mut file, 132, b"\0.strtab\0ab\0");
+    file
+}
+
+/// `strtab_file` in class 64: the section headers stand at 64 and 128, and the names at 192.
+pub fn wide_strtab_file(order: Order) -> [u8; 204] {
+    let mut file = [0; 204];
+    put(
+        &mut file,
+        0,
+        &[0x7f, b'E', b'L', b'F', 2, data_byte(order), 1],
+    );
+    set(&mut file, 0, header_64::SH_OFFSET, 64, order);
+    set(&mut file, 0, header_64::HEADER_SIZE, 64, order);
+    set(&mut file, 0, header_64::SH_ENTRY_SIZE, 64, order);
+    set(&mut file, 0, header_64::SH_COUNT, 2, order);
+    set(&mut file, 0, header_64::SH_STR_INDEX, 1, order);
+    set(&mut file, 128, section_64::NAME, 1, order);
+    set(&mut file, 128, section_64::TYPE, 3, order);
+    set(&mut file, 128, section_64::OFFSET, 192, order);
+    set(&mut file, 128, section_64::SIZE, 12, order);
+    set(&mut file, 128, section_64::ALIGN, 1, order);
+    put(&mut file, 192, b"\0.strtab\0ab\0");
+    file
+}
+
+/// `strtab_file` with the names `.dynstr` and `ab`.
+pub fn dynstr_file(order: Order) -> [u8; 144] {
+    let mut file = strtab_file(order);
+    put(&mut file, 133, b".dynstr");
+    file
+}
+
+/// Class 32, in either order: section 1, `.strtab`, holds the names, and section 2, `.symtab_shndx`,
+/// the words 0 and 1, from 195 on.
+pub fn shndx_file(order: Order) -> [u8; 203] {
+    let mut file = [0; 203];
+    put(
+        &mut file,
+        0,
+        &[0x7f, b'E', b'L', b'F', 1, data_byte(order), 1],
+    );
+    set(&mut file, 0, header_32::SH_OFFSET, 52, order);
+    set(&mut file, 0, header_32::HEADER_SIZE, 52, order);
+    set(&mut file, 0, header_32::SH_ENTRY_SIZE, 40, order);
+    set(&mut file, 0, header_32::SH_COUNT, 3, order);
+    set(&mut file, 0, header_32::SH_STR_INDEX, 1, order);
+    set(&mut file, 92, section_32::NAME, 1, order);
+    set(&mut file, 92, section_32::TYPE, 3, order);
+    set(&mut file, 92, section_32::OFFSET, 172, order);
+    set(&mut file, 92, section_32::SIZE, 23, order);
+    set(&mut file, 92, section_32::ALIGN, 1, order);
+    set(&mut file, 132, section_32::NAME, 9, order);
+    set(&mut file, 132, section_32::TYPE, 18, order);
+    set(&mut file, 132, section_32::OFFSET, 195, order);
+    set(&mut file, 132, section_32::SIZE, 8, order);
+    put(&mut file, 172, b"\0.strtab\0.symtab_shndx\0");
+    set(&mut file, 195, WORD, 0, order);
+    set(&mut file, 199, WORD, 1, order);
+    file
+}
+
+/// Class 64: the names, a link to debug information and a build id.
+pub fn debug_link_file() -> [u8; 397] {
+    debug_link_file_in(LITTLE)
+}
+
+/// The same in either order.
+pub fn debug_link_file_in(order: Order) -> [u8; 397] {
+    let mut file = [0; 397];
+    put(
+        &mut file,
+        0,
+        &[0x7f, b'E', b'L', b'F', 2, data_byte(order), 1],
+    );
+    set(&mut file, 0, header_64::SH_OFFSET, 64, order);
+    set(&mut file, 0, header_64::HEADER_SIZE, 64, order);
+    set(&mut file, 0, header_64::SH_ENTRY_SIZE, 64, order);
+    set(&mut file, 0, header_64::SH_COUNT, 4, order);
+    set(&mut file, 0, header_64::SH_STR_INDEX, 1, order);
+    let sections = [(1, 3, 320, 45), (11, 1, 365, 12), (26, 7, 377, 20)];
+    let mut start = 128;
+    for (name, kind, offset, size) in sections {
+        set(&mut file, start, section_64::NAME, name, order);
+        set(&mut file, start, section_64::TYPE, kind, order);
+        set(&mut file, start, section_64::OFFSET, offset, order);
+        set(&mut file, start, section_64::SIZE, size, order);
+        start = start.wrapping_add(64);
+    }
+    put(
+        &mut file,
+        320,
+        b"\0.shstrtab\0.gnu_debuglink\0.note.gnu.build-id\0",
+    );
+    put(&mut file, 365, b"a.debug\0");
+    set(&mut file, 373, WORD, 0x1234_5678, order);
+    set(&mut file, 377, WORD, 4, order);
+    set(&mut file, 381, WORD, 4, order);
+    set(&mut file, 385, WORD, 3, order);
+    put(&mut file, 389, b"GNU\0\xde\xad\xbe\xef");
+    file
+}
+
+/// Class 32: the names, and a link to debug information that several files share.
+pub fn alternate_link_file() -> [u8; 197] {
+    let mut file = [0; 197];
+    put(&mut file, 0, &[0x7f, b'E', b'L', b'F', 1, 1, 1]);
+    set(&mut file, 0, header_32::SH_OFFSET, 52, LITTLE);
+    set(&mut file, 0, header_32::HEADER_SIZE, 52, LITTLE);
+    set(&mut file, 0, header_32::SH_ENTRY_SIZE, 40, LITTLE);
+    set(&mut file, 0, header_32::SH_COUNT, 3, LITTLE);
+    set(&mut file, 0, header_32::SH_STR_INDEX, 1, LITTLE);
+    set(&mut file, 92, section_32::TYPE, 3, LITTLE);
+    set(&mut file, 92, section_32::OFFSET, 172, LITTLE);
+    set(&mut file, 92, section_32::SIZE, 19, LITTLE);
+    set(&mut file, 132, section_32::NAME, 1, LITTLE);
+    set(&mut file, 132, section_32::TYPE, 1, LITTLE);
+    set(&mut file, 132, section_32::OFFSET, 191, LITTLE);
+    set(&mut file, 132, section_32::SIZE, 6, LITTLE);
+    put(&mut file, 172, b"\0.gnu_debugaltlink\0");
+    put(&mut file, 191, b"x\0\x01\x02\x03\x04");
+    file
+}
+
+/// Class 32, without sections: one segment that holds all but the last byte of the file.
+pub fn segment_file() -> [u8; 84] {
+    let mut file = [0; 84];
+    put(&mut file, 0, &[0x7f, b'E', b'L', b'F', 1, 1, 1]);
+    set(&mut file, 0, header_32::PH_OFFSET, 52, LITTLE);
+    set(&mut file, 0, header_32::HEADER_SIZE, 52, LITTLE);
+    set(&mut file, 0, header_32::PH_ENTRY_SIZE, 32, LITTLE);
+    set(&mut file, 0, header_32::PH_COUNT, 1, LITTLE);
+    set(&mut file, 52, program_32::TYPE, 1, LITTLE);
+    set(&mut file, 52, program_32::FILE_SIZE, 83, LITTLE);
+    set(&mut file, 52, program_32::MEM_SIZE, 83, LITTLE);
+    set(&mut file, 52, program_32::FLAGS, 5, LITTLE);
+    set(&mut file, 52, program_32::ALIGN, 1, LITTLE);
+    file
+}
+
+/// Class 32, with 70,000 sections, whose number stands in section header 0: section 1 holds the names,
+/// section 2 is `.symtab_shndx`, and the last is of type ProgBits and has an empty name.
+pub fn many_sections_file(alloc: Global) -> Result<Vec<u8>, AllocError> {
+    let mut bytes = Vec::new(alloc);
+    bytes.resize(2_800_083, 0u8)?;
+    let file = bytes.as_mut_slice();
+    put(file, 0, &[0x7f, b'E', b'L', b'F', 1, 1, 1]);
+    set(file, 0, header_32::SH_OFFSET, 52, LITTLE);
+    set(file, 0, header_32::HEADER_SIZE, 52, LITTLE);
+    set(file, 0, header_32::SH_ENTRY_SIZE, 40, LITTLE);
+    set(file, 0, header_32::SH_STR_INDEX, 1, LITTLE);
+    set(file, 52, section_32::SIZE, 70_000, LITTLE);
+    set(file, 92, section_32::NAME, 1, LITTLE);
+    set(file, 92, section_32::TYPE, 3, LITTLE);
+    set(file, 92, section_32::OFFSET, 2_800_052, LITTLE);
+    set(file, 92, section_32::SIZE, 23, LITTLE);
+    set(file, 92, section_32::ALIGN, 1, LITTLE);
+    set(file, 132, section_32::NAME, 9, LITTLE);
+    set(file, 132, section_32::TYPE, 18, LITTLE);
+    set(file, 132, section_32::OFFSET, 2_800_075, LITTLE);
+    set(file, 132, section_32::SIZE, 8, LITTLE);
+    set(file, 2_800_012, section_32::TYPE, 1, LITTLE);
+    put(file, 2_800_052, b"\0.strtab\0.symtab_shndx\0");
+    put(file, 2_800_075, b"\0\0\0\0\x01\0\0\0");
+    Ok(bytes)
+}
+
+/// Class 32: section 2 is a hash table, whose link is section 3, its two symbols; one is called `ab`.
+pub fn hash_file() -> [u8; 276] {
+    let mut file = [0; 276];
+    put(&mut file, 0, &[0x7f, b'E', b'L', b'F', 1, 1, 1]);
+    set(&mut file, 0, header_32::SH_OFFSET, 52, LITTLE);
+    set(&mut file, 0, header_32::HEADER_SIZE, 52, LITTLE);
+    set(&mut file, 0, header_32::SH_ENTRY_SIZE, 40, LITTLE);
+    set(&mut file, 0, header_32::SH_COUNT, 4, LITTLE);
+    set(&mut file, 0, header_32::SH_STR_INDEX, 1, LITTLE);
+    let sections = [(1, 3, 212, 12, 0), (9, 5, 224, 20, 3), (9, 2, 244, 32, 1)];
+    let mut start = 92;
+    for (name, kind, offset, size, link) in sections {
+        set(&mut file, start, section_32::NAME, name, LITTLE);
+        set(&mut file, start, section_32::TYPE, kind, LITTLE);
+        set(&mut file, start, section_32::OFFSET, offset, LITTLE);
+        set(&mut file, start, section_32::SIZE, size, LITTLE);
+        set(&mut file, start, section_32::LINK, link, LITTLE);
+        start = start.wrapping_add(40);
+    }
+    set(&mut file, 92, section_32::ALIGN, 1, LITTLE);
+    put(&mut file, 212, b"\0.strtab\0ab\0");
+    put_words(&mut file, 224, &[1, 2, 1, 0, 0]);
+    put_symbols(&mut file, 244, &[(0, 0), (9, 0x12)]);
+    file
+}
+
+/// Writes words of four bytes from a place on.
+pub fn put_words(file: &mut [u8], start: usize, words: &[u32]) {
+    for (k, word) in words.iter().enumerate() {
+        let place = start.wrapping_add(k.wrapping_mul(4));
+        put(file, place, &word.to_le_bytes());
+    }
+}
+
+/// Writes symbols of class 32 from a place on, by name and info; all else of them is 0.
+pub fn put_symbols(file: &mut [u8], start: usize, symbols: &[(u64, u64)]) {
+    for (k, symbol) in symbols.iter().enumerate() {
+        let place = start.wrapping_add(k.wrapping_mul(16));
+        set(file, place, symbol_32::NAME, symbol.0, LITTLE);
+        set(file, place, symbol_32::INFO, symbol.1, LITTLE);
+    }
+}
+
+/// `strtab_file` with two program headers that lie over its section headers.
+pub fn overlaid_file() -> [u8; 144] {
+    let mut file = strtab_file(LITTLE);
+    set(&mut file, 0, header_32::PH_OFFSET, 52, LITTLE);
+    set(&mut file, 0, header_32::PH_ENTRY_SIZE, 32, LITTLE);
+    set(&mut file, 0, header_32::PH_COUNT, 2, LITTLE);
+    file
+}
+
+/// The file with another class in part 1 of its header.
+pub fn with_class<'a>(file: &ElfFile<'a>, class: u8) -> ElfFile<'a> {
+    let mut pt1 = file.header.pt1;
+    pt1.class = Class_::from_raw(class);
+    ElfFile {
+        input: file.input,
+        header: Header {
+            pt1,
+            pt2: file.header.pt2,
+        },
+    }
+}
+
+/// Names at places of the name table of `strtab_file` and `wide_strtab_file`, and how they compare.
+pub const STRTAB_COMPARED: [(u32, &str, (bool, usize)); 10] = [
+    (1, ".strtab", (true, 8)),
+    (1, ".strtax", (false, 7)),
+    (1, ".str", (false, 5)),
+    (9, "abc", (false, 3)),
+    (9, "ab", (true, 3)),
+    (0, "", (true, 1)),
+    (12, "", (false, 0)),
+    (13, "ab", (false, 0)),
+    (1, ".strtab\0ab", (false, 0)),
+    (u32::MAX, "", (false, 0)),
+];

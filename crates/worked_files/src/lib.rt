@@ -1,0 +1,7 @@
+//! Worked files for tests: small ELF files, field by field, the places of their fields, and the ends of
+//! their reports.
+#![tactic(auto)]
+
+pub mod files;
+pub mod places;
+pub mod reports;
