@@ -1,0 +1,25 @@
+//! The contenders behind a C interface: this library, bare loops in C, and libelf.
+macro_rules! contender {
+    ($module:ident, $prefix:literal, $($name:ident)*) => {
+        pub mod $module {
+            mod raw {
+                extern "C" {
+                    $(#[link_name = concat!($prefix, stringify!($name))]
+                    pub fn $name(data: *const u8, len: usize, text: *const u8, text_len: usize) -> u64;)*
+                }
+            }
+            $(pub fn $name(data: &[u8], text: &[u8]) -> u64 {
+                // SAFETY: both slices live through the call.
+                unsafe { raw::$name(data.as_ptr(), data.len(), text.as_ptr(), text.len()) }
+            })*
+        }
+    };
+}
+
+contender!(here, "here_", header header_fields header_check sections sections_table sections_index sections_table_index
+    section_fields section_table_fields section_types section_names section_table_names find raw_data data table_data
+    segments segments_table section_checks segment_checks symbol_values symbol_fields symbol_names symbol_texts
+    symbol_search dynamic relocations notes build_id hash_numbers look_ups hash_check gnu_look_ups gnu_check);
+contender!(loops, "loops_", header header_fields sections section_fields section_types section_names find raw_data data
+    segments symbol_values symbol_fields symbol_names symbol_search dynamic relocations notes build_id hash_numbers look_ups);
+contender!(libelf, "libelf_", header sections section_names symbol_values);

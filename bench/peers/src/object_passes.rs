@@ -1,0 +1,250 @@
+//! The passes by `object`, in its raw calls. Names are bytes there; those with `text` test them for UTF-8.
+use crate::{NAME, NONE, sum_of};
+use object::elf::{self, FileHeader64, Sym64};
+use object::read::elf::{Dyn as _, FileHeader as _, ProgramHeader as _, Rela as _, SectionHeader as _, SectionTable, Sym as _, SymbolTable, VersionTable};
+use object::{Endianness, SectionIndex};
+use std::str::from_utf8;
+
+type Header = FileHeader64<Endianness>;
+
+/// What is there, or the end of the pass.
+macro_rules! there {
+    ($value:expr) => {
+        match $value {
+            Some(value) => value,
+            None => return NONE,
+        }
+    };
+}
+
+fn opened(data: &[u8]) -> Option<(&Header, Endianness)> {
+    let header = Header::parse(data).ok()?;
+    Some((header, header.endian().ok()?))
+}
+
+fn listed(data: &[u8]) -> Option<(SectionTable<'_, Header>, Endianness)> {
+    let (header, endian) = opened(data)?;
+    Some((header.sections(endian, data).ok()?, endian))
+}
+
+fn symbols(data: &[u8], kind: u32) -> Option<(SymbolTable<'_, Header>, Endianness)> {
+    let (sections, endian) = listed(data)?;
+    Some((sections.symbols(endian, data, kind).ok()?, endian))
+}
+
+pub fn header(data: &[u8], _: &[u8]) -> u64 {
+    let (header, endian) = there!(opened(data));
+    header.e_entry(endian).wrapping_add(header.e_shoff(endian)).wrapping_add(header.e_phoff(endian))
+}
+
+pub fn header_fields(data: &[u8], text: &[u8]) -> u64 {
+    let (part, endian) = there!(opened(data));
+    let small = [part.e_ehsize(endian), part.e_phentsize(endian), part.e_phnum(endian), part.e_shentsize(endian), part.e_shnum(endian), part.e_shstrndx(endian)];
+    let sum: u64 = small.iter().map(|number| u64::from(*number)).sum();
+    header(data, text).wrapping_add(sum)
+}
+
+pub fn sections(data: &[u8], _: &[u8]) -> u64 {
+    let (header, endian) = there!(opened(data));
+    let headers = there!(header.section_headers(endian, data).ok());
+    headers.iter().fold(0, |sum, section| sum.wrapping_add(section.sh_size(endian)))
+}
+
+pub fn sections_index(data: &[u8], _: &[u8]) -> u64 {
+    let (sections, endian) = there!(listed(data));
+    let found = (0..sections.len()).filter_map(|index| sections.section(SectionIndex(index)).ok());
+    found.fold(0, |sum, section| sum.wrapping_add(section.sh_size(endian)))
+}
+
+pub fn section_fields(data: &[u8], _: &[u8]) -> u64 {
+    let (header, endian) = there!(opened(data));
+    let headers = there!(header.section_headers(endian, data).ok());
+    headers.iter().fold(0u64, |sum, section| {
+        sum.wrapping_add(u64::from(section.sh_name(endian)) + u64::from(section.sh_type(endian)))
+            .wrapping_add(section.sh_flags(endian))
+            .wrapping_add(section.sh_addr(endian))
+            .wrapping_add(section.sh_offset(endian))
+            .wrapping_add(section.sh_size(endian))
+            .wrapping_add(u64::from(section.sh_link(endian)) + u64::from(section.sh_info(endian)))
+            .wrapping_add(section.sh_addralign(endian))
+            .wrapping_add(section.sh_entsize(endian))
+    })
+}
+
+/// Types from 12 on that have no meaning in the crate count as refused.
+fn is_refused(kind: u32) -> bool {
+    matches!(kind, 12 | 13 | 19..=0x5fff_ffff)
+}
+
+pub fn section_types(data: &[u8], _: &[u8]) -> u64 {
+    let (header, endian) = there!(opened(data));
+    let headers = there!(header.section_headers(endian, data).ok());
+    headers.iter().fold(0, |sum, section| {
+        sum + match section.sh_type(endian) {
+            elf::SHT_STRTAB => 1,
+            elf::SHT_SYMTAB => 2,
+            kind if is_refused(kind) => 4,
+            _ => 0,
+        }
+    })
+}
+
+pub fn section_names(data: &[u8], _: &[u8]) -> u64 {
+    let (sections, endian) = there!(listed(data));
+    sections.iter().fold(0, |sum, section| sum + sections.section_name(endian, section).map_or(0, sum_of))
+}
+
+pub fn section_texts(data: &[u8], _: &[u8]) -> u64 {
+    let (sections, endian) = there!(listed(data));
+    let names = sections.iter().filter_map(|section| from_utf8(sections.section_name(endian, section).ok()?).ok());
+    names.fold(0, |sum, name| sum + sum_of(name.as_bytes()))
+}
+
+pub fn find(data: &[u8], text: &[u8]) -> u64 {
+    let (sections, endian) = there!(listed(data));
+    sections.section_by_name(endian, text).map_or(0, |found| found.1.sh_offset(endian))
+}
+
+pub fn raw_data(data: &[u8], _: &[u8]) -> u64 {
+    let (header, endian) = there!(opened(data));
+    let headers = there!(header.section_headers(endian, data).ok());
+    let used = headers.iter().filter(|section| section.sh_type(endian) != 0);
+    used.fold(0u64, |sum, section| sum.wrapping_add(section.data(endian, data).map_or(0, sum_of)))
+}
+
+pub fn data(data: &[u8], _: &[u8]) -> u64 {
+    let (header, endian) = there!(opened(data));
+    let headers = there!(header.section_headers(endian, data).ok());
+    headers.iter().fold(0u64, |sum, section| {
+        let kind = section.sh_type(endian);
+        if matches!(kind, elf::SHT_NULL | elf::SHT_NOBITS) {
+            return sum + 1;
+        }
+        let Ok(bytes) = section.data(endian, data) else { return sum + 100 };
+        let len = bytes.len() as u64;
+        sum + match kind {
+            elf::SHT_STRTAB => 3 + len,
+            elf::SHT_INIT_ARRAY | elf::SHT_FINI_ARRAY | elf::SHT_PREINIT_ARRAY => 4 + len / 8,
+            elf::SHT_SYMTAB => 5 + len / 24,
+            elf::SHT_DYNSYM => 6 + len / 24,
+            elf::SHT_SYMTAB_SHNDX => 7 + len / 4,
+            elf::SHT_NOTE => 8 + len - 12,
+            elf::SHT_RELA => 9 + len / 24,
+            elf::SHT_REL => 10 + len / 16,
+            elf::SHT_DYNAMIC => 11 + len / 16,
+            elf::SHT_GROUP => 12 + len / 4 - 1,
+            elf::SHT_HASH => 13,
+            kind if is_refused(kind) => 100,
+            _ => 2 + len,
+        }
+    })
+}
+
+pub fn segments(data: &[u8], _: &[u8]) -> u64 {
+    let (header, endian) = there!(opened(data));
+    let headers = there!(header.program_headers(endian, data).ok());
+    headers.iter().fold(0u64, |sum, segment| {
+        let loaded = segment.p_type(endian) == elf::PT_LOAD;
+        sum.wrapping_add(segment.p_offset(endian)).wrapping_add(segment.p_filesz(endian)).wrapping_add(loaded.into())
+    })
+}
+
+pub fn symbol_values(data: &[u8], _: &[u8]) -> u64 {
+    let (symbols, endian) = there!(symbols(data, elf::SHT_SYMTAB));
+    symbols.iter().fold(0, |sum, symbol| sum.wrapping_add(symbol.st_value(endian)))
+}
+
+pub fn symbol_fields(data: &[u8], _: &[u8]) -> u64 {
+    let (symbols, endian) = there!(symbols(data, elf::SHT_SYMTAB));
+    symbols.iter().fold(0u64, |sum, symbol| {
+        sum.wrapping_add(symbol.st_value(endian))
+            .wrapping_add(symbol.st_size(endian))
+            .wrapping_add(u64::from(symbol.st_name(endian)) + u64::from(symbol.st_info()) + u64::from(symbol.st_shndx(endian)))
+    })
+}
+
+pub fn symbol_names(data: &[u8], _: &[u8]) -> u64 {
+    let (symbols, endian) = there!(symbols(data, elf::SHT_SYMTAB));
+    symbols.iter().fold(0, |sum, symbol| sum + symbol.name(endian, symbols.strings()).map_or(0, sum_of))
+}
+
+pub fn symbol_texts(data: &[u8], _: &[u8]) -> u64 {
+    let (symbols, endian) = there!(symbols(data, elf::SHT_SYMTAB));
+    let names = symbols.iter().filter_map(|symbol| from_utf8(symbol.name(endian, symbols.strings()).ok()?).ok());
+    names.fold(0, |sum, name| sum + sum_of(name.as_bytes()))
+}
+
+pub fn symbol_search(data: &[u8], text: &[u8]) -> u64 {
+    let (symbols, endian) = there!(symbols(data, elf::SHT_SYMTAB));
+    let found = symbols.iter().find(|symbol| symbol.name(endian, symbols.strings()) == Ok(text));
+    found.map_or(NONE, |symbol| symbol.st_value(endian))
+}
+
+/// Tags aren't asked for their meaning.
+pub fn dynamic(data: &[u8], _: &[u8]) -> u64 {
+    let (sections, endian) = there!(listed(data));
+    let (entries, _) = there!(sections.dynamic(endian, data).ok().flatten());
+    let mut sum = 0u64;
+    for entry in entries {
+        sum = sum.wrapping_add(entry.d_val(endian));
+        if entry.d_tag(endian) == 0 {
+            break;
+        }
+    }
+    sum
+}
+
+pub fn relocations(data: &[u8], _: &[u8]) -> u64 {
+    let (sections, endian) = there!(listed(data));
+    let tables = sections.iter().filter_map(|section| section.rela(endian, data).ok().flatten());
+    tables.flat_map(|table| table.0).fold(0u64, |sum, relocation| {
+        sum.wrapping_add(relocation.r_offset(endian))
+            .wrapping_add(relocation.r_sym(endian, false).into())
+            .wrapping_add(relocation.r_type(endian, false).into())
+            .wrapping_add(relocation.r_addend(endian) as u64)
+    })
+}
+
+pub fn notes(data: &[u8], _: &[u8]) -> u64 {
+    let (sections, endian) = there!(listed(data));
+    sections.iter().fold(0, |sum, section| {
+        let mut notes = match section.notes(endian, data) {
+            Ok(Some(notes)) => notes,
+            _ => return sum,
+        };
+        let Ok(Some(note)) = notes.next() else { return sum };
+        sum + sum_of(note.name()) + note.desc().len() as u64 + u64::from(note.n_type(endian))
+    })
+}
+
+pub fn build_id(data: &[u8], _: &[u8]) -> u64 {
+    let (sections, endian) = there!(listed(data));
+    let Some((_, section)) = sections.section_by_name(endian, b".note.gnu.build-id") else { return 0 };
+    let Ok(Some(mut notes)) = section.notes(endian, data) else { return 0 };
+    let Ok(Some(note)) = notes.next() else { return 0 };
+    sum_of(note.desc())
+}
+
+pub fn hash_numbers(_: &[u8], text: &[u8]) -> u64 {
+    text.chunks_exact(NAME).filter_map(|name| from_utf8(name).ok()).map(|name| u64::from(elf::hash(name.as_bytes()))).sum()
+}
+
+/// The value of each name that a look-up finds.
+fn found<'a>(text: &'a [u8], endian: Endianness, find: impl Fn(&'a [u8]) -> Option<&'a Sym64<Endianness>>) -> u64 {
+    let names = text.chunks_exact(NAME).filter_map(|name| from_utf8(name).ok());
+    names.fold(0, |sum, name| sum.wrapping_add(find(name.as_bytes()).map_or(0, |symbol| symbol.st_value(endian))))
+}
+
+pub fn look_ups<'a>(data: &'a [u8], text: &'a [u8]) -> u64 {
+    let (sections, endian) = there!(listed(data));
+    let (table, _) = there!(sections.hash(endian, data).ok().flatten());
+    let (symbols, versions) = (there!(symbols(data, elf::SHT_DYNSYM)).0, VersionTable::default());
+    found(text, endian, |name| table.find(endian, name, elf::hash(name), None, &symbols, &versions).map(|found| found.1))
+}
+
+pub fn gnu_look_ups<'a>(data: &'a [u8], text: &'a [u8]) -> u64 {
+    let (sections, endian) = there!(listed(data));
+    let (table, _) = there!(sections.gnu_hash(endian, data).ok().flatten());
+    let (symbols, versions) = (there!(symbols(data, elf::SHT_DYNSYM)).0, VersionTable::default());
+    found(text, endian, |name| table.find(endian, name, elf::gnu_hash(name), None, &symbols, &versions).map(|found| found.1))
+}

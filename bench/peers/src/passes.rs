@@ -1,0 +1,91 @@
+//! The passes: over which files, how many items each goes over, and who has it.
+use crate::crate_passes as original;
+use crate::facts::Facts;
+use crate::foreign::{here, libelf, loops};
+use crate::object_passes as object;
+use crate::Call;
+
+/// A pass over a file.
+pub struct Pass {
+    pub name: &'static str,
+    /// The groups of files that it is measured on.
+    pub groups: &'static str,
+    /// How many items it goes over.
+    pub items: fn(&Facts) -> usize,
+    /// What is looked for.
+    pub text: fn(&Facts) -> &[u8],
+    pub calls: &'static [(&'static str, Call)],
+}
+
+const NOTHING: fn(&Facts) -> &[u8] = |_| &[];
+const ONE: fn(&Facts) -> usize = |_| 1;
+
+macro_rules! passes {
+    ($($name:literal, $groups:literal, $items:expr, $text:expr, [$($who:literal $call:expr),* $(,)?];)*) => {
+        &[$(Pass { name: $name, groups: $groups, items: $items, text: $text, calls: &[$(($who, $call)),*] }),*]
+    };
+}
+
+/// All passes, in the order of the table.
+pub const PASSES: &[Pass] = passes![
+    "parse the header", "large", ONE, NOTHING,
+        ["crate" original::header, "object" object::header, "libelf" libelf::header, "C" loops::header, "here" here::header];
+    "the header's nine numbers", "large", ONE, NOTHING,
+        ["crate" original::header_fields, "object" object::header_fields, "C" loops::header_fields, "here" here::header_fields];
+    "check of the ELF header", "large", ONE, NOTHING,
+        ["crate" original::header_check, "here" here::header_check];
+    "section headers by iterator", "large sections", |f| f.sections, NOTHING,
+        ["crate" original::sections, "object" object::sections, "libelf" libelf::sections, "C" loops::sections,
+         "here" here::sections, "here, by a table" here::sections_table];
+    "section headers by index", "large sections", |f| f.sections, NOTHING,
+        ["crate" original::sections_index, "object" object::sections_index, "C" loops::sections,
+         "here" here::sections_index, "here, by a table" here::sections_table_index];
+    "all ten fields of section headers", "large sections", |f| f.sections, NOTHING,
+        ["crate" original::section_fields, "object" object::section_fields, "C" loops::section_fields,
+         "here" here::section_fields, "here, by a table" here::section_table_fields];
+    "types of sections", "large", |f| f.sections, NOTHING,
+        ["crate" original::section_types, "object" object::section_types, "C" loops::section_types, "here" here::section_types];
+    "names of sections", "large sections exports", |f| f.sections, NOTHING,
+        ["crate" original::section_names, "object" object::section_names, "object, UTF-8" object::section_texts,
+         "libelf" libelf::section_names, "C" loops::section_names, "here" here::section_names, "here, by a table" here::section_table_names];
+    "find the last section by its name (a call)", "large sections exports", ONE, |f| &f.last_section,
+        ["crate" original::find, "object" object::find, "C" loops::find, "here" here::find];
+    "find a section that isn't there (a call)", "large sections", ONE, |f| &f.missing,
+        ["crate" original::find, "object" object::find, "C" loops::find, "here" here::find];
+    "raw data of sections", "large sections", |f| f.sections, NOTHING,
+        ["crate" original::raw_data, "object" object::raw_data, "C" loops::raw_data, "here" here::raw_data];
+    "data of sections by type", "notes sections exports", |f| f.sections, NOTHING,
+        ["crate" original::data, "object" object::data, "C" loops::data, "here" here::data, "here, by a table" here::table_data];
+    "program headers", "large", |f| f.segments, NOTHING,
+        ["crate" original::segments, "object" object::segments, "C" loops::segments, "here" here::segments, "here, by a table" here::segments_table];
+    "checks of sections", "large", |f| f.sections, NOTHING,
+        ["crate" original::section_checks, "here" here::section_checks];
+    "checks of segments", "large", |f| f.segments, NOTHING,
+        ["crate" original::segment_checks, "here" here::segment_checks];
+    "values of symbols", "large exports", |f| f.symbols, NOTHING,
+        ["crate" original::symbol_values, "object" object::symbol_values, "libelf" libelf::symbol_values, "C" loops::symbol_values, "here" here::symbol_values];
+    "all numbers of symbols", "large exports", |f| f.symbols, NOTHING,
+        ["crate" original::symbol_fields, "object" object::symbol_fields, "C" loops::symbol_fields, "here" here::symbol_fields];
+    "names of symbols, each by `get_name`", "exports", |f| f.symbols, NOTHING,
+        ["crate" original::symbol_names, "object" object::symbol_names, "object, UTF-8" object::symbol_texts, "C" loops::symbol_names, "here" here::symbol_names];
+    "names of symbols, string table once", "large exports", |f| f.symbols, NOTHING,
+        ["crate" original::symbol_texts, "object" object::symbol_names, "object, UTF-8" object::symbol_texts, "C" loops::symbol_names, "here" here::symbol_texts];
+    "find the last symbol by a search", "large exports", |f| f.symbols, |f| &f.last_symbol,
+        ["crate" original::symbol_search, "object" object::symbol_search, "C" loops::symbol_search, "here" here::symbol_search];
+    "dynamic entries with their tags", "large dynamic", |f| f.dynamic, NOTHING,
+        ["crate" original::dynamic, "object" object::dynamic, "C" loops::dynamic, "here" here::dynamic];
+    "relocations", "large", |f| f.relocations, NOTHING,
+        ["crate" original::relocations, "object" object::relocations, "C" loops::relocations, "here" here::relocations];
+    "first notes", "notes", |f| f.notes, NOTHING,
+        ["crate" original::notes, "object" object::notes, "C" loops::notes, "here" here::notes];
+    "build id (a call)", "exports", |f| f.build_id, NOTHING,
+        ["crate" original::build_id, "object" object::build_id, "C" loops::build_id, "here" here::build_id];
+    "hash numbers", "exports", |f| f.names.len() / crate::NAME, |f| &f.names,
+        ["crate" original::hash_numbers, "object" object::hash_numbers, "C" loops::hash_numbers, "here" here::hash_numbers];
+    "look-ups by the gABI's hash table", "exports hostile", |f| f.names.len() / crate::NAME, |f| &f.names,
+        ["crate" original::look_ups, "object" object::look_ups, "C" loops::look_ups, "here" here::look_ups];
+    "look-ups by GNU's hash table", "exports", |f| f.names.len() / crate::NAME, |f| &f.names,
+        ["object" object::gnu_look_ups, "here" here::gnu_look_ups];
+    "check of the gABI's hash table (a symbol)", "exports hostile", |f| f.exports, NOTHING, ["here" here::hash_check];
+    "check of GNU's hash table (a symbol)", "exports hostile", |f| f.exports, NOTHING, ["here" here::gnu_check];
+];

@@ -1,0 +1,98 @@
+#!/usr/bin/env bash
+# Measures this library beside its peers, in one process, and prints the table; README.md here says more.
+#
+#     bench/run.sh [--room FOLDER] [--sources FOLDER] [--runs N] [--seconds S] [--large FILE] [--paste] [--growth] [--programs ELFINFO]
+set -euo pipefail
+here="$(cd "$(dirname "$0")" && pwd)"
+top="$(dirname "$here")"
+room="${TMPDIR:-/tmp}/xmas_elf_bench"
+sources="" runs=3 seconds=0.3 large="" paste="" programs="" growth=""
+while [ $# -gt 0 ]; do
+    case "$1" in
+        --room) room="$2"; shift ;;
+        --sources) sources="$(cd "$2" && pwd)"; shift ;;
+        --runs) runs="$2"; shift ;;
+        --seconds) seconds="$2"; shift ;;
+        --large) large="$2"; shift ;;
+        --paste) paste=1 ;;
+        --programs) programs="$(realpath "$2")"; shift ;;
+        --growth) growth=growth ;;
+        *) sed -n '2,5s/^# \{0,1\}//p' "$0" >&2; exit 2 ;;
+    esac
+    shift
+done
+mkdir -p "$room"
+room="$(cd "$room" && pwd)"
+
+# The library, as a static one, in a copy of the repository with a crate more.
+copy="$room/repository"
+mkdir -p "$copy/crates"
+for crate in elf_base elf_records xmas_elf elf_linking elfinfo; do
+    mkdir -p "$copy/crates/$crate"
+    find "$copy/crates/$crate" -mindepth 1 -maxdepth 1 ! -name out -exec rm -rf {} +
+    find "$top/crates/$crate" -mindepth 1 -maxdepth 1 ! -name out ! -name must-fail ! -name wrong-bodies \
+        -exec cp -r {} "$copy/crates/$crate/" \;
+    # What the repository has proved isn't proved again.
+    if [ -d "$top/crates/$crate/out" ] && [ ! -d "$copy/crates/$crate/out" ]; then
+        cp -r "$top/crates/$crate/out" "$copy/crates/$crate/"
+    fi
+done
+rm -rf "$copy/crates/here/src"
+mkdir -p "$copy/crates/here/src"
+# `rt ci` wants each .rt file to be one of a crate of the repository, so these have another name there.
+for file in "$here"/here/src/*.rt.in; do
+    cp "$file" "$copy/crates/here/src/$(basename "$file" .in)"
+done
+grep -E '^(elf_base|elf_records|xmas_elf|elf_linking|elfinfo):' "$top/crates.txt" > "$copy/crates.txt"
+echo 'here staticlib: elf_base elf_linking xmas_elf' >> "$copy/crates.txt"
+cp "$top/HANDLES" "$copy/"
+[ -d "$copy/.git" ] || git init -q "$copy"
+(cd "$copy/crates/here" && rt lib) > "$room/library.log" 2>&1 || { tail -30 "$room/library.log" >&2; exit 1; }
+
+# The peers, from Cargo's registry or from a folder with their sources.
+rm -rf "$room/peers"
+cp -r "$here/peers" "$room/peers"
+if [ -n "$sources" ]; then
+    mkdir -p "$room/peers/.cargo"
+    {
+        echo '[patch.crates-io]'
+        for folder in "$sources"/*/; do
+            name="$(basename "$folder")"
+            echo "$name = { path = \"$(cd "$folder" && pwd -P)\" }"
+        done
+        echo '[net]'
+        echo 'offline = true'
+    } > "$room/peers/.cargo/config.toml"
+fi
+export HERE="$copy/crates/here/out" CARGO_TARGET_DIR="$room/target"
+# The level of processor that the kit builds for, for all.
+export RUSTFLAGS="-C target-cpu=x86-64-v2 --cap-lints warn"
+(cd "$room/peers" && cargo build --release) > "$room/peers.log" 2>&1 || { tail -30 "$room/peers.log" >&2; exit 1; }
+bench="$room/target/release/bench"
+
+"$here/files.sh" "$room/files" $growth > "$room/files.log" 2>&1 || { tail "$room/files.log" >&2; exit 1; }
+if [ -z "$large" ]; then
+    large="$(find "$(rustc --print sysroot)/lib" -maxdepth 1 -name 'librustc_driver-*.so' | head -n 1)"
+fi
+groups=()
+[ -z "$large" ] || groups+=("large=$large")
+for group in sections exports; do
+    groups+=("$group=$(find "$room/files" -name "$group.*")")
+done
+groups+=("dynamic=$room/files/dynamic.o" "notes=$room/files/notes.o")
+
+# Where one contender answers something else, the times would be of different work.
+"$bench" --answers "${groups[@]}"
+for run in $(seq "$runs"); do
+    "$bench" --seconds "$seconds" "${groups[@]}" > "$room/run_$run.tsv"
+done
+"$here/table.py" passes "$top" "$room" > "$room/table.md"
+if [ -n "$programs" ]; then
+    # The crate has a program of its own.
+    if [ -n "$sources" ]; then from=(--path "$sources/xmas-elf"); else from=(--version 0.10.0 xmas-elf); fi
+    cargo install --quiet --root "$room/crate" "${from[@]}" > "$room/crate.log" 2>&1 || true
+    "$here/programs.py" "$room" "$programs" >> "$room/table.md"
+fi
+cat "$room/table.md"
+[ -z "$growth" ] || "$here/growth.sh" "$room" | tee "$room/growth.md"
+[ -z "$paste" ] || "$here/table.py" paste "$top/README.md" "$room/table.md"
