@@ -4,6 +4,8 @@
     tools/api.py            writes the page
     tools/api.py --check    fails where the page isn't what the sources give, and writes nothing
 
+At the end stands which calls answer which error, as `tools/errors.py` reads it off their docs.
+
 The sources are read as `rt fmt` lays them out: an item begins at the left margin, a method four blanks
 further in, and the body's brace stands alone on its line where a function has clauses.
 """
@@ -12,11 +14,23 @@ import pathlib
 import re
 import sys
 
+import errors
+
 ROOT = pathlib.Path(__file__).resolve().parent.parent
 PAGE = ROOT / "docs" / "API.md"
 
 # The libraries that a user names, in the order of the page.
 LIBRARIES = ("xmas_elf", "elf_linking")
+
+# What stands above the table of errors.
+ERRORS = """## Errors
+
+Which calls answer which error, with its text. What an error means stands beside it in `ElfError`, when a call answers it in the doc of the call, and in what order its errors come in its `exact` clause.
+
+`report::report` hands on what `ElfFile::new` answers, as `ReportFault::Elf`. The iterators over headers, `find_section_by_name`, `shstr_is` and the calls of `Extensions` don't say why there is nothing. `SectionStrings::next` gives its errors as an item.
+
+| Error | Text | Calls |
+|---|---|---|"""
 
 ITEM = re.compile(r"pub (struct|enum|trait|type|const|fn|const fn) (\w+)")
 TITLE = {"struct": "a struct", "enum": "an enum", "trait": "a trait", "type": "a type", "fn": "a function"}
@@ -27,6 +41,8 @@ Every public item by module, with what it is, its signature, and the clauses tha
 
 In a clause `result` is what the call returns, `self.now` the value that it is called on, `x.now` what a reference `x` points to. `docs/MODEL.md` explains the words. A call with no `requires` can be called with anything.
 """
+
+CONTENTS = re.compile(r"^## (?:`([\w:]+)`|(\w+))$", re.MULTILINE)
 
 
 @dataclasses.dataclass
@@ -219,12 +235,29 @@ class Page:
                     self.lines.append(f"| `{said[1]}` | `{said[2]}` | `{said[3]}` | {' '.join(item.doc.split())} |")
             self.lines.append("")
 
+    def write_errors(self):
+        texts = errors.texts()
+        self.lines.append(ERRORS)
+        for name, calls in errors.calls_by_error().items():
+            said = ", ".join(f"`{it}`" for it in calls) or "none"
+            self.lines.append(f"| `{name}` | {texts[name]} | {said} |")
+
     def text(self) -> str:
         for crate in LIBRARIES:
             if (crate, "") in self.sources:
                 for module in self.modules(crate):
                     self.write_module(crate, module)
+        self.write_errors()
+        self.lines.insert(1, self.contents() + "\n")
         return re.sub(r"\n{3,}", "\n\n", "\n".join(self.lines)).rstrip() + "\n"
+
+    def contents(self) -> str:
+        """A link to each module's items, and to the errors."""
+        found = CONTENTS.findall("\n".join(self.lines))
+        return "\n".join(
+            f"- [`{module}`](#{module.replace('::', '')})" if module else f"- [{title}](#{title.lower()})"
+            for module, title in found
+        )
 
 
 def main() -> int:

@@ -1,9 +1,9 @@
 #!/usr/bin/env python3
 """Wants each edit of crates/*/does-not-compile/ to be refused by the compiler.
 
-An edit is applied to a copy of the repository, and `rt try --test` of its crate, which compiles it and
-proves nothing, must end with the error that the edit names. Run it at the top of the repository:
-tools/does_not_compile.py
+An edit is applied to a copy of the repository, and `rt try --test` of its crate, or of the crate that its
+line `tests:` names where its own has no test, must end with the error that the edit names: it compiles the
+crate, and proves nothing. Run it at the top of the repository: tools/does_not_compile.py
 """
 import pathlib
 import shutil
@@ -33,14 +33,19 @@ def apply_edit(edit: pathlib.Path, crate: pathlib.Path) -> str:
     return want
 
 
+def tried_in(edit: pathlib.Path) -> str:
+    """The crate whose tests are to be compiled: one that has some, and uses what is edited."""
+    found = [line for line in edit.read_text(encoding="utf-8").splitlines() if line.startswith("tests: ")]
+    return found[0].removeprefix("tests: ") if found else edit.parent.parent.name
+
+
 def is_refused(edit: pathlib.Path) -> bool:
     """Whether the compiler refuses the edited crate with the error that is wanted."""
     with tempfile.TemporaryDirectory() as room:
         copy = pathlib.Path(room) / "copy"
         shutil.copytree(ROOT, copy, ignore=shutil.ignore_patterns("out", ".git"))
-        crate = copy / "crates" / edit.parent.parent.name
-        want = apply_edit(edit, crate)
-        ran = subprocess.run(["rt", "try", "--test"], cwd=crate, capture_output=True, text=True)
+        want = apply_edit(edit, copy / "crates" / edit.parent.parent.name)
+        ran = subprocess.run(["rt", "try", "--test"], cwd=copy / "crates" / tried_in(edit), capture_output=True, text=True)
         return ran.returncode != 0 and f"error[{want}]" in ran.stdout + ran.stderr
 
 

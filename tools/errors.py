@@ -1,9 +1,10 @@
 #!/usr/bin/env python3
-"""Wants docs/ERRORS.md to say of each error what the docs of the calls say.
+"""Which calls answer which error of `ElfError`, by the docs of the calls.
 
 A call's doc names the errors that it answers, as `DataRange`, and the calls whose refusals it hands on:
-"as `bytes::text_at` is" or "the answer of `parse_header`". The table must have the same calls in the row
-of each error, and a row for each error. Run it at the top of the repository: tools/errors.py
+"as `bytes::text_at` is" or "the answer of `parse_header`". `tools/api.py` writes the table into
+docs/API.md. Run by itself at the top of the repository, tools/errors.py fails at a doc that hands on the
+refusals of a call that it can't tell, and at an error that no call answers, but for those of UNUSED.
 """
 import pathlib
 import re
@@ -11,7 +12,10 @@ import sys
 
 ROOT = pathlib.Path(__file__).resolve().parent.parent
 CRATES = ("elf_base", "elf_records", "xmas_elf")
-TABLE = ROOT / "docs" / "ERRORS.md"
+ENUM = ROOT / "crates/elf_base/src/error.rt"
+
+# Errors that stay for code that names them.
+UNUSED = {"WideIndex"}
 
 OWNER = re.compile(r"^(?:pub )?(?:impl(?:<.*?>)? (?:(\w+)(?:<.*?>)? for )?(\w+)|trait (\w+))")
 CALL = re.compile(r"^( *)(?:pub )?fn (\w+)")
@@ -25,11 +29,13 @@ def sources() -> list[pathlib.Path]:
     return sorted(file for file in files if "tests" not in file.parts and file.name != "tests.rt")
 
 
-def errors() -> list[str]:
-    """The variants of `ElfError`, in order."""
-    text = (ROOT / "crates/elf_base/src/error.rt").read_text(encoding="utf-8")
+def texts() -> dict[str, str]:
+    """The variants of `ElfError`, in order, each with its text."""
+    text = ENUM.read_text(encoding="utf-8")
     body = text.split("pub enum ElfError {")[1].split("\n}")[0]
-    return re.findall(r"^    (\w+),$", body, re.MULTILINE)
+    names = re.findall(r"^    (\w+),$", body, re.MULTILINE)
+    said = dict(re.findall(r'Self::(\w+) =>\s*(?:\{\s*)?"([^"]*)"', text))
+    return {name: said[name] for name in names}
 
 
 def module_of(file: pathlib.Path) -> str:
@@ -87,34 +93,25 @@ def answers(call: str, docs: dict[str, str], known: set[str], seen: frozenset[st
     return found
 
 
-def table() -> dict[str, set[str]]:
-    """The calls in the row of each error."""
-    rows = {}
-    for line in TABLE.read_text(encoding="utf-8").splitlines():
-        cells = [cell.strip() for cell in line.strip("|").split("|")]
-        if len(cells) == 2 and (name := NAME.fullmatch(cells[0])):
-            rows[name[1]] = set(NAME.findall(cells[1]))
-    return rows
-
-
-def main() -> int:
+def calls_by_error() -> dict[str, list[str]]:
+    """The calls that answer each error, in the order of the enum and of the sources."""
     docs = {}
     for file in sources():
         docs |= {call: doc for call, doc in calls_in(file).items() if doc or call not in docs}
-    names = errors()
-    said = {name: set() for name in names}
+    names = texts()
+    said = {name: [] for name in names}
     for call in docs:
         for name in answers(call, docs, set(names)):
-            said[name].add(call)
-    rows = table()
-    failed = 0
-    for name in names + sorted(rows.keys() - set(names)):
-        if said.get(name) != rows.get(name):
-            failed += 1
-            more = sorted(said.get(name, set()) - rows.get(name, set()))
-            less = sorted(rows.get(name, set()) - said.get(name, set()))
-            print(f"{name}: in docs alone {more}, in the table alone {less}")
-    print(f"{len(names)} errors, {failed} whose row differs from the docs of the calls")
+            said[name].append(call)
+    return said
+
+
+def main() -> int:
+    said = calls_by_error()
+    failed = [name for name, calls in said.items() if bool(calls) == (name in UNUSED)]
+    for name in failed:
+        print(f"{name}: {'answered by ' + ', '.join(said[name]) if said[name] else 'no call answers it'}")
+    print(f"{len(said)} errors, {len(failed)} of which the docs of the calls don't say what they should")
     return 1 if failed else 0
 
 

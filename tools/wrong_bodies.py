@@ -41,6 +41,8 @@ LOST = re.compile(r"has no field|is not in scope|has no `|was not admitted")
 TOLD = re.compile(r"fn (\S+): (?:proved|not proved|no proof)")
 FAULT = re.compile(r"(?:\./)?(src/\S+?):(\d+):\d+: error")
 PROGRESS = re.compile(r"checked (\S+), \d+ of \d+")
+REACHED = re.compile(r"^(?:logic=(proved|not-proved)|only=\d+ proved=\d+$)", re.M)
+NO_FUNCTION = re.compile(r"^rattle: error: `\w+` has no function `(\S+)`", re.M)
 # How many checks are listed at the end, and functions of each.
 SLOWEST = 12
 
@@ -260,18 +262,25 @@ class Room:
             if (source / "out" / kept).is_dir():
                 shutil.copytree(source / "out" / kept, copy / "out" / kept)
 
-    def check(self, edits) -> str:
-        """What a check says of the crate with these edits made; takes them back."""
+    def check(self, edits, functions) -> str:
+        """What a check of these functions says of the crate with these edits made (none: of all); takes them back."""
         changed = self.crate.changed(edits)
         for file, text in changed.items():
             (self.folder / file).write_text(text, encoding="utf-8")
-        ran = check(self.folder, "--jobs", "1")
+        ran = self.check_only(functions)
         for file in changed:
             (self.folder / file).write_text(self.crate.texts[file], encoding="utf-8")
         what = edits[0].label() if len(edits) == 1 else f"{self.crate.name}: {len(edits)} edits"
         slow = ", ".join(f"{name} {seconds:.0f}" for seconds, name in ran.stays[:4] if seconds >= 1)
         self.times.append((ran.seconds, what + (f" ({slow})" if slow else "")))
         return ran.said
+
+    def check_only(self, functions) -> Checked:
+        """A check of some functions, by the ends of their names, and of what they call; of none: of the whole crate."""
+        ran = check(self.folder, "--jobs", "1", *(word for name in functions for word in ("--only", name)))
+        unknown = NO_FUNCTION.search(ran.said)
+        # A method of a built-in type has no such name: its edit is then tried alone.
+        return self.check_only([it for it in functions if it != unknown[1]]) if unknown else ran
 
     def apart(self, edits, said: str) -> list:
         """Edits that don't compile together, in parts: those of which that is said, and the others."""
@@ -281,8 +290,14 @@ class Room:
 
     def judge(self, edits) -> list:
         """Each edit with the goal for which it is refused, or with none and a fault."""
-        said = self.check(edits)
-        reached = re.search(r"^logic=(proved|not-proved)", said, re.M)
+        functions = {one for edit in edits for one in edit.functions}
+        # A line that stands in no function, as a constant's, is judged by the whole crate.
+        said = self.check(edits, [] if None in functions else sorted({one.tail() for one in functions}))
+        reached = REACHED.search(said)
+        if reached and len(edits) == 1 and not goals_in(self.crate, said):
+            # What the function does for others may be refused there.
+            said = self.check(edits, [])
+            reached = REACHED.search(said)
         if not reached and len(edits) > 1:
             return [it for part in self.apart(edits, said) for it in self.judge(part)]
         if not reached:

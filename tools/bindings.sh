@@ -1,0 +1,60 @@
+#!/usr/bin/env bash
+# Builds and tests what calls the static library `elf_c` from C and from Rust.
+#   tools/bindings.sh            the C example, the header as C++, the Rust crate with its own tests: no registry
+#   tools/bindings.sh --compare  besides, all answers beside those of `object`, of Debian's librust-object-dev, over the
+#                                files of the system
+# XMAS_ELF_ARCHIVE: a folder that holds libelf_c.a; where it isn't set, `rt lib` makes it.
+set -euo pipefail
+cd "$(dirname "$0")/.."
+room="$(mktemp -d)"
+trap 'rm -rf "$room"' EXIT
+
+tools/statuses.py --check
+if [ -z "${XMAS_ELF_ARCHIVE:-}" ]; then
+    (cd crates/elf_c && rt lib) > "$room/lib" 2>&1 || { tail -n 20 "$room/lib"; exit 1; }
+    XMAS_ELF_ARCHIVE="$PWD/crates/elf_c/out"
+fi
+export XMAS_ELF_ARCHIVE CARGO_TARGET_DIR="$room/target"
+strict=(-O2 -Wall -Wextra -Werror -pedantic -Ibindings/include)
+
+# The names that a program prints, and those of readelf but for the sections, whose names it shows for theirs. It adds
+# versions behind an `@`, which a few names have too.
+printed() { awk 'NF == 3 { sub(/@.*/, "", $3); print $3 }' "$1" | sort; }
+names() { readelf --wide --symbols "$1" | awk '$1 ~ /^[0-9]+:$/ && $4 != "SECTION" && $8 != "" { sub(/@.*/, "", $8); print $8 }' | sort; }
+
+gcc -std=c11 "${strict[@]}" bindings/c/nm.c "$XMAS_ELF_ARCHIVE/libelf_c.a" -o "$room/nm_c"
+gcc -std=c11 "${strict[@]}" bindings/c/speed.c "$XMAS_ELF_ARCHIVE/libelf_c.a" -o "$room/speed"
+g++ -std=c++17 "${strict[@]}" -x c++ -fsyntax-only bindings/include/xmas_elf.h
+cargo build --quiet --offline --release --manifest-path bindings/rust/Cargo.toml --example nm
+for file in "$room/nm_c" /lib/x86_64-linux-gnu/libc.so.6; do
+    "$room/nm_c" "$file" > "$room/of_c"
+    "$CARGO_TARGET_DIR/release/examples/nm" "$file" > "$room/of_rust"
+    cmp "$room/of_c" "$room/of_rust"
+    diff <(printed "$room/of_c") <(names "$file") > "$room/difference" || { head "$room/difference"; exit 1; }
+done
+mkdir "$room/damaged"
+python3 - "$room/damaged" << 'END'
+import pathlib
+import sys
+sys.path.insert(0, "tools")
+import damage
+for index in range(1000):
+    (pathlib.Path(sys.argv[1]) / str(index)).write_bytes(damage.damaged(1, index))
+END
+XMAS_ELF_DAMAGED="$room/damaged" cargo test --quiet --offline --release --manifest-path bindings/rust/Cargo.toml
+echo "bindings: the C example, the header as C++ and the Rust crate agree with readelf"
+
+if [ "${1:-}" = --compare ]; then
+    (cd bindings/compare && cargo build --quiet --offline --release)
+    # Both classes and both orders, too.
+    mkdir "$room/worked"
+    python3 - "$room/worked" << 'END'
+import pathlib
+import sys
+sys.path.insert(0, "tools")
+import damage
+for name, wide, order in (("a", True, "little"), ("b", True, "big"), ("c", False, "little"), ("d", False, "big")):
+    (pathlib.Path(sys.argv[1]) / name).write_bytes(damage.worked(wide, order, ""))
+END
+    "$CARGO_TARGET_DIR/release/compare" "$room"/worked/* /lib/x86_64-linux-gnu/*.so* /usr/bin/*
+fi

@@ -1,0 +1,89 @@
+#!/usr/bin/env python3
+"""Writes the list of statuses into bindings/include/xmas_elf.h and bindings/rust/src/error.rs.
+
+The numbers are those of crates/elf_c/src/status.rt, the texts those of crates/elf_base and crates/elf_linking.
+--check: writes nothing, and fails where a file differs."""
+import pathlib
+import re
+import sys
+
+ROOT = pathlib.Path(__file__).resolve().parent.parent
+HEADER = ROOT / "bindings/include/xmas_elf.h"
+RUST = ROOT / "bindings/rust/src/error.rs"
+FIRST, LAST = "/* The statuses, written by tools/statuses.py. */", "/* End of the statuses. */"
+
+
+def matched(path, pattern):
+    return re.findall(pattern, (ROOT / path).read_text())
+
+
+def statuses():
+    """Rows of name, number and text."""
+    texts = dict(matched("crates/elf_base/src/error.rt", r'Self::(\w+) => "([^"]*)"'))
+    link_texts = dict(matched("crates/elf_linking/src/error.rt", r'LinkError::(\w+) => "([^"]*)"'))
+    source = "crates/elf_c/src/status.rt"
+    rows = [(name, int(number), texts[name]) for name, number in matched(source, r"ElfError::(\w+) => (\d+)")]
+    for name, number in matched(source, r"LinkError::(\w+) => (\d+)"):
+        rows.append(("Link" + name, int(number), link_texts[name]))
+    documented = dict(reversed(pair) for pair in matched(source, r"/// ([^\n]*)\.\n    (\w+),\n"))
+    for name, number in matched(source, r"Refusal::(\w+) => (\d+)"):
+        rows.append((name, int(number), documented[name]))
+    numbers = [number for _, number, _ in rows]
+    assert len(set(numbers)) == len(numbers) and 0 not in numbers and len(rows) > 60
+    return rows
+
+
+def constant(name):
+    words = re.findall(r"[A-Z][a-z]*|[0-9]+", name)
+    return "XMAS_ELF_" + "_".join(words).upper()
+
+
+def c_part(rows):
+    lines = [FIRST, "enum xmas_elf_status {", "    XMAS_ELF_OK = 0,"]
+    lines += [f"    {constant(name)} = {number}," for name, number, _ in rows]
+    lines[-1] = lines[-1].rstrip(",")
+    lines += ["};", "", "/* The text of a status, of which the program has one copy. */"]
+    lines += ["static inline const char *xmas_elf_message(uint32_t status)", "{", "    switch (status) {"]
+    lines += ['    case XMAS_ELF_OK: return "No refusal";']
+    lines += [f'    case {constant(name)}: return "{text}";' for name, _, text in rows]
+    return lines + ['    default: return "Unknown status";', "    }", "}", LAST]
+
+
+def rust_part(rows):
+    lines = ["//! Why a part of a file is refused. Written by tools/statuses.py.", ""]
+    lines += ["/// Why a file, or a part of it, is refused.", "#[derive(Clone, Copy, Debug, PartialEq, Eq, Hash)]"]
+    lines += ["#[non_exhaustive]", "pub enum Error {"]
+    for name, _, text in rows:
+        lines += [f"    /// {text}.", f"    {name},"]
+    lines += ["    /// A status that this crate doesn't know: the archive is of another version.", "    Unknown(u32),", "}", ""]
+    lines += ["impl Error {", "    /// The refusal with this number, which isn't 0."]
+    lines += ["    pub(crate) fn of(status: u32) -> Error {", "        match status {"]
+    lines += [f"            {number} => Error::{name}," for name, number, _ in rows]
+    lines += ["            other => Error::Unknown(other),", "        }", "    }", ""]
+    lines += ["    /// The text of the refusal.", "    pub fn message(&self) -> &'static str {", "        match self {"]
+    lines += [f'            Error::{name} => "{text}",' for name, _, text in rows]
+    lines += ['            Error::Unknown(_) => "Unknown status",', "        }", "    }", "}", ""]
+    lines += ["impl core::fmt::Display for Error {"]
+    lines += ["    fn fmt(&self, f: &mut core::fmt::Formatter<'_>) -> core::fmt::Result {", "        f.write_str(self.message())"]
+    return lines + ["    }", "}", "", "impl core::error::Error for Error {}"]
+
+
+def header_with(part):
+    text = HEADER.read_text()
+    if FIRST not in text:
+        return text.replace("/* STATUSES */", "\n".join(part))
+    before, after = text.index(FIRST), text.index(LAST) + len(LAST)
+    return text[:before] + "\n".join(part) + text[after:]
+
+
+def main():
+    rows = statuses()
+    wanted = {HEADER: header_with(c_part(rows)), RUST: "\n".join(rust_part(rows)) + "\n"}
+    for path, text in wanted.items():
+        if "--check" not in sys.argv[1:]:
+            path.write_text(text)
+        elif not path.exists() or path.read_text() != text:
+            sys.exit(f"{path}: run tools/statuses.py")
+
+
+main()
