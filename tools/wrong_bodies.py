@@ -43,6 +43,7 @@ FAULT = re.compile(r"(?:\./)?(src/\S+?):(\d+):\d+: error")
 PROGRESS = re.compile(r"checked (\S+), \d+ of \d+")
 REACHED = re.compile(r"^(?:logic=(proved|not-proved)|only=\d+ proved=\d+$)", re.M)
 NO_FUNCTION = re.compile(r"^rattle: error: `\w+` has no function `(\S+)`", re.M)
+ALIKE = re.compile(r"^rattle: error: several functions are named `(\S+)`: help: write one of (.*)", re.M)
 # How many checks are listed at the end, and functions of each.
 SLOWEST = 12
 
@@ -278,6 +279,11 @@ class Room:
     def check_only(self, functions) -> Checked:
         """A check of some functions, by the ends of their names, and of what they call; of none: of the whole crate."""
         ran = check(self.folder, "--jobs", "1", *(word for name in functions for word in ("--only", name)))
+        # Of functions whose names end alike all are checked.
+        alike = ALIKE.search(re.sub(r"\n {2,}(?=\S)", " ", ran.said))
+        if alike:
+            whole = [it.split("::", 1)[1] for it in re.findall(r"`(\S+)`", alike[2])]
+            return self.check_only([it for it in functions if it != alike[1]] + whole)
         unknown = NO_FUNCTION.search(ran.said)
         # A method of a built-in type has no such name: its edit is then tried alone.
         return self.check_only([it for it in functions if it != unknown[1]]) if unknown else ran
@@ -317,13 +323,25 @@ class Room:
         return judged
 
 
+@dataclasses.dataclass
+class Task:
+    """A crate whose edits are to be tried: the crates below it, its batches, and copies of it that are free."""
+
+    crate: Crate
+    below: list
+    batches: list
+    state: str = "unproved"
+    rooms: list = dataclasses.field(default_factory=list)
+    running: int = 0
+
+
 class Trial:
     """All edits of a repository that are to be tried, by several workers."""
 
     def __init__(self, root: pathlib.Path, names, jobs: int):
         self.root, self.jobs, self.lock = root, jobs, threading.Lock()
         self.refused, self.failed, self.times = [], [], []
-        self.tasks = []
+        self.tasks, self.idle, self.made = [], jobs, 0
         below = {}
         for line in (root / "crates.txt").read_text(encoding="utf-8").splitlines():
             name, _, deps = line.partition("#")[0].partition(":")
@@ -336,10 +354,9 @@ class Trial:
             for edit in edits:
                 if edit.fault:
                     self.tell(edit, "", edit.fault)
-            libraries = self.closure(below, name)
             batches = batches_of(crate, [it for it in edits if not it.fault])
             if batches:
-                self.tasks.append((crate, libraries, batches))
+                self.tasks.append(Task(crate, self.closure(below, name), batches))
 
     @staticmethod
     def is_named(edit: Edit, word: str) -> bool:
@@ -359,38 +376,73 @@ class Trial:
             (self.failed if fault else self.refused).append(edit.label())
             print(f"{edit.label()}: " + (f"FAILED: {fault}" if fault else f"refused: {goal}")[:200], flush=True)
 
-    def work(self, batches: list, crate: Crate, below, place: pathlib.Path):
-        """Takes batches of a crate until none is left."""
-        room = None
-        while True:
-            with self.lock:
-                if not batches:
-                    self.times += room.times if room else []
-                    return
-                batch = batches.pop(0)
-            room = room or Room(self.root, crate, below, place)
-            for edit, goal, fault in room.judge(batch):
-                self.tell(edit, goal, fault)
+    def prove(self, task: Task, jobs: int):
+        """Checks a crate as it stands, and keeps what that proves for the copies."""
+        began = time.monotonic()
+        status = check(task.crate.folder, "--jobs", str(jobs)).status
+        with self.lock:
+            task.state = "not proved" if status else "proved"
+            if status:
+                self.failed.append(task.crate.name)
+            count = sum(map(len, task.batches))
+            what = "FAILED: it is not proved as it stands" if status else f"{count} edits in {len(task.batches)} batches"
+            print(f"{task.crate.name}: {what} (checked in {time.monotonic() - began:.0f} s)", flush=True)
+
+    def work(self, task: Task, batch: list, room, place: pathlib.Path):
+        """Tries a batch in a copy of its crate, which is left for the next one."""
+        room = room or Room(self.root, task.crate, task.below, place)
+        for edit, goal, fault in room.judge(batch):
+            self.tell(edit, goal, fault)
+        with self.lock:
+            self.times, room.times = self.times + room.times, []
+            task.running -= 1
+            task.rooms.append(room)
+            if not task.batches and not task.running:
+                for it in task.rooms:
+                    shutil.rmtree(it.folder.parent.parent, ignore_errors=True)
+
+    def startable(self, rooms: str):
+        """What can begin now: a call, and how many workers it takes. A crate comes after those below it."""
+        unproved = [it for it in self.tasks if it.state == "unproved"]
+        names = {it.crate.name for it in self.tasks if it.state in ("unproved", "checked now")}
+        ready = [it for it in unproved if not names & set(it.below)]
+        proved = [it for it in self.tasks if it.state == "proved" and it.batches]
+        if self.idle and ready:
+            # A check takes what the batches leave, and half where there are many.
+            waiting = sum(len(it.batches) for it in proved)
+            jobs = max(1, self.idle // 2, self.idle - waiting)
+            ready[0].state = "checked now"
+            return (lambda: self.prove(ready[0], jobs)), jobs
+        if self.idle and proved:
+            # The crate with most left, since its last batch may be the last of all.
+            task = max(proved, key=lambda it: len(it.batches))
+            batch, room = task.batches.pop(0), task.rooms.pop() if task.rooms else None
+            task.running, self.made = task.running + 1, self.made + 1
+            place = pathlib.Path(rooms, f"{task.crate.name}-{self.made}")
+            return (lambda: self.work(task, batch, room, place)), 1
+        return None, 0
 
     def run(self) -> int:
+        running = {}
         with tempfile.TemporaryDirectory(prefix="wrong-bodies-") as rooms, concurrent.futures.ThreadPoolExecutor(self.jobs) as pool:
-            for crate, below, batches in self.tasks:
-                count = sum(map(len, batches))
-                print(f"{crate.name}: {count} edits in {len(batches)} batches", flush=True)
-                if check(crate.folder).status:
-                    self.failed.append(crate.name)
-                    print(f"{crate.name}: FAILED: it is not proved as it stands", flush=True)
+            while True:
+                with self.lock:
+                    call, workers = self.startable(rooms)
+                if call:
+                    self.idle -= workers
+                    running[pool.submit(call)] = workers
                     continue
-                places = [pathlib.Path(rooms, f"{crate.name}-{at}") for at in range(min(self.jobs, len(batches)))]
-                done = [pool.submit(self.work, batches, crate, below, it) for it in places]
-                for it in done:
+                if not running:
+                    break
+                for it in concurrent.futures.wait(running, return_when=concurrent.futures.FIRST_COMPLETED).done:
+                    self.idle += running.pop(it)
                     it.result()
-                for it in places:
-                    shutil.rmtree(it, ignore_errors=True)
         if self.times:
             print(f"{sum(it[0] for it in self.times):.0f} processor seconds, of these")
         for seconds, what in sorted(self.times, reverse=True)[:SLOWEST]:
             print(f"{seconds:6.0f} {what}")
+        if self.failed:
+            print(f"FAILED: {' '.join(sorted(self.failed))}")
         print(f"{len(self.refused)} refused, {len(self.failed)} failed")
         return 1 if self.failed or not self.refused else 0
 
