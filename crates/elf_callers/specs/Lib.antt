@@ -13,3 +13,6 @@ pub mod Sound
 pub mod Shapes
 pub mod Parts
 pub mod SegmentShapes
+pub mod Totals
+pub mod StringBytes
+pub mod Names

@@ -3,7 +3,11 @@
 
 ghost use Rattle.std.specs.Prelude.{◌≡◌, ◌≢◌, ◌+◌, ◌↔◌, ◌≤◌, ◌<◌, ◌==◌, Err, IfErr, IfOk, IsOk, IsOkAnd, IsTrue, List, MatchOption, MatchResult, None, Ok, Some, count_by, length, ℕ};
 ghost use Rattle.std.specs.List.{AllWithin, HoldsAt};
+ghost use Rattle.std.specs.Borrow.{Bor};
+ghost use Rattle.std.specs.Result.{result_ok};
 ghost use Rattle.elf_callers.specs.Instructions.{instructions_in};
+ghost use Rattle.elf_callers.specs.Names.{name_in_bytes, text_length};
+ghost use Rattle.elf_callers.specs.StringBytes.{IsStringRefused, IsStringTotal, LiesThere, string_size};
 ghost use Rattle.xmas_elf.specs.Checks.{header_check};
 ghost use Rattle.xmas_elf.specs.Counts.{section_count_of};
 ghost use Rattle.xmas_elf.specs.FileHeader.{IsAccepted, file_class, file_order, header_of};
@@ -229,15 +233,40 @@ pub fn name_in<'a>(input: &'a [u8], index: u32) -> Result<&'a str, ElfError>
 }
 
 /// How many bytes the string tables of a file have together, or the greatest number if that is less.
-pub fn string_bytes(input: &[u8]) -> Result<u64, ElfError> {
+/// Refused as the bytes are, and as the data of the first string table that isn't all there.
+pub fn string_bytes(input: &[u8]) -> Result<u64, ElfError>
+    ensures sum { IfOk result (λ total. IsOkAnd (header_of input.now) (λ header.
+        let file : ElfFile = record { input = input.entry; header = header } in IsStringTotal file total)) }
+    ensures refused { IfErr result (λ error. MatchResult (header_of input.now) (λ header.
+        let file : ElfFile = record { input = input.entry; header = header } in IsStringRefused file error)
+        (λ why. why ≡ error)) }
+{
     let file = ElfFile::new(input)?;
+    string_bytes_of(&file)
+}
+
+// The same of a file.
+fn string_bytes_of(file: &ElfFile<'_>) -> Result<u64, ElfError>
+    ensures sum { IfOk result (IsStringTotal file.now) }
+    ensures refused { IfErr result (IsStringRefused file.now) }
+{
     let mut total = 0u64;
     for section in file.section_iter() {
-        if section.get_type() == Ok(ShType::StrTab) {
-            total = total.saturating_add(section.raw_data(&file)?.len() as u64);
-        }
+        total = total.saturating_add(string_len(file, &section)?);
     }
     Ok(total)
+}
+
+// How many bytes a section adds: those of a string table, and none of another.
+fn string_len(file: &ElfFile<'_>, section: &SectionHeader) -> Result<u64, ElfError>
+    ensures len { IfOk result (λ len. LiesThere file.now section.now × (len ≡ string_size section.now)) }
+    ensures refused { IfErr result (λ error. ¬ LiesThere file.now section.now
+        × (section_data_of file.now section.now ≡ Err error)) }
+{
+    match section.get_type() {
+        Ok(ShType::StrTab) => Ok(section.raw_data(file)?.len() as u64),
+        _ => Ok(0),
+    }
 }
 
 /// The instructions of a program, which live as long as its bytes; none where the file doesn't hold
@@ -254,8 +283,11 @@ pub fn text_section(input: &[u8]) -> Option<&[u8]>
     }
 }
 
-/// The length of the first name in a copy of some bytes.
-pub fn copied_name_len(alloc: Global, bytes: &[u8]) -> Result<usize, AllocError> {
+/// The length of the first name in a copy of some bytes, and 0 where there is none.
+pub fn copied_name_len(alloc: Global, bytes: &[u8]) -> Result<usize, AllocError>
+    ensures { IfOk result (λ len. (copy : Bor (List ℕ)) × (copy.now ≡ bytes.now)
+        × (len ≡ text_length (result_ok (name_in_bytes copy 1)))) }
+{
     let buffer = Vec::from_slice(alloc, bytes)?;
     let name = name_in(buffer.as_slice(), 1);
     let length = match name {

@@ -9,9 +9,12 @@ use xmas_elf::dynamic::Dynamic;
 use xmas_elf::hash::HashTable;
 use xmas_elf::header::Header;
 use xmas_elf::program::{
-    Flags, ProgramHeader, ProgramHeader32, ProgramHeader64, ProgramIter, Type_,
+    Flags, ProgramHeader, ProgramHeader32, ProgramHeader64, ProgramIter, ProgramTable,
+    ProgramTableIter, Type_,
 };
-use xmas_elf::sections::{NoteHeader, Rela, SectionHeader, SectionIter, SectionStrings};
+use xmas_elf::sections::{
+    NoteHeader, Rela, SectionHeader, SectionIter, SectionStrings, SectionTable, SectionTableIter,
+};
 use xmas_elf::symbol_table::Entry64;
 use xmas_elf::{ElfError, P64};
 
@@ -145,4 +148,40 @@ pub fn clone_strings<'a>(strings: &SectionStrings<'a>) -> Result<SectionStrings<
     ensures { IsOkAnd result (λ copy. copy ≡ strings.now) }
 {
     strings.clone()
+}
+
+/// A clone is its original, and lends what that lends.
+pub fn clone_section_table<'b, 'a>(
+    table: &SectionTable<'b, 'a>,
+) -> Result<SectionTable<'b, 'a>, AllocError>
+    ensures { IsOkAnd result (λ copy. copy ≡ table.now) }
+{
+    table.clone()
+}
+
+/// A clone is its original, and lends what that lends.
+pub fn clone_segment_table<'b, 'a>(
+    table: &ProgramTable<'b, 'a>,
+) -> Result<ProgramTable<'b, 'a>, AllocError>
+    ensures { IsOkAnd result (λ copy. copy ≡ table.now) }
+{
+    table.clone()
+}
+
+/// A clone is its original, and has the same headers left.
+pub fn clone_table_sections<'b, 'a>(
+    headers: &SectionTableIter<'b, 'a>,
+) -> Result<SectionTableIter<'b, 'a>, AllocError>
+    ensures { IsOkAnd result (λ copy. copy ≡ headers.now) }
+{
+    headers.clone()
+}
+
+/// A clone is its original, and has the same headers left.
+pub fn clone_table_segments<'b, 'a>(
+    headers: &ProgramTableIter<'b, 'a>,
+) -> Result<ProgramTableIter<'b, 'a>, AllocError>
+    ensures { IsOkAnd result (λ copy. copy ≡ headers.now) }
+{
+    headers.clone()
 }

@@ -1,6 +1,6 @@
 //! Callers that go by where a lent slice lies.
 
-ghost use Rattle.std.specs.Prelude.{◌≡◌, ◌≢◌, ◌≤◌, ◌-◌, Err, IfErr, IfOk, IsOkAnd, MatchOption, MatchResult, None, Ok};
+ghost use Rattle.std.specs.Prelude.{◌≡◌, ◌≢◌, ◌≤◌, ◌-◌, ◌%◌, Err, IfErr, IfOk, IsOkAnd, MatchOption, MatchResult, None, Ok, Some, length};
 ghost use Rattle.elf_callers.specs.Kinds.{symbols_64_in};
 ghost use Rattle.xmas_elf.specs.FileHeader.{header_of};
 ghost use Rattle.xmas_elf.specs.Lent.{LiesAt};
@@ -63,8 +63,9 @@ pub fn section_in_segment<'a>(
 
 /// The bytes of the symbols of a section of class 64, which are the section's own in the input.
 pub fn symbol_bytes<'a>(file: &ElfFile<'a>, section: &SectionHeader) -> Option<&'a [u8]>
-    ensures { MatchOption result (symbols_64_in (section_content_of file.now section.now) ≡ None)
-        (LiesAsSection file.now section.now) }
+    ensures { let found = symbols_64_in (section_content_of file.now section.now) in MatchOption result
+        (found ≡ None)
+        (λ part. (found ≡ Some part.now) × LiesAsSection file.now section.now part) }
 {
     match section.get_data(file) {
         Ok(SectionData::SymbolTable64(table)) => Some(table.bytes()),
@@ -106,7 +107,9 @@ pub fn segment_data_in(input: &[u8], index: u16) -> Result<SegmentData<'_>, ElfE
 
 /// The bytes of some symbols, which outlive the table that they were read by.
 pub fn table_bytes(bytes: &[u8], order: Order) -> Result<&[u8], ElfError>
-    ensures { MatchResult result (LiesAt bytes.entry 0) (λ error. error ≡ ElfError.NotMultiple) }
+    ensures { MatchResult result
+        (λ part. (length bytes.now % 24 ≡ 0) × (part.now ≡ bytes.now) × LiesAt bytes.entry 0 part)
+        (λ error. (length bytes.now % 24 ≢ 0) × (error ≡ ElfError.NotMultiple)) }
 {
     let table = Table::<Entry64>::new(bytes, order)?;
     Ok(table.bytes())

@@ -3,7 +3,7 @@
 ghost use Rattle.std.specs.Borrow.{Bor};
 ghost use Rattle.std.specs.Prelude.{◌≡◌, ◌≢◌, ◌↔◌, ◌<◌, ◌≤◌, ℕ, Contains, Err, IfErr, IsOk, IsTrue, MatchOption, OnOk, Some, length, slice_get};
 ghost use Rattle.elf_callers.specs.Tiny.{tiny_fields, tiny_name};
-ghost use Rattle.xmas_elf.specs.Chain.{IsEndless, chains_of};
+ghost use Rattle.xmas_elf.specs.Chain.{IsEndless, Looks, chains_of};
 ghost use Rattle.xmas_elf.specs.Good.{FindsAll, IsCheck, IsGood, MustBeFound};
 ghost use Rattle.xmas_elf.specs.HashTable.{chain_count_of, start_of};
 ghost use Rattle.xmas_elf.specs.Symbols.{Decides, IsGlobal, IsMatch, symbols_of};
@@ -53,6 +53,8 @@ pub fn find_counted<E: Entry + Record, F: Fn(&E) -> bool>(
     ensures unrefused { IsOk result.0 }
     ensures finds { let all = symbols_of E.fields E.text_in symbols.now file.now in
         FindsAll all name.now (IsMatch all F.Fn f name.now) result.0 }
+    ensures counted { let all = symbols_of E.fields E.text_in symbols.now file.now in
+        Looks (IsMatch all F.Fn f name.now) table.now all.items name.now result.0 result.1 }
     ensures in_chains { result.1 ≤ chain_count_of table.now }
     ensures in_symbols { result.1 ≤ length (table_items symbols.now) }
 {
@@ -131,7 +133,8 @@ pub fn checked_lookup<E: Entry + Record, F: Fn(&E) -> bool>(
     }
 }
 
-/// The answer of a look-up in any table: `HashCycle` exactly where its walk reaches no stop.
+/// The answer of a look-up in any table: that of the first stop which its walk reaches, and `HashCycle`
+/// exactly where it reaches none.
 pub fn lookup_anywhere<E: Entry + Record, F: Fn(&E) -> bool>(
     table: &HashTable<'_>,
     name: &str,
@@ -141,7 +144,9 @@ pub fn lookup_anywhere<E: Entry + Record, F: Fn(&E) -> bool>(
 ) -> Result<Option<(u32, E)>, ElfError>
     requires callable { (e : Bor E) → Contains (table_items symbols.now) e.now → F.pre f e }
     requires decides { Decides (symbols_of E.fields E.text_in symbols.now file.now) F.Fn f }
-    ensures { let all = symbols_of E.fields E.text_in symbols.now file.now in
+    ensures answer { let all = symbols_of E.fields E.text_in symbols.now file.now in (count : ℕ)
+        × Looks (IsMatch all F.Fn f name.now) table.now all.items name.now result count }
+    ensures cycle { let all = symbols_of E.fields E.text_in symbols.now file.now in
         (result ≡ Err ElfError.HashCycle) ↔ IsEndless (IsMatch all F.Fn f name.now)
         (chains_of table.now all.items) (start_of table.now name.now) }
 {
@@ -161,7 +166,9 @@ pub fn same_answers<E: Entry + Record, F: Fn(&E) -> bool + Copy>(
 )
     requires callable { (e : Bor E) → Contains (table_items symbols.now) e.now → F.pre f e }
     requires decides { Decides (symbols_of E.fields E.text_in symbols.now file.now) F.Fn f }
-    ensures { result.0 ≡ result.1 }
+    ensures same { result.0 ≡ result.1 }
+    ensures answer { let all = symbols_of E.fields E.text_in symbols.now file.now in (count : ℕ)
+        × Looks (IsMatch all F.Fn f name.now) table.now all.items name.now result.0 count }
 {
     let one = table.lookup(name, symbols, file, f);
     let other = table.lookup_counted(name, symbols, file, f);

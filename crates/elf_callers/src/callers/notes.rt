@@ -1,12 +1,12 @@
 //! Callers that read notes, build ids and links to debug information.
 
-ghost use Rattle.std.specs.Prelude.{◌≡◌, ◌≢◌, ◌↔◌, ◌+◌, ◌≤◌, IfNone, IfOk, IfSome, IsOkAnd, IsSomeAnd, IsTrue, List, Ok, Some, ℕ, codes, length};
+ghost use Rattle.std.specs.Prelude.{◌≡◌, ◌≢◌, ◌↔◌, ◌+◌, ◌≤◌, IfNone, IfOk, IfSome, IsOkAnd, IsSomeAnd, IsTrue, List, MatchOption, Ok, Some, ℕ, codes, length};
 ghost use Rattle.xmas_elf.specs.BuildId.{IsBuildId};
 ghost use Rattle.xmas_elf.specs.FileHeader.{file_class, file_order, header_of};
 ghost use Rattle.xmas_elf.specs.Header.{Header};
 ghost use Rattle.xmas_elf.specs.Link.{IsAlternateLink, IsDebugLink};
 ghost use Rattle.xmas_elf.specs.NamedData.{IsDataNamed};
-ghost use Rattle.xmas_elf.specs.Note.{note_desc_size, note_name_size, note_type, rounded_up};
+ghost use Rattle.xmas_elf.specs.Note.{IsNoteName, NoteNameRefused, note_desc_size, note_name_size, note_type, rounded_up};
 ghost use Rattle.xmas_elf.specs.NoteHeader.{NoteHeader};
 ghost use Rattle.xmas_elf.specs.Number.{number};
 ghost use Rattle.xmas_elf.specs.Text.{IsText};
@@ -15,9 +15,12 @@ ghost use Rattle.xmas_elf.specs.Types.{ElfFile};
 use xmas_elf::sections::NoteHeader;
 use xmas_elf::{ElfError, ElfFile, Extensions};
 
-/// Why a note has no name: `NoteName` exactly where there is a text whose length and one more isn't
-/// the size of the name.
+/// Why a note has no name, if it has none: `NoteName` exactly where there is a text whose length and one
+/// more isn't the size of the name.
 pub fn name_refusal(header: &NoteHeader, body: &[u8]) -> Option<ElfError>
+    ensures exact { MatchOption result
+        ((text : List ℕ) × IsNoteName body.now (note_name_size header.now) text)
+        (NoteNameRefused body.now (note_name_size header.now)) }
     ensures refused { result ≡ Some ElfError.NoteName → (text : List ℕ) × IsText body.now 0 text
         × (length text + 1 ≢ note_name_size header.now) }
     ensures refuses { (text : List ℕ) → IsText body.now 0 text

@@ -1,8 +1,8 @@
 //! Callers that conclude a refusal of a text from its reason.
 
-ghost use Rattle.std.specs.Prelude.{◌≡◌, ◌<◌, ◌≤◌, List, Some, ℕ, length};
+ghost use Rattle.std.specs.Prelude.{◌≡◌, ◌<◌, ◌≤◌, List, MatchOption, Some, ℕ, length};
 ghost use Rattle.std.specs.Str.{IsUtf8};
-ghost use Rattle.xmas_elf.specs.Text.{EndsInZero, NoZeroFrom};
+ghost use Rattle.xmas_elf.specs.Text.{EndsInZero, IsText, NoZeroFrom, TextRefused};
 
 use xmas_elf::ElfError;
 use xmas_elf::bytes::text_at;
@@ -24,9 +24,12 @@ pub fn refused_without_end(bytes: &[u8], start: usize) -> Option<ElfError>
     text_at(bytes, start).err()
 }
 
-/// Bytes before the first zero byte that aren't UTF-8 are refused for that.
+/// Why there is no text at a place, if there is none: bytes before the first zero byte that aren't UTF-8
+/// are refused for that.
 pub fn refused_as_no_text(bytes: &[u8], start: usize) -> Option<ElfError>
-    ensures { (text : List ℕ) → EndsInZero bytes.now start text → ¬ IsUtf8 text
+    ensures exact { MatchOption result ((text : List ℕ) × IsText bytes.now start text)
+        (TextRefused bytes.now start) }
+    ensures not_utf8 { (text : List ℕ) → EndsInZero bytes.now start text → ¬ IsUtf8 text
         → result ≡ Some ElfError.TextUtf8 }
 {
     match text_at(bytes, start) {

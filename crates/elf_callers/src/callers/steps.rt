@@ -1,6 +1,6 @@
 //! Callers that step an iterator on from any index.
 
-ghost use Rattle.std.specs.Prelude.{◌≡◌, ◌<◌, ◌+◌, IfNone, Ok, Some};
+ghost use Rattle.std.specs.Prelude.{◌≡◌, ◌<◌, ◌+◌, IfNone, IfSome, Ok, Some};
 ghost use Rattle.xmas_elf.specs.Counts.{program_count_of, section_count_of};
 ghost use Rattle.xmas_elf.specs.ProgramHeader.{program_of};
 ghost use Rattle.xmas_elf.specs.SectionHeader.{section_of};
@@ -11,12 +11,16 @@ use xmas_elf::ElfFile;
 use xmas_elf::program::{ProgramHeader, ProgramIter};
 use xmas_elf::sections::{SectionHeader, SectionIter};
 
-/// The next section: the header at the iterator's index wherever that is below the count and can be read,
-/// whoever wrote the index.
+/// The next section: the header at the iterator's index exactly where that is below the count and can be
+/// read, whoever wrote the index; then the index goes on by one, and else it stays.
 pub fn next_section(sections: &mut SectionIter<'_, '_>) -> Option<SectionHeader>
     ensures there { (section : SectionHeader)
         → sections.old.next_index < section_count_of sections.old.file.now
         → section_of sections.old.file.now sections.old.next_index ≡ Ok section → result ≡ Some section }
+    ensures given { IfSome result (λ section.
+        (sections.old.next_index < section_count_of sections.old.file.now)
+        × (section_of sections.old.file.now sections.old.next_index ≡ Ok section)
+        × (sections.new.next_index ≡ sections.old.next_index + 1)) }
     ensures stays { IfNone result (sections.new.next_index ≡ sections.old.next_index) }
 {
     sections.next()
@@ -27,6 +31,10 @@ pub fn next_segment(segments: &mut ProgramIter<'_, '_>) -> Option<ProgramHeader>
     ensures there { (segment : ProgramHeader)
         → segments.old.next_index < program_count_of segments.old.file.now
         → program_of segments.old.file.now segments.old.next_index ≡ Ok segment → result ≡ Some segment }
+    ensures given { IfSome result (λ segment.
+        (segments.old.next_index < program_count_of segments.old.file.now)
+        × (program_of segments.old.file.now segments.old.next_index ≡ Ok segment)
+        × (segments.new.next_index ≡ segments.old.next_index + 1)) }
     ensures stays { IfNone result (segments.new.next_index ≡ segments.old.next_index) }
 {
     segments.next()
@@ -34,8 +42,10 @@ pub fn next_segment(segments: &mut ProgramIter<'_, '_>) -> Option<ProgramHeader>
 
 /// The section at an index by an iterator whose index is rewritten.
 pub fn section_by_iterator(file: &ElfFile<'_>, index: u64) -> Option<SectionHeader>
-    ensures { (section : SectionHeader) → index < section_count_of file.now
+    ensures there { (section : SectionHeader) → index < section_count_of file.now
         → section_of file.now index ≡ Ok section → result ≡ Some section }
+    ensures given { IfSome result (λ section. (index < section_count_of file.now)
+        × (section_of file.now index ≡ Ok section)) }
 {
     let mut sections = file.section_iter();
     sections.next_index = index;

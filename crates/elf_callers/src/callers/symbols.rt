@@ -1,7 +1,9 @@
 //! Callers of symbols, of a known type and of any.
 
-ghost use Rattle.std.specs.Prelude.{◌≡◌, ◌↔◌, ◌*◌, ◌<◌, ◌≤◌, IfOk, IfSome, IsTrue, MatchOption, MatchResult, None, Ok, Some, codes, drop, length, take, ℕ};
+ghost use Rattle.std.specs.Prelude.{◌≡◌, ◌↔◌, ◌*◌, ◌<◌, ◌≤◌, IfErr, IfOk, IfSome, IsTrue, MatchOption, MatchResult, None, Ok, Some, codes, drop, length, take, ℕ};
+ghost use Rattle.elf_callers.specs.Names.{HasText, IsNameTotal, first_name_of};
 ghost use Rattle.elf_callers.specs.Numbered.{numbered_name};
+ghost use Rattle.elf_callers.specs.Totals.{IsFirstWithout};
 ghost use Rattle.xmas_elf.specs.Lent.{Answers, Lends};
 ghost use Rattle.xmas_elf.specs.NameTable.{section_named};
 ghost use Rattle.xmas_elf.specs.Number.{number};
@@ -9,7 +11,9 @@ ghost use Rattle.xmas_elf.specs.SectionHeader.{section_of};
 ghost use Rattle.xmas_elf.specs.StringTable.{IsDynString, IsString, dyn_string_of, string_of, strtab_of};
 ghost use Rattle.xmas_elf.specs.Symbol.{dyn_entry_32_fields, entry_64_fields};
 ghost use Rattle.xmas_elf.specs.SymbolSection.{IsSectionIndex, symbol_section_of};
+ghost use Rattle.xmas_elf.specs.Symbols.{symbols_of};
 ghost use Rattle.xmas_elf.specs.Table.{table_data, table_order};
+ghost use Rattle.xmas_elf.specs.Text.{text_of};
 ghost use Rattle.xmas_elf.specs.Types.{ElfFile, SectionHeader};
 
 use crate::own::Numbered;
@@ -83,7 +87,8 @@ pub fn value_at(table: &Table<'_, Entry64>, index: usize) -> Option<u64>
 /// The name of a symbol by the bytes of a string table: in each file that has it, what `get_name` answers.
 #[tactic(auto, unfolding(xmas_elf::specs::StringTable::string_of))]
 pub fn name_in<'a>(strings: &'a [u8], symbol: &Entry64) -> Result<&'a str, ElfError>
-    ensures { (file : ElfFile) → strtab_of file ≡ Ok strings.now
+    ensures exact { Answers (text_of strings.now (entry_64_fields symbol.now).name) result }
+    ensures in_files { (file : ElfFile) → strtab_of file ≡ Ok strings.now
         → Answers (string_of file (entry_64_fields symbol.now).name) result }
 {
     text_at(strings, symbol.name() as usize)
@@ -108,11 +113,16 @@ pub fn name_of_any<'a, E: Entry>(symbol: &E, file: &ElfFile<'a>) -> Result<&'a s
     symbol.name_in(strings, file)
 }
 
-/// How many bytes the names of all symbols have together, or the greatest number if that is less.
+/// How many bytes the names of all symbols have together, or the greatest number if that is less. Refused
+/// as the name of the first symbol that bears none.
 pub fn name_bytes<E: Entry + Record>(
     file: &ElfFile<'_>,
     symbols: Table<'_, E>,
-) -> Result<u64, ElfError> {
+) -> Result<u64, ElfError>
+    ensures sum { IfOk result (IsNameTotal (symbols_of E.fields E.text_in symbols.entry file.now)) }
+    ensures refused { let all = symbols_of E.fields E.text_in symbols.entry file.now in
+        IfErr result (λ _. (symbol : E) × IsFirstWithout (HasText all) all.items symbol) }
+{
     let strings = E::string_table(file);
     let mut total = 0u64;
     for symbol in symbols {
@@ -121,8 +131,12 @@ pub fn name_bytes<E: Entry + Record>(
     Ok(total)
 }
 
-/// The name of the first symbol in some bytes, which outlives the symbol and the `ElfFile`.
-pub fn first_name<'a>(input: &'a [u8], symbols: &[u8], order: Order) -> Result<&'a str, ElfError> {
+/// The name of the first symbol in some bytes, which outlives the symbol and the `ElfFile`. Refused as the
+/// bytes of the file are, with `NotMultiple` where those of the symbols are no whole number of them, with
+/// `SymbolIndex` where there are none, and as the name is.
+pub fn first_name<'a>(input: &'a [u8], symbols: &[u8], order: Order) -> Result<&'a str, ElfError>
+    ensures { Answers (first_name_of input.entry order symbols.now) result }
+{
     let file = ElfFile::new(input)?;
     let table = Table::<Entry64>::new(symbols, order)?;
     let symbol = table.get(0).ok_or(ElfError::SymbolIndex)?;

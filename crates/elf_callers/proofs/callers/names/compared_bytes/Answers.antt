@@ -15,3 +15,6 @@ none_past table index name false count past (inr (within, _, _)) = absurd (omega
 pub returns-clause-past : goal.returns-clause-past
 returns-clause-past c = λ table is past.
     none_past table c.args.index c.args.name.now c.shstr_is.result.0 c.shstr_is.result.1 past (c.shstr_is.ensures.in_table table is)
+
+pub returns-clause-counted : goal.returns-clause-counted
+returns-clause-counted c = λ table is. (c.shstr_is.result.0, c.shstr_is.ensures.in_table table is)

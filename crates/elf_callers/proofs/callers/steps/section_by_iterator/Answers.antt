@@ -2,7 +2,11 @@ use Rattle.std.proofs.Common.{rules, ◌≡◌, ◌<◌, Ok, subst, sym}
 use Rattle.xmas_elf.specs.Counts.{section_count_of}
 use Rattle.xmas_elf.specs.SectionHeader.{section_of}
 use Rattle.xmas_elf.proofs.lemmas.HeaderList.{next_section_gives}
+use Rattle.elf_callers.proofs.Steps.{section_given}
 use Rattle.elf_callers.proofs.callers.steps.section_by_iterator.Goals as goal
 
-pub returns : goal.returns
-returns c = λ h below is. next_section_gives _ _ _ h c.next.ensures (search rules) (search rules)
+pub returns-clause-there : goal.returns-clause-there
+returns-clause-there c = λ h below is. next_section_gives _ _ _ h c.next.ensures (search rules) (search rules)
+
+pub returns-clause-given : goal.returns-clause-given
+returns-clause-given c = let given = section_given _ _ _ c.next.ensures in search rules
