@@ -1,9 +1,8 @@
 -- Names that are read from the bytes of a file, and how many bytes names have (gABI, "String Table").
-use Rattle.std.specs.Prelude.{◌≡◌, ◌==◌, ◌%◌, ℕ, IsSome, List, [], ◌∷◌, Option, None, Some, Result, length, not, take}
+use Rattle.std.specs.Prelude.{◌==◌, ◌%◌, ℕ, IsSome, List, [], ◌∷◌, Option, Result, length, not, take}
 use Rattle.std.specs.Borrow.{Bor}
 use Rattle.std.specs.Option.{option_map_or}
-use Rattle.std.specs.Result.{result_ok}
-use Rattle.elf_callers.specs.Totals.{IsFirstWithout, IsTotal}
+use Rattle.elf_callers.specs.Totals.{IsTotal}
 use Rattle.xmas_elf.specs.ElfError.{ElfError}
 use Rattle.xmas_elf.specs.ElfError.TheVariants.{NotMultiple, SymbolIndex}
 use Rattle.xmas_elf.specs.FileHeader.{header_of}
@@ -13,7 +12,6 @@ use Rattle.xmas_elf.specs.Refusal.{and_then, unless}
 use Rattle.xmas_elf.specs.StringTable.{string_of}
 use Rattle.xmas_elf.specs.Symbol.{entry_64, entry_64_fields}
 use Rattle.xmas_elf.specs.Symbols.{Symbols}
-use Rattle.xmas_elf.specs.declared.ElfFile.{ElfFile}
 
 -- how many bytes a text has, and 0 where there is none
 abbrev pub text_length : Option (List ℕ) → ℕ

@@ -1,6 +1,4 @@
-use Rattle.std.proofs.Common.{rules, ◌≡◌, ◌<◌, Ok, subst, sym}
-use Rattle.xmas_elf.specs.Counts.{section_count_of}
-use Rattle.xmas_elf.specs.SectionHeader.{section_of}
+use Rattle.std.proofs.Common.{rules}
 use Rattle.xmas_elf.proofs.lemmas.HeaderList.{next_section_gives}
 use Rattle.elf_callers.proofs.Steps.{section_given}
 use Rattle.elf_callers.proofs.callers.steps.section_by_iterator.Goals as goal
