@@ -16,16 +16,12 @@ Y`, and the last line holds the counts. The exit status is 0 if there is no
 difference, 1 if there is one, and 2 if the comparison couldn't be run.
 """
 
-import argparse
-import os
 import re
-import subprocess
 import sys
-from pathlib import Path
 from typing import Dict, List, NamedTuple, Optional, Tuple
 
-ROOT = Path(__file__).resolve().parent.parent
-MAGIC = b"\x7fELF"
+import comparing
+from comparing import read_elf, run
 
 # The number of each type that readelf prints by a name, with the owner.
 TYPES: Dict[Tuple[str, str], int] = {
@@ -66,21 +62,13 @@ class Contents(NamedTuple):
     addresses: List[Tuple[str, List[int]]]
 
 
-class Tally:
-    """Counts what was compared, and prints each difference as it is met."""
+class Tally(comparing.Tally):
+    """Counts what was compared."""
 
-    def __init__(self) -> None:
-        self.files = 0
-        self.sections = 0
-        self.notes = 0
-        self.tables = 0
-        self.addresses = 0
-        self.differences = 0
-
-    def differ(self, path: str, what: str, says: object, reads: object) -> None:
-        """Counts a difference and prints its line."""
-        self.differences += 1
-        print(f"{path}: {what}: elfnotes says {says}, readelf says {reads}")
+    sections = 0
+    notes = 0
+    tables = 0
+    addresses = 0
 
     def __str__(self) -> str:
         return (
@@ -88,22 +76,6 @@ class Tally:
             f" {self.tables} sections of {self.addresses} packed relocations compared,"
             f" {self.differences} differences"
         )
-
-
-def run(command: List[str]) -> Tuple[int, str]:
-    """Runs a command in the C locale; ends the script where it can't be run."""
-    try:
-        done = subprocess.run(
-            command,
-            stdin=subprocess.DEVNULL,
-            stdout=subprocess.PIPE,
-            stderr=subprocess.DEVNULL,
-            env=dict(os.environ, LC_ALL="C"),
-        )
-    except OSError as error:
-        print(f"cannot run {command[0]}: {error.strerror}", file=sys.stderr)
-        sys.exit(2)
-    return done.returncode, done.stdout.decode("utf-8", "surrogateescape")
 
 
 def read_own(output: str) -> Contents:
@@ -191,9 +163,11 @@ def compare_addresses(path: str, says: Contents, reads: Contents, tally: Tally) 
 
 def compare_file(path: str, elfnotes: str, tally: Tally) -> None:
     """Runs both programs on a file and compares what they print."""
+    if not read_elf(path):
+        return
     tally.files += 1
-    status, own = run([elfnotes, path])
-    _, other = run(["readelf", "-nrW", "--", path])
+    status, own, _ = run([elfnotes, path])
+    _, other, _ = run(["readelf", "-nrW", "--", path])
     if status != 0:
         tally.differ(path, "file", f"status {status}", "a file")
         return
@@ -207,31 +181,6 @@ def compare_file(path: str, elfnotes: str, tally: Tally) -> None:
     compare_addresses(path, says, reads, tally)
 
 
-def is_elf(path: str) -> bool:
-    """Whether the file begins with the ELF magic number."""
-    try:
-        with open(path, "rb") as file:
-            return file.read(len(MAGIC)) == MAGIC
-    except OSError:
-        return False
-
-
-def main() -> int:
-    """Compares each file, and tells whether there was a difference."""
-    parser = argparse.ArgumentParser(
-        description="Compare notes and packed relocations with what readelf says."
-    )
-    default = ROOT / "crates" / "elfnotes" / "out" / "elfnotes"
-    parser.add_argument("--elfnotes", default=str(default), metavar="PATH")
-    parser.add_argument("files", nargs="+", metavar="FILE")
-    arguments = parser.parse_args()
-    tally = Tally()
-    for path in arguments.files:
-        if is_elf(path):
-            compare_file(path, arguments.elfnotes, tally)
-    print(tally)
-    return 1 if tally.differences else 0
-
-
 if __name__ == "__main__":
-    sys.exit(main())
+    compared = Tally("elfnotes")
+    sys.exit(comparing.compare_all(__doc__, compared, lambda path, elfnotes: compare_file(path, elfnotes, compared)))

@@ -19,16 +19,12 @@ status is 0 if there is no difference, 1 if there is one, and 2 if the
 comparison couldn't be run.
 """
 
-import argparse
-import os
 import re
-import subprocess
 import sys
-from pathlib import Path
 from typing import Dict, Iterable, List, Match, NamedTuple, Optional, Tuple
 
-ROOT = Path(__file__).resolve().parent.parent
-MAGIC = b"\x7fELF"
+import comparing
+from comparing import Finished, read_elf, run
 
 Texts = Tuple[str, ...]
 NameTable = Dict[str, Texts]
@@ -356,14 +352,6 @@ READELF_UNKNOWN_VERSION = re.compile(r"(\d+) <unknown>$")
 READELF_COUNT = re.compile(r"(\d+)(?: \((\d+)\))?")
 
 
-class Finished(NamedTuple):
-    """What a program that ran to its end has left."""
-
-    status: int
-    output: str
-    errors: str
-
-
 class Section(NamedTuple):
     """A section's type and name, or the message that stands for the name."""
 
@@ -380,20 +368,12 @@ class Report(NamedTuple):
     segments: Dict[int, str]
 
 
-class Tally:
-    """Counts what was compared, and prints each difference as it is met."""
+class Tally(comparing.Tally):
+    """Counts what was compared."""
 
-    def __init__(self) -> None:
-        self.files = 0
-        self.sections = 0
-        self.segments = 0
-        self.expected = 0
-        self.differences = 0
-
-    def differ(self, path: str, field: str, says: str, reads: str) -> None:
-        """Counts a difference and prints its line."""
-        self.differences += 1
-        print(f"{path}: {field}: elfinfo says {says}, readelf says {reads}")
+    sections = 0
+    segments = 0
+    expected = 0
 
     def __str__(self) -> str:
         return (
@@ -401,24 +381,6 @@ class Tally:
             f" {self.segments} segments compared,"
             f" {self.expected} expected refusals, {self.differences} differences"
         )
-
-
-def run(command: List[str]) -> Finished:
-    """Runs a command in the C locale; ends the script where it can't be run."""
-    try:
-        done = subprocess.run(
-            command,
-            stdin=subprocess.DEVNULL,
-            stdout=subprocess.PIPE,
-            stderr=subprocess.PIPE,
-            env=dict(os.environ, LC_ALL="C"),
-        )
-    except OSError as error:
-        print(f"cannot run {command[0]}: {error.strerror}", file=sys.stderr)
-        sys.exit(2)
-    output = done.stdout.decode("utf-8", "surrogateescape")
-    errors = done.stderr.decode("utf-8", "surrogateescape").strip()
-    return Finished(done.returncode, output, errors)
 
 
 def add_field(header: Dict[str, str], label: str, value: str) -> None:
@@ -722,6 +684,8 @@ def compare_refused(
 
 def compare_file(path: str, elfinfo_path: str, tally: Tally) -> None:
     """Runs both programs on a file and compares what they print."""
+    if not read_elf(path):
+        return
     tally.files += 1
     elfinfo = run([elfinfo_path, path])
     readelf = run(["readelf", "-hSlW", "--", path])
@@ -739,44 +703,6 @@ def compare_file(path: str, elfinfo_path: str, tally: Tally) -> None:
     compare_segments(path, says, reads, readelf.errors, tally)
 
 
-def is_elf(path: str) -> bool:
-    """Whether the file begins with the ELF magic number."""
-    if os.path.isdir(path):
-        return False
-    try:
-        with open(path, "rb") as file:
-            return file.read(len(MAGIC)) == MAGIC
-    except OSError as error:
-        print(f"{path}: not compared: {error.strerror}", file=sys.stderr)
-        return False
-
-
-def parse_arguments() -> argparse.Namespace:
-    """The words of the command line."""
-    parser = argparse.ArgumentParser(
-        description="Compare the reports of elfinfo with what readelf says."
-    )
-    parser.add_argument(
-        "--elfinfo",
-        metavar="PATH",
-        default=str(ROOT / "crates" / "elfinfo" / "out" / "elfinfo"),
-        help="the built elfinfo (default: %(default)s)",
-    )
-    parser.add_argument("files", metavar="FILE", nargs="+", help="a file to compare")
-    return parser.parse_args()
-
-
-def main() -> int:
-    """Compares all files, and answers the exit status."""
-    arguments = parse_arguments()
-    # Names that aren't UTF-8 go out as they came in.
-    sys.stdout.reconfigure(encoding="utf-8", errors="surrogateescape")
-    tally = Tally()
-    for path in filter(is_elf, arguments.files):
-        compare_file(path, os.path.abspath(arguments.elfinfo), tally)
-    print(tally)
-    return 1 if tally.differences else 0
-
-
 if __name__ == "__main__":
-    sys.exit(main())
+    compared = Tally("elfinfo")
+    sys.exit(comparing.compare_all(__doc__, compared, lambda path, elfinfo: compare_file(path, elfinfo, compared)))

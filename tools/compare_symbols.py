@@ -17,17 +17,13 @@ last line holds the counts. The exit status is 0 if there is no difference, 1
 if there is one, and 2 if the comparison couldn't be run.
 """
 
-import argparse
-import os
 import re
-import subprocess
 import sys
 from collections import defaultdict
-from pathlib import Path
-from typing import Dict, List, NamedTuple, Set, Tuple
+from typing import Dict, NamedTuple, Set
 
-ROOT = Path(__file__).resolve().parent.parent
-MAGIC = b"\x7fELF"
+import comparing
+from comparing import read_elf, run
 
 OWN_LINE = re.compile(r"(\d+) (\d+|-) (.*)$")
 # The number, value, size, type, binding, visibility, section and name with its version.
@@ -43,42 +39,18 @@ class Listing(NamedTuple):
     exported: Dict[str, Set[int]]
 
 
-class Tally:
-    """Counts what was compared, and prints each difference as it is met."""
+class Tally(comparing.Tally):
+    """Counts what was compared."""
 
-    def __init__(self) -> None:
-        self.files = 0
-        self.exported = 0
-        self.others = 0
-        self.found = 0
-        self.differences = 0
-
-    def differ(self, path: str, what: str, says: object, reads: object) -> None:
-        """Counts a difference and prints its line."""
-        self.differences += 1
-        print(f"{path}: {what}: elfgnu says {says}, readelf says {reads}")
+    exported = 0
+    others = 0
+    found = 0
 
     def __str__(self) -> str:
         return (
             f"{self.files} files with a GNU hash table, {self.exported} exported names and"
             f" {self.others} others, of which {self.found} found, compared, {self.differences} differences"
         )
-
-
-def run(command: List[str]) -> Tuple[int, str]:
-    """Runs a command in the C locale; ends the script where it can't be run."""
-    try:
-        done = subprocess.run(
-            command,
-            stdin=subprocess.DEVNULL,
-            stdout=subprocess.PIPE,
-            stderr=subprocess.DEVNULL,
-            env=dict(os.environ, LC_ALL="C"),
-        )
-    except OSError as error:
-        print(f"cannot run {command[0]}: {error.strerror}", file=sys.stderr)
-        sys.exit(2)
-    return done.returncode, done.stdout.decode("utf-8", "surrogateescape")
 
 
 def read_readelf(output: str) -> Listing:
@@ -118,7 +90,9 @@ def compare_line(path: str, line: str, reads: Listing, tally: Tally) -> None:
 
 def compare_file(path: str, elfgnu: str, tally: Tally) -> None:
     """Runs both programs on a file and compares what they print."""
-    status, own = run([elfgnu, path])
+    if not read_elf(path):
+        return
+    status, own, _ = run([elfgnu, path])
     if status != 0:
         tally.differ(path, "file", f"status {status}", "a file")
         return
@@ -136,31 +110,6 @@ def compare_file(path: str, elfgnu: str, tally: Tally) -> None:
         tally.differ(path, "symbols", "nothing", sorted(missed))
 
 
-def is_elf(path: str) -> bool:
-    """Whether the file begins with the ELF magic number."""
-    try:
-        with open(path, "rb") as file:
-            return file.read(len(MAGIC)) == MAGIC
-    except OSError:
-        return False
-
-
-def main() -> int:
-    """Compares each file, and tells whether there was a difference."""
-    parser = argparse.ArgumentParser(
-        description="Compare what is found by GNU's hash tables with what readelf lists."
-    )
-    default = ROOT / "crates" / "elfgnu" / "out" / "elfgnu"
-    parser.add_argument("--elfgnu", default=str(default), metavar="PATH")
-    parser.add_argument("files", nargs="+", metavar="FILE")
-    arguments = parser.parse_args()
-    tally = Tally()
-    for path in arguments.files:
-        if is_elf(path):
-            compare_file(path, arguments.elfgnu, tally)
-    print(tally)
-    return 1 if tally.differences else 0
-
-
 if __name__ == "__main__":
-    sys.exit(main())
+    compared = Tally("elfgnu")
+    sys.exit(comparing.compare_all(__doc__, compared, lambda path, elfgnu: compare_file(path, elfgnu, compared)))
