@@ -1,5 +1,5 @@
 -- The first element of a list that passes a test, item by item.
-use Rattle.std.proofs.Common.{◌≡◌, ℕ, zero, suc, ◌+◌, ◌≤◌, ◌<◌, Bool, true, false, List, [], ◌∷◌, length, Option, Some, None, if◌then◌else◌, refl, ap, ◌∙◌, subst, arith}
+use Rattle.std.proofs.Common.{◌≡◌, ℕ, zero, suc, ◌<◌, Bool, true, false, List, [], ◌∷◌, length, Some, None, if◌then◌else◌, refl, ap, ◌∙◌, subst, arith}
 use Rattle.std.specs.List.{AllWithin, HoldsAt, find}
 
 pub find_none : {X : Type 0} (test : X → Bool) (items : List X) → items ≡ [] → find test items ≡ None

@@ -6,6 +6,7 @@ pub mod Runs
 pub mod Looks
 pub mod Scans
 pub mod GnuChecks
+pub mod GnuCounts
 pub mod RelrItems
 pub mod NoteItems
 pub mod Firsts
@@ -13,3 +14,4 @@ pub mod LoadedBytes
 pub mod EntryItems
 pub mod NeededItems
 pub mod LinkedNames
+pub mod ViewTables

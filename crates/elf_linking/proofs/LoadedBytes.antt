@@ -1,15 +1,14 @@
 -- The first loaded segment with the bytes at some addresses, in the list and by its index, and its bytes.
-use Rattle.std.proofs.Common.{◌≡◌, ◌≢◌, ◌↔◌, ℕ, zero, suc, ◌+◌, ◌-◌, ◌≤◌, ◌<◌, ◌&&◌, nat_le, Bool, true, false, List, length, slice_index_or, take, drop, Option, Some, None, IfSome, IfNone, Result, Ok, Err, refl, sym, ap, ◌∙◌, subst, arith}
+use Rattle.std.proofs.Common.{◌≡◌, ◌≢◌, ℕ, zero, suc, ◌+◌, ◌-◌, ◌≤◌, ◌&&◌, nat_le, true, false, List, length, slice_index_or, take, drop, Option, Some, None, IfSome, IfNone, Result, Ok, Err, refl, sym, ap, ◌∙◌, arith}
 use Rattle.std.proofs.lemmas.Bool.{and_from, and_parts, le-leb, leb-true}
 use Rattle.std.proofs.lemmas.List.{drop-drop, drop-take, length-drop, length-take-le, take-take}
-use Rattle.std.specs.List.{AllWithin, find}
 use Rattle.elf_base.specs.declared.error.ElfError.{ElfError}
 use Rattle.elf_records.specs.ProgramNumbers.{has_ph_type, is_ph_type}
 use Rattle.elf_records.specs.declared.program.Type as the_type
 use Rattle.elf_records.specs.declared.program.Type.TheVariants.{Load}
 use Rattle.elf_linking.specs.Loaded.{IsAt, IsFirstHolder, IsHolder, NoneHolds, holder_of, is_holder}
-use Rattle.elf_linking.proofs.Firsts.{IsFound, NonePasses, found_in, none_in}
-use Rattle.xmas_elf.specs.HeaderTable.{EachBelow, IsLongest}
+use Rattle.elf_linking.proofs.Firsts.{NonePasses, found_in, none_in}
+use Rattle.xmas_elf.specs.HeaderTable.{IsLongest}
 use Rattle.xmas_elf.specs.Counts.{program_count_of}
 use Rattle.xmas_elf.specs.ProgramHeader.{program_fields, program_of, segment_type}
 use Rattle.xmas_elf.specs.ProgramList.{program_list}
@@ -18,7 +17,7 @@ use Rattle.xmas_elf.specs.SegmentData.{IsSegmentData}
 use Rattle.xmas_elf.specs.declared.ElfFile.{ElfFile}
 use Rattle.xmas_elf.specs.declared.program.program_header.ProgramHeader.{ProgramHeader}
 use Rattle.xmas_elf.proofs.HeaderLists.{header_list-longest}
-use Rattle.xmas_elf.proofs.lemmas.HeaderList.{header_holds, headers_within}
+use Rattle.xmas_elf.proofs.lemmas.HeaderList.{headers_within}
 
 -- the test decides whether a segment has the bytes
 load_type : (kind : the_type.Type) → is_ph_type Load kind ≡ true → kind ≡ Load

@@ -1,5 +1,5 @@
 -- The names of needed libraries, entry by entry.
-use Rattle.std.proofs.Common.{◌≡◌, ◌≢◌, ℕ, List, [], ◌∷◌, Result, if◌then◌else◌, refl, ap, ◌∙◌}
+use Rattle.std.proofs.Common.{◌≡◌, ◌≢◌, ℕ, List, [], ◌∷◌, Result, refl, ap, ◌∙◌}
 use Rattle.std.proofs.lemmas.Bool.{eq-eqb, ne_eqb}
 use Rattle.elf_linking.specs.DynamicView.{needed_in, text_in_strings}
 use Rattle.elf_linking.specs.declared.error.LinkError.{LinkError}

@@ -1,7 +1,11 @@
--- The hash table that a dynamic segment names (gABI, "Dynamic Section": DT_HASH).
+-- The hash tables that a dynamic segment names (gABI, "Dynamic Section": DT_HASH; DT_GNU_HASH of GNU binutils
+-- and glibc).
 use Rattle.std.specs.Prelude.{ℕ, nat_lt, List, [], ◌∷◌, length, Option, None, Some, Result, Ok, Err}
+use Rattle.elf_base.specs.FileHeader.{file_class, file_order}
+use Rattle.elf_base.specs.HeaderNumbers.{class_of}
 use Rattle.elf_base.specs.declared.error.ElfError.TheVariants.{ShortData}
 use Rattle.elf_linking.specs.DynamicEntries.{number_with}
+use Rattle.elf_linking.specs.GnuLayout.{gnu_table_of}
 use Rattle.elf_linking.specs.Loaded.{bytes_from_of}
 use Rattle.elf_linking.specs.Refusal.{unless}
 use Rattle.elf_linking.specs.declared.error.LinkError.{LinkError}
@@ -32,3 +36,8 @@ checked check (Err error) = Err error
 abbrev pub hash_table_of : ElfFile → List (DynamicEntry ℕ) → Result (List ℕ) LinkError
 hash_table_of file entries =
     checked (λ bytes. unless ((nat_lt (length bytes) 12, Elf ShortData) ∷ []) tt) (bytes_with 4 file entries)
+
+-- those of GNU's hash table, which is at the entry GnuHash (DT_GNU_HASH)
+abbrev pub gnu_hash_table_of : ElfFile → List (DynamicEntry ℕ) → Result (List ℕ) LinkError
+gnu_hash_table_of file entries =
+    checked (gnu_table_of (class_of (file_class file.header)) (file_order file.header)) (bytes_with 0x6ffffef5 file entries)

@@ -5,6 +5,7 @@ pub mod GnuLayout
 pub mod GnuHash
 pub mod Run
 pub mod GoodGnu
+pub mod GnuCount
 pub mod Relr
 pub mod Notes
 pub mod Loaded
@@ -13,3 +14,4 @@ pub mod DynamicEntries
 pub mod DynamicView
 pub mod LinkedName
 pub mod DynamicTables
+pub mod LinkedSymbols

@@ -25,13 +25,13 @@ pub enum LinkError {
     /// `GnuHashTable::get_bucket` and `get_bloom`.
     BucketIndex,
     /// The index of a symbol is before the first of a GNU hash table. Answered by
-    /// `GnuHashTable::get_chain`, `lookup`, `lookup_counted` and `check`.
+    /// `GnuHashTable::get_chain`, `lookup`, `lookup_counted`, `check` and `symbol_count`.
     ChainIndex,
     /// The chain word of a symbol does not lie whole in the data. Answered by
-    /// `GnuHashTable::get_chain`, `lookup`, `lookup_counted` and `check`.
+    /// `GnuHashTable::get_chain`, `lookup`, `lookup_counted`, `check` and `symbol_count`.
     ChainData,
     /// The index of a symbol is not below the number of symbols, or does not fit in 32 bits. Answered
-    /// by `GnuHashTable::lookup`, `lookup_counted` and `check`.
+    /// by `GnuHashTable::lookup`, `lookup_counted`, `check` and `symbol_count`.
     SymbolIndex,
     /// A symbol is not where its name leads to. Answered by `GnuHashTable::check`.
     Missing,

@@ -7,6 +7,7 @@ ghost use Rattle.elf_linking.specs.GnuLayout.{IsGnuTable, bloom_count_in, bloom_
 ghost use Rattle.std.specs.Int.{bit_at};
 
 mod check;
+mod count;
 mod lookup;
 
 use crate::LinkError;

@@ -7,6 +7,7 @@ mod entry;
 mod linked_entry;
 mod loaded;
 mod needed;
+mod symbols;
 mod tables;
 
 pub use crate::view::dynamic::{DynamicView, strings};

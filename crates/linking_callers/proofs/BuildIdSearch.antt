@@ -1,5 +1,5 @@
 -- A search for a build id, item by item.
-use Rattle.std.proofs.Common.{◌≡◌, ℕ, true, false, List, [], ◌∷◌, Option, Some, None, Result, Ok, Err, refl, ap, ◌∙◌}
+use Rattle.std.proofs.Common.{◌≡◌, true, false, List, [], ◌∷◌, Some, None, Result, Ok, Err, refl, ap, ◌∙◌}
 use Rattle.elf_linking.specs.Notes.{NoteParts}
 use Rattle.elf_linking.specs.declared.error.LinkError.{LinkError}
 use Rattle.linking_callers.specs.BuildIds.{id_among, is_build_id}

@@ -1,1 +1,2 @@
 pub mod BuildIdSearch
+pub mod Classes

@@ -2,6 +2,7 @@
 
 mod callers;
 mod gnu_hash;
+mod linked;
 mod messages;
 mod notes;
 mod relr;

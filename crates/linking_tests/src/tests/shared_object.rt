@@ -33,15 +33,15 @@ use xmas_elf::ElfFile;
 use xmas_elf::sections::SectionData;
 use xmas_elf::symbol_table::Entry;
 
-// The exported names, in the order of the symbols from index 2 on; symbol 1, `outer`, is undefined.
-const NAMES: [&str; 7] = [
+/// The exported names, in the order of the symbols from index 2 on; symbol 1, `outer`, is undefined.
+pub const NAMES: [&str; 7] = [
     "third", "fifth", "fourth", "sixth", "first", "second", "seventh",
 ];
 
 // The values that `readelf --dyn-syms` shows of them, of class 32 and of class 64.
-const NARROW_VALUES: [u64; 7] = [0x2c8, 0x201, 0x238, 0x207, 0x1f0, 0x1f6, 0x212];
+pub const NARROW_VALUES: [u64; 7] = [0x2c8, 0x201, 0x238, 0x207, 0x1f0, 0x1f6, 0x212];
 
-const WIDE_VALUES: [u64; 7] = [0x3e0, 0x2ba, 0x2cb, 0x2c0, 0x2b0, 0x2b6, 0x2c6];
+pub const WIDE_VALUES: [u64; 7] = [0x3e0, 0x2ba, 0x2cb, 0x2c0, 0x2b0, 0x2b6, 0x2c6];
 
 /// Of class 32.
 pub const NARROW: &[u8; 1332] = b"\
@@ -79,8 +79,8 @@ pub const NARROW: &[u8; 1332] = b"\
     \x01\0\0\0\x03\0\0\0\xc8\x02\0\0\xc8\x02\0\0\x04\0\0\0\0\0\0\0\0\0\0\0\x04\0\0\0\0\0\0\0\x01\0\
     \0\0\x03\0\0\0\0\0\0\0\0\0\0\0\xcc\x02\0\0^\0\0\0\0\0\0\0\0\0\0\0\x01\0\0\0\0\0\0\0";
 
-// Of class 64.
-const WIDE: &[u8; 1928] = b"\
+/// Of class 64.
+pub const WIDE: &[u8; 1928] = b"\
     \x7fELF\x02\x01\x01\0\0\0\0\0\0\0\0\0\x03\0>\0\x01\0\0\0\0\0\0\0\0\0\0\0@\0\0\0\0\0\0\0H\x04\0\
     \0\0\0\0\0\0\0\0\0@\0\x38\0\x04\0@\0\x0d\0\x0c\0\x01\0\0\0\x05\0\0\0\0\0\0\0\0\0\0\0\0\0\0\0\0\
     \0\0\0\0\0\0\0\0\0\0\0\xd0\x02\0\0\0\0\0\0\xd0\x02\0\0\0\0\0\0\x10\0\0\0\0\0\0\0\x01\0\0\0\x06\

@@ -1,0 +1,142 @@
+-- How many symbols a GNU hash table is for, run by run.
+use Rattle.std.proofs.Common.{◌≡◌, ◌≢◌, ◌+◌, ◌<◌, ◌≤◌, ℕ, ◌⊎◌, inl, inr, Result, Ok, Err, refl, sym, ap, ◌∙◌, subst, arith, below_more}
+use Rattle.std.proofs.lemmas.Bool.{cases_lt, cases_order, le-ltb}
+use Rattle.std.specs.Prelude.{IfOk, if◌then◌else◌, nat_lt, Bool, true, false, length}
+use Rattle.elf_linking.specs.GnuCount.{CountStops, CountsFrom, GoesTo, IsAboveRuns, IsCount, IsLastRun, IsReached, counted, ended, no_run, refused, too_long}
+use Rattle.elf_linking.specs.GnuHash.{HasChain, bucket_word, chain_of, chain_place, chain_word, first_symbol_of, gnu_data}
+use Rattle.elf_linking.specs.Run.{EndsRun}
+use Rattle.elf_linking.specs.declared.error.LinkError.{LinkError}
+use Rattle.elf_linking.specs.declared.error.LinkError.TheVariants.{ChainData, ChainIndex}
+use Rattle.elf_linking.specs.declared.gnu_hash.GnuHashTable.{GnuHashTable}
+
+-- the greatest index at which the run of a bucket below n begins
+pub record LastRunBelow (table : GnuHashTable) (n from : ℕ) : Type 0 where
+  pub each : (k : ℕ) → k < n → bucket_word table k ≤ from
+  pub begins : from ≢ 0 → (k : ℕ) × (k < n) × (bucket_word table k ≡ from)
+
+-- where neither condition holds, nothing is refused
+unrefused : (a b : Bool) (word : ℕ) (error : LinkError) → a ≡ false → b ≡ false → (if a then Err ChainIndex else (if b then Err ChainData else Ok word)) ≡ Err error → ⊥
+unrefused false false word error e f g = cc
+unrefused true b word error e f g = cc
+unrefused false true word error e f g = cc
+
+-- a chain word that is there is not refused
+there_refused : (table : GnuHashTable) (i : ℕ) (error : LinkError) → HasChain table i → chain_of table i ≡ Err error → ⊥
+unfolding chain_of
+there_refused table i error there =
+    unrefused (nat_lt i (first_symbol_of table)) (nat_lt (length (gnu_data table)) (chain_place table i + 4)) (chain_word table i) error
+    (le-ltb i (first_symbol_of table) there.0) (le-ltb (length (gnu_data table)) (chain_place table i + 4) there.1)
+
+module _ (table : GnuHashTable) where
+  -- the greatest so far, and with one more bucket
+  pub last_first : LastRunBelow table 0 0
+  last_first = record {
+    each = λ k below. absurd (omega arith);
+    begins = λ some. absurd (some refl);
+  }
+
+  pub last_same : (n from word : ℕ) → LastRunBelow table n from → word ≡ bucket_word table n → word ≤ from → LastRunBelow table (n + 1) from
+  last_same n from word s is below = record {
+    each = λ k under. below_more (λ k. bucket_word table k ≤ from) n (λ k inside. s.each k inside) (omega (arith, is, below)) k under;
+    begins = λ some. (let (k, inside, at) = s.begins some in (k, omega (arith, inside), at));
+  }
+
+  pub last_new : (n from word : ℕ) → LastRunBelow table n from → word ≡ bucket_word table n → from < word → LastRunBelow table (n + 1) word
+  last_new n from word s is above = record {
+    each = λ k under. below_more (λ k. bucket_word table k ≤ word) n (λ k inside. (let h : bucket_word table k ≤ from = s.each k inside in omega (arith, h, above))) (omega (arith, is)) k under;
+    begins = λ some. (n, omega arith, sym is);
+  }
+
+  -- at its begin a run has passed no index, and it passes one more
+  pub goes_first : (from : ℕ) → GoesTo table from from
+  goes_first from = record {
+    ordered = omega arith;
+    words = λ i above below. absurd (omega arith);
+    goes_on = λ i above below. absurd (omega arith);
+  }
+
+  pub goes_more : (from i : ℕ) → GoesTo table from i → HasChain table i → (EndsRun table i → ⊥) → GoesTo table from (i + 1)
+  goes_more from i goes there on =
+      let There : ℕ → Type 0 = λ k. from ≤ k → HasChain table k in
+      let On : ℕ → Type 0 = λ k. from ≤ k → EndsRun table k → ⊥ in
+      let ordered : from ≤ i = goes.ordered in
+      record {
+        ordered = omega arith;
+        words = λ k above below. below_more There i (λ j under over. goes.words j over under) (λ _. there) k below above;
+        goes_on = λ k above below. below_more On i (λ j under over. goes.goes_on j over under) (λ _. on) k below above;
+      }
+
+  -- a count doesn't go on from where it stops
+  stop_passed : (i last : ℕ) (answer : Result ℕ LinkError) → CountStops table i answer → i < last → HasChain table i → (EndsRun table i → ⊥) → (other : Result ℕ LinkError) → CountStops table last other → ⊥
+  stop_passed i last _ (ended small word ends) before there on other stop = on ends
+  stop_passed i last _ (refused error small is) before there on other stop = there_refused table i error there is
+  stop_passed i last _ (too_long large) before there on _ (ended small word ends) = omega arith
+  stop_passed i last _ (too_long large) before there on _ (refused error small is) = omega arith
+  stop_passed i last _ (too_long large) before there on _ (too_long large') = omega arith
+
+  -- it has one answer there
+  stops_once : (i : ℕ) (one other : Result ℕ LinkError) → CountStops table i one → CountStops table i other → one ≡ other
+  stops_once i _ _ (ended small word ends) (ended small' word' ends') = refl
+  stops_once i _ _ (ended small word ends) (refused error small' is) = absurd (there_refused table i error word is)
+  stops_once i _ _ (ended small word ends) (too_long large) = absurd (omega arith)
+  stops_once i _ _ (refused error small is) (ended small' word ends) = absurd (there_refused table i error word is)
+  stops_once i _ _ (refused error small is) (refused error' small' is') = ap (λ x. Err x) (let same : Err error ≡ Err error' = sym is ∙ is' in cc)
+  stops_once i _ _ (refused error small is) (too_long large) = absurd (omega arith)
+  stops_once i _ _ (too_long large) (ended small word ends) = absurd (omega arith)
+  stops_once i _ _ (too_long large) (refused error small is) = absurd (omega arith)
+  stops_once i _ _ (too_long large) (too_long large') = refl
+
+  -- and so has the count from an index on
+  counts_once : (from : ℕ) (one other : Result ℕ LinkError) → CountsFrom table from one → CountsFrom table from other → one ≡ other
+  counts_once from one other c d = go (cases_order c.last d.last)
+    where
+      go : (c.last ≡ d.last) ⊎ ((c.last < d.last) ⊎ (d.last < c.last)) → one ≡ other
+      go (inl same) = stops_once d.last one other (subst (λ i. CountStops table i one) same c.stop) d.stop
+      go (inr (inl before)) = absurd (stop_passed c.last d.last one c.stop before (d.goes.words c.last c.goes.ordered before) (d.goes.goes_on c.last c.goes.ordered before) other d.stop)
+      go (inr (inr behind)) = absurd (stop_passed d.last c.last other d.stop behind (c.goes.words d.last d.goes.ordered behind) (c.goes.goes_on d.last d.goes.ordered behind) one c.stop)
+
+  -- the greatest begin is one number
+  begins_below : (one other : ℕ) → IsLastRun table one → IsLastRun table other → one ≤ other
+  begins_below one other c d = go (cases_lt other one)
+    where
+      go : (other < one) ⊎ (one ≤ other) → one ≤ other
+      go (inr fine) = fine
+      go (inl above) =
+          let (k, below, is) = c.begins (λ none. omega (arith, above, none)) in
+          let h : bucket_word table k ≤ other = d.each k below in omega (arith, h, is)
+
+  last_run_once : (one other : ℕ) → IsLastRun table one → IsLastRun table other → one ≡ other
+  last_run_once one other c d =
+      let h : one ≤ other = begins_below one other c d in
+      let h' : other ≤ one = begins_below other one d c in omega arith
+
+  -- the whole count has one answer
+  pub count_once : (one other : Result ℕ LinkError) → IsCount table one → IsCount table other → one ≡ other
+  count_once _ _ (no_run last) (no_run last') = refl
+  count_once _ _ (no_run last) (counted from answer above last' counts) = absurd (let same : 0 ≡ from = last_run_once 0 from last last' in omega arith)
+  count_once _ _ (counted from answer above last counts) (no_run last') = absurd (let same : from ≡ 0 = last_run_once from 0 last last' in omega arith)
+  count_once _ _ (counted from answer above last counts) (counted from' answer' above' last' counts') =
+      counts_once from' answer answer' (subst (λ n. CountsFrom table n answer) (last_run_once from from' last last') counts) counts'
+
+  -- no run reaches what is behind the end of the last
+  none_begins : (i : ℕ) → IsLastRun table 0 → IsReached table i → ⊥
+  none_begins i last reached =
+      let h : bucket_word table reached.bucket ≤ 0 = last.each reached.bucket reached.below in
+      reached.begins (omega (arith, h))
+
+  behind_end : (from count i : ℕ) → IsLastRun table from → CountsFrom table from (Ok count) → IsReached table i → i < count
+  behind_end from count i last counts reached = go (Ok count) refl counts.stop (cases_lt counts.last i)
+    where
+      go : (answer : Result ℕ LinkError) → answer ≡ Ok count → CountStops table counts.last answer → (counts.last < i) ⊎ (i ≤ counts.last) → i < count
+      go _ is (ended small word ends) (inr fine) = let same : counts.last + 1 ≡ count = cc in omega (arith, same, fine)
+      go _ is (ended small word ends) (inl past) =
+          let h : bucket_word table reached.bucket ≤ from = last.each reached.bucket reached.below in
+          let h' : from ≤ counts.last = counts.goes.ordered in
+          absurd (reached.goes.goes_on counts.last (omega (arith, h, h')) past ends)
+      go _ is (refused error small lacks) side = absurd (cc)
+      go _ is (too_long large) side = absurd (cc)
+
+  pub count_above : (answer : Result ℕ LinkError) → IsCount table answer → IfOk answer (IsAboveRuns table)
+  count_above _ (no_run last) = λ i reached. absurd (none_begins i last reached)
+  count_above (Ok count) (counted from _ above last counts) = λ i reached. behind_end from count i last counts reached
+  count_above (Err error) (counted from _ above last counts) = tt

@@ -1,0 +1,49 @@
+-- The tables that a dynamic segment names, by what reads them.
+use Rattle.std.proofs.Common.{◌≡◌, ℕ, ◌+◌, ◌*◌, ◌%◌, ◌<◌, arith, nat_lt, not, Bool, true, false, Bor, List, [], ◌∷◌, length, Result, Ok, Err, IfOk, refl, sym, ap, ◌∙◌, subst}
+use Rattle.std.proofs.lemmas.Bool.{le-ltb}
+use Rattle.std.proofs.lemmas.Nat.{mod-mul-add}
+use Rattle.std.specs.Int.{is_power_of_two}
+use Rattle.elf_base.specs.declared.bytes.Order.{Order}
+use Rattle.elf_base.specs.declared.header.numbers.Class.{Class}
+use Rattle.elf_base.specs.Number.{number}
+use Rattle.elf_linking.specs.DynamicTables.{checked, passed}
+use Rattle.elf_linking.specs.GnuLayout.{IsGnuTable, bloom_count_in, chains_in, gnu_table_of, is_known}
+use Rattle.elf_linking.specs.LinkedSymbols.{chain_count_in}
+use Rattle.elf_linking.specs.Loaded.{IsAt}
+use Rattle.elf_linking.specs.Refusal.{unless}
+use Rattle.elf_linking.specs.declared.error.LinkError.{LinkError}
+use Rattle.elf_linking.specs.declared.error.LinkError.TheVariants.{BloomCount, ShortTable, UnknownClass}
+use Rattle.xmas_elf.specs.declared.ElfFile.{ElfFile}
+
+-- where no condition holds, nothing is refused
+none_holds : (a b c d : Bool) (done : Unit {0}) → a ≡ true → b ≡ false → c ≡ true → d ≡ false → unless ((not a, UnknownClass) ∷ (b, ShortTable) ∷ (not c, BloomCount) ∷ (d, ShortTable) ∷ []) done ≡ Ok done
+none_holds true false true false done e f g h = refl
+none_holds true false true true done e f g h = absurd (cc)
+none_holds true false false d done e f g h = absurd (cc)
+none_holds true true c d done e f g h = absurd (cc)
+none_holds false b c d done e f g h = absurd (cc)
+
+-- a table of GNU's is accepted
+pub gnu_accepted : (class : Class) (order : Order) (bytes : List ℕ) → IsGnuTable class order bytes → gnu_table_of class order bytes ≡ Ok tt
+unfolding gnu_table_of
+gnu_accepted class order bytes is =
+    none_holds (is_known class) (nat_lt (length bytes) 16) (is_power_of_two (bloom_count_in order bytes)) (nat_lt (length bytes) (chains_in class order bytes)) tt
+    is.known (le-ltb (length bytes) 16 is.long) is.bloom (le-ltb (length bytes) (chains_in class order bytes) is.whole)
+
+-- and so are the bytes that were found to be one
+pub gnu_read : (found : Result (List ℕ) LinkError) (class known : Class) (order kept : Order) (bytes held : List ℕ) → found ≡ Ok bytes → class ≡ known → order ≡ kept → IsGnuTable class order bytes → held ≡ bytes → checked (gnu_table_of known kept) found ≡ Ok held
+gnu_read found class known order kept bytes held e c o is same =
+    let here : checked (gnu_table_of class order) found ≡ Ok held = ap (checked (gnu_table_of class order)) e ∙ ap (passed bytes) (gnu_accepted class order bytes is) ∙ ap (λ b. Ok b) (sym same) in
+    subst (λ k. checked (gnu_table_of k kept) found ≡ Ok held) c (subst (λ w. checked (gnu_table_of class w) found ≡ Ok held) o here)
+
+-- the chain count of the table that was found
+pub count_read : (found : Result (List ℕ) LinkError) (kept order : Order) (bytes : List ℕ) (n : ℕ) → found ≡ Ok bytes → kept ≡ order → n ≡ number kept 4 4 bytes → Ok n ≡ chain_count_in order found
+count_read found kept order bytes n e same is = ap (λ m. Ok m) (is ∙ ap (λ w. number w 4 4 bytes) same) ∙ sym (ap (chain_count_in order) e)
+
+-- so many bytes are a whole number of symbols
+pub whole_at : (file : ElfFile) (address count size : ℕ) → 0 < size → (found : Result (Bor (List ℕ)) LinkError) → IfOk found (λ part. IsAt file address (count * size) part.now) → IfOk found (λ part. length part.now % size ≡ 0)
+whole_at file address count size above (Ok part) is =
+    let bytes : ℕ = count * size in
+    let none : bytes ≡ bytes + 0 = omega arith in
+    ap (λ n. n % size) (is.count_is ∙ none) ∙ mod-mul-add count size 0 above
+whole_at file address count size above (Err error) is = tt

@@ -1,0 +1,225 @@
+//! Names by the dynamic segment alone, in files without section headers: how many symbols there are, what
+//! they are called, and their values, as `readelf -dW` and `readelf --dyn-syms -W` show them.
+
+use crate::tests::shared_object::{NAMES, NARROW, NARROW_VALUES, WIDE, WIDE_VALUES};
+use elf_base::ElfError;
+use elf_base::bytes::{Order, Record, Table};
+use elf_base::header::Class;
+use elf_linking::LinkError;
+use elf_linking::gnu_hash::GnuHashTable;
+use elf_linking::view::{DynamicView, LinkedEntry32, LinkedEntry64, bytes_at, bytes_from};
+use linking_callers::callers::linked::value_by_name;
+use std::process::Abort;
+use std::test::Fail;
+use worked_files::places::{WORD, put, set};
+use xmas_elf::ElfFile;
+use xmas_elf::symbol_table::Entry;
+
+const LITTLE: Order = Order::Little;
+
+// A shared object with a hash table of the ELF standard. gcc 12.2 and GNU ld 2.40 made it from
+//
+//     extern int outer(int);
+//     int ab(int x) { return outer(x) + 1; }
+//     const char cd[3] = "cd";
+//     __attribute__((weak)) int ef(void) { return 5; }
+//
+// by `gcc -Os -fPIC -fcf-protection=none -fno-asynchronous-unwind-tables -fno-ident -shared -nostdlib -s
+// -Wl,--hash-style=sysv,--build-id=none,-z,norelro,-z,noseparate-code
+// -Wl,-z,max-page-size=16,-z,common-page-size=16 -Wl,-soname=libsmall.so,-rpath=/opt/lib` beside a library
+// that calls itself libneed.so and has `outer`. What lies behind the segments is cut off, and e_shoff,
+// e_shnum and e_shstrndx are 0.
+const SMALL: &[u8; 912] = b"\
+    \x7fELF\x02\x01\x01\0\0\0\0\0\0\0\0\0\x03\0>\0\x01\0\0\0\0\0\0\0\0\0\0\0@\0\0\0\0\0\0\0\0\0\0\
+    \0\0\0\0\0\0\0\0\0@\0\x38\0\x04\0@\0\0\0\0\0\x01\0\0\0\x05\0\0\0\0\0\0\0\0\0\0\0\0\0\0\0\0\0\0\
+    \0\0\0\0\0\0\0\0\0H\x02\0\0\0\0\0\0H\x02\0\0\0\0\0\0\x10\0\0\0\0\0\0\0\x01\0\0\0\x06\0\0\0P\
+    \x02\0\0\0\0\0\0P\x02\0\0\0\0\0\0P\x02\0\0\0\0\0\0@\x01\0\0\0\0\0\0@\x01\0\0\0\0\0\0\x10\0\0\0\
+    \0\0\0\0\x02\0\0\0\x06\0\0\0P\x02\0\0\0\0\0\0P\x02\0\0\0\0\0\0P\x02\0\0\0\0\0\0\x20\x01\0\0\0\
+    \0\0\0\x20\x01\0\0\0\0\0\0\x08\0\0\0\0\0\0\0Q\xe5td\x06\0\0\0\0\0\0\0\0\0\0\0\0\0\0\0\0\0\0\0\
+    \0\0\0\0\0\0\0\0\0\0\0\0\0\0\0\0\0\0\0\0\0\0\0\0\x10\0\0\0\0\0\0\0\x03\0\0\0\x05\0\0\0\x01\0\0\
+    \0\x04\0\0\0\x02\0\0\0\0\0\0\0\0\0\0\0\0\0\0\0\0\0\0\0\x03\0\0\0\0\0\0\0\0\0\0\0\0\0\0\0\0\0\0\
+    \0\0\0\0\0\0\0\0\0\x01\0\0\0\x12\0\x06\0\x30\x02\0\0\0\0\0\0\x0a\0\0\0\0\0\0\0\x0a\0\0\0\"\0\
+    \x06\0:\x02\0\0\0\0\0\0\x06\0\0\0\0\0\0\0\x04\0\0\0\x12\0\0\0\0\0\0\0\0\0\0\0\0\0\0\0\0\0\0\0\
+    \x0d\0\0\0\x11\0\x07\0@\x02\0\0\0\0\0\0\x03\0\0\0\0\0\0\0\0ab\0outer\0ef\0cd\0libneed.so\0libs\
+    mall.so\0/opt/lib\0\x88\x03\0\0\0\0\0\0\x07\0\0\0\x03\0\0\0\0\0\0\0\0\0\0\0\0\0\0\0\0\0\0\0\
+    \xff\x35b\x01\0\0\xff%d\x01\0\0\x0f\x1f@\0\xff%b\x01\0\0h\0\0\0\0\xe9\xe0\xff\xff\xffP\xe8\xea\
+    \xff\xff\xffZ\xff\xc0\xc3\xb8\x05\0\0\0\xc3cd\0\0\0\0\0\0\0\0\0\0\0\0\0\0\x01\0\0\0\0\0\0\0\
+    \x10\0\0\0\0\0\0\0\x0e\0\0\0\0\0\0\0\x1b\0\0\0\0\0\0\0\x1d\0\0\0\0\0\0\0'\0\0\0\0\0\0\0\x04\0\
+    \0\0\0\0\0\0\x20\x01\0\0\0\0\0\0\x05\0\0\0\0\0\0\0\xc0\x01\0\0\0\0\0\0\x06\0\0\0\0\0\0\0H\x01\
+    \0\0\0\0\0\0\x0a\0\0\0\0\0\0\0\x30\0\0\0\0\0\0\0\x0b\0\0\0\0\0\0\0\x18\0\0\0\0\0\0\0\x03\0\0\0\
+    \0\0\0\0p\x03\0\0\0\0\0\0\x02\0\0\0\0\0\0\0\x18\0\0\0\0\0\0\0\x14\0\0\0\0\0\0\0\x07\0\0\0\0\0\
+    \0\0\x17\0\0\0\0\0\0\0\xf0\x01\0\0\0\0\0\0\0\0\0\0\0\0\0\0\0\0\0\0\0\0\0\0\0\0\0\0\0\0\0\0\0\0\
+    \0\0\0\0\0\0\0\0\0\0\0\0\0\0\0\0\0\0\0\0\0\0\0\0\0\0\0\0\0\0\0\0\0\0\0\0\0\0\0\0\0\0\0\0\0\0\0\
+    \0\0\0\0\0\0\0\0\0\0\0\0\0\0\0\0\0\0\0\0\0\0\0P\x02\0\0\0\0\0\0\0\0\0\0\0\0\0\0\0\0\0\0\0\0\0\
+    \0&\x02\0\0\0\0\0\0";
+
+// The same files without section headers: e_shoff, and e_shnum with e_shstrndx, are 0.
+fn narrow_stripped() -> [u8; 1332] {
+    let mut bytes = *NARROW;
+    put(&mut bytes, 32, &[0; 4]);
+    put(&mut bytes, 48, &[0; 4]);
+    bytes
+}
+
+fn wide_stripped() -> [u8; 1928] {
+    let mut bytes = *WIDE;
+    put(&mut bytes, 40, &[0; 8]);
+    put(&mut bytes, 60, &[0; 4]);
+    bytes
+}
+
+// Wants these names and values of symbols, from index 2 on.
+fn check_symbols<E: Entry + Record>(
+    rt: &impl Abort,
+    symbols: &Table<'_, E>,
+    file: &ElfFile<'_>,
+    values: [u64; 7],
+) {
+    assert_eq!(rt; symbols.len(), 9);
+    for (index, (name, value)) in NAMES.iter().zip(values).enumerate() {
+        let symbol = symbols.get(index.wrapping_add(2));
+        assert_eq!(rt; symbol.map(|symbol| symbol.value()), Some(value), "{name}");
+        let found = symbol.map(|symbol| symbol.get_name(file));
+        assert_eq!(rt; found, Some(Ok(*name)));
+        let strings = E::string_table(file);
+        let found = symbol.map(|symbol| symbol.name_in(strings, file));
+        assert_eq!(rt; found, Some(Ok(*name)));
+    }
+}
+
+#[test]
+fn reads_symbols_without_section_headers(rt: HostRuntime) -> Result<(), Fail> {
+    let bytes = narrow_stripped();
+    let file = ElfFile::new(&bytes)?;
+    assert_eq!(rt; file.section_count(), 0);
+    let view = DynamicView::read(&file)?;
+    assert_eq!(rt; view.symbol_count(&file), Ok(9));
+    let symbols: Table<'_, LinkedEntry32> = view.symbols_32(&file)?;
+    check_symbols(&rt, &symbols, &file, NARROW_VALUES);
+    let table = view.gnu_hash_table(&file)?;
+    assert_eq!(rt; table.first_symbol(), 2);
+    assert_eq!(rt; table.check(&symbols, &file), Ok(()));
+    assert!(rt; view.hash_table(&file).is_err());
+    let bytes = wide_stripped();
+    let file = ElfFile::new(&bytes)?;
+    let view = DynamicView::read(&file)?;
+    let symbols: Table<'_, LinkedEntry64> = view.symbols_64(&file)?;
+    check_symbols(&rt, &symbols, &file, WIDE_VALUES);
+    assert!(rt; view.soname().is_none());
+    assert!(rt; view.needed().next().is_none());
+    Ok(())
+}
+
+#[test]
+fn reads_a_table_of_the_standard(rt: HostRuntime) -> Result<(), Fail> {
+    let file = ElfFile::new(SMALL)?;
+    let view = DynamicView::read(&file)?;
+    let mut entries: u32 = 0;
+    for _entry in view.entries() {
+        entries = entries.wrapping_add(1);
+    }
+    assert_eq!(rt; entries, 12);
+    assert_eq!(rt; view.entry(10), Some(48));
+    assert_eq!(rt; view.soname(), Some(Ok("libsmall.so")));
+    assert_eq!(rt; view.run_path(), Some(Ok("/opt/lib")));
+    assert_eq!(rt; view.r_path(), None);
+    let mut needed = view.needed();
+    assert_eq!(rt; needed.next(), Some(Ok("libneed.so")));
+    assert!(rt; needed.next().is_none());
+    assert_eq!(rt; view.symbol_count(&file), Ok(5));
+    let symbols = view.symbols_64(&file)?;
+    let table = view.hash_table(&file)?;
+    assert_eq!(rt; table.chain_count(), 5);
+    assert_eq!(rt; table.check(&symbols, &file), Ok(()));
+    assert_eq!(rt; view.gnu_hash_table(&file).err(), Some(LinkError::NoEntry));
+    assert_eq!(rt; bytes_at(&file, 0x1c1, 2), Ok(b"ab".as_slice()));
+    assert_eq!(rt; bytes_from(&file, 0x245).map(|rest| rest.len()), Ok(3));
+    assert_eq!(rt; bytes_from(&file, 0x248), Err(LinkError::Address));
+    Ok(())
+}
+
+#[test]
+fn finds_values_by_names(rt: HostRuntime) {
+    let narrow = narrow_stripped();
+    let wide = wide_stripped();
+    let inputs: [(&[u8], [u64; 7]); 4] = [
+        (NARROW, NARROW_VALUES),
+        (&narrow, NARROW_VALUES),
+        (WIDE, WIDE_VALUES),
+        (&wide, WIDE_VALUES),
+    ];
+    for (input, values) in inputs {
+        for (name, value) in NAMES.iter().zip(values) {
+            assert_eq!(rt; value_by_name(input, name), Ok(Some(value)), "{name}");
+        }
+        for name in ["outer", "inner", "", "firs"] {
+            assert_eq!(rt; value_by_name(input, name), Ok(None), "{name}");
+        }
+    }
+    let rows = [
+        ("ab", Some(0x230)),
+        ("ef", Some(0x23a)),
+        ("cd", Some(0x240)),
+        ("outer", None),
+        ("a", None),
+    ];
+    for (name, value) in rows {
+        assert_eq!(rt; value_by_name(SMALL, name), Ok(value), "{name}");
+    }
+}
+
+// Each refusal: the place of a byte in the file of class 64 with a table of the standard, what is put
+// there, and what is answered then.
+#[test]
+fn tells_why_no_value_is_found(rt: HostRuntime) {
+    let rows = [
+        (0, 0, LinkError::Elf(ElfError::NoMagic)),
+        // p_type of the dynamic segment, then of the first that is loaded
+        (64 + 112, 4, LinkError::NoDynamic),
+        (64, 4, LinkError::Address),
+        // d_tag of the entries Hash and SymTab
+        (0x250 + 48, 3, LinkError::NoEntry),
+        (0x250 + 80, 3, LinkError::NoEntry),
+        // nbucket and nchain of the hash table
+        (0x120, 0xff, LinkError::Elf(ElfError::HashData)),
+        (0x124, 0xff, LinkError::Address),
+        // the first bucket leads to no symbol
+        (0x128, 5, LinkError::Elf(ElfError::ChainIndex)),
+    ];
+    for (place, byte, error) in rows {
+        let mut bytes = *SMALL;
+        put(&mut bytes, place, &[byte]);
+        assert_eq!(rt; value_by_name(&bytes, "ab"), Err(error), "{place}");
+    }
+}
+
+// The words of a table of class 32 with one Bloom word: its buckets, its first symbol, and all words
+// behind the Bloom word, with the count that they give.
+#[test]
+fn counts_symbols_by_runs(rt: HostRuntime) -> Result<(), Fail> {
+    let rows: [(u64, u64, [u64; 5], Result<u64, LinkError>); 9] = [
+        (0, 7, [9; 5], Ok(7)),
+        (2, 7, [0, 0, 9, 9, 9], Ok(7)),
+        (1, 7, [7, 9, 9, 9, 9], Ok(8)),
+        (1, 7, [7, 8, 8, 9, 9], Ok(10)),
+        (2, 7, [9, 7, 9, 8, 9], Ok(10)),
+        (2, 7, [9, 7, 8, 8, 8], Err(LinkError::ChainData)),
+        (2, 7, [10, 7, 9, 9, 9], Err(LinkError::ChainData)),
+        (2, 7, [6, 0, 9, 9, 9], Err(LinkError::ChainIndex)),
+        (2, 7, [6, 7, 9, 9, 9], Ok(8)),
+    ];
+    for (number, (buckets, first, words, count)) in rows.iter().enumerate() {
+        let mut bytes = [0; 40];
+        set(&mut bytes, 0, WORD, *buckets, LITTLE);
+        set(&mut bytes, 4, WORD, *first, LITTLE);
+        set(&mut bytes, 8, WORD, 1, LITTLE);
+        let mut place: usize = 20;
+        for word in words {
+            set(&mut bytes, place, WORD, *word, LITTLE);
+            place = place.wrapping_add(4);
+        }
+        let table = GnuHashTable::read(&bytes, Class::ThirtyTwo, LITTLE)?;
+        assert_eq!(rt; table.symbol_count(), *count, "{number}");
+    }
+    Ok(())
+}
