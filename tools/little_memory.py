@@ -1,13 +1,14 @@
 #!/usr/bin/env python3
-"""Has each request of the built elfinfo for memory refused in turn, and each read and each write failed.
+"""Has each request of the built elfinfo and elfsym for memory refused in turn, and each read and write failed.
 
-Over four files and each build of the program, until a run makes no more such calls. With memory refused it
+Over some files and each build of a program, until a run makes no more such calls. With memory refused it
 says that it cannot read its arguments, then that it cannot read the file, then that it cannot write; with a
-read failed that it cannot read the file; each with status 1 and without a report. With a write failed it
-ends with 1, and what was written before is the front of the report. The last run is as if nothing failed.
+read failed that it cannot read the file; each with status 1 and without output. With a write failed it
+ends with 1, and what was written before is the front of the output. The last run is as if nothing failed.
 A library made by a C compiler stands before the C library's calls. Run it at the top of the repository, once
-the program is built: tools/little_memory.py [PROGRAM..]
+the programs are built: tools/little_memory.py [PROGRAM..]
 """
+import dataclasses
 import os
 import pathlib
 import shutil
@@ -16,12 +17,37 @@ import sys
 import tempfile
 
 TOP = pathlib.Path(__file__).resolve().parent.parent
-CRATE = TOP / "crates" / "elfinfo"
-SAMPLE = TOP / "crates" / "elfanswers" / "data"
-REPORT = (CRATE / "stdout").read_bytes()
+CRATES = TOP / "crates"
+SAMPLE = CRATES / "elfanswers" / "data"
+STRTAB = (CRATES / "elfinfo" / "data" / "strtab.elf").read_bytes()
+LINKED = (CRATES / "elfsym" / "data" / "stripped.so").read_bytes()
 
-# The program as LLVM builds it, and as Rattle's own compiler does.
-NAMES = ("elfinfo", "elfinfo.by-rattle")
+
+@dataclasses.dataclass(frozen=True)
+class Program:
+    """A program: its words behind the path of the file, the files, and the output that is wanted of the first."""
+
+    name: str
+    words: list
+    files: dict
+    first: bytes
+
+    def texts(self) -> list:
+        """What it says where it can't read its arguments, can't read the file, and can't write."""
+        ends = ("the arguments", "a.elf")
+        return [f"{self.name}: cannot read {it}\n".encode() for it in ends] + [f"{self.name}: cannot write\n".encode()]
+
+
+FILES = {"a string table": STRTAB, "links": (SAMPLE / "notes-64.elf").read_bytes(),
+    "a hash table": (SAMPLE / "dynamic-64.elf").read_bytes(), "three bytes": STRTAB[:3]}
+PROGRAMS = [
+    Program("elfinfo", [], FILES, (CRATES / "elfinfo" / "stdout").read_bytes()),
+    Program("elfsym", (CRATES / "elfsym" / "args").read_text().split()[1:], {"a hash table": LINKED, "three bytes": LINKED[:3]},
+        (CRATES / "elfsym" / "stdout").read_bytes()),
+]
+
+# A program as LLVM builds it, and as Rattle's own compiler does.
+BUILDS = ("", ".by-rattle")
 
 # More calls of a kind than the program makes.
 MOST = 60
@@ -56,9 +82,6 @@ ssize_t write(int file, const void *from, size_t size) {
 }
 """
 
-ARGUMENTS, READ, WRITE = b"elfinfo: cannot read the arguments\n", b"elfinfo: cannot read a.elf\n", b"elfinfo: cannot write\n"
-
-
 def library(room):
     """The path of the library whose calls fail."""
     compiler = next((it for it in ("cc", "gcc", "clang") if shutil.which(it)), None)
@@ -69,63 +92,65 @@ def library(room):
     return f"{room}/failing.so"
 
 
-def run(program, room, **failing):
+def run(program, words, room, **failing):
     """How the run ends whose call of this kind and number fails: status, output and error text."""
-    words = {name: str(number) for name, number in failing.items()}
-    ran = subprocess.run([program, "a.elf"], cwd=room, capture_output=True, timeout=60, env={"LD_PRELOAD": f"{room}/failing.so", **words})
+    failed = {name: str(number) for name, number in failing.items()}
+    ran = subprocess.run([program, "a.elf", *words], cwd=room, capture_output=True, timeout=60, env={"LD_PRELOAD": f"{room}/failing.so", **failed})
     return ran.returncode, ran.stdout, ran.stderr
 
 
-def is_well(kind, end, whole):
+def is_well(kind, end, whole, texts):
     """Whether a run with such a call failed may end so, where the whole one ends with `whole`."""
     status, output, said = end
+    _, read, write = texts
     if kind == "FAIL_MEMORY":
-        return status == 1 and output == b"" and said in (ARGUMENTS, READ, WRITE)
+        return status == 1 and output == b"" and said in texts
     if kind == "FAIL_READ":
-        return (status, output, said) == (1, b"", READ)
+        return (status, output, said) == (1, b"", read)
     if whole[0] == 0:
-        return status == 1 and said == WRITE and whole[1].startswith(output) and output != whole[1]
+        return status == 1 and said == write and whole[1].startswith(output) and output != whole[1]
     # What can't be said on standard error is passed over.
     return (status, output) == (1, b"") and whole[2].startswith(said) and said != whole[2]
 
 
-def unlike(program, room, name) -> int:
+def unlike(built, program, room, name) -> int:
     """Prints how many calls were failed, and returns how many runs didn't end as they must."""
-    whole, count = run(program, room), 0
+    texts, words = program.texts(), program.words
+    whole, count = run(built, words, room), 0
     for kind in ("FAIL_MEMORY", "FAIL_READ", "FAIL_WRITE"):
         ends = []
         for number in range(1, MOST):
-            ends.append(run(program, room, **{kind: number}))
+            ends.append(run(built, words, room, **{kind: number}))
             if ends[-1] == whole:
                 break
         last = ends.pop()
-        wrong = [end for end in ends if not is_well(kind, end, whole)]
-        said = [[ARGUMENTS, READ, WRITE].index(it[2]) for it in ends if it not in wrong and kind == "FAIL_MEMORY"]
+        wrong = [end for end in ends if not is_well(kind, end, whole, texts)]
+        said = [texts.index(it[2]) for it in ends if it not in wrong and kind == "FAIL_MEMORY"]
         if last != whole or wrong or said != sorted(said) or not ends:
             count += 1
-            print(f"{program.name} NOT AS IT MUST: {name}, {kind}: {wrong[:2]}, and last {last}, not {whole}"[:900])
+            print(f"{built.name} NOT AS IT MUST: {name}, {kind}: {wrong[:2]}, and last {last}, not {whole}"[:900])
         else:
-            print(f"{program.name} ends as it must: {name}, each of {len(ends)} calls failed in turn: {kind[5:].lower()}")
+            print(f"{built.name} ends as it must: {name}, each of {len(ends)} calls failed in turn: {kind[5:].lower()}")
     return count
 
 
 def main() -> int:
-    built = [pathlib.Path(it).resolve() for it in sys.argv[1:]]
-    built = built or [it for it in sorted((CRATE / "out").glob("elfinfo*")) if it.name in NAMES]
-    if not built:
-        sys.exit("elfinfo is not built: run `rt run` in crates/elfinfo first")
-    strtab = (CRATE / "data" / "strtab.elf").read_bytes()
-    files = {"a string table": strtab, "links": (SAMPLE / "notes-64.elf").read_bytes(),
-        "a hash table": (SAMPLE / "dynamic-64.elf").read_bytes(), "three bytes": strtab[:3]}
+    given = [pathlib.Path(it).resolve() for it in sys.argv[1:]]
+    found = [CRATES / it.name / "out" / (it.name + end) for it in PROGRAMS for end in BUILDS]
+    paths = given or [it for it in found if it.exists()]
     count = 0
     with tempfile.TemporaryDirectory() as room:
         os.environ.pop("LD_PRELOAD", None)
         library(room)
-        for name, held in files.items():
-            pathlib.Path(room, "a.elf").write_bytes(held)
-            for program in built:
-                count += unlike(program, room, name)
-                count += name == "a string table" and run(program, room) != (0, REPORT, b"")
+        for program in PROGRAMS:
+            mine = [it for it in paths if it.name.split(".")[0] == program.name]
+            if not mine and not given:
+                sys.exit(f"{program.name} is not built: run `rt run` in crates/{program.name} first")
+            for at, (name, held) in enumerate(program.files.items()):
+                pathlib.Path(room, "a.elf").write_bytes(held)
+                for built in mine:
+                    count += unlike(built, program, room, name)
+                    count += at == 0 and run(built, program.words, room) != (0, program.first, b"")
     return 1 if count else 0
 
 
