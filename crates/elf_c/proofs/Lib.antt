@@ -1,1 +1,3 @@
 pub mod FoundSections
+pub mod StatusTexts
+pub mod Batches

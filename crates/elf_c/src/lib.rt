@@ -6,8 +6,11 @@
 //! The C declarations are `bindings/include/xmas_elf.h`.
 #![tactic(auto)]
 
+pub mod addresses;
+pub mod build_id;
 pub mod dynamic;
 pub mod file;
+pub mod message;
 pub mod names;
 pub mod notes;
 pub mod records;
