@@ -9,3 +9,5 @@ pub mod Texts
 pub mod BuildId
 pub mod Addresses
 pub mod Batch
+pub mod Lookup
+pub mod GnuLookup

@@ -10,6 +10,8 @@ pub mod addresses;
 pub mod build_id;
 pub mod dynamic;
 pub mod file;
+pub mod gnu_hash;
+pub mod hash;
 pub mod message;
 pub mod names;
 pub mod notes;

@@ -100,7 +100,8 @@ pub extern "C" fn xmas_elf_symbol(
     give(symbol_of_section(&header.file(input), section, index), out)
 }
 
-// Puts the symbols of a table from an index on to the front of `out`, and says how many.
+// Puts the symbols of a table from an index on to the front of `out`, and says how many. It copies the table, so
+// that nothing of it is read again after a symbol is written.
 fn fill<E: Entry + Record>(
     table: &Table<'_, E>,
     first: u64,
@@ -109,7 +110,7 @@ fn fill<E: Entry + Record>(
     ensures { Fills (found_in (λ e. symbol_record (E.fields e)) (table_items table.now)) first
         out.old result out.new }
 {
-    let first = first as usize;
+    let (table, first) = (*table, first as usize);
     if first >= table.len() {
         return Err(Refusal::NoRecord);
     }
