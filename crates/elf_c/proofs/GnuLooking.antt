@@ -1,9 +1,9 @@
 -- A look-up in a GNU hash table by one property is one by any that says the same.
-use Rattle.std.proofs.Common.{◌≡◌, ◌<◌, ◌≤◌, ℕ, List, Option, None, Some, Result, Ok, Err, Bool, true, refl}
+use Rattle.std.proofs.Common.{◌≡◌, ℕ, List, Option, None, Some, Result, Ok, Err, Bool, true}
 use Rattle.std.specs.Borrow.{Bor}
-use Rattle.std.specs.Fn.{Shared, FnReturnsAt}
-use Rattle.elf_linking.specs.GoodGnu.{FindsAll, MustBeFound}
-use Rattle.elf_linking.specs.Run.{IsHit, Looks, LooksFrom, NoHit, Stops, ended, found, goes, no_run, refused, too_early}
+use Rattle.std.specs.Fn.{Shared}
+use Rattle.elf_linking.specs.GoodGnu.{FindsAll}
+use Rattle.elf_linking.specs.Run.{IsHit, Looks, LooksFrom, Stops, ended, found, goes, no_run, refused, too_early}
 use Rattle.elf_linking.specs.declared.error.LinkError.{LinkError}
 use Rattle.elf_linking.specs.declared.gnu_hash.GnuHashTable.{GnuHashTable}
 use Rattle.elf_linking.specs.GnuHashNumber.{gnu_hash_number}

@@ -1,10 +1,10 @@
 -- A look-up by one property is one by any that says the same.
-use Rattle.std.proofs.Common.{◌≡◌, ◌<◌, ◌+◌, ℕ, List, Option, None, Some, Result, Ok, Err, Bool, true, refl}
+use Rattle.std.proofs.Common.{◌≡◌, ℕ, List, Option, None, Some, Result, Ok, Err, Bool, true, refl}
 use Rattle.std.specs.Borrow.{Bor}
-use Rattle.std.specs.Fn.{Shared, FnReturnsAt}
+use Rattle.std.specs.Fn.{Shared}
 use Rattle.elf_base.specs.declared.error.ElfError.{ElfError}
-use Rattle.xmas_elf.specs.Chain.{Chains, Comes, Looks, LooksFrom, NoneBefore, StandsAt, Stops, at_end, bad_bucket, chains_of, endless, found, no_bucket, past_chains, past_symbols, reaches, refused}
-use Rattle.xmas_elf.specs.Good.{FindsAll, MustBeFound}
+use Rattle.xmas_elf.specs.Chain.{Chains, Looks, LooksFrom, NoneBefore, Stops, at_end, bad_bucket, chains_of, endless, found, no_bucket, past_chains, past_symbols, reaches, refused}
+use Rattle.xmas_elf.specs.Good.{FindsAll}
 use Rattle.xmas_elf.specs.HashTable.{start_of}
 use Rattle.xmas_elf.specs.Symbols.{IsMatch, Symbols}
 use Rattle.xmas_elf.specs.declared.hash.HashTable.{HashTable}

@@ -1,8 +1,7 @@
 -- The text of a status is that of the refusal with this number.
-use Rattle.std.proofs.Common.{◌≡◌, Option, Some, refl}
+use Rattle.std.proofs.Common.{◌≡◌, Some, refl}
 use Rattle.elf_base.specs.declared.error.ElfError.{ElfError}
 use Rattle.elf_base.specs.declared.error.ElfError.TheVariants.{ShortPart1, NoMagic, InvalidClass, ShortHeaders, ReservedIndex, ShortSectionHeader, UnknownClass, SmallEntry, NoProgramHeaders, ShortProgramHeader, InvalidShType, NullName, ShortSectionOffset, TextStart, TextEnd, TextUtf8, NullData, DataRange, NotMultiple, ShortData, Note32, NoteName, NoteDesc, NoStrtab, StrtabType, NoDynstr, InvalidPhType, InvalidTag, InvalidValue, InvalidPtr, InvalidBinding, InvalidSymbolType, ReservedSymbolIndex, NoShIndex, ExpectedShIndex, SymbolIndex, WideIndex, BadMagic, HeaderSize, NoClass, ClassMismatch, NoVersion, NoDataFormat, PhTableRange, ShTableRange, PhSizeMismatch, EntryPointRange, ShLibUsed, BadAlign, BucketIndex, ChainIndex, ChainSum, HashData, HashCycle, HashMissing}
-use Rattle.elf_linking.specs.declared.error.LinkError.{LinkError}
 use Rattle.elf_linking.specs.declared.error.LinkError.TheVariants as link_error
 use Rattle.elf_c.specs.Status.{error_number, refusal_number}
 use Rattle.elf_c.specs.Texts.{elf_error_with, link_error_with, refusal_message, refusal_with, text_with}

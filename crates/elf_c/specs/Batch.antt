@@ -1,7 +1,6 @@
 -- Many records by one call (this project's own).
 use Rattle.std.specs.Prelude.{◌≡◌, ◌<◌, ◌≤◌, ◌+◌, ◌⊎◌, ℕ, List, length, slice_get, Result, Ok, Err}
 use Rattle.elf_c.specs.Records.{found_in}
-use Rattle.elf_c.specs.Status.{refusal_number}
 use Rattle.elf_c.specs.declared.status.Refusal.{Refusal}
 use Rattle.elf_c.specs.declared.status.Refusal.TheVariants.{NoRecord}
 

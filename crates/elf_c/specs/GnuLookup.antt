@@ -1,6 +1,6 @@
 -- Look-ups by GNU's hash tables (the convention of GNU binutils and glibc: sections of type 0x6ffffff6,
 -- SHT_GNU_HASH, whose sh_link says which section holds the symbols).
-use Rattle.std.specs.Prelude.{◌≡◌, ◌≢◌, ◌⊎◌, ℕ, List, Option, None, Some, Result, Ok, Err, MatchResult}
+use Rattle.std.specs.Prelude.{◌≡◌, ◌≢◌, ◌⊎◌, ℕ, List, Option, Some, Result, Ok, Err, MatchResult}
 use Rattle.std.specs.Str.{IsUtf8}
 use Rattle.elf_base.specs.FileHeader.{file_class, file_order}
 use Rattle.elf_base.specs.HeaderNumbers.{class_of}

@@ -1,10 +1,9 @@
 //! The bytes of the file at addresses of its loaded segments (gABI, "Program Header": PT_LOAD).
 
-ghost use Rattle.std.specs.Prelude.{◌≡◌, drop, take};
+ghost use Rattle.std.specs.Prelude.{◌≡◌};
 ghost use Rattle.elf_c.specs.Addresses.{range_at_address};
 ghost use Rattle.elf_c.specs.Parsed.{file_of};
 ghost use Rattle.elf_c.specs.Status.{GivesHere};
-ghost use Rattle.elf_linking.specs.Loaded.{IsAt};
 
 use crate::file::Parsed;
 use crate::names::Range;

@@ -1,4 +1,4 @@
-use Rattle.std.proofs.Common.{◌≡◌, Option, None, Some, refl, sym, ◌∙◌, ap}
+use Rattle.std.proofs.Common.{sym, ◌∙◌, ap}
 use Rattle.elf_c.specs.BuildId.{build_id_found}
 use Rattle.elf_c.proofs.build_id.build_id_of.Goals as goal
 

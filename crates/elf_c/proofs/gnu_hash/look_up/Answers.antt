@@ -1,4 +1,4 @@
-use Rattle.std.proofs.Common.{rules, Ok, Err, ap, sym, ◌∙◌}
+use Rattle.std.proofs.Common.{rules, Ok, ap, sym, ◌∙◌}
 use Rattle.xmas_elf.specs.Symbols.{symbols_of}
 use Rattle.elf_c.specs.Lookup.{look_up_answer}
 use Rattle.elf_c.specs.declared.status.Refusal.TheVariants.{Link}

@@ -1,4 +1,4 @@
-use Rattle.std.proofs.Common.{◌≡◌, ap, sym, ◌∙◌}
+use Rattle.std.proofs.Common.{ap, sym, ◌∙◌}
 use Rattle.elf_base.specs.FileHeader.{file_class}
 use Rattle.elf_base.specs.HeaderNumbers.{class_of}
 use Rattle.elf_linking.specs.GnuLayout.{gnu_table_of}
