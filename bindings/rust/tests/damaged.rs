@@ -1,6 +1,6 @@
 //! Damaged files: every call returns, and each part that it gives lies in the input.
 
-use xmas_elf_proved::{ElfFile, Section};
+use xmas_elf_proved::{ElfFile, Entry, Section};
 
 // A stream of numbers (Marsaglia's xorshift of 64 bits), the same in each run.
 struct Numbers(u64);
@@ -23,7 +23,12 @@ fn visit_section(input: &[u8], section: &Section<'_, '_>) -> usize {
     for symbol in section.symbols().take(200) {
         found += 1;
         assert!(symbol.name().map_or(true, |name| lies_in(input, name.as_bytes())));
+        assert_eq!(symbol.name().map(str::as_bytes), symbol.name_bytes());
     }
+    let mut many = [Entry::default(); 7];
+    let count = section.symbols_from(3, &mut many).unwrap_or(0);
+    let left = section.symbols().skip(3).take(7);
+    assert!(left.clone().count() == count && left.zip(&many).all(|(symbol, entry)| symbol.value == entry.value));
     found += section.relocations().take(200).count() + section.dynamic().take(200).count();
     for note in section.notes().into_iter().flatten().take(200).flatten() {
         found += 1;
