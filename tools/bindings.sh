@@ -22,15 +22,30 @@ strict=(-O2 -Wall -Wextra -Werror -pedantic -Ibindings/include)
 printed() { awk 'NF == 3 { sub(/@.*/, "", $3); print $3 }' "$1" | sort; }
 names() { readelf --wide --symbols "$1" | awk '$1 ~ /^[0-9]+:$/ && $4 != "SECTION" && $8 != "" { sub(/@.*/, "", $8); print $8 }' | sort; }
 
-gcc -std=c11 "${strict[@]}" bindings/c/nm.c "$XMAS_ELF_ARCHIVE/libelf_c.a" -o "$room/nm_c"
-gcc -std=c11 "${strict[@]}" bindings/c/speed.c "$XMAS_ELF_ARCHIVE/libelf_c.a" -o "$room/speed"
+# The build id, and the index and the value of these names, as `find` prints them and as readelf has them.
+sought=(malloc qsort strtoul no_such_name)
+ids() { awk '/^build id / { print $3 }' "$1"; }
+looked_up() { awk 'NF == 4 && $2 ~ /^[0-9]+$/ { print $2, $3, $1 }' "$1" | sort; }
+held() {
+    readelf --wide --dyn-syms "$1" | awk -v names=" ${sought[*]} " '$1 ~ /^[0-9]+:$/ && $7 != "UND" {
+        sub(/@.*/, "", $8); sub(/:/, "", $1); if (index(names, " " $8 " ")) print $1, $2, $8 }' | sort
+}
+
+for program in nm find speed; do
+    gcc -std=c11 "${strict[@]}" "bindings/c/$program.c" "$XMAS_ELF_ARCHIVE/libelf_c.a" -o "$room/${program}_c"
+done
 g++ -std=c++17 "${strict[@]}" -x c++ -fsyntax-only bindings/include/xmas_elf.h
-cargo build --quiet --offline --release --manifest-path bindings/rust/Cargo.toml --example nm
+cargo build --quiet --offline --release --manifest-path bindings/rust/Cargo.toml --examples
 for file in "$room/nm_c" /lib/x86_64-linux-gnu/libc.so.6; do
     "$room/nm_c" "$file" > "$room/of_c"
     "$CARGO_TARGET_DIR/release/examples/nm" "$file" > "$room/of_rust"
     cmp "$room/of_c" "$room/of_rust"
     diff <(printed "$room/of_c") <(names "$file") > "$room/difference" || { head "$room/difference"; exit 1; }
+    "$room/find_c" "$file" "${sought[@]}" > "$room/of_c"
+    "$CARGO_TARGET_DIR/release/examples/find" "$file" "${sought[@]}" > "$room/of_rust"
+    cmp "$room/of_c" "$room/of_rust"
+    diff <(ids "$room/of_c") <(readelf --wide --notes "$file" | sed -n 's/.*Build ID: //p')
+    diff <(looked_up "$room/of_c") <(held "$file")
 done
 mkdir "$room/damaged"
 python3 - "$room/damaged" << 'END'

@@ -1,7 +1,8 @@
 #!/usr/bin/env python3
 """Writes the list of statuses into bindings/include/xmas_elf.h and bindings/rust/src/error.rs.
 
-The numbers are those of crates/elf_c/src/status.rt, the texts those of crates/elf_base and crates/elf_linking.
+The numbers are those of crates/elf_c/src/status.rt, the texts those of crates/elf_base, crates/elf_linking and
+crates/elf_c.
 --check: writes nothing, and fails where a file differs."""
 import pathlib
 import re
@@ -25,9 +26,9 @@ def statuses():
     rows = [(name, int(number), texts[name]) for name, number in matched(source, r"ElfError::(\w+) => (\d+)")]
     for name, number in matched(source, r"LinkError::(\w+) => (\d+)"):
         rows.append(("Link" + name, int(number), link_texts[name]))
-    documented = dict(reversed(pair) for pair in matched(source, r"/// ([^\n]*)\.\n    (\w+),\n"))
+    own_texts = dict(matched("crates/elf_c/src/message.rt", r'Refusal::(\w+) => "([^"]*)"'))
     for name, number in matched(source, r"Refusal::(\w+) => (\d+)"):
-        rows.append((name, int(number), documented[name]))
+        rows.append((name, int(number), own_texts[name]))
     numbers = [number for _, number, _ in rows]
     assert len(set(numbers)) == len(numbers) and 0 not in numbers and len(rows) > 60
     return rows
@@ -38,15 +39,17 @@ def constant(name):
     return "XMAS_ELF_" + "_".join(words).upper()
 
 
+def longest(rows):
+    return max(len(text.encode()) for _, _, text in rows)
+
+
 def c_part(rows):
     lines = [FIRST, "enum xmas_elf_status {", "    XMAS_ELF_OK = 0,"]
-    lines += [f"    {constant(name)} = {number}," for name, number, _ in rows]
+    for name, number, text in rows:
+        lines += [f"    /* {text}. */", f"    {constant(name)} = {number},"]
     lines[-1] = lines[-1].rstrip(",")
-    lines += ["};", "", "/* The text of a status, of which the program has one copy. */"]
-    lines += ["static inline const char *xmas_elf_message(uint32_t status)", "{", "    switch (status) {"]
-    lines += ['    case XMAS_ELF_OK: return "No refusal";']
-    lines += [f'    case {constant(name)}: return "{text}";' for name, _, text in rows]
-    return lines + ['    default: return "Unknown status";', "    }", "}", LAST]
+    lines += ["};", "", "/* How many bytes the longest text of a status has. */"]
+    return lines + [f"#define XMAS_ELF_LONGEST_MESSAGE {longest(rows)}", LAST]
 
 
 def rust_part(rows):
@@ -60,12 +63,10 @@ def rust_part(rows):
     lines += ["    pub(crate) fn of(status: u32) -> Error {", "        match status {"]
     lines += [f"            {number} => Error::{name}," for name, number, _ in rows]
     lines += ["            other => Error::Unknown(other),", "        }", "    }", ""]
-    lines += ["    /// The text of the refusal.", "    pub fn message(&self) -> &'static str {", "        match self {"]
-    lines += [f'            Error::{name} => "{text}",' for name, _, text in rows]
-    lines += ['            Error::Unknown(_) => "Unknown status",', "        }", "    }", "}", ""]
-    lines += ["impl core::fmt::Display for Error {"]
-    lines += ["    fn fmt(&self, f: &mut core::fmt::Formatter<'_>) -> core::fmt::Result {", "        f.write_str(self.message())"]
-    return lines + ["    }", "}", "", "impl core::error::Error for Error {}"]
+    lines += ["    /// The number of the refusal.", "    pub fn status(&self) -> u32 {", "        match self {"]
+    lines += [f"            Error::{name} => {number}," for name, number, _ in rows]
+    lines += ["            Error::Unknown(status) => *status,", "        }", "    }", "}", ""]
+    return lines + ["// How many bytes the longest text has.", f"pub(crate) const LONGEST: usize = {longest(rows)};"]
 
 
 def header_with(part):

@@ -22,14 +22,16 @@ static void print_symbols(const uint8_t *input, size_t size, const struct xmas_e
 {
     struct xmas_elf_section section;
     struct xmas_elf_range strings, name;
-    struct xmas_elf_symbol symbol;
+    struct xmas_elf_symbol symbols[64];
+    uint64_t count;
     if (xmas_elf_section(input, size, header, index, &section) != XMAS_ELF_OK) return;
     if (section.type != 2 && section.type != 11) return; /* SHT_SYMTAB, SHT_DYNSYM */
     if (xmas_elf_section_data(input, size, header, section.link, &strings) != XMAS_ELF_OK) return;
-    for (uint64_t i = 1; xmas_elf_symbol(input, size, header, index, i, &symbol) == XMAS_ELF_OK; i++)
-        if (xmas_elf_text(input, size, &strings, symbol.name, &name) == XMAS_ELF_OK)
-            printf("%016llx %5u %.*s\n", (unsigned long long)symbol.value, symbol.shndx, (int)name.size,
-                   (const char *)input + name.offset);
+    for (uint64_t first = 1; xmas_elf_symbols(input, size, header, index, first, symbols, 64, &count) == XMAS_ELF_OK; first += count)
+        for (uint64_t i = 0; i < count; i++)
+            if (xmas_elf_text(input, size, &strings, symbols[i].name, &name) == XMAS_ELF_OK)
+                printf("%016llx %5u %.*s\n", (unsigned long long)symbols[i].value, symbols[i].shndx, (int)name.size,
+                       (const char *)input + name.offset);
 }
 
 int main(int argc, char **argv)
@@ -45,7 +47,8 @@ int main(int argc, char **argv)
     uint32_t status = xmas_elf_open(input, size, &header);
     if (status == XMAS_ELF_OK) status = xmas_elf_counts(input, size, &header, &counts);
     if (status != XMAS_ELF_OK) {
-        fprintf(stderr, "%s: %s\n", argv[1], xmas_elf_message(status));
+        uint8_t text[XMAS_ELF_LONGEST_MESSAGE];
+        fprintf(stderr, "%s: %.*s\n", argv[1], (int)xmas_elf_message(status, text, sizeof text), (const char *)text);
         free(input);
         return 1;
     }

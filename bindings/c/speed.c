@@ -9,7 +9,8 @@ struct input {
     const uint8_t *bytes;
     size_t size;
     struct xmas_elf_header header;
-    uint64_t sections, symbols_at;
+    uint64_t sections, symbols_at, table_at, names;
+    struct xmas_elf_range *name;
 };
 
 /* Each pass adds numbers up, and says how many items it saw. */
@@ -49,19 +50,31 @@ static uint64_t symbols_pass(const struct input *input, uint64_t *sum)
     return i;
 }
 
+static uint64_t symbols_many_pass(const struct input *input, uint64_t *sum)
+{
+    struct xmas_elf_symbol symbols[64];
+    uint64_t first = 0, count;
+    while (xmas_elf_symbols(input->bytes, input->size, &input->header, input->symbols_at, first, symbols, 64, &count) == XMAS_ELF_OK) {
+        for (uint64_t i = 0; i < count; i++) *sum += symbols[i].value;
+        first += count;
+    }
+    return first;
+}
+
 static uint64_t symbol_names_pass(const struct input *input, uint64_t *sum)
 {
     struct xmas_elf_section section;
     struct xmas_elf_range strings, name;
-    struct xmas_elf_symbol symbol;
-    uint64_t i = 0;
+    struct xmas_elf_symbol symbols[64];
+    uint64_t first = 0, count;
     if (xmas_elf_section(input->bytes, input->size, &input->header, input->symbols_at, &section) != XMAS_ELF_OK) return 1;
     if (xmas_elf_section_data(input->bytes, input->size, &input->header, section.link, &strings) != XMAS_ELF_OK) return 1;
-    while (xmas_elf_symbol(input->bytes, input->size, &input->header, input->symbols_at, i, &symbol) == XMAS_ELF_OK) {
-        if (xmas_elf_text(input->bytes, input->size, &strings, symbol.name, &name) == XMAS_ELF_OK) *sum += symbol.value + name.size;
-        i++;
+    while (xmas_elf_symbols(input->bytes, input->size, &input->header, input->symbols_at, first, symbols, 64, &count) == XMAS_ELF_OK) {
+        for (uint64_t i = 0; i < count; i++)
+            if (xmas_elf_text(input->bytes, input->size, &strings, symbols[i].name, &name) == XMAS_ELF_OK) *sum += symbols[i].value + name.size;
+        first += count;
     }
-    return i;
+    return first;
 }
 
 /* The last section that has a name, by it. */
@@ -75,6 +88,37 @@ static uint64_t find_pass(const struct input *input, uint64_t *sum)
                                        (size_t)name.size, &section) == XMAS_ELF_OK)
         *sum += section.size;
     return 1;
+}
+
+/* Each name of the symbols for the dynamic linker, by GNU's hash table. */
+static uint64_t look_ups_pass(const struct input *input, uint64_t *sum)
+{
+    struct xmas_elf_look_up said;
+    for (uint64_t i = 0; i < input->names; i++)
+        if (xmas_elf_gnu_look_up(input->bytes, input->size, &input->header, input->table_at, input->bytes + input->name[i].offset,
+                                 (size_t)input->name[i].size, &said) == XMAS_ELF_OK)
+            *sum += said.index;
+    return input->names;
+}
+
+static uint64_t check_pass(const struct input *input, uint64_t *sum)
+{
+    *sum += xmas_elf_check_gnu_hash(input->bytes, input->size, &input->header, input->table_at);
+    return input->names;
+}
+
+/* Where the names of the symbols stand that GNU's hash table is for. */
+static void find_names(struct input *input, uint64_t table, uint64_t symbols)
+{
+    struct xmas_elf_section section;
+    struct xmas_elf_range strings;
+    struct xmas_elf_symbol symbol;
+    input->table_at = table;
+    if (xmas_elf_section(input->bytes, input->size, &input->header, symbols, &section) != XMAS_ELF_OK) return;
+    if (xmas_elf_section_data(input->bytes, input->size, &input->header, section.link, &strings) != XMAS_ELF_OK) return;
+    input->name = calloc((size_t)(section.size / 16) + 1, sizeof *input->name);
+    for (uint64_t i = 1; input->name && xmas_elf_symbol(input->bytes, input->size, &input->header, symbols, i, &symbol) == XMAS_ELF_OK; i++)
+        if (xmas_elf_text(input->bytes, input->size, &strings, symbol.name, &input->name[input->names]) == XMAS_ELF_OK) input->names++;
 }
 
 static double now(void)
@@ -115,15 +159,23 @@ int main(int argc, char **argv)
     if (xmas_elf_counts(bytes, size, &input.header, &counts) != XMAS_ELF_OK) return 1;
     input.sections = counts.sections;
     struct xmas_elf_section section;
-    for (uint64_t i = 0; i < input.sections; i++)
-        if (xmas_elf_section(bytes, size, &input.header, i, &section) == XMAS_ELF_OK && (section.type == 2 || (section.type == 11 && !input.symbols_at)))
-            input.symbols_at = i;
+    for (uint64_t i = 0; i < input.sections; i++) {
+        if (xmas_elf_section(bytes, size, &input.header, i, &section) != XMAS_ELF_OK) continue;
+        if (section.type == 2 || (section.type == 11 && !input.symbols_at)) input.symbols_at = i;
+        if (section.type == 0x6ffffff6) find_names(&input, i, section.link);
+    }
     measure("header", open_pass, &input);
     measure("section headers by index", sections_pass, &input);
     measure("names of sections", names_pass, &input);
     measure("the last section by its name", find_pass, &input);
-    measure("symbols", symbols_pass, &input);
+    measure("symbols one by one", symbols_pass, &input);
+    measure("symbols, 64 at a time", symbols_many_pass, &input);
     measure("symbols with names", symbol_names_pass, &input);
+    if (input.names) {
+        measure("look-ups by GNU's hash table", look_ups_pass, &input);
+        measure("the check of that table, for a symbol", check_pass, &input);
+    }
+    free(input.name);
     free(bytes);
     return 0;
 }

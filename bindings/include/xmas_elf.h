@@ -7,7 +7,8 @@
  * the record and the indices are. Answers are numbers, and ranges of the input.
  *
  * No pointer may be null. An input of no bytes needs a pointer too, which is not read. `*out` is a record
- * whose memory the caller owns alone during the call; it need hold no value of a sort before.
+ * whose memory the caller owns alone during the call; it need hold no value of a sort before. The same holds of
+ * room for several, `out[0 .. out_size]`.
  */
 #ifndef XMAS_ELF_H
 #define XMAS_ELF_H
@@ -99,6 +100,27 @@ struct xmas_elf_relocation {
     uint32_t has_addend; /* 1, or 0 in a table without addends, where `addend` is 0 */
 };
 
+/* A dynamic entry (gABI, "Dynamic Section"). */
+struct xmas_elf_dynamic {
+    uint64_t tag;
+    uint64_t value;
+};
+
+/* A note (gABI, "Note Section"). */
+struct xmas_elf_note {
+    struct xmas_elf_range name; /* as many bytes as the note says: with the zero byte that ends it */
+    struct xmas_elf_range desc;
+    struct xmas_elf_range rest; /* what follows the note and its padding: the next notes */
+    uint32_t type;              /* what the description means, by the name */
+};
+
+/* What a look-up says. */
+struct xmas_elf_look_up {
+    uint32_t found;     /* 1 where a symbol is found, and else 0 */
+    uint32_t index;     /* of the symbol, or 0 */
+    uint32_t looked_at; /* how many entries of the table the look-up came by */
+};
+
 /* The header of the file that these bytes are. */
 uint32_t xmas_elf_open(const uint8_t *input, size_t input_size, struct xmas_elf_header *out);
 
@@ -153,165 +175,216 @@ uint32_t xmas_elf_segment_data(const uint8_t *input, size_t input_size, const st
 uint32_t xmas_elf_symbol(const uint8_t *input, size_t input_size, const struct xmas_elf_header *header,
                          uint64_t section, uint64_t index, struct xmas_elf_symbol *out);
 
+/* The symbols from index `first` on of the section at an index: as many as `out` has room for, or all that
+ * follow. Their number goes to `*count`; what of `out` is behind them stays. Refused as `xmas_elf_symbol` is at
+ * `first`, so that a loop ends:
+ *     for (first = 0; xmas_elf_symbols(.., first, out, out_size, &count) == XMAS_ELF_OK; first += count) ..
+ * With no room at all (`out_size` 0) the number is 0. */
+uint32_t xmas_elf_symbols(const uint8_t *input, size_t input_size, const struct xmas_elf_header *header,
+                          uint64_t section, uint64_t first, struct xmas_elf_symbol *out, size_t out_size,
+                          uint64_t *count);
+
 /* The relocation at an index of the section at an index, refused as symbols are. */
 uint32_t xmas_elf_relocation(const uint8_t *input, size_t input_size, const struct xmas_elf_header *header,
                              uint64_t section, uint64_t index, struct xmas_elf_relocation *out);
 
+/* The dynamic entry at an index of the section at an index, refused as symbols are. */
+uint32_t xmas_elf_dynamic(const uint8_t *input, size_t input_size, const struct xmas_elf_header *header,
+                          uint64_t section, uint64_t index, struct xmas_elf_dynamic *out);
+
+/* The note that a range begins with, by the alignment of its section or segment: XMAS_ELF_NO_RECORD where the
+ * range is empty, XMAS_ELF_LINK_SHORT_NOTE where it holds no whole note. */
+uint32_t xmas_elf_note(const uint8_t *input, size_t input_size, const struct xmas_elf_header *header,
+                       const struct xmas_elf_range *part, uint64_t align, struct xmas_elf_note *out);
+
+/* Where the build id stands, of a file of either class: the description of the first note of section
+ * `.note.gnu.build-id`. XMAS_ELF_NOT_FOUND where there is no such section, or its first note is not of type 3
+ * and named `GNU`. */
+uint32_t xmas_elf_build_id(const uint8_t *input, size_t input_size, const struct xmas_elf_header *header,
+                           struct xmas_elf_range *out);
+
+/* Where the bytes stand that the file has for `count` addresses from `address` on: those of the first loaded
+ * segment that has them all, or XMAS_ELF_LINK_ADDRESS. No section header is needed. */
+uint32_t xmas_elf_bytes_at(const uint8_t *input, size_t input_size, const struct xmas_elf_header *header,
+                           uint64_t address, uint64_t count, struct xmas_elf_range *out);
+
+/* The symbol with a name by the hash table that is the section at an index, of type SHT_HASH, among the symbols
+ * of the section that this one is linked to: the first on the chain of the name, whether it is defined or not.
+ * XMAS_ELF_OTHER_DATA where these sections hold other data; XMAS_ELF_TEXT_UTF_8 where the name isn't UTF-8.
+ * That no symbol is found is no refusal. A table that nobody checked may be refused, or miss a symbol; it takes
+ * no more steps than the table has entries. The names are those in section `.dynstr`, and of symbols of a section
+ * of type SHT_SYMTAB in `.strtab`; in an undamaged file that is the string table that the symbols are linked to. */
+uint32_t xmas_elf_look_up(const uint8_t *input, size_t input_size, const struct xmas_elf_header *header,
+                          uint64_t section, const uint8_t *name, size_t name_size, struct xmas_elf_look_up *out);
+
+/* Whether look-ups by that table can be relied on: then none is refused for the table, and each finds a symbol
+ * wherever one that isn't local bears the name. To be called once for many look-ups. A table that was made to
+ * cost much takes as many steps as it has buckets times chains. */
+uint32_t xmas_elf_check_hash(const uint8_t *input, size_t input_size, const struct xmas_elf_header *header,
+                             uint64_t section);
+
+/* The same two by GNU's hash table, a section of type 0x6ffffff6. It is to hold the symbols that are defined and
+ * not local, from its first on. The check is one pass over the table and one over the symbols. */
+uint32_t xmas_elf_gnu_look_up(const uint8_t *input, size_t input_size, const struct xmas_elf_header *header,
+                              uint64_t section, const uint8_t *name, size_t name_size,
+                              struct xmas_elf_look_up *out);
+uint32_t xmas_elf_check_gnu_hash(const uint8_t *input, size_t input_size, const struct xmas_elf_header *header,
+                                 uint64_t section);
+
+/* Writes the text of a status to the front of `out`, as much as fits, and answers how many bytes the text has.
+ * It is ASCII, with no zero byte behind it; room for XMAS_ELF_LONGEST_MESSAGE bytes holds any. A status that is
+ * no refusal's, as XMAS_ELF_OK, has a text of no bytes. */
+size_t xmas_elf_message(uint32_t status, uint8_t *out, size_t out_size);
+
 /* The statuses, written by tools/statuses.py. */
 enum xmas_elf_status {
     XMAS_ELF_OK = 0,
+    /* File is shorter than the first ELF header part. */
     XMAS_ELF_SHORT_PART_1 = 1,
+    /* Did not find ELF magic number. */
     XMAS_ELF_NO_MAGIC = 2,
+    /* Invalid ELF class. */
     XMAS_ELF_INVALID_CLASS = 3,
+    /* File is shorter than ELF headers. */
     XMAS_ELF_SHORT_HEADERS = 4,
+    /* Attempt to get section for a reserved index. */
     XMAS_ELF_RESERVED_INDEX = 5,
+    /* File is shorter than section header offset. */
     XMAS_ELF_SHORT_SECTION_HEADER = 6,
+    /* Unknown ELF class. */
     XMAS_ELF_UNKNOWN_CLASS = 7,
+    /* Entry size is smaller than the record. */
     XMAS_ELF_SMALL_ENTRY = 8,
+    /* There are no program headers in this file. */
     XMAS_ELF_NO_PROGRAM_HEADERS = 9,
+    /* File is shorter than program header offset. */
     XMAS_ELF_SHORT_PROGRAM_HEADER = 10,
+    /* Invalid sh type. */
     XMAS_ELF_INVALID_SH_TYPE = 11,
+    /* Attempt to get name of null section. */
     XMAS_ELF_NULL_NAME = 12,
+    /* File is shorter than section offset. */
     XMAS_ELF_SHORT_SECTION_OFFSET = 13,
+    /* Text starts past the end of its data. */
     XMAS_ELF_TEXT_START = 14,
+    /* Text has no terminating zero. */
     XMAS_ELF_TEXT_END = 15,
+    /* Text is not valid UTF-8. */
     XMAS_ELF_TEXT_UTF_8 = 16,
+    /* Attempt to get data of a null header. */
     XMAS_ELF_NULL_DATA = 17,
+    /* Data is out of range. */
     XMAS_ELF_DATA_RANGE = 18,
+    /* Data is not a whole number of records. */
     XMAS_ELF_NOT_MULTIPLE = 19,
+    /* Data is too short. */
     XMAS_ELF_SHORT_DATA = 20,
+    /* 32-bit binaries not implemented. */
     XMAS_ELF_NOTE_32 = 21,
+    /* Note name does not match its size. */
     XMAS_ELF_NOTE_NAME = 22,
+    /* Note description is out of range. */
     XMAS_ELF_NOTE_DESC = 23,
+    /* no .strtab section. */
     XMAS_ELF_NO_STRTAB = 24,
+    /* expected .strtab to be StrTab. */
     XMAS_ELF_STRTAB_TYPE = 25,
+    /* no .dynstr section. */
     XMAS_ELF_NO_DYNSTR = 26,
+    /* Invalid type. */
     XMAS_ELF_INVALID_PH_TYPE = 27,
+    /* Invalid tag value. */
     XMAS_ELF_INVALID_TAG = 28,
+    /* Invalid value. */
     XMAS_ELF_INVALID_VALUE = 29,
+    /* Invalid ptr. */
     XMAS_ELF_INVALID_PTR = 30,
+    /* Invalid value for binding. */
     XMAS_ELF_INVALID_BINDING = 31,
+    /* Invalid value for type. */
     XMAS_ELF_INVALID_SYMBOL_TYPE = 32,
+    /* Reserved section header index. */
     XMAS_ELF_RESERVED_SYMBOL_INDEX = 33,
+    /* no .symtab_shndx section. */
     XMAS_ELF_NO_SH_INDEX = 34,
+    /* Expected SymTabShIndex. */
     XMAS_ELF_EXPECTED_SH_INDEX = 35,
+    /* Symbol index is out of range. */
     XMAS_ELF_SYMBOL_INDEX = 36,
+    /* Section index does not fit in 16 bits. */
     XMAS_ELF_WIDE_INDEX = 37,
+    /* bad magic number. */
     XMAS_ELF_BAD_MAGIC = 38,
+    /* header_size does not match size of header. */
     XMAS_ELF_HEADER_SIZE = 39,
+    /* No class. */
     XMAS_ELF_NO_CLASS = 40,
+    /* Mismatch between specified and actual class. */
     XMAS_ELF_CLASS_MISMATCH = 41,
+    /* no version. */
     XMAS_ELF_NO_VERSION = 42,
+    /* no data format. */
     XMAS_ELF_NO_DATA_FORMAT = 43,
+    /* program header table out of range. */
     XMAS_ELF_PH_TABLE_RANGE = 44,
+    /* section header table out of range. */
     XMAS_ELF_SH_TABLE_RANGE = 45,
+    /* program header size mismatch. */
     XMAS_ELF_PH_SIZE_MISMATCH = 46,
+    /* entry point out of range. */
     XMAS_ELF_ENTRY_POINT_RANGE = 47,
+    /* Shouldn't use ShLib. */
     XMAS_ELF_SH_LIB_USED = 48,
+    /* Invalid combination of virtual_addr, offset, and align. */
     XMAS_ELF_BAD_ALIGN = 49,
+    /* Bucket index is out of range. */
     XMAS_ELF_BUCKET_INDEX = 50,
+    /* Chain index is out of range. */
     XMAS_ELF_CHAIN_INDEX = 51,
+    /* Chain position does not fit in 32 bits. */
     XMAS_ELF_CHAIN_SUM = 52,
+    /* Hash table data is too short. */
     XMAS_ELF_HASH_DATA = 53,
+    /* Hash chain never ends. */
     XMAS_ELF_HASH_CYCLE = 54,
+    /* Symbol is missing from the hash table. */
     XMAS_ELF_HASH_MISSING = 55,
+    /* GNU hash table is too short. */
     XMAS_ELF_LINK_SHORT_TABLE = 101,
+    /* Class is neither 1 nor 2. */
     XMAS_ELF_LINK_UNKNOWN_CLASS = 102,
+    /* Number of Bloom words is not a power of two. */
     XMAS_ELF_LINK_BLOOM_COUNT = 103,
+    /* Bucket index is out of range. */
     XMAS_ELF_LINK_BUCKET_INDEX = 104,
+    /* Symbol index is before the first of the table. */
     XMAS_ELF_LINK_CHAIN_INDEX = 105,
+    /* Chain is not in the data. */
     XMAS_ELF_LINK_CHAIN_DATA = 106,
+    /* Symbol index is out of range. */
     XMAS_ELF_LINK_SYMBOL_INDEX = 107,
+    /* Symbol is missing from the GNU hash table. */
     XMAS_ELF_LINK_MISSING = 108,
+    /* No dynamic segment. */
     XMAS_ELF_LINK_NO_DYNAMIC = 109,
+    /* Dynamic segment has no such entry. */
     XMAS_ELF_LINK_NO_ENTRY = 110,
+    /* Address is in no loaded segment. */
     XMAS_ELF_LINK_ADDRESS = 111,
+    /* Note is cut off. */
     XMAS_ELF_LINK_SHORT_NOTE = 112,
+    /* Data is not a whole number of words. */
     XMAS_ELF_LINK_NOT_MULTIPLE = 113,
+    /* A section holds other data than what is asked for. */
     XMAS_ELF_OTHER_DATA = 201,
+    /* A table has no record with this index. */
     XMAS_ELF_NO_RECORD = 202,
+    /* Nothing has this name. */
     XMAS_ELF_NOT_FOUND = 203
 };
 
-/* The text of a status, of which the program has one copy. */
-static inline const char *xmas_elf_message(uint32_t status)
-{
-    switch (status) {
-    case XMAS_ELF_OK: return "No refusal";
-    case XMAS_ELF_SHORT_PART_1: return "File is shorter than the first ELF header part";
-    case XMAS_ELF_NO_MAGIC: return "Did not find ELF magic number";
-    case XMAS_ELF_INVALID_CLASS: return "Invalid ELF class";
-    case XMAS_ELF_SHORT_HEADERS: return "File is shorter than ELF headers";
-    case XMAS_ELF_RESERVED_INDEX: return "Attempt to get section for a reserved index";
-    case XMAS_ELF_SHORT_SECTION_HEADER: return "File is shorter than section header offset";
-    case XMAS_ELF_UNKNOWN_CLASS: return "Unknown ELF class";
-    case XMAS_ELF_SMALL_ENTRY: return "Entry size is smaller than the record";
-    case XMAS_ELF_NO_PROGRAM_HEADERS: return "There are no program headers in this file";
-    case XMAS_ELF_SHORT_PROGRAM_HEADER: return "File is shorter than program header offset";
-    case XMAS_ELF_INVALID_SH_TYPE: return "Invalid sh type";
-    case XMAS_ELF_NULL_NAME: return "Attempt to get name of null section";
-    case XMAS_ELF_SHORT_SECTION_OFFSET: return "File is shorter than section offset";
-    case XMAS_ELF_TEXT_START: return "Text starts past the end of its data";
-    case XMAS_ELF_TEXT_END: return "Text has no terminating zero";
-    case XMAS_ELF_TEXT_UTF_8: return "Text is not valid UTF-8";
-    case XMAS_ELF_NULL_DATA: return "Attempt to get data of a null header";
-    case XMAS_ELF_DATA_RANGE: return "Data is out of range";
-    case XMAS_ELF_NOT_MULTIPLE: return "Data is not a whole number of records";
-    case XMAS_ELF_SHORT_DATA: return "Data is too short";
-    case XMAS_ELF_NOTE_32: return "32-bit binaries not implemented";
-    case XMAS_ELF_NOTE_NAME: return "Note name does not match its size";
-    case XMAS_ELF_NOTE_DESC: return "Note description is out of range";
-    case XMAS_ELF_NO_STRTAB: return "no .strtab section";
-    case XMAS_ELF_STRTAB_TYPE: return "expected .strtab to be StrTab";
-    case XMAS_ELF_NO_DYNSTR: return "no .dynstr section";
-    case XMAS_ELF_INVALID_PH_TYPE: return "Invalid type";
-    case XMAS_ELF_INVALID_TAG: return "Invalid tag value";
-    case XMAS_ELF_INVALID_VALUE: return "Invalid value";
-    case XMAS_ELF_INVALID_PTR: return "Invalid ptr";
-    case XMAS_ELF_INVALID_BINDING: return "Invalid value for binding";
-    case XMAS_ELF_INVALID_SYMBOL_TYPE: return "Invalid value for type";
-    case XMAS_ELF_RESERVED_SYMBOL_INDEX: return "Reserved section header index";
-    case XMAS_ELF_NO_SH_INDEX: return "no .symtab_shndx section";
-    case XMAS_ELF_EXPECTED_SH_INDEX: return "Expected SymTabShIndex";
-    case XMAS_ELF_SYMBOL_INDEX: return "Symbol index is out of range";
-    case XMAS_ELF_WIDE_INDEX: return "Section index does not fit in 16 bits";
-    case XMAS_ELF_BAD_MAGIC: return "bad magic number";
-    case XMAS_ELF_HEADER_SIZE: return "header_size does not match size of header";
-    case XMAS_ELF_NO_CLASS: return "No class";
-    case XMAS_ELF_CLASS_MISMATCH: return "Mismatch between specified and actual class";
-    case XMAS_ELF_NO_VERSION: return "no version";
-    case XMAS_ELF_NO_DATA_FORMAT: return "no data format";
-    case XMAS_ELF_PH_TABLE_RANGE: return "program header table out of range";
-    case XMAS_ELF_SH_TABLE_RANGE: return "section header table out of range";
-    case XMAS_ELF_PH_SIZE_MISMATCH: return "program header size mismatch";
-    case XMAS_ELF_ENTRY_POINT_RANGE: return "entry point out of range";
-    case XMAS_ELF_SH_LIB_USED: return "Shouldn't use ShLib";
-    case XMAS_ELF_BAD_ALIGN: return "Invalid combination of virtual_addr, offset, and align";
-    case XMAS_ELF_BUCKET_INDEX: return "Bucket index is out of range";
-    case XMAS_ELF_CHAIN_INDEX: return "Chain index is out of range";
-    case XMAS_ELF_CHAIN_SUM: return "Chain position does not fit in 32 bits";
-    case XMAS_ELF_HASH_DATA: return "Hash table data is too short";
-    case XMAS_ELF_HASH_CYCLE: return "Hash chain never ends";
-    case XMAS_ELF_HASH_MISSING: return "Symbol is missing from the hash table";
-    case XMAS_ELF_LINK_SHORT_TABLE: return "GNU hash table is too short";
-    case XMAS_ELF_LINK_UNKNOWN_CLASS: return "Class is neither 1 nor 2";
-    case XMAS_ELF_LINK_BLOOM_COUNT: return "Number of Bloom words is not a power of two";
-    case XMAS_ELF_LINK_BUCKET_INDEX: return "Bucket index is out of range";
-    case XMAS_ELF_LINK_CHAIN_INDEX: return "Symbol index is before the first of the table";
-    case XMAS_ELF_LINK_CHAIN_DATA: return "Chain is not in the data";
-    case XMAS_ELF_LINK_SYMBOL_INDEX: return "Symbol index is out of range";
-    case XMAS_ELF_LINK_MISSING: return "Symbol is missing from the GNU hash table";
-    case XMAS_ELF_LINK_NO_DYNAMIC: return "No dynamic segment";
-    case XMAS_ELF_LINK_NO_ENTRY: return "Dynamic segment has no such entry";
-    case XMAS_ELF_LINK_ADDRESS: return "Address is in no loaded segment";
-    case XMAS_ELF_LINK_SHORT_NOTE: return "Note is cut off";
-    case XMAS_ELF_LINK_NOT_MULTIPLE: return "Data is not a whole number of words";
-    case XMAS_ELF_OTHER_DATA: return "A section holds other data than what is asked for";
-    case XMAS_ELF_NO_RECORD: return "A table has no record with this index";
-    case XMAS_ELF_NOT_FOUND: return "Nothing has this name";
-    default: return "Unknown status";
-    }
-}
+/* How many bytes the longest text of a status has. */
+#define XMAS_ELF_LONGEST_MESSAGE 54
 /* End of the statuses. */
 
 #ifdef __cplusplus

@@ -1,10 +1,10 @@
 //! compare FILE..: asks `xmas-elf-proved` and `object` for all parts of each file, and tells each difference.
 
-use object::elf::{FileHeader32, FileHeader64};
-use object::read::elf::{Dyn, FileHeader, ProgramHeader, Rel, Rela, SectionHeader, SectionTable, Sym};
-use object::{Endianness, SectionIndex};
+use object::elf::{FileHeader32, FileHeader64, PT_LOAD};
+use object::read::elf::{Dyn, FileHeader, ProgramHeader, Rel, Rela, SectionHeader, SectionTable, Sym, SymbolTable, VersionTable};
+use object::{Endianness, Object, SectionIndex};
 use std::fmt::Debug;
-use xmas_elf_proved::{ElfFile, Section};
+use xmas_elf_proved::{ElfFile, HashTable, Section};
 
 // Counts answers, and tells of those that differ.
 struct Answers<'p> {
@@ -34,7 +34,11 @@ fn compare<Elf: FileHeader<Endian = Endianness>>(input: &[u8], file: &ElfFile<'_
     answers.same("machine", file.header().machine, header.e_machine(endian));
     let sections = header.sections(endian, input)?;
     answers.same("section count", file.section_count(), sections.len() as u64);
-    compare_segments::<Elf>(input, file, header.program_headers(endian, input)?, endian, answers);
+    let segments = header.program_headers(endian, input)?;
+    compare_segments::<Elf>(input, file, segments, endian, answers);
+    compare_addresses::<Elf>(input, file, segments, endian, answers);
+    let whole = object::read::elf::ElfFile::<Elf>::parse(input)?;
+    answers.same("build id", file.build_id(), whole.build_id()?);
     for (index, theirs) in sections.iter().enumerate() {
         let Ok(ours) = file.section(index as u64) else {
             answers.same("section is read", false, true);
@@ -44,8 +48,65 @@ fn compare<Elf: FileHeader<Endian = Endianness>>(input: &[u8], file: &ElfFile<'_
         compare_symbols::<Elf>(input, &ours, &sections, endian, answers)?;
         compare_records::<Elf>(input, &ours, theirs, endian, answers)?;
         compare_notes::<Elf>(input, &ours, theirs, endian, answers)?;
+        if let Some(table) = ours.hash_table() {
+            compare_look_ups::<Elf>(input, &table, theirs, &sections, endian, answers)?;
+        }
     }
     Ok(())
+}
+
+// The bytes at the first addresses of each loaded segment, at its last ones in the file, and past them.
+fn compare_addresses<Elf: FileHeader<Endian = Endianness>>(
+    input: &[u8],
+    file: &ElfFile<'_>,
+    theirs: &[Elf::ProgramHeader],
+    endian: Endianness,
+    answers: &mut Answers<'_>,
+) {
+    let loaded = || theirs.iter().filter(|program| program.p_type(endian) == PT_LOAD);
+    for program in loaded() {
+        let (start, size): (u64, u64) = (program.p_vaddr(endian).into(), program.p_filesz(endian).into());
+        let end = start.wrapping_add(size);
+        for (address, count) in [(start, size.min(16)), (end.wrapping_sub(size.min(16)), size.min(16)), (end.wrapping_sub(8), 16)] {
+            let found = loaded().find_map(|other| other.data_range(endian, input, address, count).ok().flatten());
+            answers.same("bytes at an address", file.bytes_at(address, count).ok(), found);
+        }
+    }
+}
+
+// Each name of the linked symbols, and each with a sign more, which most tables don't have.
+fn compare_look_ups<Elf: FileHeader<Endian = Endianness>>(
+    input: &[u8],
+    ours: &HashTable<'_, '_>,
+    theirs: &Elf::SectionHeader,
+    sections: &Sections<'_, Elf>,
+    endian: Endianness,
+    answers: &mut Answers<'_>,
+) -> object::Result<()> {
+    let symbols = sections.symbol_table_by_index(endian, input, SectionIndex(theirs.sh_link(endian) as usize))?;
+    let (gnu, gabi) = (theirs.gnu_hash(endian, input)?, theirs.hash(endian, input)?);
+    let versions = VersionTable::default();
+    let find = |name: &[u8]| match (&gnu, &gabi) {
+        (Some((table, _)), _) => table.find(endian, name, object::elf::gnu_hash(name), None, &symbols, &versions),
+        (_, Some((table, _))) => table.find(endian, name, object::elf::hash(name), None, &symbols, &versions),
+        _ => None,
+    };
+    // A table passes the check where each symbol is found that it is to hold.
+    let held = symbols.iter().filter(|symbol| symbol.st_bind() != 0 && (!ours.is_gnu() || symbol.st_shndx(endian) != 0));
+    let mut names = held.filter_map(|symbol| symbol.name(endian, symbols.strings()).ok());
+    answers.same("the hash table passes its check", ours.check().is_ok(), names.all(|name| find(name).is_some()));
+    for name in names_of(&symbols, endian) {
+        for name in [name.to_owned(), format!("{name}~")] {
+            let found = ours.look_up(&name).ok().flatten().map(|symbol| symbol.index() as usize);
+            answers.same("symbol by its name", found, find(name.as_bytes()).map(|found| found.0));
+        }
+    }
+    Ok(())
+}
+
+fn names_of<'d, Elf: FileHeader<Endian = Endianness>>(symbols: &SymbolTable<'d, Elf, &'d [u8]>, endian: Endianness) -> Vec<&'d str> {
+    let names = symbols.iter().filter_map(|symbol| symbol.name(endian, symbols.strings()).ok());
+    names.filter_map(|name| std::str::from_utf8(name).ok()).filter(|name| !name.is_empty()).collect()
 }
 
 fn compare_segments<Elf: FileHeader<Endian = Endianness>>(

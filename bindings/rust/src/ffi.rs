@@ -55,10 +55,23 @@ pub(crate) struct Counts {
 }
 
 #[repr(C)]
-#[derive(Clone, Copy, Default)]
+#[derive(Clone, Copy, Debug, Default)]
 pub(crate) struct Range {
     pub(crate) offset: u64,
     pub(crate) size: u64,
+}
+
+impl Range {
+    // The bytes of a range that the archive answered, which lies in the input.
+    pub(crate) fn bytes_in(self, input: &[u8]) -> &[u8] {
+        let start = self.offset as usize;
+        input.get(start..start.saturating_add(self.size as usize)).unwrap_or_default()
+    }
+
+    // The text of a range that the archive answered as one.
+    pub(crate) fn text_in(self, input: &[u8]) -> &str {
+        core::str::from_utf8(self.bytes_in(input)).unwrap_or_default()
+    }
 }
 
 /// A section header, in numbers.
@@ -162,6 +175,18 @@ pub(crate) struct NoteRange {
     pub(crate) type_: u32,
 }
 
+/// What a look-up says.
+#[repr(C)]
+#[derive(Clone, Copy, Debug, Default)]
+pub struct LookUp {
+    /// 1 where a symbol is found, and else 0.
+    pub found: u32,
+    /// The index of the symbol, or 0.
+    pub index: u32,
+    /// How many entries of the table the look-up came by.
+    pub looked_at: u32,
+}
+
 type Bytes = *const u8;
 
 extern "C" {
@@ -177,6 +202,14 @@ extern "C" {
     fn xmas_elf_symbol(input: Bytes, size: usize, header: *const Header, section: u64, index: u64, out: *mut Entry) -> u32;
     fn xmas_elf_relocation(input: Bytes, size: usize, header: *const Header, section: u64, index: u64, out: *mut Relocation) -> u32;
     fn xmas_elf_dynamic(input: Bytes, size: usize, header: *const Header, section: u64, index: u64, out: *mut Dynamic) -> u32;
+    fn xmas_elf_symbols(input: Bytes, size: usize, header: *const Header, section: u64, first: u64, out: *mut Entry, room: usize, count: *mut u64) -> u32;
+    fn xmas_elf_build_id(input: Bytes, size: usize, header: *const Header, out: *mut Range) -> u32;
+    fn xmas_elf_bytes_at(input: Bytes, size: usize, header: *const Header, address: u64, count: u64, out: *mut Range) -> u32;
+    fn xmas_elf_look_up(input: Bytes, size: usize, header: *const Header, section: u64, name: Bytes, name_size: usize, out: *mut LookUp) -> u32;
+    fn xmas_elf_check_hash(input: Bytes, size: usize, header: *const Header, section: u64) -> u32;
+    fn xmas_elf_gnu_look_up(input: Bytes, size: usize, header: *const Header, section: u64, name: Bytes, name_size: usize, out: *mut LookUp) -> u32;
+    fn xmas_elf_check_gnu_hash(input: Bytes, size: usize, header: *const Header, section: u64) -> u32;
+    fn xmas_elf_message(status: u32, out: *mut u8, room: usize) -> usize;
     fn xmas_elf_note(input: Bytes, size: usize, header: *const Header, part: *const Range, align: u64, out: *mut NoteRange) -> u32;
 }
 
@@ -197,12 +230,17 @@ pub(crate) fn open(input: &[u8]) -> Result<Header, Error> {
     filled(|out| unsafe { xmas_elf_open(input.as_ptr(), input.len(), out) })
 }
 
-pub(crate) fn check_header(input: &[u8], header: &Header) -> Result<(), Error> {
-    // SAFETY: see above.
-    match unsafe { xmas_elf_check_header(input.as_ptr(), input.len(), header) } {
+// The answer of a call that fills none.
+fn checked(status: u32) -> Result<(), Error> {
+    match status {
         0 => Ok(()),
         status => Err(Error::of(status)),
     }
+}
+
+pub(crate) fn check_header(input: &[u8], header: &Header) -> Result<(), Error> {
+    // SAFETY: see above.
+    checked(unsafe { xmas_elf_check_header(input.as_ptr(), input.len(), header) })
 }
 
 pub(crate) fn counts(input: &[u8], header: &Header) -> Counts {
@@ -245,6 +283,15 @@ pub(crate) fn symbol(input: &[u8], header: &Header, section: u64, index: u64) ->
     filled(|out| unsafe { xmas_elf_symbol(input.as_ptr(), input.len(), header, section, index, out) })
 }
 
+// The symbols from an index on, put to the front of `out`, and how many they are.
+pub(crate) fn symbols(input: &[u8], header: &Header, section: u64, first: u64, out: &mut [Entry]) -> Result<usize, Error> {
+    // SAFETY: see above; of `out` as many records are written as it has, at most.
+    let count = filled(|count| unsafe {
+        xmas_elf_symbols(input.as_ptr(), input.len(), header, section, first, out.as_mut_ptr(), out.len(), count)
+    });
+    count.map(|count: u64| count as usize)
+}
+
 pub(crate) fn relocation(input: &[u8], header: &Header, section: u64, index: u64) -> Result<Relocation, Error> {
     // SAFETY: see above.
     filled(|out| unsafe { xmas_elf_relocation(input.as_ptr(), input.len(), header, section, index, out) })
@@ -258,4 +305,40 @@ pub(crate) fn dynamic(input: &[u8], header: &Header, section: u64, index: u64) -
 pub(crate) fn note(input: &[u8], header: &Header, part: &Range, align: u64) -> Result<NoteRange, Error> {
     // SAFETY: see above.
     filled(|out| unsafe { xmas_elf_note(input.as_ptr(), input.len(), header, part, align, out) })
+}
+
+pub(crate) fn build_id(input: &[u8], header: &Header) -> Result<Range, Error> {
+    // SAFETY: see above.
+    filled(|out| unsafe { xmas_elf_build_id(input.as_ptr(), input.len(), header, out) })
+}
+
+pub(crate) fn bytes_at(input: &[u8], header: &Header, address: u64, count: u64) -> Result<Range, Error> {
+    // SAFETY: see above.
+    filled(|out| unsafe { xmas_elf_bytes_at(input.as_ptr(), input.len(), header, address, count, out) })
+}
+
+pub(crate) fn look_up(input: &[u8], header: &Header, section: u64, name: &str) -> Result<LookUp, Error> {
+    // SAFETY: see above.
+    filled(|out| unsafe { xmas_elf_look_up(input.as_ptr(), input.len(), header, section, name.as_ptr(), name.len(), out) })
+}
+
+pub(crate) fn check_hash(input: &[u8], header: &Header, section: u64) -> Result<(), Error> {
+    // SAFETY: see above.
+    checked(unsafe { xmas_elf_check_hash(input.as_ptr(), input.len(), header, section) })
+}
+
+pub(crate) fn gnu_look_up(input: &[u8], header: &Header, section: u64, name: &str) -> Result<LookUp, Error> {
+    // SAFETY: see above.
+    filled(|out| unsafe { xmas_elf_gnu_look_up(input.as_ptr(), input.len(), header, section, name.as_ptr(), name.len(), out) })
+}
+
+pub(crate) fn check_gnu_hash(input: &[u8], header: &Header, section: u64) -> Result<(), Error> {
+    // SAFETY: see above.
+    checked(unsafe { xmas_elf_check_gnu_hash(input.as_ptr(), input.len(), header, section) })
+}
+
+// How many bytes the text of a status has, as much of which as fits is put to the front of `out`.
+pub(crate) fn message(status: u32, out: &mut [u8]) -> usize {
+    // SAFETY: see above; of `out` as many bytes are written as it has, at most.
+    unsafe { xmas_elf_message(status, out.as_mut_ptr(), out.len()) }
 }

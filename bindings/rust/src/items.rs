@@ -1,7 +1,7 @@
-//! Sections, segments, symbols and notes, each with the file that it belongs to.
+//! Sections, segments and notes, each with the file that it belongs to.
 
 use crate::ffi::{self, Range};
-use crate::{Dynamic, ElfFile, Entry, Error, ProgramHeader, Relocation, SectionHeader};
+use crate::{Dynamic, ElfFile, Entry, Error, HashTable, ProgramHeader, Relocation, SectionHeader, Symbols};
 use core::ops::Deref;
 
 /// A section; the fields of its header are its own.
@@ -42,13 +42,19 @@ impl<'f, 'a> Section<'f, 'a> {
     }
 
     /// The symbols of the section, from index 0 on; none where it holds others.
-    pub fn symbols(&self) -> impl Iterator<Item = Symbol<'a>> + 'f {
-        let (file, section) = (self.file, self.index);
-        let strings = ffi::section_data(file.input, &file.header, u64::from(self.header.link));
-        (0u64..).map_while(move |index| {
-            let entry = ffi::symbol(file.input, &file.header, section, index).ok()?;
-            Some(Symbol { file: *file, strings, index, entry })
-        })
+    pub fn symbols(&self) -> Symbols<'f, 'a> {
+        Symbols::new(self.file, self.index, u64::from(self.header.link))
+    }
+
+    /// Puts the symbols from an index on to the front of `out`, as many as it has room for or all that follow, and
+    /// says how many. Refused where there is none at that index. It costs less than the iterator.
+    pub fn symbols_from(&self, first: u64, out: &mut [Entry]) -> Result<usize, Error> {
+        ffi::symbols(self.file.input, &self.file.header, self.index, first, out)
+    }
+
+    /// The hash table that the section is by its type.
+    pub fn hash_table(&self) -> Option<HashTable<'f, 'a>> {
+        HashTable::new(self.file, self.index, &self.header)
     }
 
     /// The relocations of the section; none where it holds others.
@@ -98,46 +104,6 @@ impl<'f, 'a> Segment<'f, 'a> {
     /// The notes that the data of the segment is.
     pub fn notes(&self) -> Result<Notes<'f, 'a>, Error> {
         Ok(Notes { file: self.file, rest: self.data_range()?, align: self.header.align })
-    }
-}
-
-/// A symbol; its numbers are its own.
-#[derive(Clone, Copy)]
-pub struct Symbol<'a> {
-    file: ElfFile<'a>,
-    strings: Result<Range, Error>,
-    index: u64,
-    entry: Entry,
-}
-
-impl Deref for Symbol<'_> {
-    type Target = Entry;
-
-    fn deref(&self) -> &Entry {
-        &self.entry
-    }
-}
-
-impl<'a> Symbol<'a> {
-    /// The index of the symbol in its table.
-    pub fn index(&self) -> u64 {
-        self.index
-    }
-
-    /// The name of the symbol, in the string table that its section is linked to.
-    pub fn name(&self) -> Result<&'a str, Error> {
-        let range = ffi::text(self.file.input, &self.strings?, u64::from(self.entry.name))?;
-        Ok(self.file.text(range))
-    }
-
-    /// How files share the symbol.
-    pub fn binding(&self) -> u8 {
-        self.entry.info / 16
-    }
-
-    /// What the symbol stands for.
-    pub fn kind(&self) -> u8 {
-        self.entry.info % 16
     }
 }
 

@@ -22,11 +22,17 @@
 
 mod error;
 mod ffi;
+mod hash;
 mod items;
+mod message;
+mod symbols;
 
 pub use error::Error;
-pub use ffi::{Dynamic, Entry, Header, ProgramHeader, Relocation, SectionHeader};
-pub use items::{Note, Notes, Section, Segment, Symbol};
+pub use ffi::{Dynamic, Entry, Header, LookUp, ProgramHeader, Relocation, SectionHeader};
+pub use hash::HashTable;
+pub use items::{Note, Notes, Section, Segment};
+pub use message::Message;
+pub use symbols::{Symbol, Symbols};
 
 /// An ELF file: its bytes, and its header.
 #[derive(Clone, Copy, Debug)]
@@ -96,21 +102,29 @@ impl<'a> ElfFile<'a> {
         (0..self.segment_count()).map_while(|index| self.segment(index).ok())
     }
 
-    /// The build id: the description of the note of type 3 named `GNU` in section `.note.gnu.build-id`.
+    /// The build id, of a file of either class: the description of the first note of section
+    /// `.note.gnu.build-id`, if it is of type 3 and named `GNU`.
     pub fn build_id(&self) -> Option<&'a [u8]> {
-        let section = self.section_by_name(".note.gnu.build-id")?;
-        let note = section.notes().ok()?.next()?.ok()?;
-        (note.type_ == 3 && note.name == b"GNU\0").then_some(note.desc)
+        ffi::build_id(self.input, &self.header).ok().map(|range| self.bytes(range))
     }
 
-    // The bytes of a range that the archive answered, which lies in the input.
+    /// The bytes that the file has for so many addresses from one on: those of the first loaded segment that has
+    /// them all. It needs no section header.
+    pub fn bytes_at(&self, address: u64, count: u64) -> Result<&'a [u8], Error> {
+        Ok(self.bytes(ffi::bytes_at(self.input, &self.header, address, count)?))
+    }
+
+    /// The first hash table of symbols among the sections: GNU's, or else the gABI's.
+    pub fn hash_table(&self) -> Option<HashTable<'_, 'a>> {
+        let first = |gnu| self.sections().filter_map(|section| section.hash_table()).find(|table| table.is_gnu() == gnu);
+        first(true).or_else(|| first(false))
+    }
+
     pub(crate) fn bytes(&self, range: ffi::Range) -> &'a [u8] {
-        let start = range.offset as usize;
-        self.input.get(start..start.saturating_add(range.size as usize)).unwrap_or_default()
+        range.bytes_in(self.input)
     }
 
-    // The text of a range that the archive answered as one.
     pub(crate) fn text(&self, range: ffi::Range) -> &'a str {
-        core::str::from_utf8(self.bytes(range)).unwrap_or_default()
+        range.text_in(self.input)
     }
 }

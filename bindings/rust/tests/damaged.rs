@@ -1,6 +1,6 @@
 //! Damaged files: every call returns, and each part that it gives lies in the input.
 
-use xmas_elf_proved::{ElfFile, Section};
+use xmas_elf_proved::{ElfFile, Entry, Section};
 
 // A stream of numbers (Marsaglia's xorshift of 64 bits), the same in each run.
 struct Numbers(u64);
@@ -23,11 +23,26 @@ fn visit_section(input: &[u8], section: &Section<'_, '_>) -> usize {
     for symbol in section.symbols().take(200) {
         found += 1;
         assert!(symbol.name().map_or(true, |name| lies_in(input, name.as_bytes())));
+        assert_eq!(symbol.name().map(str::as_bytes), symbol.name_bytes());
     }
+    let mut many = [Entry::default(); 7];
+    let count = section.symbols_from(3, &mut many).unwrap_or(0);
+    let left = section.symbols().skip(3).take(7);
+    assert!(left.clone().count() == count && left.zip(&many).all(|(symbol, entry)| symbol.value == entry.value));
     found += section.relocations().take(200).count() + section.dynamic().take(200).count();
     for note in section.notes().into_iter().flatten().take(200).flatten() {
         found += 1;
         assert!(lies_in(input, note.name) && lies_in(input, note.desc));
+    }
+    if let Some(table) = section.hash_table() {
+        let _checked = table.check();
+        for name in ["", "main", "printf", "a"] {
+            // In a damaged file the string table by its name may be another than that of the link.
+            if let Ok(Some(symbol)) = table.look_up(name) {
+                found += 1;
+                assert!(symbol.name().map_or(true, |name| lies_in(input, name.as_bytes())));
+            }
+        }
     }
     assert!(section.data().map_or(true, |data| lies_in(input, data) && data.len() as u64 == section.size));
     assert!(section.name().map_or(true, |name| lies_in(input, name.as_bytes())));
@@ -39,9 +54,13 @@ fn visit(input: &[u8]) -> usize {
         return 0;
     };
     let _checked = file.check_header();
-    let _id = file.build_id();
+    assert!(file.build_id().map_or(true, |id| lies_in(input, id)));
     let segments = file.segments().take(200).map(|segment| {
         assert!(segment.data().map_or(true, |data| lies_in(input, data)));
+        for count in [0, 1, segment.file_size, u64::MAX] {
+            let bytes = file.bytes_at(segment.virtual_addr, count);
+            assert!(bytes.map_or(true, |bytes| lies_in(input, bytes) && bytes.len() as u64 == count));
+        }
         1
     });
     segments.sum::<usize>() + file.sections().take(200).map(|section| visit_section(input, &section)).sum::<usize>()

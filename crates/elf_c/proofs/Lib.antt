@@ -1,1 +1,6 @@
 pub mod FoundSections
+pub mod StatusTexts
+pub mod Looking
+pub mod Batches
+pub mod GnuLooking
+pub mod Tables

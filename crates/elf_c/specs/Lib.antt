@@ -5,3 +5,9 @@ pub mod Symbols
 pub mod Relocations
 pub mod Dynamics
 pub mod FirstNote
+pub mod Texts
+pub mod BuildId
+pub mod Addresses
+pub mod Batch
+pub mod Lookup
+pub mod GnuLookup

@@ -100,6 +100,11 @@ abbrev pub and_so : {A B : Type 0} → Result A ElfError → (A → Result B Ref
 and_so (Ok value) next = next value
 and_so (Err error) next = Err (Elf error)
 
+-- the same of what exports answer themselves
+abbrev pub and_here : {A B : Type 0} → Result A Refusal → (A → Result B Refusal) → Result B Refusal
+and_here (Ok value) next = next value
+and_here (Err refusal) next = Err refusal
+
 -- the status and the record after a call with this answer: the value, or else the record as it was
 abbrev pub GivesBy : {T E : Type 0} → (E → ℕ) → Result T E → T → ℕ → T → Type 0
 GivesBy number_of (Ok value) old status new = (status ≡ 0) × (new ≡ value)

@@ -43,7 +43,12 @@ fn next_step(align: u64, place: u64) -> u64
 }
 
 // The note at the front of these bytes, which stand at `start`.
-fn first_note(bytes: &[u8], start: u64, order: Order, align: u64) -> Result<NoteRange, Refusal>
+pub(crate) fn first_note(
+    bytes: &[u8],
+    start: u64,
+    order: Order,
+    align: u64,
+) -> Result<NoteRange, Refusal>
     requires { start + length bytes.now < 2 ^ 64 }
     ensures { result ≡ note_at start align order bytes.now }
 {

@@ -1,12 +1,14 @@
 //! The symbols of a section (gABI, "Symbol Table").
 
-ghost use Rattle.std.specs.Prelude.{◌≡◌};
+ghost use Rattle.std.specs.Prelude.{◌≡◌, ℕ, Result};
 ghost use Rattle.elf_base.specs.Refusal.{and_then};
 ghost use Rattle.elf_base.specs.Table.{table_items};
+ghost use Rattle.elf_c.specs.Batch.{Fills};
 ghost use Rattle.elf_c.specs.Parsed.{file_of};
 ghost use Rattle.elf_c.specs.Records.{found_in};
 ghost use Rattle.elf_c.specs.Status.{GivesHere, and_so};
 ghost use Rattle.elf_c.specs.Symbols.{symbol_in, symbol_record};
+ghost use Rattle.elf_c.specs.declared.status.Refusal.{Refusal};
 ghost use Rattle.xmas_elf.specs.SectionContent.{section_content_of};
 ghost use Rattle.xmas_elf.specs.SectionHeader.{section_of};
 
@@ -96,4 +98,72 @@ pub extern "C" fn xmas_elf_symbol(
         out.old result out.new }
 {
     give(symbol_of_section(&header.file(input), section, index), out)
+}
+
+// Puts the symbols of a table from an index on to the front of `out`, and says how many. It copies the table, so
+// that nothing of it is read again after a symbol is written.
+fn fill<E: Entry + Record>(
+    table: &Table<'_, E>,
+    first: u64,
+    out: &mut [Symbol],
+) -> Result<u64, Refusal>
+    ensures { Fills (found_in (λ e. symbol_record (E.fields e)) (table_items table.now)) first
+        out.old result out.new }
+{
+    let (table, first) = (*table, first as usize);
+    if first >= table.len() {
+        return Err(Refusal::NoRecord);
+    }
+    let count = (table.len() - first).min(out.len());
+    for place in 0..count {
+        match table.get(first + place) {
+            Some(entry) => out[place] = Symbol::of(&entry),
+            None => unreachable!(),
+        }
+    }
+    Ok(count as u64)
+}
+
+// The same of the symbols of a section.
+fn fill_from_section(
+    file: &ElfFile<'_>,
+    section: u64,
+    first: u64,
+    out: &mut [Symbol],
+) -> Result<u64, Refusal>
+    ensures { Fills (λ index. and_so (and_then (section_of file.now section)
+        (section_content_of file.now)) (symbol_in index)) first out.old result out.new }
+{
+    match file.section_header_at(section)?.get_data(file)? {
+        SectionData::SymbolTable32(table) => fill(&table, first, out),
+        SectionData::SymbolTable64(table) => fill(&table, first, out),
+        SectionData::DynSymbolTable32(table) => fill(&table, first, out),
+        SectionData::DynSymbolTable64(table) => fill(&table, first, out),
+        _ => Err(Refusal::OtherData),
+    }
+}
+
+/// The symbols from index `first` on of the section at an index, each as by `xmas_elf_symbol`: as many as `out`
+/// has room for, or all that follow. Their number goes to `count`; what of `out` is behind them stays.
+///
+/// Refused as `xmas_elf_symbol` is at `first`; `out` and `count` then stay as they were.
+#[unsafe(no_mangle)]
+pub extern "C" fn xmas_elf_symbols(
+    input: &[u8],
+    header: &Parsed,
+    section: u64,
+    first: u64,
+    out: &mut [Symbol],
+    count: &mut u64,
+) -> u32
+    ensures { (answer : Result ℕ Refusal)
+        × Fills (λ index. and_so (and_then (section_of (file_of input.entry header.now) section)
+        (section_content_of (file_of input.entry header.now))) (symbol_in index))
+        first out.old answer out.new
+        × GivesHere answer count.old result count.new }
+{
+    give(
+        fill_from_section(&header.file(input), section, first, out),
+        count,
+    )
 }

@@ -1,0 +1,62 @@
+//! Look-ups of symbols by their names.
+
+use crate::{ffi, ElfFile, Error, LookUp, SectionHeader, Symbol};
+
+// The types of the sections with the two kinds of tables (SHT_HASH and SHT_GNU_HASH).
+const HASH: u32 = 5;
+const GNU_HASH: u32 = 0x6fff_fff6;
+
+/// A section that is a hash table of symbols: the gABI's, or GNU's.
+///
+/// It goes by the names in section `.dynstr`, and for symbols of a section of type SHT_SYMTAB in `.strtab`. In an
+/// undamaged file that is the string table that the symbols are linked to.
+#[derive(Clone, Copy, Debug)]
+pub struct HashTable<'f, 'a> {
+    file: &'f ElfFile<'a>,
+    section: u64,
+    link: u64,
+    gnu: bool,
+}
+
+impl<'f, 'a> HashTable<'f, 'a> {
+    pub(crate) fn new(file: &'f ElfFile<'a>, section: u64, header: &SectionHeader) -> Option<HashTable<'f, 'a>> {
+        let gnu = header.type_ == GNU_HASH;
+        (gnu || header.type_ == HASH).then_some(HashTable { file, section, link: u64::from(header.link), gnu })
+    }
+
+    /// Whether it is GNU's.
+    pub fn is_gnu(&self) -> bool {
+        self.gnu
+    }
+
+    /// Whether look-ups can be relied on: then none is refused for the table, and each finds a symbol wherever one
+    /// that isn't local, and in GNU's table is defined, bears the name. To be called once for many look-ups.
+    pub fn check(&self) -> Result<(), Error> {
+        let (input, header) = (self.file.input, &self.file.header);
+        if self.gnu {
+            ffi::check_gnu_hash(input, header, self.section)
+        } else {
+            ffi::check_hash(input, header, self.section)
+        }
+    }
+
+    /// What a look-up for a name says, in numbers.
+    pub fn look_up_counted(&self, name: &str) -> Result<LookUp, Error> {
+        let (input, header) = (self.file.input, &self.file.header);
+        if self.gnu {
+            ffi::gnu_look_up(input, header, self.section, name)
+        } else {
+            ffi::look_up(input, header, self.section, name)
+        }
+    }
+
+    /// The symbol with a name, defined or not, or none.
+    pub fn look_up(&self, name: &str) -> Result<Option<Symbol<'a>>, Error> {
+        let said = self.look_up_counted(name)?;
+        if said.found == 0 {
+            return Ok(None);
+        }
+        let strings = self.file.section(self.link)?.link;
+        Symbol::at(self.file, self.link, u64::from(strings), u64::from(said.index)).map(Some)
+    }
+}

@@ -1,0 +1,107 @@
+//! The symbols of a section.
+
+use crate::ffi::{self, Range};
+use crate::{ElfFile, Entry, Error};
+use core::ops::Deref;
+
+// How many symbols are asked for at once.
+const BATCH: usize = 64;
+
+// The data of a string table.
+fn strings_of<'a>(file: &ElfFile<'a>, section: u64) -> Result<&'a [u8], Error> {
+    Ok(file.bytes(ffi::section_data(file.input, &file.header, section)?))
+}
+
+/// A symbol; its numbers are its own.
+#[derive(Clone, Copy, Debug)]
+pub struct Symbol<'a> {
+    strings: Result<&'a [u8], Error>,
+    index: u64,
+    entry: Entry,
+}
+
+impl Deref for Symbol<'_> {
+    type Target = Entry;
+
+    fn deref(&self) -> &Entry {
+        &self.entry
+    }
+}
+
+impl<'a> Symbol<'a> {
+    // The symbol at an index of a section whose string table is the section `link`.
+    pub(crate) fn at(file: &ElfFile<'a>, section: u64, link: u64, index: u64) -> Result<Symbol<'a>, Error> {
+        let entry = ffi::symbol(file.input, &file.header, section, index)?;
+        Ok(Symbol { strings: strings_of(file, link), index, entry })
+    }
+
+    /// The index of the symbol in its table.
+    pub fn index(&self) -> u64 {
+        self.index
+    }
+
+    /// The name of the symbol, in the string table that its section is linked to.
+    pub fn name(&self) -> Result<&'a str, Error> {
+        Ok(core::str::from_utf8(self.name_bytes()?).unwrap_or_default())
+    }
+
+    /// The bytes of the name, which are UTF-8; refused as `name` is. Rust doesn't test them again.
+    pub fn name_bytes(&self) -> Result<&'a [u8], Error> {
+        let strings = self.strings?;
+        let whole = Range { offset: 0, size: strings.len() as u64 };
+        Ok(ffi::text(strings, &whole, u64::from(self.entry.name))?.bytes_in(strings))
+    }
+
+    /// How files share the symbol.
+    pub fn binding(&self) -> u8 {
+        self.entry.info / 16
+    }
+
+    /// What the symbol stands for.
+    pub fn kind(&self) -> u8 {
+        self.entry.info % 16
+    }
+}
+
+/// The symbols of a section in order, which it asks the archive for by many at once.
+#[derive(Clone, Debug)]
+pub struct Symbols<'f, 'a> {
+    file: &'f ElfFile<'a>,
+    section: u64,
+    strings: Result<&'a [u8], Error>,
+    // The index of the first symbol of the batch, how many of the batch are symbols, and which is next.
+    first: u64,
+    count: usize,
+    next: usize,
+    batch: [Entry; BATCH],
+}
+
+impl<'f, 'a> Symbols<'f, 'a> {
+    pub(crate) fn new(file: &'f ElfFile<'a>, section: u64, link: u64) -> Symbols<'f, 'a> {
+        Symbols { file, section, strings: strings_of(file, link), first: 0, count: 0, next: 0, batch: [Entry::default(); BATCH] }
+    }
+
+    // Asks for the next symbols; none where there are no more.
+    #[cold]
+    fn refill(&mut self) -> Option<()> {
+        let first = self.first + self.count as u64;
+        let count = ffi::symbols(self.file.input, &self.file.header, self.section, first, &mut self.batch).ok()?;
+        (self.first, self.count, self.next) = (first, count.min(BATCH), 0);
+        (count > 0).then_some(())
+    }
+}
+
+impl<'a> Iterator for Symbols<'_, 'a> {
+    type Item = Symbol<'a>;
+
+    #[inline]
+    fn next(&mut self) -> Option<Symbol<'a>> {
+        if self.next == self.count {
+            self.refill()?;
+        }
+        let entry = *self.batch.get(self.next)?;
+        let index = self.first + self.next as u64;
+        self.next += 1;
+        Some(Symbol { strings: self.strings, index, entry })
+    }
+}

@@ -1,0 +1,174 @@
+//! Look-ups by GNU's hash tables, and their check (the convention of GNU binutils and glibc).
+
+ghost use Rattle.std.specs.Prelude.{◌≡◌, Result, true, MatchResult};
+ghost use Rattle.elf_c.specs.GnuLookup.{ChecksWith, IsChecked, IsLookUp, IsLookUpBy, IsTableIn, LooksAmong, NoTableIn, WithTable};
+ghost use Rattle.elf_c.specs.Parsed.{file_of};
+ghost use Rattle.elf_c.specs.Status.{GivesHere};
+ghost use Rattle.elf_c.specs.declared.hash.LookUp.{LookUp};
+ghost use Rattle.elf_c.specs.declared.status.Refusal.{Refusal};
+ghost use Rattle.xmas_elf.specs.HashReport.{content_at};
+ghost use Rattle.xmas_elf.specs.Symbols.{symbols_of};
+
+use crate::file::Parsed;
+use crate::hash::LookUp;
+use crate::status::{Refusal, give};
+use elf_base::ElfError;
+use elf_base::header::byte_order;
+use elf_linking::gnu_hash::GnuHashTable;
+use std::str::from_utf8;
+use xmas_elf::ElfFile;
+use xmas_elf::bytes::{Record, Table};
+use xmas_elf::sections::{SectionData, SectionHeader};
+use xmas_elf::symbol_table::Entry;
+
+// The type of sections with such a table (SHT_GNU_HASH).
+const SHT_GNU_HASH: u32 = 0x6fff_fff6;
+
+// The table that a section holds.
+fn table_in<'a>(file: &ElfFile<'a>, section: &SectionHeader) -> Result<GnuHashTable<'a>, Refusal>
+    ensures { MatchResult result (IsTableIn file.now section.now) (NoTableIn file.now section.now) }
+{
+    if section.type_().raw() != SHT_GNU_HASH {
+        return Err(Refusal::OtherData);
+    }
+    let bytes = match section.raw_data(file) {
+        Ok(bytes) => bytes,
+        Err(error) => return Err(Refusal::Elf(error)),
+    };
+    let order = byte_order(file.header.pt1.encoding);
+    match GnuHashTable::read(bytes, file.header.pt1.class(), order) {
+        Ok(table) => Ok(table),
+        Err(error) => Err(Refusal::Link(error)),
+    }
+}
+
+// The answer of a look-up for a name among symbols.
+fn look_up<E: Entry + Record>(
+    table: &GnuHashTable<'_>,
+    name: &str,
+    symbols: &Table<'_, E>,
+    file: &ElfFile<'_>,
+) -> Result<LookUp, Refusal>
+    ensures { IsLookUp table.now name.now (symbols_of E.fields E.text_in symbols.now file.now) result }
+{
+    let (found, looked_at) = table.lookup_counted(
+        name,
+        symbols,
+        file,
+        |_| -> bool
+            ensures { result ≡ true }
+        { true },
+    );
+    match found {
+        Ok(found) => Ok(LookUp::of(found, looked_at)),
+        Err(error) => Err(Refusal::Link(error)),
+    }
+}
+
+// The same among the symbols that the section at an index holds.
+fn look_up_among(
+    table: &GnuHashTable<'_>,
+    name: &str,
+    section: u32,
+    file: &ElfFile<'_>,
+) -> Result<LookUp, Refusal>
+    ensures { LooksAmong file.now name.now table.now (content_at file.now section) result }
+{
+    match file.section_header_at(u64::from(section))?.get_data(file)? {
+        SectionData::SymbolTable32(symbols) => look_up(table, name, &symbols, file),
+        SectionData::SymbolTable64(symbols) => look_up(table, name, &symbols, file),
+        SectionData::DynSymbolTable32(symbols) => look_up(table, name, &symbols, file),
+        SectionData::DynSymbolTable64(symbols) => look_up(table, name, &symbols, file),
+        _ => Err(Refusal::OtherData),
+    }
+}
+
+// The answer by the table that is the section at an index.
+fn look_up_in(file: &ElfFile<'_>, section: u64, name: &str) -> Result<LookUp, Refusal>
+    ensures { WithTable file.now section (LooksAmong file.now name.now) result }
+{
+    let found = file.section_header_at(section)?;
+    let table = table_in(file, &found)?;
+    look_up_among(&table, name, found.link(), file)
+}
+
+// The same for a name in bytes.
+fn look_up_by(file: &ElfFile<'_>, section: u64, name: &[u8]) -> Result<LookUp, Refusal>
+    ensures { IsLookUpBy file.now section name.now result }
+{
+    match from_utf8(name) {
+        Ok(name) => look_up_in(file, section, name),
+        Err(_) => Err(Refusal::Elf(ElfError::TextUtf8)),
+    }
+}
+
+/// The symbol with a name, by GNU's hash table that is the section at an index, among the symbols that this
+/// section is linked to (sh_link): the answer of `GnuHashTable::lookup_counted` with a test that passes all.
+///
+/// Refused as `ElfFile::section_header_at` of the two sections, as `SectionHeader::raw_data`, `GnuHashTable::read`
+/// and `SectionHeader::get_data`, with `OtherData` where the section is of another type than 0x6ffffff6 or its
+/// link leads to no symbols, with `TextUtf8` where the name isn't UTF-8, and as the look-up is. It is never
+/// refused by the look-up where `xmas_elf_check_gnu_hash` is OK.
+#[unsafe(no_mangle)]
+pub extern "C" fn xmas_elf_gnu_look_up(
+    input: &[u8],
+    header: &Parsed,
+    section: u64,
+    name: &[u8],
+    out: &mut LookUp,
+) -> u32
+    ensures { (answer : Result LookUp Refusal)
+        × IsLookUpBy (file_of input.entry header.now) section name.now answer
+        × GivesHere answer out.old result out.new }
+{
+    give(look_up_by(&header.file(input), section, name), out)
+}
+
+// The answer of the check with symbols.
+fn check<E: Entry + Record>(
+    table: &GnuHashTable<'_>,
+    symbols: &Table<'_, E>,
+    file: &ElfFile<'_>,
+) -> Result<(), Refusal>
+    ensures { IsChecked table.now (symbols_of E.fields E.text_in symbols.now file.now) result }
+{
+    match table.check(symbols, file) {
+        Ok(()) => Ok(()),
+        Err(error) => Err(Refusal::Link(error)),
+    }
+}
+
+// The same with the symbols that the section at an index holds.
+fn check_with(table: &GnuHashTable<'_>, section: u32, file: &ElfFile<'_>) -> Result<(), Refusal>
+    ensures { ChecksWith file.now table.now (content_at file.now section) result }
+{
+    match file.section_header_at(u64::from(section))?.get_data(file)? {
+        SectionData::SymbolTable32(symbols) => check(table, &symbols, file),
+        SectionData::SymbolTable64(symbols) => check(table, &symbols, file),
+        SectionData::DynSymbolTable32(symbols) => check(table, &symbols, file),
+        SectionData::DynSymbolTable64(symbols) => check(table, &symbols, file),
+        _ => Err(Refusal::OtherData),
+    }
+}
+
+// The answer of the check of the table that is the section at an index.
+fn check_in(file: &ElfFile<'_>, section: u64) -> Result<(), Refusal>
+    ensures { WithTable file.now section (ChecksWith file.now) result }
+{
+    let found = file.section_header_at(section)?;
+    let table = table_in(file, &found)?;
+    check_with(&table, found.link(), file)
+}
+
+/// Whether look-ups by GNU's hash table that is the section at an index find each symbol that they should: the
+/// answer of `GnuHashTable::check`, in one pass over the table and one over the symbols.
+///
+/// Refused as `xmas_elf_gnu_look_up` for want of a table or symbols, and as the check is.
+#[unsafe(no_mangle)]
+pub extern "C" fn xmas_elf_check_gnu_hash(input: &[u8], header: &Parsed, section: u64) -> u32
+    ensures { (answer : Result (Unit {0}) Refusal)
+        × WithTable (file_of input.entry header.now) section (ChecksWith (file_of input.entry header.now)) answer
+        × GivesHere answer tt result tt }
+{
+    give(check_in(&header.file(input), section), &mut ())
+}
