@@ -1,3 +1,4 @@
 pub mod Linked
 pub mod BuildIds
 pub mod LinkedValue
+pub mod LinkedFunction

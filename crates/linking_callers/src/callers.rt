@@ -8,6 +8,7 @@ ghost use Rattle.elf_linking.specs.GoodGnu.{IsExported, IsGood};
 ghost use Rattle.linking_callers.specs.Linked.{IsFaultOf, IsValueBy};
 ghost use Rattle.xmas_elf.specs.Symbols.{Decides, symbols_of};
 
+pub mod backtrace;
 pub mod linked;
 pub mod notes;
 pub mod relr;
