@@ -253,7 +253,7 @@ fn says_that_it_cannot_flush(rt: HostRuntime) {
     assert_eq!(rt; err.text(), "".as_bytes());
 }
 
-// Run also with `rt try --test --fail-alloc N`, for N from 1 up: the only requests are those of `run`.
+// Run also with `rt try --test --fail-alloc N`, for N from 1 up: only `run` asks for memory.
 #[test]
 fn keeps_its_word_with_little_memory(rt: HostRuntime) -> Result<(), Fail> {
     let mut out = ShortWriter::new(100);
