@@ -21,18 +21,15 @@ line holds the counts. The exit status is 0 if there is no difference, 1 if ther
 is one, and 2 if the comparison couldn't be run.
 """
 
-import argparse
-import os
 import re
-import subprocess
 import sys
 import tempfile
 from collections import defaultdict
 from pathlib import Path
 from typing import Dict, List, NamedTuple, Set, Tuple
 
-ROOT = Path(__file__).resolve().parent.parent
-MAGIC = b"\x7fELF"
+import comparing
+from comparing import read_elf, run
 
 # The value, size, type, binding, visibility, section and name with its version; a type or a binding
 # without a name is `<OS specific>: 10`, and a large size is in hexadecimal.
@@ -55,22 +52,14 @@ class Listing(NamedTuple):
     needed: List[str]
 
 
-class Tally:
-    """Counts what was compared, and prints each difference as it is met."""
+class Tally(comparing.Tally):
+    """Counts what was compared."""
 
-    def __init__(self) -> None:
-        self.files = 0
-        self.stripped = 0
-        self.exported = 0
-        self.versions = 0
-        self.others = 0
-        self.needed = 0
-        self.differences = 0
-
-    def differ(self, path: str, what: str, says: object, reads: object) -> None:
-        """Counts a difference and prints its line."""
-        self.differences += 1
-        print(f"{path}: {what}: elfsym says {says}, readelf says {reads}")
+    stripped = 0
+    exported = 0
+    versions = 0
+    others = 0
+    needed = 0
 
     def __str__(self) -> str:
         return (
@@ -79,23 +68,6 @@ class Tally:
             f" {self.others} others and {self.needed} needed"
             f" libraries compared, {self.differences} differences"
         )
-
-
-def run(command: List[str]) -> Tuple[int, str, str]:
-    """Runs a command in the C locale; ends the script where it can't be run."""
-    try:
-        done = subprocess.run(
-            command,
-            stdin=subprocess.DEVNULL,
-            stdout=subprocess.PIPE,
-            stderr=subprocess.PIPE,
-            env=dict(os.environ, LC_ALL="C"),
-        )
-    except OSError as error:
-        print(f"cannot run {command[0]}: {error.strerror}", file=sys.stderr)
-        sys.exit(2)
-    decode = "surrogateescape"
-    return done.returncode, done.stdout.decode("utf-8", decode), done.stderr.decode("utf-8", decode)
 
 
 def read_readelf(path: str) -> Listing:
@@ -180,42 +152,20 @@ def stripped(content: bytes) -> bytes:
     return bytes(copy)
 
 
-def read_elf(path: str) -> bytes:
-    """The bytes of a file that begins with the ELF magic number, and else none."""
-    try:
-        with open(path, "rb") as file:
-            if file.read(len(MAGIC)) != MAGIC:
-                return b""
-            file.seek(0)
-            return file.read()
-    except OSError:
-        return b""
-
-
-def main() -> int:
-    """Compares each file, and tells whether there was a difference."""
-    parser = argparse.ArgumentParser(
-        description="Compare what is found by the dynamic segment with what readelf lists."
-    )
-    default = ROOT / "crates" / "elfsym" / "out" / "elfsym"
-    parser.add_argument("--elfsym", default=str(default), metavar="PATH")
-    parser.add_argument("files", nargs="+", metavar="FILE")
-    arguments = parser.parse_args()
-    tally = Tally()
-    with tempfile.TemporaryDirectory() as folder:
-        copy = Path(folder) / "copy"
-        for path in arguments.files:
-            content = read_elf(path)
-            reads = read_readelf(path) if content else None
-            if not reads or not reads.names:
-                continue
-            compare_file(path, path, arguments.elfsym, reads, tally)
-            copy.write_bytes(stripped(content))
-            tally.stripped += 1
-            compare_file(f"{path}, stripped", str(copy), arguments.elfsym, reads, tally)
-    print(tally)
-    return 1 if tally.differences else 0
+def compare_with_copy(path: str, elfsym: str, copy: Path, tally: Tally) -> None:
+    """Compares a file with dynamic symbols, and a copy of it without section headers."""
+    content = read_elf(path)
+    reads = read_readelf(path) if content else None
+    if not reads or not reads.names:
+        return
+    compare_file(path, path, elfsym, reads, tally)
+    copy.write_bytes(stripped(content))
+    tally.stripped += 1
+    compare_file(f"{path}, stripped", str(copy), elfsym, reads, tally)
 
 
 if __name__ == "__main__":
-    sys.exit(main())
+    compared = Tally("elfsym")
+    with tempfile.TemporaryDirectory() as folder:
+        copied = Path(folder, "copy")
+        sys.exit(comparing.compare_all(__doc__, compared, lambda path, elfsym: compare_with_copy(path, elfsym, copied, compared)))

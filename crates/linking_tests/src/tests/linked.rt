@@ -8,6 +8,7 @@ use elf_base::header::Class;
 use elf_linking::LinkError;
 use elf_linking::gnu_hash::GnuHashTable;
 use elf_linking::view::{DynamicView, LinkedEntry32, LinkedEntry64, bytes_at, bytes_from};
+use linking_callers::callers::backtrace::function_name;
 use linking_callers::callers::linked::value_by_name;
 use std::process::Abort;
 use std::test::Fail;
@@ -220,6 +221,25 @@ fn counts_symbols_by_runs(rt: HostRuntime) -> Result<(), Fail> {
         }
         let table = GnuHashTable::read(&bytes, Class::ThirtyTwo, LITTLE)?;
         assert_eq!(rt; table.symbol_count(), *count, "{number}");
+    }
+    Ok(())
+}
+
+// A function ends before its value and size together; what is no function isn't named.
+#[test]
+fn names_the_function_of_an_address(rt: HostRuntime) -> Result<(), Fail> {
+    let file = ElfFile::new(SMALL)?;
+    let rows = [
+        (0x22f, None),
+        (0x230, Some("ab")),
+        (0x239, Some("ab")),
+        (0x23a, Some("ef")),
+        (0x23f, Some("ef")),
+        (0x240, None),
+        (u64::MAX, None),
+    ];
+    for (address, name) in rows {
+        assert_eq!(rt; function_name(&file, address), Ok(name), "{address}");
     }
     Ok(())
 }
