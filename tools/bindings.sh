@@ -35,12 +35,20 @@ for program in nm find speed; do
     gcc -std=c11 "${strict[@]}" "bindings/c/$program.c" "$XMAS_ELF_ARCHIVE/libelf_c.a" -o "$room/${program}_c"
 done
 g++ -std=c++17 "${strict[@]}" -x c++ -fsyntax-only bindings/include/xmas_elf.h
+# The programs of the page, in the order in which they stand there.
+shown() { awk -v wanted="$1" '/^```c$/ { count++; on = count == wanted; next } /^```$/ { on = 0 } on' bindings/README.md > "$room/shown_$1.c"; }
+shown 1
+gcc -std=c11 "${strict[@]}" "$room/shown_1.c" "$XMAS_ELF_ARCHIVE/libelf_c.a" -o "$room/names_c"
+shown 2
+gcc -std=c11 "${strict[@]}" -Wno-unused-function -c "$room/shown_2.c" -o "$room/find.o"
 cargo build --quiet --offline --release --manifest-path bindings/rust/Cargo.toml --examples
 for file in "$room/nm_c" /lib/x86_64-linux-gnu/libc.so.6; do
     "$room/nm_c" "$file" > "$room/of_c"
     "$CARGO_TARGET_DIR/release/examples/nm" "$file" > "$room/of_rust"
     cmp "$room/of_c" "$room/of_rust"
     diff <(printed "$room/of_c") <(names "$file") > "$room/difference" || { head "$room/difference"; exit 1; }
+    "$room/names_c" < "$file" > "$room/of_page"
+    diff <(sed 's/@.*//' "$room/of_page" | grep . | sort) <(names "$file") > "$room/difference" || { head "$room/difference"; exit 1; }
     "$room/find_c" "$file" "${sought[@]}" > "$room/of_c"
     "$CARGO_TARGET_DIR/release/examples/find" "$file" "${sought[@]}" > "$room/of_rust"
     cmp "$room/of_c" "$room/of_rust"

@@ -1,7 +1,7 @@
 /* The proved ELF reader for C11 and C++: declarations of the static library `elf_c`.
  *
  * A file is the bytes `input[0 .. input_size]`, which the caller keeps. `xmas_elf_open` reads its header
- * into a record; every other call takes the same bytes and that record. A call answers a status, which is
+ * into a record; the calls for parts of the file take the same bytes and that record. A call answers a status, which is
  * XMAS_ELF_OK or the number of a refusal, and fills `*out` where the status is XMAS_ELF_OK; else `*out` stays
  * as it was. No call takes memory, keeps anything, writes elsewhere or fails otherwise, whatever the bytes,
  * the record and the indices are. Answers are numbers, and ranges of the input.
@@ -224,7 +224,7 @@ uint32_t xmas_elf_check_hash(const uint8_t *input, size_t input_size, const stru
                              uint64_t section);
 
 /* The same two by GNU's hash table, a section of type 0x6ffffff6. It is to hold the symbols that are defined and
- * not local, from its first on. The check is one pass over the table and one over the symbols. */
+ * not local, from its first on. The check is one pass over the table and one over the symbols and their names. */
 uint32_t xmas_elf_gnu_look_up(const uint8_t *input, size_t input_size, const struct xmas_elf_header *header,
                               uint64_t section, const uint8_t *name, size_t name_size,
                               struct xmas_elf_look_up *out);

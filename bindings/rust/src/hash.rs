@@ -30,7 +30,7 @@ impl<'f, 'a> HashTable<'f, 'a> {
     }
 
     /// Whether look-ups can be relied on: then none is refused for the table, and each finds a symbol wherever one
-    /// that isn't local, and in GNU's table is defined, bears the name. To be called once for many look-ups.
+    /// that isn't local bears the name; in GNU's table one from its first on that is defined. To be called once for many look-ups.
     pub fn check(&self) -> Result<(), Error> {
         let (input, header) = (self.file.input, &self.file.header);
         if self.gnu {

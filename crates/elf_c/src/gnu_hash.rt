@@ -105,10 +105,10 @@ fn look_up_by(file: &ElfFile<'_>, section: u64, name: &[u8]) -> Result<LookUp, R
 /// The symbol with a name, by GNU's hash table that is the section at an index, among the symbols that this
 /// section is linked to (sh_link): the answer of `GnuHashTable::lookup_counted` with a test that passes all.
 ///
-/// Refused as `ElfFile::section_header_at` of the two sections, as `SectionHeader::raw_data`, `GnuHashTable::read`
-/// and `SectionHeader::get_data`, with `OtherData` where the section is of another type than 0x6ffffff6 or its
-/// link leads to no symbols, with `TextUtf8` where the name isn't UTF-8, and as the look-up is. It is never
-/// refused by the look-up where `xmas_elf_check_gnu_hash` is OK.
+/// Refused with `TextUtf8` where the name isn't UTF-8; as `ElfFile::section_header_at` of the section, with
+/// `OtherData` where it is of another type than 0x6ffffff6, and as `SectionHeader::raw_data` and
+/// `GnuHashTable::read`; as `section_header_at` and `get_data` of the linked section, with `OtherData` where that
+/// holds no symbols; and as the look-up is, which is never so where `xmas_elf_check_gnu_hash` is OK.
 #[unsafe(no_mangle)]
 pub extern "C" fn xmas_elf_gnu_look_up(
     input: &[u8],
@@ -161,7 +161,7 @@ fn check_in(file: &ElfFile<'_>, section: u64) -> Result<(), Refusal>
 }
 
 /// Whether look-ups by GNU's hash table that is the section at an index find each symbol that they should: the
-/// answer of `GnuHashTable::check`, in one pass over the table and one over the symbols.
+/// answer of `GnuHashTable::check`, in one pass over the table and one over the symbols and their names.
 ///
 /// Refused as `xmas_elf_gnu_look_up` for want of a table or symbols, and as the check is.
 #[unsafe(no_mangle)]

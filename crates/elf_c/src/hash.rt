@@ -117,9 +117,10 @@ fn look_up_by(file: &ElfFile<'_>, section: u64, name: &[u8]) -> Result<LookUp, R
 /// The symbol with a name, by the hash table that is the section at an index, among the symbols that this
 /// section is linked to (sh_link): the answer of `HashTable::lookup_counted` with a test that passes all.
 ///
-/// Refused as `ElfFile::section_header_at` and `SectionHeader::get_data` of the two sections, with `OtherData`
-/// where they hold no hash table or no symbols, with `TextUtf8` where the name isn't UTF-8, and as the look-up
-/// is. It is never refused by the look-up where `xmas_elf_check_hash` is OK.
+/// Refused with `TextUtf8` where the name isn't UTF-8; as `ElfFile::section_header_at` and
+/// `SectionHeader::get_data` of the section, with `OtherData` where it holds no hash table; in the same way of the
+/// linked section, which is to hold symbols; and as the look-up is, which is never so where
+/// `xmas_elf_check_hash` is OK.
 #[unsafe(no_mangle)]
 pub extern "C" fn xmas_elf_look_up(
     input: &[u8],

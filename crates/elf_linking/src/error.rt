@@ -16,7 +16,7 @@ pub enum LinkError {
     /// A GNU hash table has fewer than 16 bytes, or its Bloom words and buckets pass the end of the
     /// data. Answered by `GnuHashTable::read`.
     ShortTable,
-    /// The class is neither 1 nor 2. Answered by calls that go by the class.
+    /// The class is neither 1 nor 2. Answered by `GnuHashTable::read` and `Relr::new`.
     UnknownClass,
     /// The number of Bloom words of a GNU hash table is not a power of two; 0 is none. Answered by
     /// `GnuHashTable::read`.

@@ -23,7 +23,7 @@ use xmas_elf::hash::HashTable;
 use xmas_elf::symbol_table::Entry;
 
 /// Whether look-ups by a table find each symbol that they should: all runs come to an end, and each
-/// symbol that is defined and not local and has a name is on the run of that name.
+/// symbol from the table's first on that is defined and not local and has a name is on its name's run.
 pub fn finds_all<E: Entry + Record>(
     table: &GnuHashTable<'_>,
     symbols: &Table<'_, E>,

@@ -27,7 +27,8 @@ impl<'a> GnuHashTable<'a> {
     ///
     /// It takes no memory, and marks nothing. It costs one pass over the buckets, one over the chain
     /// words and one over the symbols, whatever the bytes are. It looks the string table of the symbols
-    /// up once, as `Entry::string_table` does, and reads each name there at most once.
+    /// up once, as `Entry::string_table` does, and reads the name of each symbol there at most once;
+    /// symbols may share a long one.
     pub fn check<E: Entry + Record>(
         &self,
         symbols: &Table<'_, E>,

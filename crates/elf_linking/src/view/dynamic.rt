@@ -57,7 +57,7 @@ impl<'a> DynamicView<'a> {
     /// or at the end of the segment.
     ///
     /// Refused with `NoDynamic` where there is no such segment, and as its `ProgramHeader::get_data` is:
-    /// with `DataRange`, with `UnknownClass`, and with `NotMultiple`.
+    /// with `Elf` of `DataRange`, `UnknownClass` or `NotMultiple`.
     #[tactic(auto, unfolding(crate::specs::DynamicView::dynamic_entries_of))]
     pub fn read(file: &ElfFile<'a>) -> Result<DynamicView<'a>, LinkError>
         ensures exact { MatchResult result

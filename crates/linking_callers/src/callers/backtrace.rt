@@ -48,8 +48,8 @@ fn name_by_class<'a>(
     }
 }
 
-/// The name of the function that an address lies in, by the dynamic segment alone; none where it lies in
-/// none that is exported or called from elsewhere, since the dynamic segment names no others.
+/// The name of the function that an address lies in, by the dynamic segment alone, which names exported
+/// functions and no others; none where the address lies in none of these.
 ///
 /// Refused as `DynamicView::read` and `symbols_64` are, and where the function has no name.
 pub fn function_name<'a>(file: &ElfFile<'a>, address: u64) -> Result<Option<&'a str>, LinkError>
