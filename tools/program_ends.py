@@ -1,10 +1,11 @@
 #!/usr/bin/env python3
-"""Wants the output, the error text and the status of each way in which the built elfinfo ends.
+"""Wants the output, the error text and the status of each way in which the built elfinfo and elfsym end.
 
-It runs the program as each compiler built it, on files that are good, refused, missing or unreadable,
-and into outputs that fail. Run it at the top of the repository once the program is built, or give it
-other programs: tools/program_ends.py [PROGRAM..]
+It runs each program as each compiler built it, on files that are good, refused, missing or unreadable,
+and into outputs that fail. Run it at the top of the repository once the programs are built, or give it
+other builds of them: tools/program_ends.py [PROGRAM..]
 """
+import dataclasses
 import os
 import pathlib
 import resource
@@ -13,12 +14,14 @@ import subprocess
 import sys
 import tempfile
 
-CRATE = pathlib.Path(__file__).resolve().parent.parent / "crates" / "elfinfo"
-STRTAB = (CRATE / "data" / "strtab.elf").read_bytes()
-REPORT = (CRATE / "stdout").read_bytes()
+CRATES = pathlib.Path(__file__).resolve().parent.parent / "crates"
+STRTAB = (CRATES / "elfinfo" / "data" / "strtab.elf").read_bytes()
+REPORT = (CRATES / "elfinfo" / "stdout").read_bytes()
+LINKED = (CRATES / "elfsym" / "data" / "stripped.so").read_bytes()
+SYMBOLS = (CRATES / "elfsym" / "stdout").read_bytes()
 
-# The program as LLVM builds it, and as Rattle's own compiler does.
-NAMES = ("elfinfo", "elfinfo.by-rattle")
+# A program as LLVM builds it, and as Rattle's own compiler does.
+BUILDS = ("", ".by-rattle")
 
 USAGE = b"usage: elfinfo <binary_path>\n"
 NO_ARGUMENTS = b"elfinfo: cannot read the arguments\n"
@@ -49,6 +52,34 @@ ENDS = {
 ENDS_ON_A_FULL_DISK = {
     "a good file": (["strtab.elf"], 1, NO_WRITE),
     "a refused file": (["zeros.elf"], 1, NO_MAGIC),
+    "no argument": ([], 1, b""),
+}
+
+SYM_USAGE = b"usage: elfsym <binary_path> <name>.. | elfsym --needed <binary_path>\n"
+SYM_NO_WRITE = b"elfsym: cannot write\n"
+ASKED = (CRATES / "elfsym" / "args").read_text().split()[1:]
+
+SYM_ENDS = {
+    "no argument": ([], 1, SYM_USAGE, b""),
+    "no name": (["linked.so"], 1, SYM_USAGE, b""),
+    "nothing whose libraries are asked for": (["--needed"], 1, SYM_USAGE, b""),
+    "two files whose libraries are asked for": (["--needed", "linked.so", "linked.so"], 1, SYM_USAGE, b""),
+    "a missing path": (["missing.so", "ab"], 1, b"", b"elfsym: cannot read missing.so\n"),
+    "a folder": (["folder", "ab"], 1, b"", b"elfsym: cannot read folder\n"),
+    "a file whose read fails": (["/proc/self/mem", "ab"], 1, b"", b"elfsym: cannot read /proc/self/mem\n"),
+    "a path that is not UTF-8": ([NOT_UTF8, "ab"], 1, b"", b"elfsym: cannot read the arguments\n"),
+    "an empty file": (["empty.elf", "ab"], 1, b"", b"elfsym: empty.elf: File is shorter than the first ELF header part\n"),
+    "a refused file": (["zeros.elf", "ab"], 1, b"", b"elfsym: zeros.elf: Did not find ELF magic number\n"),
+    "a file without a dynamic segment": (["strtab.elf", "ab"], 1, b"", b"elfsym: strtab.elf: No dynamic segment\n"),
+    "a good file": (["linked.so", *ASKED], 0, SYMBOLS, b""),
+    "a good file through a pipe": (["/dev/stdin", *ASKED], 0, SYMBOLS, b""),
+    "a good file that needs no library": (["--needed", "linked.so"], 0, b"", b""),
+    "a path like an option": (["-h", "ab"], 1, b"", b"elfsym: cannot read -h\n"),
+}
+
+SYM_ENDS_ON_A_FULL_DISK = {
+    "a good file": (["linked.so", *ASKED], 1, SYM_NO_WRITE),
+    "a refused file": (["zeros.elf", "ab"], 1, b"elfsym: zeros.elf: Did not find ELF magic number\n"),
     "no argument": ([], 1, b""),
 }
 
@@ -90,38 +121,60 @@ def far_report() -> bytes:
     return REPORT.replace(b"sh_offset:        52\n", b"sh_offset:        %d\n" % FAR)
 
 
-def run(program, arguments, room, **streams):
-    """Runs the program in a folder, with its output and its error text kept unless they go elsewhere."""
+@dataclasses.dataclass(frozen=True)
+class Program:
+    """A program: how it ends by its arguments, what comes on its standard input, and its words for a failed write."""
+
+    name: str
+    ends: dict
+    ends_on_a_full_disk: dict
+    given: bytes
+    no_write: bytes
+    missing: list
+
+
+PROGRAMS = [
+    Program("elfinfo", ENDS, ENDS_ON_A_FULL_DISK, STRTAB, NO_WRITE, ["missing.elf"]),
+    Program("elfsym", SYM_ENDS, SYM_ENDS_ON_A_FULL_DISK, LINKED, SYM_NO_WRITE, ["missing.so", "ab"]),
+]
+
+
+def run(built, arguments, room, given=b"", **streams):
+    """Runs a program in a folder, with its output and its error text kept unless they go elsewhere."""
     kept = {"stdout": subprocess.PIPE, "stderr": subprocess.PIPE, **streams}
-    return subprocess.run([program, *arguments], cwd=room, input=STRTAB, timeout=60, **kept)
+    return subprocess.run([built, *arguments], cwd=room, input=given, timeout=60, **kept)
 
 
-def told_ends(program, room):
+def told_ends(program, built, room):
     """Each end with what was wanted and what came."""
-    for name, (arguments, *wanted) in ENDS.items():
-        ended = run(program, arguments, room)
+    for name, (arguments, *wanted) in program.ends.items():
+        ended = run(built, arguments, room, program.given)
         yield name, wanted, [ended.returncode, ended.stdout, ended.stderr]
-    ended = run(program, ["far.elf"], room)
-    yield "a file of more than a mebibyte", [0, far_report(), b""], [ended.returncode, ended.stdout, ended.stderr]
 
 
-def unwritten_ends(program, room):
+def unwritten_ends(program, built, room):
     """The same into outputs that fail at once."""
     with open("/dev/full", "wb") as full:
-        for name, (arguments, *wanted) in ENDS_ON_A_FULL_DISK.items():
-            ended = run(program, arguments, room, stdout=full)
+        for name, (arguments, *wanted) in program.ends_on_a_full_disk.items():
+            ended = run(built, arguments, room, stdout=full)
             yield f"{name}, into a full disk", wanted, [ended.returncode, ended.stderr]
-        ended = run(program, ["missing.elf"], room, stderr=full)
+        ended = run(built, program.missing, room, stderr=full)
         yield "an error text that can't be written", [1, b""], [ended.returncode, ended.stdout]
     reader, writer = os.pipe()
     os.close(reader)
-    ended = run(program, ["strtab.elf"], room, stdout=writer)
+    ended = run(built, program.ends["a good file"][0], room, stdout=writer)
     os.close(writer)
-    yield "a pipe that nobody reads", [1, NO_WRITE], [ended.returncode, ended.stderr]
+    yield "a pipe that nobody reads", [1, program.no_write], [ended.returncode, ended.stderr]
 
 
-def limited_ends(program, room):
-    """The same into a file that takes so many bytes and then fails: nothing comes after the fault."""
+def far_ends(program, built, room):
+    """How the report ends of a file that a reader doesn't take at once."""
+    ended = run(built, ["far.elf"], room)
+    yield "a file of more than a mebibyte", [0, far_report(), b""], [ended.returncode, ended.stdout, ended.stderr]
+
+
+def limited_ends(program, built, room):
+    """How a long report ends in a file that takes so many bytes and then fails: nothing comes after the fault."""
     report = long_report()
     for limit in [*range(0, len(report), 2500), len(report) - 1, len(report)]:
         def allow_few_bytes():
@@ -129,39 +182,45 @@ def limited_ends(program, room):
             resource.setrlimit(resource.RLIMIT_FSIZE, (limit, limit))
 
         with open(f"{room}/output", "wb") as output:
-            ended = run(program, ["long.elf"], room, stdout=output, preexec_fn=allow_few_bytes)
+            ended = run(built, ["long.elf"], room, stdout=output, preexec_fn=allow_few_bytes)
         written = pathlib.Path(f"{room}/output").read_bytes()
         failing = limit < len(report)
-        wanted = [int(failing), NO_WRITE if failing else b"", report[:limit]]
+        wanted = [int(failing), program.no_write if failing else b"", report[:limit]]
         name = f"a long report, into a file of at most {limit} bytes"
         yield name, wanted, [ended.returncode, ended.stderr, written]
 
 
-def unlike(program: pathlib.Path) -> int:
-    """Prints how the program ends, and returns how often that is not as it must be."""
+def unlike(program, built: pathlib.Path) -> int:
+    """Prints how a build of a program ends, and returns how often that is not as it must be."""
     count = 0
     with tempfile.TemporaryDirectory() as room:
         os.mkdir(f"{room}/folder")
-        files = {b"strtab.elf": STRTAB, NOT_UTF8: STRTAB, b"empty.elf": b"", b"zeros.elf": bytes(16)}
+        files = {b"strtab.elf": STRTAB, NOT_UTF8: STRTAB, b"empty.elf": b"", b"zeros.elf": bytes(16), b"linked.so": LINKED}
         files[b"far.elf"] = far_file()
         for name, held in {**files, b"long.elf": long_file()}.items():
             pathlib.Path(room, os.fsdecode(name)).write_bytes(held)
-        for ends in (told_ends, unwritten_ends, limited_ends):
-            for name, wanted, came in ends(program, room):
+        reports = (far_ends, limited_ends) if program.name == "elfinfo" else ()
+        for ends in (told_ends, unwritten_ends, *reports):
+            for name, wanted, came in ends(program, built, room):
                 if came == wanted:
-                    print(f"{program.name} ends as it must: {name}")
+                    print(f"{built.name} ends as it must: {name}")
                 else:
                     count += 1
-                    print(f"{program.name} NOT AS IT MUST: {name}: wanted {wanted}, but got {came}"[:900])
+                    print(f"{built.name} NOT AS IT MUST: {name}: wanted {wanted}, but got {came}"[:900])
     return count
 
 
 def main() -> int:
-    built = [pathlib.Path(it).resolve() for it in sys.argv[1:]]
-    built = built or [it for it in sorted((CRATE / "out").glob("elfinfo*")) if it.name in NAMES]
-    if not built:
-        sys.exit("elfinfo is not built: run `rt run` in crates/elfinfo first")
-    return 1 if sum([unlike(it) for it in built]) else 0
+    given = [pathlib.Path(it).resolve() for it in sys.argv[1:]]
+    found = [CRATES / it.name / "out" / (it.name + end) for it in PROGRAMS for end in BUILDS]
+    paths = given or [it for it in found if it.exists()]
+    count = 0
+    for program in PROGRAMS:
+        mine = [it for it in paths if it.name.split(".")[0] == program.name]
+        if not mine and not given:
+            sys.exit(f"{program.name} is not built: run `rt run` in crates/{program.name} first")
+        count += sum(unlike(program, it) for it in mine)
+    return 1 if count else 0
 
 
 if __name__ == "__main__":
