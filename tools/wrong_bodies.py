@@ -122,10 +122,10 @@ class Checked:
     stays: list
 
 
-def check(folder: pathlib.Path, *words: str) -> Checked:
-    """Checks the crate in a folder."""
+def check(folder: pathlib.Path, *words: str, verb: str = "check") -> Checked:
+    """Checks the crate in a folder, or does what else `rt` does with a crate."""
     said, stays, last = [], [], None
-    ran = ["rt", "check", *words]
+    ran = ["rt", verb, *words]
     with subprocess.Popen(ran, cwd=folder, stdout=subprocess.PIPE, stderr=subprocess.STDOUT, text=True, errors="replace") as started:
         for line in started.stdout:
             now, through = time.monotonic(), PROGRESS.match(line)
@@ -380,6 +380,9 @@ class Trial:
         """Checks a crate as it stands, and keeps what that proves for the copies."""
         began = time.monotonic()
         status = check(task.crate.folder, "--jobs", str(jobs)).status
+        # The check of a crate above would build it, and so change what is being copied.
+        if not status and any(task.crate.name in it.below for it in self.tasks):
+            status = check(task.crate.folder, "--jobs", str(jobs), verb="lib").status
         with self.lock:
             task.state = "not proved" if status else "proved"
             if status:
