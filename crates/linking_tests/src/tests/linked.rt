@@ -69,6 +69,15 @@ fn wide_stripped() -> [u8; 1928] {
     bytes
 }
 
+// Whether a symbol has this name, by itself and by the string table that is looked up for many, and this
+// value.
+fn is_symbol<E: Entry>(symbol: &E, file: &ElfFile<'_>, name: &str, value: u64) -> bool {
+    let strings = E::string_table(file);
+    symbol.value() == value
+        && matches!(symbol.get_name(file), Ok(text) if text == name)
+        && matches!(symbol.name_in(strings, file), Ok(text) if text == name)
+}
+
 // Wants these names and values of symbols, from index 2 on.
 fn check_symbols<E: Entry + Record>(
     rt: &impl Abort,
@@ -78,13 +87,11 @@ fn check_symbols<E: Entry + Record>(
 ) {
     assert_eq!(rt; symbols.len(), 9);
     for (index, (name, value)) in NAMES.iter().zip(values).enumerate() {
-        let symbol = symbols.get(index.wrapping_add(2));
-        assert_eq!(rt; symbol.map(|symbol| symbol.value()), Some(value), "{name}");
-        let found = symbol.map(|symbol| symbol.get_name(file));
-        assert_eq!(rt; found, Some(Ok(*name)));
-        let strings = E::string_table(file);
-        let found = symbol.map(|symbol| symbol.name_in(strings, file));
-        assert_eq!(rt; found, Some(Ok(*name)));
+        let is_there = match symbols.get(index.wrapping_add(2)) {
+            Some(symbol) => is_symbol(&symbol, file, name, value),
+            None => false,
+        };
+        assert!(rt; is_there, "{name}");
     }
 }
 
