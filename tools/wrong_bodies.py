@@ -332,7 +332,6 @@ class Task:
     batches: list
     state: str = "unproved"
     rooms: list = dataclasses.field(default_factory=list)
-    running: int = 0
 
 
 class Trial:
@@ -398,11 +397,12 @@ class Trial:
             self.tell(edit, goal, fault)
         with self.lock:
             self.times, room.times = self.times + room.times, []
-            task.running -= 1
-            task.rooms.append(room)
-            if not task.batches and not task.running:
-                for it in task.rooms:
-                    shutil.rmtree(it.folder.parent.parent, ignore_errors=True)
+            is_wanted = len(task.rooms) < len(task.batches)
+            if is_wanted:
+                task.rooms.append(room)
+        # A copy of a large crate takes a gigabyte.
+        if not is_wanted:
+            shutil.rmtree(room.folder.parent.parent, ignore_errors=True)
 
     def startable(self, rooms: str):
         """What can begin now: a call, and how many workers it takes. A crate comes after those below it."""
@@ -420,7 +420,7 @@ class Trial:
             # The crate with most left, since its last batch may be the last of all.
             task = max(proved, key=lambda it: len(it.batches))
             batch, room = task.batches.pop(0), task.rooms.pop() if task.rooms else None
-            task.running, self.made = task.running + 1, self.made + 1
+            self.made += 1
             place = pathlib.Path(rooms, f"{task.crate.name}-{self.made}")
             return (lambda: self.work(task, batch, room, place)), 1
         return None, 0
