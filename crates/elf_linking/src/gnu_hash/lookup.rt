@@ -10,15 +10,29 @@ ghost use Rattle.xmas_elf.specs.Symbols.{Decides, IsMatch, symbols_of};
 
 use crate::LinkError;
 use crate::gnu_hash::{GnuHashTable, Strings, gnu_hash};
+use elf_base::ElfError;
 use elf_base::bytes::{Record, Table, stands_at};
 use xmas_elf::ElfFile;
 use xmas_elf::symbol_table::Entry;
 
+// The string table that was handed in, else that of the file.
+#[inline(always)]
+fn strings_of<'a, E: Entry>(prepared: Option<Strings<'a>>, file: &ElfFile<'a>) -> Strings<'a>
+    ensures { IfSome prepared.entry (λ strings.
+        IfSome strings (HoldsNames E.fields (λ e. E.text_in e file.now)))
+        → IfSome result (HoldsNames E.fields (λ e. E.text_in e file.now)) }
+{
+    match prepared {
+        Some(strings) => strings,
+        None => E::string_table(file),
+    }
+}
+
 // Whether the symbol bears the name, which is compared in place where there is a string table.
 #[inline(always)]
 fn bears<E: Entry>(entry: &E, name: &str, strings: Strings<'_>, file: &ElfFile<'_>) -> bool
-    requires { IfSome strings (HoldsNames E.fields (λ e. E.text_in e file.now)) }
-    ensures { IsTrue result ↔ (E.text_in entry.now file.now ≡ Some name.now) }
+    ensures { IfSome strings.entry (HoldsNames E.fields (λ e. E.text_in e file.now))
+        → IsTrue result ↔ (E.text_in entry.now file.now ≡ Some name.now) }
 {
     match strings {
         Some(found) => match found {
@@ -38,11 +52,12 @@ fn passes<E: Entry, F: Fn(&E) -> bool>(
     file: &ElfFile<'_>,
     f: &F,
 ) -> bool
-    requires names { IfSome strings (HoldsNames E.fields (λ e. E.text_in e file.now)) }
-    requires callable { (e : Bor E) → e.now ≡ entry.now → F.pre f.now e }
-    ensures yes { IsTrue result → (E.text_in entry.now file.now ≡ Some name.now)
+    requires { (e : Bor E) → e.now ≡ entry.now → F.pre f.now e }
+    ensures yes { IfSome strings.entry (HoldsNames E.fields (λ e. E.text_in e file.now))
+        → IsTrue result → (E.text_in entry.now file.now ≡ Some name.now)
         × FnReturnsAt F.Fn f.now entry.now true }
-    ensures no { result ≡ false
+    ensures no { IfSome strings.entry (HoldsNames E.fields (λ e. E.text_in e file.now))
+        → result ≡ false
         → (FnReturnsAt F.Fn f.now entry.now true → FnReturnsAt F.Fn f.now entry.now false → ⊥)
         → (E.text_in entry.now file.now ≡ Some name.now) × FnReturnsAt F.Fn f.now entry.now true → ⊥ }
 {
@@ -59,13 +74,14 @@ fn symbol_at<E: Entry + Record, F: Fn(&E) -> bool>(
     file: &ElfFile<'_>,
     f: &F,
 ) -> Option<E>
-    requires names { IfSome strings (HoldsNames E.fields (λ e. E.text_in e file.now)) }
-    requires callable { (e : Bor E) → Contains (table_items symbols.now) e.now → F.pre f.now e }
+    requires { (e : Bor E) → Contains (table_items symbols.now) e.now → F.pre f.now e }
     ensures yes { let all = symbols_of E.fields E.text_in symbols.now file.now in
-        (e : E) → result ≡ Some e → (slice_get all.items index ≡ Some e)
+        IfSome strings.entry (HoldsNames E.fields (λ e. E.text_in e file.now))
+        → (e : E) → result ≡ Some e → (slice_get all.items index ≡ Some e)
         × IsMatch all F.Fn f.now name.now e }
     ensures no { let all = symbols_of E.fields E.text_in symbols.now file.now in
-        Decides all F.Fn f.now → result ≡ None → (e : E) → slice_get all.items index ≡ Some e
+        IfSome strings.entry (HoldsNames E.fields (λ e. E.text_in e file.now))
+        → Decides all F.Fn f.now → result ≡ None → (e : E) → slice_get all.items index ≡ Some e
         → IsMatch all F.Fn f.now name.now e → ⊥ }
 {
     let entry = symbols.get(index)?;
@@ -140,13 +156,74 @@ impl<'a> GnuHashTable<'a> {
             Decides all F.Fn f → IsGood self.now all
             → FindsAll self.now all name.now (IsMatch all F.Fn f name.now) result.0 }
     {
-        self.search(name, symbols, file, &f)
+        self.search(name, None, symbols, file, &f)
     }
 
-    // The look-up by a test that is lent: the walk from the bucket of the name on.
+    /// The answer of `lookup`, by what `Entry::string_table` answers for that file: to be taken once for
+    /// many look-ups, since it is looked up by its section's name. `None` reads each name by `get_name`.
+    ///
+    /// Of the answer it promises what `lookup` does, wherever the names of such symbols stand in the table
+    /// that is handed in.
+    pub fn lookup_in<E: Entry + Record, F: Fn(&E) -> bool>(
+        &self,
+        name: &str,
+        strings: Option<Result<&[u8], ElfError>>,
+        symbols: &Table<'_, E>,
+        file: &ElfFile<'_>,
+        f: F,
+    ) -> Result<Option<(u32, E)>, LinkError>
+        requires callable { (e : Bor E) → Contains (table_items symbols.now) e.now → F.pre f e }
+        ensures answer { let all = symbols_of E.fields E.text_in symbols.now file.now in
+            IfSome strings.entry (HoldsNames E.fields (λ e. E.text_in e file.now))
+            → Decides all F.Fn f → (count : ℕ)
+            × Looks (IsMatch all F.Fn f name.now) self.now all.items name.now result count }
+        ensures only { let all = symbols_of E.fields E.text_in symbols.now file.now in
+            IfSome strings.entry (HoldsNames E.fields (λ e. E.text_in e file.now))
+            → Decides all F.Fn f → (other : Result (Option (ℕ × E)) LinkError) (count : ℕ)
+            → Looks (IsMatch all F.Fn f name.now) self.now all.items name.now other count
+            → other ≡ result }
+        ensures good { let all = symbols_of E.fields E.text_in symbols.now file.now in
+            IfSome strings.entry (HoldsNames E.fields (λ e. E.text_in e file.now))
+            → Decides all F.Fn f → IsGood self.now all
+            → FindsAll self.now all name.now (IsMatch all F.Fn f name.now) result }
+    {
+        self.lookup_counted_in(name, strings, symbols, file, f).0
+    }
+
+    /// The answer of `lookup_in`, and the number that `lookup_counted` gives.
+    pub fn lookup_counted_in<E: Entry + Record, F: Fn(&E) -> bool>(
+        &self,
+        name: &str,
+        strings: Option<Result<&[u8], ElfError>>,
+        symbols: &Table<'_, E>,
+        file: &ElfFile<'_>,
+        f: F,
+    ) -> (Result<Option<(u32, E)>, LinkError>, u32)
+        requires callable { (e : Bor E) → Contains (table_items symbols.now) e.now → F.pre f e }
+        ensures in_symbols { result.1 ≤ length (table_items symbols.now) }
+        ensures answer { let all = symbols_of E.fields E.text_in symbols.now file.now in
+            IfSome strings.entry (HoldsNames E.fields (λ e. E.text_in e file.now))
+            → Decides all F.Fn f
+            → Looks (IsMatch all F.Fn f name.now) self.now all.items name.now result.0 result.1 }
+        ensures only { let all = symbols_of E.fields E.text_in symbols.now file.now in
+            IfSome strings.entry (HoldsNames E.fields (λ e. E.text_in e file.now))
+            → Decides all F.Fn f → (other : Result (Option (ℕ × E)) LinkError) (count : ℕ)
+            → Looks (IsMatch all F.Fn f name.now) self.now all.items name.now other count
+            → (other ≡ result.0) × (count ≡ result.1) }
+        ensures good { let all = symbols_of E.fields E.text_in symbols.now file.now in
+            IfSome strings.entry (HoldsNames E.fields (λ e. E.text_in e file.now))
+            → Decides all F.Fn f → IsGood self.now all
+            → FindsAll self.now all name.now (IsMatch all F.Fn f name.now) result.0 }
+    {
+        self.search(name, Some(strings), symbols, file, &f)
+    }
+
+    // The look-up by a test that is lent: the walk from the bucket of the name on. Where the string table
+    // isn't handed in, it is looked up once there is a run.
     fn search<E: Entry + Record, F: Fn(&E) -> bool>(
         &self,
         name: &str,
+        prepared: Option<Strings<'_>>,
         symbols: &Table<'_, E>,
         file: &ElfFile<'_>,
         f: &F,
@@ -154,7 +231,9 @@ impl<'a> GnuHashTable<'a> {
         requires { (e : Bor E) → Contains (table_items symbols.now) e.now → F.pre f.now e }
         ensures in_symbols { result.1 ≤ length (table_items symbols.now) }
         ensures answer { let all = symbols_of E.fields E.text_in symbols.now file.now in
-            Decides all F.Fn f.now
+            IfSome prepared.entry (λ strings.
+            IfSome strings (HoldsNames E.fields (λ e. E.text_in e file.now)))
+            → Decides all F.Fn f.now
             → Looks (IsMatch all F.Fn f.now name.now) self.now all.items name.now result.0 result.1 }
     {
         let hash = gnu_hash(name);
@@ -164,7 +243,8 @@ impl<'a> GnuHashTable<'a> {
         if from < self.first_symbol() {
             return (Err(LinkError::ChainIndex), 0);
         }
-        self.walk(from, hash, name, symbols, file, f)
+        let strings = strings_of::<E>(prepared, file);
+        self.walk(from, hash, name, strings, symbols, file, f)
     }
 
     // The walk from an index on, by the hash number of the name.
@@ -173,6 +253,7 @@ impl<'a> GnuHashTable<'a> {
         from: u32,
         hash: u32,
         name: &str,
+        strings: Strings<'_>,
         symbols: &Table<'_, E>,
         file: &ElfFile<'_>,
         f: &F,
@@ -182,10 +263,10 @@ impl<'a> GnuHashTable<'a> {
         requires callable { (e : Bor E) → Contains (table_items symbols.now) e.now → F.pre f.now e }
         ensures in_symbols { result.1 ≤ length (table_items symbols.now) }
         ensures answer { let all = symbols_of E.fields E.text_in symbols.now file.now in
-            Decides all F.Fn f.now → LooksFrom (IsMatch all F.Fn f.now name.now) hash
+            IfSome strings.entry (HoldsNames E.fields (λ e. E.text_in e file.now))
+            → Decides all F.Fn f.now → LooksFrom (IsMatch all F.Fn f.now name.now) hash
             self.now all.items from result.0 result.1 }
     {
-        let strings = E::string_table(file);
         let end = symbol_end(symbols);
         for index in u64::from(from)..end {
             let passed = index - u64::from(from);

@@ -13,11 +13,24 @@ use crate::symbol_table::Entry;
 use crate::{ElfError, ElfFile};
 use elf_base::bytes::stands_at;
 
+// The string table that was handed in, else that of the file.
+#[inline(always)]
+fn strings_of<'a, E: Entry>(prepared: Option<Strings<'a>>, file: &ElfFile<'a>) -> Strings<'a>
+    ensures { IfSome prepared.entry (λ strings.
+        IfSome strings (HoldsNames E.fields (λ e. E.text_in e file.now)))
+        → IfSome result (HoldsNames E.fields (λ e. E.text_in e file.now)) }
+{
+    match prepared {
+        Some(strings) => strings,
+        None => E::string_table(file),
+    }
+}
+
 // Whether the symbol bears the name, which is compared in place where there is a string table.
 #[inline(always)]
 fn bears<E: Entry>(entry: &E, name: &str, strings: Strings<'_>, file: &ElfFile<'_>) -> bool
-    requires { IfSome strings (HoldsNames E.fields (λ e. E.text_in e file.now)) }
-    ensures { IsTrue result ↔ (E.text_in entry.now file.now ≡ Some name.now) }
+    ensures { IfSome strings.entry (HoldsNames E.fields (λ e. E.text_in e file.now))
+        → IsTrue result ↔ (E.text_in entry.now file.now ≡ Some name.now) }
 {
     match strings {
         Some(found) => match found {
@@ -37,11 +50,12 @@ fn passes<E: Entry, F: Fn(&E) -> bool>(
     file: &ElfFile<'_>,
     f: &F,
 ) -> bool
-    requires names { IfSome strings (HoldsNames E.fields (λ e. E.text_in e file.now)) }
-    requires callable { (e : Bor E) → e.now ≡ entry.now → F.pre f.now e }
-    ensures yes { IsTrue result → (E.text_in entry.now file.now ≡ Some name.now)
+    requires { (e : Bor E) → e.now ≡ entry.now → F.pre f.now e }
+    ensures yes { IfSome strings.entry (HoldsNames E.fields (λ e. E.text_in e file.now))
+        → IsTrue result → (E.text_in entry.now file.now ≡ Some name.now)
         × FnReturnsAt F.Fn f.now entry.now true }
-    ensures no { result ≡ false
+    ensures no { IfSome strings.entry (HoldsNames E.fields (λ e. E.text_in e file.now))
+        → result ≡ false
         → (FnReturnsAt F.Fn f.now entry.now true → FnReturnsAt F.Fn f.now entry.now false → ⊥)
         → (E.text_in entry.now file.now ≡ Some name.now) × FnReturnsAt F.Fn f.now entry.now true → ⊥ }
 {
@@ -113,13 +127,75 @@ impl<'a> HashTable<'a> {
             Decides all F.Fn f → IsGood self.now all
             → FindsAll all name.now (IsMatch all F.Fn f name.now) result.0 }
     {
-        self.search(name, symbols, file, &f)
+        self.search(name, None, symbols, file, &f)
     }
 
-    // The look-up by a test that is lent: the walk from the bucket of the name on.
+    /// The answer of `lookup`, by what `Entry::string_table` answers for that file: to be taken once for
+    /// many look-ups, since it is looked up by its section's name. `None` reads each name by `get_name`.
+    ///
+    /// Of the answer it promises what `lookup` does, wherever the names of such symbols stand in the table
+    /// that is handed in.
+    pub fn lookup_in<E: Entry + Record, F: Fn(&E) -> bool>(
+        &self,
+        name: &str,
+        strings: Option<Result<&[u8], ElfError>>,
+        symbols: &Table<'_, E>,
+        file: &ElfFile<'_>,
+        f: F,
+    ) -> Result<Option<(u32, E)>, ElfError>
+        requires callable { (e : Bor E) → Contains (table_items symbols.now) e.now → F.pre f e }
+        ensures answer { let all = symbols_of E.fields E.text_in symbols.now file.now in
+            IfSome strings.entry (HoldsNames E.fields (λ e. E.text_in e file.now))
+            → Decides all F.Fn f → (count : ℕ)
+            × Looks (IsMatch all F.Fn f name.now) self.now all.items name.now result count }
+        ensures only { let all = symbols_of E.fields E.text_in symbols.now file.now in
+            IfSome strings.entry (HoldsNames E.fields (λ e. E.text_in e file.now))
+            → Decides all F.Fn f → (other : Result (Option (ℕ × E)) ElfError) (count : ℕ)
+            → Looks (IsMatch all F.Fn f name.now) self.now all.items name.now other count
+            → other ≡ result }
+        ensures good { let all = symbols_of E.fields E.text_in symbols.now file.now in
+            IfSome strings.entry (HoldsNames E.fields (λ e. E.text_in e file.now))
+            → Decides all F.Fn f → IsGood self.now all
+            → FindsAll all name.now (IsMatch all F.Fn f name.now) result }
+    {
+        self.lookup_counted_in(name, strings, symbols, file, f).0
+    }
+
+    /// The answer of `lookup_in`, and the number that `lookup_counted` gives.
+    pub fn lookup_counted_in<E: Entry + Record, F: Fn(&E) -> bool>(
+        &self,
+        name: &str,
+        strings: Option<Result<&[u8], ElfError>>,
+        symbols: &Table<'_, E>,
+        file: &ElfFile<'_>,
+        f: F,
+    ) -> (Result<Option<(u32, E)>, ElfError>, u32)
+        requires callable { (e : Bor E) → Contains (table_items symbols.now) e.now → F.pre f e }
+        ensures in_chains { result.1 ≤ chain_count_of self.now }
+        ensures in_symbols { result.1 ≤ length (table_items symbols.now) }
+        ensures answer { let all = symbols_of E.fields E.text_in symbols.now file.now in
+            IfSome strings.entry (HoldsNames E.fields (λ e. E.text_in e file.now))
+            → Decides all F.Fn f
+            → Looks (IsMatch all F.Fn f name.now) self.now all.items name.now result.0 result.1 }
+        ensures only { let all = symbols_of E.fields E.text_in symbols.now file.now in
+            IfSome strings.entry (HoldsNames E.fields (λ e. E.text_in e file.now))
+            → Decides all F.Fn f → (other : Result (Option (ℕ × E)) ElfError) (count : ℕ)
+            → Looks (IsMatch all F.Fn f name.now) self.now all.items name.now other count
+            → (other ≡ result.0) × (other ≢ Err ElfError.HashCycle → count ≡ result.1) }
+        ensures good { let all = symbols_of E.fields E.text_in symbols.now file.now in
+            IfSome strings.entry (HoldsNames E.fields (λ e. E.text_in e file.now))
+            → Decides all F.Fn f → IsGood self.now all
+            → FindsAll all name.now (IsMatch all F.Fn f name.now) result.0 }
+    {
+        self.search(name, Some(strings), symbols, file, &f)
+    }
+
+    // The look-up by a test that is lent: the walk from the bucket of the name on. Where the string table
+    // isn't handed in, it is looked up once there is a chain.
     fn search<E: Entry + Record, F: Fn(&E) -> bool>(
         &self,
         name: &str,
+        prepared: Option<Strings<'_>>,
         symbols: &Table<'_, E>,
         file: &ElfFile<'_>,
         f: &F,
@@ -128,18 +204,21 @@ impl<'a> HashTable<'a> {
         ensures in_chains { result.1 ≤ chain_count_of self.now }
         ensures in_symbols { result.1 ≤ length (table_items symbols.now) }
         ensures answer { let all = symbols_of E.fields E.text_in symbols.now file.now in
-            Decides all F.Fn f.now
+            IfSome prepared.entry (λ strings.
+            IfSome strings (HoldsNames E.fields (λ e. E.text_in e file.now)))
+            → Decides all F.Fn f.now
             → Looks (IsMatch all F.Fn f.now name.now) self.now all.items name.now result.0 result.1 }
     {
         let bucket_count = self.bucket_count();
         if bucket_count == 0 {
             return (Ok(None), 0);
         }
-        match self.get_bucket(hash(name) % bucket_count) {
-            Ok(0) => (Ok(None), 0),
-            Ok(first) => self.walk(first, name, E::string_table(file), symbols, file, f),
-            Err(error) => (Err(error), 0),
-        }
+        let first = match self.get_bucket(hash(name) % bucket_count) {
+            Ok(0) => return (Ok(None), 0),
+            Ok(first) => first,
+            Err(error) => return (Err(error), 0),
+        };
+        self.walk(first, name, strings_of::<E>(prepared, file), symbols, file, f)
     }
 
     // The walk from an index on.
@@ -152,12 +231,12 @@ impl<'a> HashTable<'a> {
         file: &ElfFile<'_>,
         f: &F,
     ) -> (Result<Option<(u32, E)>, ElfError>, u32)
-        requires names { IfSome strings (HoldsNames E.fields (λ e. E.text_in e file.now)) }
-        requires callable { (e : Bor E) → Contains (table_items symbols.now) e.now → F.pre f.now e }
+        requires { (e : Bor E) → Contains (table_items symbols.now) e.now → F.pre f.now e }
         ensures in_chains { result.1 ≤ chain_count_of self.now }
         ensures in_symbols { result.1 ≤ length (table_items symbols.now) }
         ensures answer { let all = symbols_of E.fields E.text_in symbols.now file.now in
-            Decides all F.Fn f.now
+            IfSome strings.entry (HoldsNames E.fields (λ e. E.text_in e file.now))
+            → Decides all F.Fn f.now
             → LooksFrom (IsMatch all F.Fn f.now name.now) (chains_of self.now all.items)
             (Some (Ok first)) result.0 result.1 }
     {
