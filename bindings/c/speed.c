@@ -101,6 +101,19 @@ static uint64_t look_ups_pass(const struct input *input, uint64_t *sum)
     return input->names;
 }
 
+/* The same by one call for 64 names. */
+static uint64_t look_ups_many_pass(const struct input *input, uint64_t *sum)
+{
+    struct xmas_elf_answer said[64];
+    for (uint64_t i = 0; i < input->names; i += 64) {
+        size_t count = input->names - i < 64 ? (size_t)(input->names - i) : 64;
+        xmas_elf_gnu_look_ups(input->bytes, input->size, &input->header, input->table_at, input->bytes, input->size,
+                              input->name + i, count, said, count);
+        for (size_t k = 0; k < count; k++) *sum += said[k].index;
+    }
+    return input->names;
+}
+
 static uint64_t check_pass(const struct input *input, uint64_t *sum)
 {
     *sum += xmas_elf_check_gnu_hash(input->bytes, input->size, &input->header, input->table_at);
@@ -173,6 +186,7 @@ int main(int argc, char **argv)
     measure("symbols with names", symbol_names_pass, &input);
     if (input.names) {
         measure("look-ups by GNU's hash table", look_ups_pass, &input);
+        measure("the same, 64 names by one call", look_ups_many_pass, &input);
         measure("the check of that table, for a symbol", check_pass, &input);
     }
     free(input.name);

@@ -121,6 +121,14 @@ struct xmas_elf_look_up {
     uint32_t looked_at; /* how many entries of the table the look-up came by */
 };
 
+/* What one look-up of many says. */
+struct xmas_elf_answer {
+    uint32_t status;    /* of this look-up; where it isn't XMAS_ELF_OK, the numbers behind it are 0 */
+    uint32_t found;     /* 1 where a symbol is found, and else 0 */
+    uint32_t index;     /* of the symbol, or 0 */
+    uint32_t looked_at; /* how many entries of the table the look-up came by */
+};
+
 /* The header of the file that these bytes are. */
 uint32_t xmas_elf_open(const uint8_t *input, size_t input_size, struct xmas_elf_header *out);
 
@@ -217,17 +225,30 @@ uint32_t xmas_elf_bytes_at(const uint8_t *input, size_t input_size, const struct
 uint32_t xmas_elf_look_up(const uint8_t *input, size_t input_size, const struct xmas_elf_header *header,
                           uint64_t section, const uint8_t *name, size_t name_size, struct xmas_elf_look_up *out);
 
+/* The same for many names by one call, each a range of the bytes `names`: as many as there are ranges, and as `out`
+ * has room for. Each answer is that of xmas_elf_look_up for the name; XMAS_ELF_DATA_RANGE where the range passes the
+ * end of `names`. The table and its symbols are found once, so this is the faster way for many names. `names` may be
+ * another file, and the ranges those of the names of its symbols. */
+void xmas_elf_look_ups(const uint8_t *input, size_t input_size, const struct xmas_elf_header *header,
+                       uint64_t section, const uint8_t *names, size_t names_size,
+                       const struct xmas_elf_range *ranges, size_t ranges_count,
+                       struct xmas_elf_answer *out, size_t out_count);
+
 /* Whether look-ups by that table can be relied on: then none is refused for the table, and each finds a symbol
  * wherever one that isn't local bears the name. To be called once for many look-ups. A table that was made to
  * cost much takes as many steps as it has buckets times chains. */
 uint32_t xmas_elf_check_hash(const uint8_t *input, size_t input_size, const struct xmas_elf_header *header,
                              uint64_t section);
 
-/* The same two by GNU's hash table, a section of type 0x6ffffff6. It is to hold the symbols that are defined and
+/* The same three by GNU's hash table, a section of type 0x6ffffff6. It is to hold the symbols that are defined and
  * not local, from its first on. The check is one pass over the table and one over the symbols and their names. */
 uint32_t xmas_elf_gnu_look_up(const uint8_t *input, size_t input_size, const struct xmas_elf_header *header,
                               uint64_t section, const uint8_t *name, size_t name_size,
                               struct xmas_elf_look_up *out);
+void xmas_elf_gnu_look_ups(const uint8_t *input, size_t input_size, const struct xmas_elf_header *header,
+                           uint64_t section, const uint8_t *names, size_t names_size,
+                           const struct xmas_elf_range *ranges, size_t ranges_count,
+                           struct xmas_elf_answer *out, size_t out_count);
 uint32_t xmas_elf_check_gnu_hash(const uint8_t *input, size_t input_size, const struct xmas_elf_header *header,
                                  uint64_t section);
 

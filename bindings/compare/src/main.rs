@@ -4,7 +4,7 @@ use object::elf::{FileHeader32, FileHeader64, PT_LOAD};
 use object::read::elf::{Dyn, FileHeader, ProgramHeader, Rel, Rela, SectionHeader, SectionTable, Sym, SymbolTable, VersionTable};
 use object::{Endianness, Object, SectionIndex};
 use std::fmt::Debug;
-use xmas_elf_proved::{ElfFile, HashTable, Section};
+use xmas_elf_proved::{Answer, ByteRange, ElfFile, HashTable, Section};
 
 // Counts answers, and tells of those that differ.
 struct Answers<'p> {
@@ -95,11 +95,21 @@ fn compare_look_ups<Elf: FileHeader<Endian = Endianness>>(
     let held = symbols.iter().filter(|symbol| symbol.st_bind() != 0 && (!ours.is_gnu() || symbol.st_shndx(endian) != 0));
     let mut names = held.filter_map(|symbol| symbol.name(endian, symbols.strings()).ok());
     answers.same("the hash table passes its check", ours.check().is_ok(), names.all(|name| find(name).is_some()));
+    let (mut bytes, mut ranges) = (Vec::new(), Vec::new());
     for name in names_of(&symbols, endian) {
         for name in [name.to_owned(), format!("{name}~")] {
             let found = ours.look_up(&name).ok().flatten().map(|symbol| symbol.index() as usize);
             answers.same("symbol by its name", found, find(name.as_bytes()).map(|found| found.0));
+            ranges.push(ByteRange::from(bytes.len()..bytes.len() + name.len()));
+            bytes.extend_from_slice(name.as_bytes());
         }
+    }
+    let mut many = vec![Answer::default(); ranges.len()];
+    ours.look_ups(&bytes, &ranges, &mut many);
+    for (range, answer) in ranges.iter().zip(&many) {
+        let name = &bytes[range.offset as usize..(range.offset + range.size) as usize];
+        let found = answer.index().ok().flatten().map(|index| index as usize);
+        answers.same("symbols by their names, by one call", found, find(name).map(|found| found.0));
     }
     Ok(())
 }

@@ -54,11 +54,20 @@ pub(crate) struct Counts {
     pub(crate) segments: u32,
 }
 
+/// As many bytes from a place on.
 #[repr(C)]
-#[derive(Clone, Copy, Debug, Default)]
-pub(crate) struct Range {
-    pub(crate) offset: u64,
-    pub(crate) size: u64,
+#[derive(Clone, Copy, Debug, Default, PartialEq, Eq)]
+pub struct Range {
+    /// The place of the first byte, in bytes from the start.
+    pub offset: u64,
+    /// How many bytes they are.
+    pub size: u64,
+}
+
+impl From<core::ops::Range<usize>> for Range {
+    fn from(range: core::ops::Range<usize>) -> Range {
+        Range { offset: range.start as u64, size: range.len() as u64 }
+    }
 }
 
 impl Range {
@@ -187,6 +196,26 @@ pub struct LookUp {
     pub looked_at: u32,
 }
 
+/// What one look-up of many says.
+#[repr(C)]
+#[derive(Clone, Copy, Debug, Default)]
+pub struct Answer {
+    status: u32,
+    said: LookUp,
+}
+
+impl Answer {
+    /// What the look-up says, in numbers, or why it is refused.
+    pub fn look_up(&self) -> Result<LookUp, Error> {
+        checked(self.status).map(|()| self.said)
+    }
+
+    /// The index of the symbol that it finds, or none.
+    pub fn index(&self) -> Result<Option<u32>, Error> {
+        self.look_up().map(|said| (said.found != 0).then_some(said.index))
+    }
+}
+
 type Bytes = *const u8;
 
 extern "C" {
@@ -208,6 +237,8 @@ extern "C" {
     fn xmas_elf_look_up(input: Bytes, size: usize, header: *const Header, section: u64, name: Bytes, name_size: usize, out: *mut LookUp) -> u32;
     fn xmas_elf_check_hash(input: Bytes, size: usize, header: *const Header, section: u64) -> u32;
     fn xmas_elf_gnu_look_up(input: Bytes, size: usize, header: *const Header, section: u64, name: Bytes, name_size: usize, out: *mut LookUp) -> u32;
+    fn xmas_elf_look_ups(input: Bytes, size: usize, header: *const Header, section: u64, names: Bytes, names_size: usize, ranges: *const Range, ranges_count: usize, out: *mut Answer, room: usize);
+    fn xmas_elf_gnu_look_ups(input: Bytes, size: usize, header: *const Header, section: u64, names: Bytes, names_size: usize, ranges: *const Range, ranges_count: usize, out: *mut Answer, room: usize);
     fn xmas_elf_check_gnu_hash(input: Bytes, size: usize, header: *const Header, section: u64) -> u32;
     fn xmas_elf_message(status: u32, out: *mut u8, room: usize) -> usize;
     fn xmas_elf_note(input: Bytes, size: usize, header: *const Header, part: *const Range, align: u64, out: *mut NoteRange) -> u32;
@@ -330,6 +361,20 @@ pub(crate) fn check_hash(input: &[u8], header: &Header, section: u64) -> Result<
 pub(crate) fn gnu_look_up(input: &[u8], header: &Header, section: u64, name: &str) -> Result<LookUp, Error> {
     // SAFETY: see above.
     filled(|out| unsafe { xmas_elf_gnu_look_up(input.as_ptr(), input.len(), header, section, name.as_ptr(), name.len(), out) })
+}
+
+pub(crate) fn look_ups(input: &[u8], header: &Header, section: u64, names: &[u8], ranges: &[Range], out: &mut [Answer]) {
+    // SAFETY: see above; of `out` as many records are written as it has, at most.
+    unsafe {
+        xmas_elf_look_ups(input.as_ptr(), input.len(), header, section, names.as_ptr(), names.len(), ranges.as_ptr(), ranges.len(), out.as_mut_ptr(), out.len());
+    }
+}
+
+pub(crate) fn gnu_look_ups(input: &[u8], header: &Header, section: u64, names: &[u8], ranges: &[Range], out: &mut [Answer]) {
+    // SAFETY: see above; of `out` as many records are written as it has, at most.
+    unsafe {
+        xmas_elf_gnu_look_ups(input.as_ptr(), input.len(), header, section, names.as_ptr(), names.len(), ranges.as_ptr(), ranges.len(), out.as_mut_ptr(), out.len());
+    }
 }
 
 pub(crate) fn check_gnu_hash(input: &[u8], header: &Header, section: u64) -> Result<(), Error> {

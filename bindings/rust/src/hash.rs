@@ -1,6 +1,6 @@
 //! Look-ups of symbols by their names.
 
-use crate::{ffi, ElfFile, Error, LookUp, SectionHeader, Symbol};
+use crate::{ffi, Answer, ByteRange, ElfFile, Error, LookUp, SectionHeader, Symbol};
 
 // The types of the sections with the two kinds of tables (SHT_HASH and SHT_GNU_HASH).
 const HASH: u32 = 5;
@@ -48,6 +48,22 @@ impl<'f, 'a> HashTable<'f, 'a> {
         } else {
             ffi::look_up(input, header, self.section, name)
         }
+    }
+
+    /// Many look-ups by one call, each for the name that is a range of `names`: as many as there are ranges and as
+    /// `out` has room for, which it answers. Each answer is that of `look_up_counted`; `DataRange` where the range
+    /// passes the end of `names`, and `TextUtf8` where it isn't UTF-8.
+    ///
+    /// The table and its symbols are found once, so this is the faster way for many names. `names` may be
+    /// the data of a string table of another file, and the ranges those that `Symbol::name_range` gives.
+    pub fn look_ups(&self, names: &[u8], ranges: &[ByteRange], out: &mut [Answer]) -> usize {
+        let (input, header) = (self.file.input, &self.file.header);
+        if self.gnu {
+            ffi::gnu_look_ups(input, header, self.section, names, ranges, out);
+        } else {
+            ffi::look_ups(input, header, self.section, names, ranges, out);
+        }
+        ranges.len().min(out.len())
     }
 
     /// The symbol with a name, defined or not, or none.

@@ -28,7 +28,8 @@ mod message;
 mod symbols;
 
 pub use error::Error;
-pub use ffi::{Dynamic, Entry, Header, LookUp, ProgramHeader, Relocation, SectionHeader};
+pub use ffi::{Answer, Dynamic, Entry, Header, LookUp, ProgramHeader, Relocation, SectionHeader};
+pub use ffi::Range as ByteRange;
 pub use hash::HashTable;
 pub use items::{Note, Notes, Section, Segment};
 pub use message::Message;

@@ -47,9 +47,15 @@ impl<'a> Symbol<'a> {
 
     /// The bytes of the name, which are UTF-8; refused as `name` is. Rust doesn't test them again.
     pub fn name_bytes(&self) -> Result<&'a [u8], Error> {
+        let (strings, range) = (self.strings?, self.name_range()?);
+        Ok(range.bytes_in(strings))
+    }
+
+    /// Where the name stands in the string table that the symbol's section is linked to; refused as `name` is.
+    pub fn name_range(&self) -> Result<Range, Error> {
         let strings = self.strings?;
         let whole = Range { offset: 0, size: strings.len() as u64 };
-        Ok(ffi::text(strings, &whole, u64::from(self.entry.name))?.bytes_in(strings))
+        ffi::text(strings, &whole, u64::from(self.entry.name))
     }
 
     /// How files share the symbol.

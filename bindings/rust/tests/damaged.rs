@@ -1,6 +1,6 @@
 //! Damaged files: every call returns, and each part that it gives lies in the input.
 
-use xmas_elf_proved::{ElfFile, Entry, Section};
+use xmas_elf_proved::{Answer, ByteRange, ElfFile, Entry, Error, HashTable, Section};
 
 // A stream of numbers (Marsaglia's xorshift of 64 bits), the same in each run.
 struct Numbers(u64);
@@ -16,6 +16,25 @@ impl Numbers {
 
 fn lies_in(input: &[u8], part: &[u8]) -> bool {
     part.is_empty() || input.as_ptr_range().start <= part.as_ptr() && part.as_ptr_range().end <= input.as_ptr_range().end
+}
+
+// Look-ups by one call answer as each by itself does; a range past the end of the names is refused.
+fn visit_look_ups(table: &HashTable<'_, '_>) {
+    let names = "mainprintfmain\0a".as_bytes();
+    let ranges = [0..4, 4..10, 4..4, 10..14, 14..16, 0..10].map(ByteRange::from);
+    let mut answers = [Answer::default(); 8];
+    assert_eq!(table.look_ups(names, &ranges, &mut answers), ranges.len());
+    for (range, answer) in ranges.iter().zip(&answers) {
+        let start = range.offset as usize;
+        let name = std::str::from_utf8(&names[start..start + range.size as usize]).expect("ASCII");
+        let alone = table.look_up_counted(name).map(|said| (said.found, said.index, said.looked_at));
+        assert_eq!(answer.look_up().map(|said| (said.found, said.index, said.looked_at)), alone);
+    }
+    let past = [ByteRange::from(14..17), ByteRange { offset: u64::MAX, size: u64::MAX }];
+    assert_eq!(table.look_ups(names, &past, &mut answers[..1]), 1);
+    assert!(answers[0].index() == Err(Error::DataRange) && answers[1].look_up().is_ok() == table.look_up("printf").is_ok());
+    assert_eq!(table.look_ups(b"\xff", &[ByteRange::from(0..1)], &mut answers), 1);
+    assert_eq!(answers[0].index(), Err(Error::TextUtf8));
 }
 
 fn visit_section(input: &[u8], section: &Section<'_, '_>) -> usize {
@@ -36,6 +55,7 @@ fn visit_section(input: &[u8], section: &Section<'_, '_>) -> usize {
     }
     if let Some(table) = section.hash_table() {
         let _checked = table.check();
+        visit_look_ups(&table);
         for name in ["", "main", "printf", "a"] {
             // In a damaged file the string table by its name may be another than that of the link.
             if let Ok(Some(symbol)) = table.look_up(name) {

@@ -10,12 +10,12 @@ use Rattle.elf_c.specs.declared.status.Refusal.{Refusal}
 use Rattle.elf_c.specs.declared.status.Refusal.TheVariants.{NoRecord}
 
 -- what is put at a place stands there, and everything else as it was
-put_there : {T : Type 0} (xs : List T) (i : ℕ) (x : T) → i < length xs → slice_get (slice_set xs i x) i ≡ Some x
+pub put_there : {T : Type 0} (xs : List T) (i : ℕ) (x : T) → i < length xs → slice_get (slice_set xs i x) i ≡ Some x
 put_there [] i x below = absurd (omega (arith, below))
 put_there (y ∷ xs) zero x below = refl
 put_there (y ∷ xs) (suc i) x below = put_there xs i x (omega (arith, below))
 
-put_elsewhere : {T : Type 0} (xs : List T) (i j : ℕ) (x : T) → j ≢ i → slice_get (slice_set xs i x) j ≡ slice_get xs j
+pub put_elsewhere : {T : Type 0} (xs : List T) (i j : ℕ) (x : T) → j ≢ i → slice_get (slice_set xs i x) j ≡ slice_get xs j
 put_elsewhere [] i j x other = refl
 put_elsewhere (y ∷ xs) zero zero x other = absurd (other refl)
 put_elsewhere (y ∷ xs) zero (suc j) x other = refl

@@ -1,5 +1,5 @@
 -- What is said of the hash table that a section holds is said by the section's index.
-use Rattle.std.proofs.Common.{◌≡◌, ℕ, Result, Ok, Err, MatchResult, refl, sym, subst, inl}
+use Rattle.std.proofs.Common.{◌≡◌, ℕ, Result, Ok, Err, MatchResult, refl, sym, subst, inl, inr}
 use Rattle.elf_base.specs.declared.error.ElfError.{ElfError}
 use Rattle.elf_linking.specs.declared.gnu_hash.GnuHashTable.{GnuHashTable}
 use Rattle.xmas_elf.specs.Content.{Content, hash_table}
@@ -36,3 +36,18 @@ pub with_gnu_table : {A : Type 0} (file : ElfFile) (index : ℕ) (P : GnuHashTab
 with_gnu_table {A} file index P answer section table link at holds same is =
     subst (λ found. MatchResult found (λ one. gnu.OfTable file P one answer) (λ error. answer ≡ Err (Elf error))) (sym at)
     (inl (table, holds, subst (λ number. P table (content_at file number) answer) same is))
+
+-- and where there is no such section or table
+pub without_section : {A : Type 0} (file : ElfFile) (index : ℕ) (P : HashTable → Result Content ElfError → Result A Refusal → Type 0) (error : ElfError) (answer : Result A Refusal) → section_of file index ≡ Err error → answer ≡ Err (Elf error) → WithTable file index P answer
+without_section file index P error answer none says = rw none says
+
+pub with_content : {A : Type 0} (file : ElfFile) (index : ℕ) (P : HashTable → Result Content ElfError → Result A Refusal → Type 0) (section : SectionHeader) (answer : Result A Refusal) → section_of file index ≡ Ok section
+    → MatchResult (section_content_of file section) (λ content. OfTable (λ held. P held (content_at file (section_fields section).link)) content answer) (λ error. answer ≡ Err (Elf error))
+    → WithTable file index P answer
+with_content file index P section answer at says = rw at says
+
+pub without_gnu_section : {A : Type 0} (file : ElfFile) (index : ℕ) (P : GnuHashTable → Result Content ElfError → Result A Refusal → Type 0) (error : ElfError) (answer : Result A Refusal) → section_of file index ≡ Err error → answer ≡ Err (Elf error) → gnu.WithTable file index P answer
+without_gnu_section file index P error answer none says = rw none says
+
+pub without_gnu_table : {A : Type 0} (file : ElfFile) (index : ℕ) (P : GnuHashTable → Result Content ElfError → Result A Refusal → Type 0) (section : SectionHeader) (why : Refusal) (answer : Result A Refusal) → section_of file index ≡ Ok section → gnu.NoTableIn file section why → answer ≡ Err why → gnu.WithTable file index P answer
+without_gnu_table file index P section why answer at none says = rw at (inr (why, none, says))

@@ -10,4 +10,5 @@ pub mod BuildId
 pub mod Addresses
 pub mod Batch
 pub mod Lookup
+pub mod LookUps
 pub mod GnuLookup

@@ -1,15 +1,21 @@
 //! Look-ups by the gABI's hash tables, and their check (gABI, "Hash Table").
 
-ghost use Rattle.std.specs.Prelude.{◌≡◌, Result, true};
-ghost use Rattle.elf_c.specs.Lookup.{ChecksWith, IsChecked, IsLookUp, IsLookUpBy, LooksAmong, WithTable, looked_up};
+ghost use Rattle.std.specs.Prelude.{◌≡◌, Err, IfSome, MatchResult, Ok, Result, true};
+ghost use Rattle.elf_c.specs.Lookup.{ChecksWith, IsChecked, IsLookUp, IsLookUpBy, LooksAmong, WithTable, look_up_answer, looked_up};
+ghost use Rattle.elf_c.specs.LookUps.{AreAnswered, IfUtf8, IsForRange};
 ghost use Rattle.elf_c.specs.Parsed.{file_of};
 ghost use Rattle.elf_c.specs.Status.{GivesHere};
 ghost use Rattle.elf_c.specs.declared.hash.LookUp.{LookUp};
 ghost use Rattle.elf_c.specs.declared.status.Refusal.{Refusal};
+ghost use Rattle.elf_c.specs.declared.status.Refusal.TheVariants.{Elf};
 ghost use Rattle.xmas_elf.specs.HashReport.{content_at};
+ghost use Rattle.xmas_elf.specs.SectionContent.{content};
+ghost use Rattle.xmas_elf.specs.SymbolName.{HoldsNames};
 ghost use Rattle.xmas_elf.specs.Symbols.{symbols_of};
 
 use crate::file::Parsed;
+use crate::look_ups::{Answer, name_at, refuse_all};
+use crate::names::Range;
 use crate::status::{Refusal, give};
 use elf_base::ElfError;
 use std::str::from_utf8;
@@ -18,6 +24,9 @@ use xmas_elf::bytes::{Record, Table};
 use xmas_elf::hash::HashTable;
 use xmas_elf::sections::SectionData;
 use xmas_elf::symbol_table::Entry;
+
+// What the names of symbols stand in, as `Entry::string_table` answers.
+pub(crate) type Strings<'a> = Option<Result<&'a [u8], ElfError>>;
 
 /// What a look-up says, in numbers.
 #[repr(C)]
@@ -52,6 +61,29 @@ impl LookUp {
     }
 }
 
+// What the section at an index holds.
+#[inline(always)]
+pub(crate) fn data_at<'a>(file: &ElfFile<'a>, section: u32) -> Result<SectionData<'a>, ElfError>
+    ensures { MatchResult result (λ held. content_at file.now section ≡ Ok (content held))
+        (λ error. content_at file.now section ≡ Err error) }
+{
+    file.section_header_at(u64::from(section))?.get_data(file)
+}
+
+// What a look-up says, in numbers.
+#[inline(always)]
+fn said<E: Copy>(
+    found: Result<Option<(u32, E)>, ElfError>,
+    looked_at: u32,
+) -> Result<LookUp, Refusal>
+    ensures { result ≡ look_up_answer Elf found looked_at }
+{
+    match found {
+        Ok(found) => Ok(LookUp::of(found, looked_at)),
+        Err(error) => Err(Refusal::Elf(error)),
+    }
+}
+
 // The answer of a look-up for a name among symbols.
 fn look_up<E: Entry + Record>(
     table: &HashTable<'_>,
@@ -69,10 +101,30 @@ fn look_up<E: Entry + Record>(
             ensures { result ≡ true }
         { true },
     );
-    match found {
-        Ok(found) => Ok(LookUp::of(found, looked_at)),
-        Err(error) => Err(Refusal::Elf(error)),
-    }
+    said(found, looked_at)
+}
+
+// The same by the string table of the symbols.
+fn look_up_by_strings<E: Entry + Record>(
+    table: &HashTable<'_>,
+    name: &str,
+    strings: Strings<'_>,
+    symbols: &Table<'_, E>,
+    file: &ElfFile<'_>,
+) -> Result<LookUp, Refusal>
+    requires { IfSome strings (HoldsNames E.fields (λ e. E.text_in e file.now)) }
+    ensures { IsLookUp table.now name.now (symbols_of E.fields E.text_in symbols.now file.now) result }
+{
+    let (found, looked_at) = table.lookup_counted_in(
+        name,
+        strings,
+        symbols,
+        file,
+        |_| -> bool
+            ensures { result ≡ true }
+        { true },
+    );
+    said(found, looked_at)
 }
 
 // The same among the symbols that the section at an index holds.
@@ -134,6 +186,109 @@ pub extern "C" fn xmas_elf_look_up(
         × GivesHere answer out.old result out.new }
 {
     give(look_up_by(&header.file(input), section, name), out)
+}
+
+// The same for the name that is a range of some bytes.
+fn look_up_at<E: Entry + Record>(
+    table: &HashTable<'_>,
+    names: &[u8],
+    range: &Range,
+    strings: Strings<'_>,
+    symbols: &Table<'_, E>,
+    file: &ElfFile<'_>,
+) -> Result<LookUp, Refusal>
+    requires { IfSome strings (HoldsNames E.fields (λ e. E.text_in e file.now)) }
+    ensures { let all = symbols_of E.fields E.text_in symbols.now file.now in
+        IsForRange (IfUtf8 (λ name. IsLookUp table.now name all)) names.now range.now result }
+{
+    match name_at(names, range) {
+        Ok(name) => look_up_by_strings(table, name, strings, symbols, file),
+        Err(refusal) => Err(refusal),
+    }
+}
+
+// The answers of look-ups among symbols, each for the name that is a range of some bytes.
+fn look_ups<E: Entry + Record>(
+    table: &HashTable<'_>,
+    names: &[u8],
+    ranges: &[Range],
+    symbols: &Table<'_, E>,
+    file: &ElfFile<'_>,
+    out: &mut [Answer],
+)
+    ensures { let all = symbols_of E.fields E.text_in symbols.now file.now in
+        AreAnswered (IfUtf8 (λ name. IsLookUp table.now name all)) names.now ranges.now out.old out.new }
+{
+    let strings = E::string_table(file);
+    let count = ranges.len().min(out.len());
+    for place in 0..count {
+        out[place] = Answer::of(look_up_at(table, names, &ranges[place], strings, symbols, file));
+    }
+}
+
+// The same among the symbols that the section at an index holds.
+fn look_ups_among(
+    table: &HashTable<'_>,
+    names: &[u8],
+    ranges: &[Range],
+    section: u32,
+    file: &ElfFile<'_>,
+    out: &mut [Answer],
+)
+    ensures { AreAnswered (IfUtf8 (λ name. LooksAmong file.now name table.now (content_at file.now section)))
+        names.now ranges.now out.old out.new }
+{
+    let held = match data_at(file, section) {
+        Ok(held) => held,
+        Err(error) => return refuse_all(names, ranges, Refusal::Elf(error), out),
+    };
+    match held {
+        SectionData::SymbolTable32(all) => look_ups(table, names, ranges, &all, file, out),
+        SectionData::SymbolTable64(all) => look_ups(table, names, ranges, &all, file, out),
+        SectionData::DynSymbolTable32(all) => look_ups(table, names, ranges, &all, file, out),
+        SectionData::DynSymbolTable64(all) => look_ups(table, names, ranges, &all, file, out),
+        _ => refuse_all(names, ranges, Refusal::OtherData, out),
+    }
+}
+
+// The same by the table that is the section at an index.
+fn look_ups_in(file: &ElfFile<'_>, section: u64, names: &[u8], ranges: &[Range], out: &mut [Answer])
+    ensures { AreAnswered (IsLookUpBy file.now section) names.now ranges.now out.old out.new }
+{
+    let found = match file.section_header_at(section) {
+        Ok(found) => found,
+        Err(error) => return refuse_all(names, ranges, Refusal::Elf(error), out),
+    };
+    let held = match found.get_data(file) {
+        Ok(held) => held,
+        Err(error) => return refuse_all(names, ranges, Refusal::Elf(error), out),
+    };
+    match held {
+        SectionData::HashTable(table) => {
+            look_ups_among(&table, names, ranges, found.link(), file, out)
+        }
+        _ => refuse_all(names, ranges, Refusal::OtherData, out),
+    }
+}
+
+/// Many look-ups by the hash table that is the section at an index, each for the name that is a range of `names`:
+/// as many as there are ranges, and as `out` has room for. Each answer is that of `xmas_elf_look_up`
+/// for the name, with its status; `DataRange` where the range passes the end of `names`.
+///
+/// The table, its symbols and their string table are found once for all of them.
+#[unsafe(no_mangle)]
+pub extern "C" fn xmas_elf_look_ups(
+    input: &[u8],
+    header: &Parsed,
+    section: u64,
+    names: &[u8],
+    ranges: &[Range],
+    out: &mut [Answer],
+)
+    ensures { AreAnswered (IsLookUpBy (file_of input.entry header.now) section)
+        names.now ranges.now out.old out.new }
+{
+    look_ups_in(&header.file(input), section, names, ranges, out);
 }
 
 // The answer of the check with symbols.

@@ -13,6 +13,7 @@ pub mod dynamic;
 pub mod file;
 pub mod gnu_hash;
 pub mod hash;
+pub mod look_ups;
 pub mod message;
 pub mod names;
 pub mod notes;

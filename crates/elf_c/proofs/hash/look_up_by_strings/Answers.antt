@@ -1,0 +1,14 @@
+use Rattle.std.proofs.Common.{rules}
+use Rattle.xmas_elf.specs.Symbols.{symbols_of}
+use Rattle.elf_c.proofs.Looking.{finds_name, looks_for_name}
+use Rattle.elf_c.proofs.hash.look_up_by_strings.Goals as goal
+
+-- the test passes every symbol
+pub returns : goal.returns
+returns g c = (
+  c.lookup_counted_in-found.result.0,
+  c.lookup_counted_in-found.result.1,
+  looks_for_name _ _ (λ e. search rules) _ (symbols_of g.E.Entry.fields g.E.Entry.text_in c.args.symbols.now c.args.file.now) _ _ _ (c.lookup_counted_in-found.ensures.answer c.requires (λ e within yes no. search rules)),
+  (λ good. finds_name _ _ (λ e. search rules) (symbols_of g.E.Entry.fields g.E.Entry.text_in c.args.symbols.now c.args.file.now) _ _ (c.lookup_counted_in-found.ensures.good c.requires (λ e within yes no. search rules) good)),
+  c.said.ensures,
+)
