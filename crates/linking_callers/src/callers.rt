@@ -2,10 +2,11 @@
 
 ghost use Rattle.std.specs.Borrow.{Bor};
 ghost use Rattle.std.specs.Fn.{FnReturnsAt};
-ghost use Rattle.std.specs.Prelude.{◌≡◌, ◌↔◌, ◌≤◌, ℕ, Contains, IfErr, IfOk, IsTrue, List, MatchOption, None, Some, length, slice_get, true};
+ghost use Rattle.std.specs.Prelude.{◌≡◌, ◌↔◌, ◌≤◌, ℕ, Contains, IfErr, IfOk, IfSome, IsTrue, List, MatchOption, None, Some, length, slice_get, true};
 ghost use Rattle.elf_base.specs.Table.{table_items};
 ghost use Rattle.elf_linking.specs.GoodGnu.{IsExported, IsGood};
 ghost use Rattle.linking_callers.specs.Linked.{IsFaultOf, IsValueBy};
+ghost use Rattle.xmas_elf.specs.SymbolName.{HoldsNames};
 ghost use Rattle.xmas_elf.specs.Symbols.{Decides, symbols_of};
 
 pub mod backtrace;
@@ -18,9 +19,9 @@ use elf_base::bytes::{Record, Table};
 use elf_callers::callers::hash;
 use elf_linking::LinkError;
 use elf_linking::gnu_hash::GnuHashTable;
-use xmas_elf::ElfFile;
 use xmas_elf::hash::HashTable;
 use xmas_elf::symbol_table::Entry;
+use xmas_elf::{ElfError, ElfFile};
 
 /// Whether look-ups by a table find each symbol that they should: all runs come to an end, and each
 /// symbol from the table's first on that is defined and not local and has a name is on its name's run.
@@ -74,6 +75,62 @@ pub fn symbol_with_name<E: Entry + Record>(
 {
     match table.lookup(
         name,
+        symbols,
+        file,
+        |_| -> bool
+            ensures { result ≡ true }
+        { true },
+    ) {
+        Ok(Some(found)) => Some(found),
+        Ok(None) => None,
+        Err(_) => unreachable!(),
+    }
+}
+
+/// Two symbols by their names, by a table that passes the check. The string table of the symbols is taken
+/// once for both look-ups.
+pub fn two_symbols<E: Entry + Record>(
+    table: &GnuHashTable<'_>,
+    one: &str,
+    other: &str,
+    symbols: &Table<'_, E>,
+    file: &ElfFile<'_>,
+) -> (Option<(u32, E)>, Option<(u32, E)>)
+    requires good { IsGood table.now (symbols_of E.fields E.text_in symbols.now file.now) }
+    ensures first { let all = symbols_of E.fields E.text_in symbols.now file.now in MatchOption result.0
+        ((i : ℕ) (e : E) → ¬ IsExported table.now all i e one.now)
+        (λ found. (slice_get all.items found.0 ≡ Some found.1)
+        × (all.text found.1 ≡ Some one.now)) }
+    ensures second { let all = symbols_of E.fields E.text_in symbols.now file.now in MatchOption result.1
+        ((i : ℕ) (e : E) → ¬ IsExported table.now all i e other.now)
+        (λ found. (slice_get all.items found.0 ≡ Some found.1)
+        × (all.text found.1 ≡ Some other.now)) }
+{
+    let strings = E::string_table(file);
+    (
+        named_symbol(table, one, strings, symbols, file),
+        named_symbol(table, other, strings, symbols, file),
+    )
+}
+
+/// The symbol with this name, by a table that passes the check and by the string table of its symbols.
+pub fn named_symbol<E: Entry + Record>(
+    table: &GnuHashTable<'_>,
+    name: &str,
+    strings: Option<Result<&[u8], ElfError>>,
+    symbols: &Table<'_, E>,
+    file: &ElfFile<'_>,
+) -> Option<(u32, E)>
+    requires good { IsGood table.now (symbols_of E.fields E.text_in symbols.now file.now) }
+    requires names { IfSome strings (HoldsNames E.fields (λ e. E.text_in e file.now)) }
+    ensures { let all = symbols_of E.fields E.text_in symbols.now file.now in MatchOption result
+        ((i : ℕ) (e : E) → ¬ IsExported table.now all i e name.now)
+        (λ found. (slice_get all.items found.0 ≡ Some found.1)
+        × (all.text found.1 ≡ Some name.now)) }
+{
+    match table.lookup_in(
+        name,
+        strings,
         symbols,
         file,
         |_| -> bool

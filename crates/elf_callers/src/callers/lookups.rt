@@ -1,11 +1,12 @@
 //! Look-ups by a test of one's own, in tables that were checked and in tables that were not.
 
 ghost use Rattle.std.specs.Borrow.{Bor};
-ghost use Rattle.std.specs.Prelude.{◌≡◌, ◌≢◌, ◌↔◌, ◌<◌, ◌≤◌, ℕ, Contains, Err, IfErr, IsOk, IsTrue, MatchOption, OnOk, Some, length, slice_get};
+ghost use Rattle.std.specs.Prelude.{◌≡◌, ◌≢◌, ◌↔◌, ◌<◌, ◌≤◌, ℕ, Contains, Err, IfErr, IfSome, IsOk, IsTrue, MatchOption, OnOk, Some, length, slice_get, true};
 ghost use Rattle.elf_callers.specs.Tiny.{tiny_fields, tiny_name};
 ghost use Rattle.xmas_elf.specs.Chain.{IsEndless, Looks, chains_of};
 ghost use Rattle.xmas_elf.specs.Good.{FindsAll, IsCheck, IsGood, MustBeFound};
 ghost use Rattle.xmas_elf.specs.HashTable.{chain_count_of, start_of};
+ghost use Rattle.xmas_elf.specs.SymbolName.{HoldsNames};
 ghost use Rattle.xmas_elf.specs.Symbols.{Decides, IsGlobal, IsMatch, symbols_of};
 ghost use Rattle.xmas_elf.specs.Table.{table_items};
 
@@ -84,6 +85,62 @@ pub fn defined_symbol<E: Entry + Record>(
         { symbol.shndx() != 0 },
     ) {
         Ok(Some(found)) => Some(found),
+        Ok(None) => None,
+        Err(_) => unreachable!(),
+    }
+}
+
+/// Two symbols by their names, by a table that passed the check. The string table of the symbols is taken
+/// once for both look-ups.
+pub fn two_symbols<E: Entry + Record>(
+    table: &HashTable<'_>,
+    one: &str,
+    other: &str,
+    symbols: &Table<'_, E>,
+    file: &ElfFile<'_>,
+) -> (Option<(u32, E)>, Option<(u32, E)>)
+    requires good { IsGood table.now (symbols_of E.fields E.text_in symbols.now file.now) }
+    ensures first { let all = symbols_of E.fields E.text_in symbols.now file.now in MatchOption result.0
+        ((i : ℕ) (e : E) → ¬ IsGlobal all i e one.now)
+        (λ found. (0 < found.0) × (slice_get all.items found.0 ≡ Some found.1)
+        × (all.text found.1 ≡ Some one.now)) }
+    ensures second { let all = symbols_of E.fields E.text_in symbols.now file.now in MatchOption result.1
+        ((i : ℕ) (e : E) → ¬ IsGlobal all i e other.now)
+        (λ found. (0 < found.0) × (slice_get all.items found.0 ≡ Some found.1)
+        × (all.text found.1 ≡ Some other.now)) }
+{
+    let strings = E::string_table(file);
+    (
+        named_symbol(table, one, strings, symbols, file),
+        named_symbol(table, other, strings, symbols, file),
+    )
+}
+
+/// A symbol with this name, by a table that passed the check and by the string table of its symbols.
+pub fn named_symbol<E: Entry + Record>(
+    table: &HashTable<'_>,
+    name: &str,
+    strings: Option<Result<&[u8], ElfError>>,
+    symbols: &Table<'_, E>,
+    file: &ElfFile<'_>,
+) -> Option<(u32, E)>
+    requires good { IsGood table.now (symbols_of E.fields E.text_in symbols.now file.now) }
+    requires names { IfSome strings (HoldsNames E.fields (λ e. E.text_in e file.now)) }
+    ensures { let all = symbols_of E.fields E.text_in symbols.now file.now in MatchOption result
+        ((i : ℕ) (e : E) → ¬ IsGlobal all i e name.now)
+        (λ found. (0 < found.0) × (slice_get all.items found.0 ≡ Some found.1)
+        × (all.text found.1 ≡ Some name.now)) }
+{
+    match table.lookup_in(
+        name,
+        strings,
+        symbols,
+        file,
+        |_| -> bool
+            ensures { result ≡ true }
+        { true },
+    ) {
+        Ok(Some((index, symbol))) => Some((index, symbol)),
         Ok(None) => None,
         Err(_) => unreachable!(),
     }

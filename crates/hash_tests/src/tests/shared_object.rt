@@ -103,7 +103,13 @@ const WIDE: &[u8; 1472] = b"\
     \0\0\0\0\0\0\0\0\0\0\0\0\x01\0\0\0\x03\0\0\0\0\0\0\0\0\0\0\0\0\0\0\0\0\0\0\0\xf4\x02\0\0\0\0\0\
     \0H\0\0\0\0\0\0\0\0\0\0\0\0\0\0\0\x01\0\0\0\0\0\0\0\0\0\0\0\0\0\0\0";
 
-// Wants each exported name at its index with its value, and no other name.
+// The index and the value of a symbol that is found.
+fn numbers<E: Entry + Record>(found: Option<(u32, E)>) -> Option<(usize, u64)> {
+    found.map(|(index, symbol)| (index as usize, symbol.value()))
+}
+
+// Wants each exported name at its index with its value, and no other name; also by a string table that is
+// taken once.
 fn check_look_ups<E: Entry + Record>(
     rt: &impl Abort,
     table: &HashTable<'_>,
@@ -112,14 +118,20 @@ fn check_look_ups<E: Entry + Record>(
     values: [u64; 6],
 ) -> Result<(), ElfError> {
     table.check(symbols, file)?;
+    let strings = E::string_table(file);
     for (k, (name, value)) in NAMES.iter().zip(values).enumerate() {
-        let found = table.lookup(name, symbols, file, |_| true)?;
-        let found = found.map(|(index, symbol)| (index as usize, symbol.value()));
-        assert_eq!(rt; found, Some((k.wrapping_add(1), value)), "{name}");
+        let found = numbers(table.lookup(name, symbols, file, |_| true)?);
+        let again = numbers(table.lookup_in(name, strings, symbols, file, |_| true)?);
+        assert_eq!(rt;
+            [found, again],
+            [Some((k.wrapping_add(1), value)); 2],
+            "{name}"
+        );
     }
     for name in ["inner", "", "firs", "first2"] {
         let found = table.lookup(name, symbols, file, |_| true)?;
-        assert!(rt; found.is_none(), "{name}");
+        let again = table.lookup_in(name, strings, symbols, file, |_| true)?;
+        assert!(rt; found.is_none() && again.is_none(), "{name}");
     }
     Ok(())
 }

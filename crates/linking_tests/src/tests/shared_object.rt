@@ -128,17 +128,22 @@ pub const WIDE: &[u8; 1928] = b"\
     \x01\0\0\0\x03\0\0\0\0\0\0\0\0\0\0\0\0\0\0\0\0\0\0\0\xe4\x03\0\0\0\0\0\0_\0\0\0\0\0\0\0\0\0\0\
     \0\0\0\0\0\x01\0\0\0\0\0\0\0\0\0\0\0\0\0\0\0";
 
-// Whether each exported name is at its index with its value.
+// Whether each exported name is at its index with its value, also by a string table taken once.
 fn finds_each<E: Entry + Record>(
     table: &GnuHashTable<'_>,
     symbols: &Table<'_, E>,
     file: &ElfFile<'_>,
     values: [u64; 7],
 ) -> bool {
+    let strings = E::string_table(file);
     for (k, (name, value)) in NAMES.iter().zip(values).enumerate() {
-        match table.lookup(name, symbols, file, |_| true) {
-            Ok(Some((index, symbol)))
-                if index as usize == k.wrapping_add(2) && symbol.value() == value => {}
+        let found = table.lookup(name, symbols, file, |_| true);
+        let again = table.lookup_in(name, strings, symbols, file, |_| true);
+        match (found, again) {
+            (Ok(Some((index, symbol))), Ok(Some((same, _))))
+                if index as usize == k.wrapping_add(2)
+                    && same == index
+                    && symbol.value() == value => {}
             _ => return false,
         }
     }
