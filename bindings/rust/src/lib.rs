@@ -17,10 +17,13 @@
 //! # }
 //! ```
 #![no_std]
+#![deny(unsafe_code)]
 #![deny(unsafe_op_in_unsafe_fn)]
 #![warn(missing_docs)]
 
 mod error;
+// The calls of the archive, and nothing else: slices and texts are taken by safe code.
+#[allow(unsafe_code)]
 mod ffi;
 mod hash;
 mod items;
