@@ -103,8 +103,8 @@ module _ {E : Type 0} (table : HashTable) (symbols : Symbols E) where
       count
 
   -- what the walk along the chain of a bucket says, said of the bucket
-  pub held_by_bucket : (k first : ℕ) (r : Result ℕ ElfError) → bucket_of table k ≡ Ok first → MatchResult r (λ held. Reaches (chains_of table symbols.items) first 0 × IsCount (λ i. Belongs table symbols k i × Reaches (chains_of table symbols.items) first i) held) (λ error. (n : ℕ) × LooksFrom (λ (e : E). ⊥) (chains_of table symbols.items) (Some (Ok first)) (Err error) n) → MatchResult r (λ held. Ends table symbols.items k × IsCount (IsHeldBy table symbols k) held) (λ error. IsAtFault table symbols.items k error)
-  held_by_bucket k first (Ok held) at (end, count) = ((first, at, end), held_by k first held at count)
+  pub held_by_bucket : (k first : ℕ) (r : Result (ℕ × ℕ) ElfError) → bucket_of table k ≡ Ok first → MatchResult r (λ (held, passed). Comes (chains_of table symbols.items) first passed 0 × IsCount (λ i. Belongs table symbols k i × Reaches (chains_of table symbols.items) first i) held) (λ error. (n : ℕ) × LooksFrom (λ (e : E). ⊥) (chains_of table symbols.items) (Some (Ok first)) (Err error) n) → MatchResult r (λ (held, passed). ((first : ℕ) × (bucket_of table k ≡ Ok first) × Comes (chains_of table symbols.items) first passed 0) × IsCount (IsHeldBy table symbols k) held) (λ error. IsAtFault table symbols.items k error)
+  held_by_bucket k first (Ok (held, passed)) at (end, count) = ((first, at, end), held_by k first held at count)
   held_by_bucket k first (Err error) at (n, looks) = (n, subst (λ b. LooksFrom (λ (e : E). ⊥) (chains_of table symbols.items) (Some b) (Err error) n) (sym at) looks)
 
   pub held_none : IsCount (IsHeldBelow table symbols 0) 0
