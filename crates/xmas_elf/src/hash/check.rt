@@ -272,10 +272,10 @@ impl<'a> HashTable<'a> {
     {
         let count = (self.chain_count() as usize).min(symbols.len()) as u32;
         for index in 1..count {
-            let _last = match self.follow(index, 0, index, symbols) {
-                Ok(last) => last,
+            match self.follow(index, 0, index, symbols) {
+                Ok(_) => {}
                 Err(_) => return index,
-            };
+            }
         }
         count.max(1)
     }
@@ -295,7 +295,7 @@ impl<'a> HashTable<'a> {
     {
         match self.get_bucket(bucket) {
             Ok(first) => match self.follow(first, 0, sound, symbols) {
-                Ok(_last) => Ok(()),
+                Ok(_) => Ok(()),
                 Err(error) => Err(error),
             },
             Err(error) => Err(error),
@@ -320,10 +320,10 @@ impl<'a> HashTable<'a> {
         let mut index = first;
         let mut count: u32 = 0;
         while index >= bound && index as usize != target {
-            let _entry = match self.symbol_at(index, count, symbols) {
-                Ok(entry) => entry,
+            match self.symbol_at(index, count, symbols) {
+                Ok(_) => {}
                 Err(halt) => return Err(halt),
-            };
+            }
             count += 1;
             index = match self.get_chain(index) {
                 Ok(next) => next,

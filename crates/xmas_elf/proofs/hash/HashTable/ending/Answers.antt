@@ -12,4 +12,4 @@ loop-index-preserved g c =
     let chains = chains_of c.args.self.now (table_items c.args.symbols.now) in
     let (along, stop, ahead) = c.in-Ok.ensures in
     below_more (λ i. Reaches chains i 0) c.loop-index.index c.loop-index.invariant
-    (ends_along chains c.loop-index.index c.in-Ok.last c.loop-index.index (omega arith) c.loop-index.invariant stop along)
+    (ends_along chains c.loop-index.index c.in-Ok.field-0 c.loop-index.index (omega arith) c.loop-index.invariant stop along)

@@ -9,7 +9,7 @@ returns-in-Ok-follow g c =
     let (along, stop, ahead) = c.in-Ok-follow.ensures in (
       c.in-Ok.first,
       sym c.get_bucket.ensures.exact ∙ c.in-Ok.is,
-      ends_along (chains_of c.args.self.now (table_items c.args.symbols.now)) c.in-Ok.first c.in-Ok-follow._last c.args.sound c.requires.some c.requires.each stop along,
+      ends_along (chains_of c.args.self.now (table_items c.args.symbols.now)) c.in-Ok.first c.in-Ok-follow.field-0 c.args.sound c.requires.some c.requires.each stop along,
     )
 
 pub returns-in-Err : goal.returns-in-Err
