@@ -81,13 +81,12 @@ impl<'a> HashTable<'a> {
     /// must be held, and compares. So where buckets share no chain it takes a step for each symbol on a
     /// chain and one for each symbol, and reads each name twice, however the names are spread.
     ///
-    /// Once it has taken more steps along chains than there are chains, buckets share one. Then it asks
-    /// of each index, upwards, whether its chain comes to a lesser one or to the end, which is one step
-    /// each where chains lead downwards, as a linker makes them; follows the chains of the buckets if
-    /// one doesn't; and follows the chain of each symbol's name up to the symbol. That reads the name
-    /// of each symbol once more, and else no more than words of chains: with B buckets, C chains and S
-    /// symbols a table that was made to cost much takes B + C + S times the lesser of C and S such
-    /// steps.
+    /// Once that has taken more steps than there are chains, buckets share one, and it goes on by
+    /// words of chains alone. It walks from each index, upwards, until it comes to a lesser one or to
+    /// the end, which is one step where chains lead downwards, as a linker makes them; from each
+    /// bucket, if one of those comes to neither; and from the bucket of each symbol's name, which it
+    /// reads once more, up to the symbol. With B buckets, C chains and S symbols a table that was
+    /// made to cost much takes at most B + C + S times the lesser of C and S such steps.
     pub fn check<E: Entry + Record>(
         &self,
         symbols: &Table<'_, E>,
@@ -114,9 +113,9 @@ impl<'a> HashTable<'a> {
         }
     }
 
-    // How many symbols the chains of all buckets hold, if they end; or why that of the least bucket at
-    // fault doesn't. `None` past as many steps as there are chains: no index is met twice on a chain
-    // that ends, so some buckets share one.
+    // How many symbols the chains of all buckets hold, if they end; or why that of the least bucket
+    // at fault doesn't. `None` past as many steps as there are chains: no index is met twice on a
+    // chain that ends, so some buckets share one.
     fn held_by_all<E: Entry + Record>(
         &self,
         symbols: &Table<'_, E>,
@@ -229,7 +228,7 @@ impl<'a> HashTable<'a> {
         }
     }
 
-    // The check where buckets share chains: of the chains by themselves, and of each symbol by itself.
+    // The check where buckets share chains: of the chains alone, and then of each symbol by itself.
     fn check_shared<E: Entry + Record>(
         &self,
         symbols: &Table<'_, E>,
@@ -264,11 +263,12 @@ impl<'a> HashTable<'a> {
         Ok(())
     }
 
-    // An index below which each chain ends: that of the first that leads neither to a lesser index nor
-    // to the end, or else as many as can stand on a chain.
+    // An index below which each chain ends: the first that comes neither to a lesser index nor to the
+    // end, or else as many as can stand on a chain.
     fn ending<E: Record>(&self, symbols: &Table<'_, E>) -> u32
         ensures some { 0 < result }
-        ensures each { (i : ℕ) → i < result → Reaches (chains_of self.now (table_items symbols.now)) i 0 }
+        ensures each { (i : ℕ) → i < result
+            → Reaches (chains_of self.now (table_items symbols.now)) i 0 }
     {
         let count = (self.chain_count() as usize).min(symbols.len()) as u32;
         for index in 1..count {
@@ -302,8 +302,8 @@ impl<'a> HashTable<'a> {
         }
     }
 
-    // Where the walk from an index on comes to the target or below the bound; or why it never does, and
-    // the chain doesn't end. It reads words of chains alone.
+    // Where the walk from an index on comes to the target or below the bound; or why it never does,
+    // and the chain doesn't end. It reads words of chains alone.
     fn follow<E: Record>(
         &self,
         first: u32,
