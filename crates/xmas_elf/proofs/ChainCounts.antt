@@ -1,5 +1,5 @@
 -- The symbols that a chain holds, counted along the walk, and what their number tells.
-use Rattle.std.proofs.Common.{◌≡◌, ◌≢◌, ◌<◌, ◌≤◌, ◌+◌, ◌%◌, ◌/◌, ℕ, suc, ◌⊎◌, inl, inr, List, [], ◌∷◌, Option, Some, Result, Ok, Err, MatchResult, Bool, IsTrue, ◌↔◌, length, slice_get, refl, sym, ◌∙◌, ap, subst, arith}
+use Rattle.std.proofs.Common.{◌≡◌, ◌≢◌, ◌<◌, ◌≤◌, ◌+◌, ◌%◌, ◌/◌, ℕ, ◌⊎◌, inl, inr, List, [], ◌∷◌, Some, Result, Ok, Err, MatchResult, Bool, IsTrue, ◌↔◌, length, slice_get, refl, sym, ◌∙◌, ap, subst, arith}
 use Rattle.std.proofs.Math.Dec.{eqb}
 use Rattle.std.proofs.lemmas.Bool.{cases_order}
 use Rattle.std.proofs.lemmas.Option.{slice_get_within}
@@ -8,7 +8,7 @@ use Rattle.elf_records.specs.HashNumber.{hash_number}
 use Rattle.elf_base.specs.declared.error.ElfError.{ElfError}
 use Rattle.xmas_elf.specs.Chain.{Chains, Comes, LooksFrom, Reaches, chains_of}
 use Rattle.xmas_elf.specs.Counted.{IsCount}
-use Rattle.xmas_elf.specs.Good.{Belongs, Ends, IsAtFault, IsHeldBelow, IsHeldBy, IsReached, MustBeHeld}
+use Rattle.xmas_elf.specs.Good.{Belongs, IsAtFault, IsHeldBelow, IsHeldBy, IsReached, MustBeHeld}
 use Rattle.xmas_elf.specs.HashTable.{bucket_count_of, bucket_of, start_of}
 use Rattle.xmas_elf.specs.Symbols.{IsGlobal, Symbols}
 use Rattle.xmas_elf.specs.declared.hash.HashTable.{HashTable}

@@ -1,6 +1,6 @@
 -- Walks along the chains of a hash table: they go one way, from one index at most one stop is reached,
 -- and a walk that reaches one passes no index twice.
-use Rattle.std.proofs.Common.{◌≡◌, ◌<◌, ◌≤◌, ℕ, zero, suc, ◌+◌, List, [], ◌∷◌, Option, Some, None, Result, Ok, Err, Bool, true, false, length, refl, ap, sym, ◌∙◌, subst, arith, slice_get, ◌||◌, ◌⊎◌, inl, inr, Contains, below_more}
+use Rattle.std.proofs.Common.{◌≡◌, ◌<◌, ◌≤◌, ℕ, zero, suc, ◌+◌, List, [], ◌∷◌, Option, Some, Result, Ok, Err, Bool, true, false, length, refl, sym, ◌∙◌, subst, arith, slice_get, ◌||◌, ◌⊎◌, inl, inr, Contains, below_more}
 use Rattle.std.proofs.Math.Dec.{eqb}
 use Rattle.std.proofs.lemmas.Bool.{cases_order, ne_eqb}
 use Rattle.std.proofs.lemmas.Bool.Decides.{eqb_tells}
@@ -9,7 +9,7 @@ use Rattle.std.proofs.lemmas.Map.Keys.{IsDistinct-cons}
 use Rattle.std.proofs.lemmas.Map.Steps.{length-le_from_distinct_below}
 use Rattle.std.specs.List.{AllByRecursion, IsDistinct, list_any}
 use Rattle.elf_base.specs.declared.error.ElfError.{ElfError}
-use Rattle.elf_base.specs.declared.error.ElfError.TheVariants.{SymbolIndex, ChainIndex, HashCycle}
+use Rattle.elf_base.specs.declared.error.ElfError.TheVariants.{SymbolIndex, ChainIndex}
 use Rattle.xmas_elf.specs.Chain.{Chains, StandsAt, Stops, at_end, past_chains, past_symbols, found, refused, Links, Comes, starts, goes, NoneBefore, LooksFrom, Reaches, reaches, endless, Halts, no_chain, no_symbol, too_many}
 
 below_at : (n x q : ℕ) (b : Bool) → x < n → (b ≡ true → q < n) → ((eqb q x ≡ true) × (q ≡ x)) ⊎ ((eqb q x ≡ false) × (q ≡ x → ⊥)) → (eqb q x || b) ≡ true → q < n

@@ -1,4 +1,4 @@
-use Rattle.std.proofs.Common.{arith, Ok, Err, Result}
+use Rattle.std.proofs.Common.{arith, Ok, Err}
 use Rattle.elf_base.specs.declared.error.ElfError.TheVariants.{HashMissing}
 use Rattle.xmas_elf.specs.Good.{IsCheck, good, faulty, missing}
 use Rattle.xmas_elf.specs.Symbols.{symbols_of}

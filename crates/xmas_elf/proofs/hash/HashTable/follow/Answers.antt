@@ -1,7 +1,7 @@
 use Rattle.std.proofs.Common.{arith, ◌+◌, Err, refl, sym, ◌∙◌}
 use Rattle.elf_base.specs.Table.{table_items}
 use Rattle.xmas_elf.specs.Chain.{Links, StandsAt, refused, chains_of}
-use Rattle.xmas_elf.proofs.ChainPaths.{Walked, looks, looks_halted, reached_next, walked_first, walked_next}
+use Rattle.xmas_elf.proofs.ChainPaths.{looks, looks_halted, reached_next, walked_first, walked_next}
 use Rattle.xmas_elf.proofs.hash.HashTable.follow.Goals as goal
 
 pub loop-index-init : goal.loop-index-init

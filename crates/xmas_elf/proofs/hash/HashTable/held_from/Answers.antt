@@ -1,4 +1,4 @@
-use Rattle.std.proofs.Common.{arith, ◌≡◌, ◌≤◌, ◌<◌, ◌+◌, ◌↔◌, IsTrue, Some, Err, refl, sym, ◌∙◌, subst}
+use Rattle.std.proofs.Common.{arith, ◌+◌, ◌↔◌, IsTrue, Err, refl, sym, ◌∙◌, subst}
 use Rattle.elf_base.specs.Table.{table_items}
 use Rattle.xmas_elf.specs.Chain.{StandsAt, Comes, refused, chains_of}
 use Rattle.xmas_elf.specs.Good.{Belongs}
