@@ -2,7 +2,8 @@
 """hostile.py SHAPE COUNT FILE: a file of class 64 with so many symbols and a hash table of that shape.
 
 gABI's tables: sysv_ordinary (a bucket a symbol), sysv_one_chain (one bucket), sysv_tails (each bucket
-leads to one chain of all symbols, downwards), sysv_tails_mixed (the same chain in a mixed order).
+leads to one chain of all symbols, downwards), sysv_tails_mixed (the same chain in a mixed order),
+sysv_tails_loop (that without symbol 1, which is local and leads to itself).
 GNU's: gnu_ordinary (a bucket for four symbols), gnu_one_bucket (all symbols in one run), gnu_one_run
 (each bucket leads to the start of one run of all symbols).
 """
@@ -35,7 +36,7 @@ def sysv_table(shape: str, names: list) -> bytes:
     count = len(names)
     if shape.startswith("sysv_tails"):
         order = list(range(1, count + 1))
-        if shape.endswith("mixed"):
+        if not shape.endswith("tails"):
             state = 1
             for index in range(count - 1, 0, -1):
                 state = (state * 6364136223846793005 + 1442695040888963407) % 2**64
@@ -44,6 +45,9 @@ def sysv_table(shape: str, names: list) -> bytes:
         else:
             order.reverse()
         chain = [0] * (count + 1)
+        if shape.endswith("loop"):
+            order.remove(1)
+            chain[1] = 1
         for this, following in zip(order, order[1:]):
             chain[this] = following
         return words([count, count + 1] + [order[0]] * count + chain)
@@ -81,7 +85,8 @@ def main() -> None:
         names.sort(key=lambda name: gnu_number(name) % max(count // 4, 1))
     strings, symbols = bytearray(b"\0"), bytearray(24)
     for index, name in enumerate(names):
-        symbols += struct.pack("<IBBHQQ", len(strings), 0x12, 0, 1, 16 * index, 1)
+        info = 0x02 if shape == "sysv_tails_loop" and index == 0 else 0x12
+        symbols += struct.pack("<IBBHQQ", len(strings), info, 0, 1, 16 * index, 1)
         strings += name + b"\0"
     table = gnu_table(shape, names) if is_gnu else sysv_table(shape, names)
     kinds = [

@@ -1,17 +1,57 @@
 -- What passes the check of a hash table, and what doesn't.
-use Rattle.std.proofs.Common.{◌≡◌, ◌<◌, ℕ, ◌⊎◌, inl, inr, Some, Result, Ok, Err, refl, ap, subst}
+use Rattle.std.proofs.Common.{◌≡◌, ◌≢◌, ◌<◌, ◌/◌, ◌%◌, ◌↔◌, ℕ, ◌⊎◌, inl, inr, List, Some, None, Result, Ok, Err, slice_get, refl, sym, ◌∙◌, ap, subst, arith}
 use Rattle.std.proofs.lemmas.Bool.{cases_order}
 use Rattle.std.specs.Prelude.{IsOk}
 use Rattle.elf_base.specs.declared.error.ElfError.{ElfError}
-use Rattle.xmas_elf.specs.Good.{IsAtFault, IsReached, IsGood, IsCheck, good, faulty, missing}
-use Rattle.xmas_elf.specs.Chain.{LooksFrom, chains_of}
-use Rattle.xmas_elf.specs.HashTable.{bucket_of}
+use Rattle.elf_records.specs.HashNumber.{hash_number}
+use Rattle.xmas_elf.specs.Good.{Ends, IsAtFault, IsReached, IsGood, IsCheck, good, faulty, missing}
+use Rattle.xmas_elf.specs.Chain.{LooksFrom, Reaches, chains_of}
+use Rattle.xmas_elf.specs.HashTable.{bucket_count_of, bucket_of, start_of}
 use Rattle.xmas_elf.specs.Symbols.{IsGlobal, Symbols}
 use Rattle.xmas_elf.specs.declared.hash.HashTable.{HashTable}
 use Rattle.xmas_elf.proofs.ChainFinds.{not_at_fault}
 use Rattle.xmas_elf.proofs.ChainOnce.{looks_once}
+use Rattle.xmas_elf.proofs.ChainPaths.{end_reaches}
+use Rattle.xmas_elf.proofs.ChainStarts.{start_some}
+
+module _ {E : Type 0} (table : HashTable) (symbols : List E) where
+  -- whether a walk from the bucket of a name stops at an index, which it does there or at the end, tells
+  -- whether the index is on the chain of the name
+  pub found_reached : (name : List ℕ) (i first last : ℕ) → 0 < i → (bucket_count_of table ≡ 0 → ⊥) → bucket_of table (hash_number name % bucket_count_of table) ≡ Ok first → Reaches (chains_of table symbols) first last → (last ≡ i) ⊎ (last < 1) → (Reaches (chains_of table symbols) first i → Reaches (chains_of table symbols) last i) → (last ≡ i) ↔ IsReached table symbols name i
+  found_reached name i first last above some at along stop ahead = (
+    λ same. (first, start, subst (λ x. Reaches (chains_of table symbols) first x) same along),
+    λ (other, start', r). met stop (ahead (subst (λ x. Reaches (chains_of table symbols) x i) (let both : Some (Ok other) ≡ Some (Ok first) = sym start' ∙ start in cc) r)),
+  )
+    where
+      start : start_of table name ≡ Some (Ok first)
+      start = start_some table name some ∙ ap (λ b. Some b) at
+
+      met : (last ≡ i) ⊎ (last < 1) → Reaches (chains_of table symbols) last i → last ≡ i
+      met (inl same) r = same
+      met (inr end) r = absurd (let none : i ≡ 0 = end_reaches (chains_of table symbols) last i (omega arith) r in omega arith)
+
+  -- a walk along a chain that ends is not refused
+  pub unrefused : (k first n : ℕ) (error : ElfError) → Ends table symbols k → bucket_of table k ≡ Ok first → LooksFrom (λ (e : E). ⊥) (chains_of table symbols) (Some (Ok first)) (Err error) n → ⊥
+  unrefused k first n error ends at looks =
+      not_at_fault table symbols k error ends (n, subst (λ b. LooksFrom (λ (e : E). ⊥) (chains_of table symbols) (Some b) (Err error) n) (sym at) looks)
 
 module _ {E : Type 0} (table : HashTable) (symbols : Symbols E) where
+  -- the symbol at i is held, if there is one that must be
+  abbrev pub Held : ℕ → Type 0
+  Held i = (e : E) (name : List ℕ) → IsGlobal symbols i e name → IsReached table symbols.items name i
+
+  pub held_first : (i : ℕ) → i < 1 → Held i
+  held_first i below e name global = absurd (let above : 0 < i = global.not_first in omega arith)
+
+  pub held_absent : (i : ℕ) → slice_get symbols.items i ≡ None → Held i
+  held_absent i absent e name global = let there : slice_get symbols.items i ≡ Some e = global.stands in cc
+
+  pub held_entry : (i : ℕ) (d : E) → slice_get symbols.items i ≡ Some d → ((name : List ℕ) → (symbols.fields d).info / 16 ≢ 0 → symbols.text d ≡ Some name → IsReached table symbols.items name i) → Held i
+  held_entry i d at reached e name global =
+      let there : slice_get symbols.items i ≡ Some e = global.stands in
+      let same : e ≡ d = cc in
+      reached name (subst (λ x. (symbols.fields x).info / 16 ≢ 0) same global.binding) (subst (λ x. symbols.text x ≡ Some name) same global.named)
+
   -- the check answers Ok exactly on a good table
   pub ok_is_good : (r : Result (Unit {0}) ElfError) → IsCheck table symbols r → IsOk r → IsGood table symbols
   ok_is_good _ (good h) ok = h

@@ -1,5 +1,5 @@
 -- The symbols that a chain holds, counted along the walk, and what their number tells.
-use Rattle.std.proofs.Common.{◌≡◌, ◌≢◌, ◌<◌, ◌≤◌, ◌+◌, ◌%◌, ◌/◌, ℕ, suc, ◌⊎◌, inl, inr, List, [], ◌∷◌, Option, Some, Result, Ok, Err, MatchResult, Bool, IsTrue, ◌↔◌, length, slice_get, refl, sym, ◌∙◌, ap, subst, arith}
+use Rattle.std.proofs.Common.{◌≡◌, ◌≢◌, ◌<◌, ◌≤◌, ◌+◌, ◌%◌, ◌/◌, ℕ, ◌⊎◌, inl, inr, List, [], ◌∷◌, Some, Result, Ok, Err, MatchResult, Bool, IsTrue, ◌↔◌, length, slice_get, refl, sym, ◌∙◌, ap, subst, arith}
 use Rattle.std.proofs.Math.Dec.{eqb}
 use Rattle.std.proofs.lemmas.Bool.{cases_order}
 use Rattle.std.proofs.lemmas.Option.{slice_get_within}
@@ -8,7 +8,7 @@ use Rattle.elf_records.specs.HashNumber.{hash_number}
 use Rattle.elf_base.specs.declared.error.ElfError.{ElfError}
 use Rattle.xmas_elf.specs.Chain.{Chains, Comes, LooksFrom, Reaches, chains_of}
 use Rattle.xmas_elf.specs.Counted.{IsCount}
-use Rattle.xmas_elf.specs.Good.{Belongs, Ends, IsAtFault, IsHeldBelow, IsHeldBy, IsReached, MustBeHeld}
+use Rattle.xmas_elf.specs.Good.{Belongs, IsAtFault, IsHeldBelow, IsHeldBy, IsReached, MustBeHeld}
 use Rattle.xmas_elf.specs.HashTable.{bucket_count_of, bucket_of, start_of}
 use Rattle.xmas_elf.specs.Symbols.{IsGlobal, Symbols}
 use Rattle.xmas_elf.specs.declared.hash.HashTable.{HashTable}
@@ -103,8 +103,8 @@ module _ {E : Type 0} (table : HashTable) (symbols : Symbols E) where
       count
 
   -- what the walk along the chain of a bucket says, said of the bucket
-  pub held_by_bucket : (k first : ℕ) (r : Result ℕ ElfError) → bucket_of table k ≡ Ok first → MatchResult r (λ held. Reaches (chains_of table symbols.items) first 0 × IsCount (λ i. Belongs table symbols k i × Reaches (chains_of table symbols.items) first i) held) (λ error. (n : ℕ) × LooksFrom (λ (e : E). ⊥) (chains_of table symbols.items) (Some (Ok first)) (Err error) n) → MatchResult r (λ held. Ends table symbols.items k × IsCount (IsHeldBy table symbols k) held) (λ error. IsAtFault table symbols.items k error)
-  held_by_bucket k first (Ok held) at (end, count) = ((first, at, end), held_by k first held at count)
+  pub held_by_bucket : (k first : ℕ) (r : Result (ℕ × ℕ) ElfError) → bucket_of table k ≡ Ok first → MatchResult r (λ (held, passed). Comes (chains_of table symbols.items) first passed 0 × IsCount (λ i. Belongs table symbols k i × Reaches (chains_of table symbols.items) first i) held) (λ error. (n : ℕ) × LooksFrom (λ (e : E). ⊥) (chains_of table symbols.items) (Some (Ok first)) (Err error) n) → MatchResult r (λ (held, passed). ((first : ℕ) × (bucket_of table k ≡ Ok first) × Comes (chains_of table symbols.items) first passed 0) × IsCount (IsHeldBy table symbols k) held) (λ error. IsAtFault table symbols.items k error)
+  held_by_bucket k first (Ok (held, passed)) at (end, count) = ((first, at, end), held_by k first held at count)
   held_by_bucket k first (Err error) at (n, looks) = (n, subst (λ b. LooksFrom (λ (e : E). ⊥) (chains_of table symbols.items) (Some b) (Err error) n) (sym at) looks)
 
   pub held_none : IsCount (IsHeldBelow table symbols 0) 0

@@ -1,6 +1,6 @@
 -- Walks along the chains of a hash table: they go one way, from one index at most one stop is reached,
 -- and a walk that reaches one passes no index twice.
-use Rattle.std.proofs.Common.{◌≡◌, ◌<◌, ◌≤◌, ℕ, zero, suc, ◌+◌, List, [], ◌∷◌, Option, Some, None, Result, Ok, Err, Bool, true, false, length, refl, ap, sym, subst, arith, slice_get, ◌||◌, ◌⊎◌, inl, inr, Contains, below_more}
+use Rattle.std.proofs.Common.{◌≡◌, ◌<◌, ◌≤◌, ℕ, zero, suc, ◌+◌, List, [], ◌∷◌, Option, Some, Result, Ok, Err, Bool, true, false, length, refl, sym, ◌∙◌, subst, arith, slice_get, ◌||◌, ◌⊎◌, inl, inr, Contains, below_more}
 use Rattle.std.proofs.Math.Dec.{eqb}
 use Rattle.std.proofs.lemmas.Bool.{cases_order, ne_eqb}
 use Rattle.std.proofs.lemmas.Bool.Decides.{eqb_tells}
@@ -9,8 +9,8 @@ use Rattle.std.proofs.lemmas.Map.Keys.{IsDistinct-cons}
 use Rattle.std.proofs.lemmas.Map.Steps.{length-le_from_distinct_below}
 use Rattle.std.specs.List.{AllByRecursion, IsDistinct, list_any}
 use Rattle.elf_base.specs.declared.error.ElfError.{ElfError}
-use Rattle.elf_base.specs.declared.error.ElfError.TheVariants.{SymbolIndex, ChainIndex, HashCycle}
-use Rattle.xmas_elf.specs.Chain.{Chains, StandsAt, Stops, at_end, past_chains, past_symbols, found, refused, Links, Comes, starts, goes, NoneBefore, LooksFrom, reaches, endless, Halts, no_chain, no_symbol, too_many}
+use Rattle.elf_base.specs.declared.error.ElfError.TheVariants.{SymbolIndex, ChainIndex}
+use Rattle.xmas_elf.specs.Chain.{Chains, StandsAt, Stops, at_end, past_chains, past_symbols, found, refused, Links, Comes, starts, goes, NoneBefore, LooksFrom, Reaches, reaches, endless, Halts, no_chain, no_symbol, too_many}
 
 below_at : (n x q : ℕ) (b : Bool) → x < n → (b ≡ true → q < n) → ((eqb q x ≡ true) × (q ≡ x)) ⊎ ((eqb q x ≡ false) × (q ≡ x → ⊥)) → (eqb q x || b) ≡ true → q < n
 below_at n x q b h go (inl (t, same)) e = omega arith
@@ -75,6 +75,36 @@ module _ {E : Type 0} (chains : Chains E) where
   goes_along first n x _ _ at starts = comes_in first n (n + zero) x (omega arith) at
   goes_along first n x _ _ at (goes t k j c l) =
       comes_in first (suc (n + t)) (n + suc t) j (omega arith) (goes (n + t) k j (goes_along first n x t k at c) l)
+
+  pub reaches_along : (i j k : ℕ) → Reaches chains i j → Reaches chains j k → Reaches chains i k
+  reaches_along i j k (n, at) (m, on) = (n + m, goes_along i n j m k at on)
+
+  -- the end reaches nothing else
+  pub end_reaches : (i j : ℕ) → i ≡ 0 → Reaches chains i j → j ≡ 0
+  end_reaches i j end (n, at) =
+      by_order (j ≡ 0) zero n
+      (λ same. comes_once i zero j i (comes_in i n zero j (sym same) at) starts ∙ end)
+      (λ earlier. absurd (let (k, l) = goes_on i n j zero i at earlier starts in end_links i k end l))
+      (λ later. absurd (omega arith))
+
+  -- what an index reaches, the next one reaches, but for the index itself
+  pub reached_next : (i j target : ℕ) → Links chains i j → (i ≡ target → ⊥) → Reaches chains i target → Reaches chains j target
+  reached_next i j target link other (n, at) =
+      by_order (Reaches chains j target) zero n
+      (λ same. absurd (other (comes_once i zero i target starts (comes_in i n zero target (sym same) at))))
+      (λ earlier. (let (t, sum, on) = goes_ahead i n target (suc zero) j at (omega arith) (goes zero i j starts link) in (t, on)))
+      (λ later. absurd (omega arith))
+
+  pub first_ends : (i : ℕ) → i < 1 → Reaches chains i 0
+  first_ends i below = let end : 0 ≡ i = omega arith in subst (λ x. Reaches chains x 0) end (zero, starts)
+
+  -- where the chains of all indices below a bound end, so does one that comes below it
+  pub ends_along : (first last bound : ℕ) → 0 < bound → ((i : ℕ) → i < bound → Reaches chains i 0) → (last ≡ 0) ⊎ (last < bound) → Reaches chains first last → Reaches chains first 0
+  ends_along first last bound some each stop along = reaches_along first last 0 along (each last (below stop))
+    where
+      below : (last ≡ 0) ⊎ (last < bound) → last < bound
+      below (inl end) = omega arith
+      below (inr h) = h
 
   -- the indices that a walk has passed, the last first
   abbrev pub passed : (first n i : ℕ) → Comes chains first n i → List ℕ

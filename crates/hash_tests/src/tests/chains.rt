@@ -12,10 +12,10 @@ use xmas_elf::{ElfError, ElfFile};
 
 const LITTLE: Order = Order::Little;
 
-// A table of these words, which are eight at most.
-fn table_in<'b>(bytes: &'b mut [u8; 32], words: &[u32]) -> Result<HashTable<'b>, ElfError> {
+// A table of these words, which are ten at most.
+fn table_in<'b>(bytes: &'b mut [u8; 40], words: &[u32]) -> Result<HashTable<'b>, ElfError> {
     put_words(bytes, 0, words);
-    let len = words.len().min(8) * 4;
+    let len = words.len().min(10) * 4;
     HashTable::read(&bytes[..len], LITTLE)
 }
 
@@ -41,7 +41,7 @@ fn look_up(
 ) -> Result<Answers, ElfError> {
     let file = strtab_file(LITTLE);
     let file = ElfFile::new(&file)?;
-    let mut bytes = [0; 32];
+    let mut bytes = [0; 40];
     let table = table_in(&mut bytes, words)?;
     let mut bytes = [0; 80];
     put_symbols(&mut bytes, 0, symbols);
@@ -164,7 +164,7 @@ fn a_name_has_its_bucket(rt: HostRuntime) -> Result<(), Fail> {
 fn check(words: &[u32], symbols: &[(u64, u64)]) -> Result<Result<(), ElfError>, ElfError> {
     let file = strtab_file(LITTLE);
     let file = ElfFile::new(&file)?;
-    let mut bytes = [0; 32];
+    let mut bytes = [0; 40];
     let table = table_in(&mut bytes, words)?;
     let mut bytes = [0; 80];
     put_symbols(&mut bytes, 0, symbols);
@@ -193,12 +193,62 @@ fn checks_follow_each_chain(rt: HostRuntime) -> Result<(), Fail> {
     Ok(())
 }
 
+// Of three buckets, whose names are in the order of the buckets: 0 and 1 and 2 and 0.
+const IN_THREE: [(u64, u64); 5] = [(0, 0), (9, 0x12), (3, 0x12), (10, 0x12), (9, 0x12)];
+
+// The last symbol is local, and needs no chain.
+const LAST_LOCAL: [(u64, u64); 5] = [(0, 0), (9, 0x12), (3, 0x12), (10, 0x12), (9, 0x02)];
+
+#[test]
+fn checks_buckets_that_share_chains(rt: HostRuntime) -> Result<(), Fail> {
+    let missing = Err(ElfError::HashMissing);
+    // one chain for all buckets: downwards, and in a mixed order
+    assert_eq!(rt; check(&[3, 5, 4, 4, 4, 0, 0, 1, 2, 3], &IN_THREE)?, Ok(()));
+    assert_eq!(rt; check(&[3, 5, 2, 2, 2, 0, 3, 4, 0, 1], &IN_THREE)?, Ok(()));
+    // one tail: 4, 2, 1 and 3, 2, 1; and 1, 4, 3 and 2, 4, 3
+    assert_eq!(rt; check(&[3, 5, 4, 3, 3, 0, 0, 1, 2, 2], &IN_THREE)?, Ok(()));
+    assert_eq!(rt; check(&[3, 5, 1, 2, 2, 0, 4, 4, 0, 3], &IN_THREE)?, Ok(()));
+    // symbol 4 is on no chain, or symbol 1
+    let last = [3, 5, 3, 3, 3, 0, 0, 1, 2, 2];
+    assert_eq!(rt; check(&last, &IN_THREE)?, missing);
+    assert_eq!(rt; check(&last, &LAST_LOCAL)?, Ok(()));
+    let last = [3, 5, 1, 1, 1, 0, 3, 0, 2, 0];
+    assert_eq!(rt; check(&last, &IN_THREE)?, missing);
+    assert_eq!(rt; check(&last, &LAST_LOCAL)?, Ok(()));
+    assert_eq!(rt; check(&[3, 5, 4, 4, 4, 0, 0, 0, 2, 3], &IN_THREE)?, missing);
+    // symbol 2 is on the chains of the other buckets alone
+    assert_eq!(rt; check(&[3, 5, 4, 3, 4, 0, 0, 1, 1, 2], &IN_THREE)?, missing);
+    Ok(())
+}
+
+#[test]
+fn checks_shared_chains_beside_others(rt: HostRuntime) -> Result<(), Fail> {
+    // 4 leads to itself, where the last bucket leads to it and where none does
+    let cycle = Err(ElfError::HashCycle);
+    assert_eq!(rt; check(&[3, 5, 3, 3, 4, 0, 0, 1, 2, 4], &IN_THREE)?, cycle);
+    assert_eq!(rt; check(&[3, 5, 1, 1, 4, 0, 2, 3, 0, 4], &IN_THREE)?, cycle);
+    let apart = [3, 5, 3, 3, 3, 0, 0, 1, 2, 4];
+    let missing = Err(ElfError::HashMissing);
+    assert_eq!(rt; check(&apart, &IN_THREE)?, missing);
+    assert_eq!(rt; check(&apart, &LAST_LOCAL)?, Ok(()));
+    // the last bucket, or the chain from there, leads out of the chains
+    let leaves = Err(ElfError::ChainIndex);
+    assert_eq!(rt; check(&[3, 5, 3, 3, 5, 0, 0, 1, 2, 3], &IN_THREE)?, leaves);
+    assert_eq!(rt; check(&[3, 5, 3, 3, 4, 0, 0, 1, 2, 7], &IN_THREE)?, leaves);
+    // there is no symbol 4, or its word is cut off
+    let ends = [3, 5, 3, 3, 4, 0, 0, 1, 2, 0];
+    assert_eq!(rt; check(&ends, &IN_THREE[..4])?, Err(ElfError::SymbolIndex));
+    assert_eq!(rt; check(&ends[..9], &IN_THREE)?, Err(ElfError::HashData));
+    assert_eq!(rt; check(&apart[..9], &LAST_LOCAL)?, Ok(()));
+    Ok(())
+}
+
 // A symbol type that names its symbols itself.
 #[test]
 fn looks_up_symbols_of_ones_own(rt: HostRuntime) -> Result<(), Fail> {
     let file = strtab_file(LITTLE);
     let file = ElfFile::new(&file)?;
-    let mut bytes = [0; 32];
+    let mut bytes = [0; 40];
     let table = table_in(&mut bytes, &[1, 4, 1, 0, 2, 3, 0])?;
     let mut bytes = [0; 16];
     put_words(&mut bytes, 0, &[0, 1, 2, 3]);

@@ -1,12 +1,12 @@
 //! The check of a hash table (this project's own).
 
-ghost use Rattle.std.specs.Prelude.{◌≡◌, ◌≢◌, ◌≤◌, ◌<◌, ◌/◌, ◌%◌, ◌↔◌, ℕ, Err, IfSome, IsOk, IsTrue, List, MatchOption, MatchResult, None, Ok, Result, Some, length};
+ghost use Rattle.std.specs.Prelude.{◌≡◌, ◌≢◌, ◌≤◌, ◌<◌, ◌/◌, ◌%◌, ◌↔◌, ◌⊎◌, ℕ, Err, IfSome, IsOk, IsTrue, List, MatchOption, MatchResult, None, Ok, Result, Some, false, length};
 ghost use Rattle.elf_base.specs.Table.{table_items};
 ghost use Rattle.elf_records.specs.HashNumber.{hash_number};
 ghost use Rattle.xmas_elf.specs.Counted.{IsCount};
 ghost use Rattle.xmas_elf.specs.Good.{Belongs, MustBeHeld};
 ghost use Rattle.xmas_elf.specs.SymbolName.{HoldsNames};
-ghost use Rattle.xmas_elf.specs.Symbols.{symbols_of};
+ghost use Rattle.xmas_elf.specs.Symbols.{IsGlobal, symbols_of};
 
 use crate::bytes::{Record, Table};
 use crate::hash::{HashTable, Strings, hash};
@@ -65,9 +65,9 @@ fn global_count<E: Entry + Record>(
 }
 
 impl<'a> HashTable<'a> {
-    ghost use Rattle.xmas_elf.specs.Chain.{LooksFrom, Reaches, chains_of};
-    ghost use Rattle.xmas_elf.specs.Good.{Ends, EndsBelow, IsAtFault, IsCheck, IsGood, IsHeldBelow, IsHeldBy};
-    ghost use Rattle.xmas_elf.specs.HashTable.{bucket_count_of};
+    ghost use Rattle.xmas_elf.specs.Chain.{Comes, LooksFrom, Reaches, chains_of};
+    ghost use Rattle.xmas_elf.specs.Good.{Ends, EndsBelow, IsAtFault, IsCheck, IsGood, IsHeldBelow, IsHeldBy, IsReached};
+    ghost use Rattle.xmas_elf.specs.HashTable.{bucket_count_of, bucket_of};
 
     /// Whether all chains come to an end, and each symbol that isn't local and has a name is on the
     /// chain of that name, so that `lookup` finds it. A binding that has no meaning isn't local, and a
@@ -79,9 +79,14 @@ impl<'a> HashTable<'a> {
     /// It takes no memory, and marks nothing. It follows the chain of each bucket once, to its end, and
     /// counts the symbols there that belong to that bucket by their names; then it counts those that
     /// must be held, and compares. So where buckets share no chain it takes a step for each symbol on a
-    /// chain and one for each symbol, and reads each name twice, however the names are spread. Buckets
-    /// that share a chain follow it each: with B buckets, C chains and S symbols a table that was made
-    /// to cost much takes B times the lesser of C and S steps, besides S.
+    /// chain and one for each symbol, and reads each name twice, however the names are spread.
+    ///
+    /// Once that has taken more steps than there are chains, buckets share one, and it goes on by
+    /// words of chains alone. It walks from each index, upwards, until it comes to a lesser one or to
+    /// the end, which is one step where chains lead downwards, as a linker makes them; from each
+    /// bucket, if one of those comes to neither; and from the bucket of each symbol's name, which it
+    /// reads once more, up to the symbol. With B buckets, C chains and S symbols a table that was
+    /// made to cost much takes at most B + C + S times the lesser of C and S such steps.
     pub fn check<E: Entry + Record>(
         &self,
         symbols: &Table<'_, E>,
@@ -96,55 +101,66 @@ impl<'a> HashTable<'a> {
     {
         let strings = E::string_table(file);
         match self.held_by_all(symbols, strings, file) {
-            Ok(held) => {
+            Ok(Some(held)) => {
                 let global = global_count(symbols, strings, file) as u64;
                 if held < global {
                     return Err(ElfError::HashMissing);
                 }
                 Ok(())
             }
+            Ok(None) => self.check_shared(symbols, strings, file),
             Err(fault) => Err(fault),
         }
     }
 
-    // How many symbols the chains of all buckets hold, if they end; or why that of the least bucket at
-    // fault doesn't.
+    // How many symbols the chains of all buckets hold, if they end; or why that of the least bucket
+    // at fault doesn't. `None` past as many steps as there are chains: no index is met twice on a
+    // chain that ends, so some buckets share one.
     fn held_by_all<E: Entry + Record>(
         &self,
         symbols: &Table<'_, E>,
         strings: Strings<'_>,
         file: &ElfFile<'_>,
-    ) -> Result<u64, ElfError>
+    ) -> Result<Option<u64>, ElfError>
         requires { IfSome strings (HoldsNames E.fields (λ e. E.text_in e file.now)) }
         ensures { let all = symbols_of E.fields E.text_in symbols.now file.now in MatchResult result
-            (λ held. EndsBelow self.now all.items (bucket_count_of self.now)
-            × IsCount (IsHeldBelow self.now all (bucket_count_of self.now)) held)
+            (λ found. IfSome found (λ held. EndsBelow self.now all.items (bucket_count_of self.now)
+            × IsCount (IsHeldBelow self.now all (bucket_count_of self.now)) held))
             (λ error. (k : ℕ) × (k < bucket_count_of self.now) × EndsBelow self.now all.items k
             × IsAtFault self.now all.items k error) }
     {
+        let most = u64::from(self.chain_count());
+        let mut steps: u64 = 0;
         let mut held: u64 = 0;
         for bucket in 0..self.bucket_count() {
-            held += match self.held_by(bucket, symbols, strings, file) {
-                Ok(more) => u64::from(more),
+            let (more, passed) = match self.held_by(bucket, symbols, strings, file) {
+                Ok(both) => both,
                 Err(error) => return Err(error),
             };
+            held += u64::from(more);
+            steps += u64::from(passed);
+            if steps > most {
+                return Ok(None);
+            }
         }
-        Ok(held)
+        Ok(Some(held))
     }
 
-    // How many symbols the chain of a bucket holds that belong to it, if the chain ends; or why it
-    // doesn't.
+    // How many symbols the chain of a bucket holds that belong to it, and how many it passes, if it
+    // ends; or why it doesn't.
     fn held_by<E: Entry + Record>(
         &self,
         bucket: u32,
         symbols: &Table<'_, E>,
         strings: Strings<'_>,
         file: &ElfFile<'_>,
-    ) -> Result<u32, ElfError>
+    ) -> Result<(u32, u32), ElfError>
         requires names { IfSome strings (HoldsNames E.fields (λ e. E.text_in e file.now)) }
         requires below { bucket < bucket_count_of self.now }
         ensures { let all = symbols_of E.fields E.text_in symbols.now file.now in MatchResult result
-            (λ held. Ends self.now all.items bucket × IsCount (IsHeldBy self.now all bucket) held)
+            (λ (held, passed). ((first : ℕ) × (bucket_of self.now bucket ≡ Ok first)
+            × Comes (chains_of self.now all.items) first passed 0)
+            × IsCount (IsHeldBy self.now all bucket) held)
             (λ error. IsAtFault self.now all.items bucket error) }
     {
         match self.get_bucket(bucket) {
@@ -161,12 +177,12 @@ impl<'a> HashTable<'a> {
         symbols: &Table<'_, E>,
         strings: Strings<'_>,
         file: &ElfFile<'_>,
-    ) -> Result<u32, ElfError>
+    ) -> Result<(u32, u32), ElfError>
         requires names { IfSome strings (HoldsNames E.fields (λ e. E.text_in e file.now)) }
         requires below { bucket < bucket_count_of self.now }
         ensures { let all = symbols_of E.fields E.text_in symbols.now file.now in
             let chains = chains_of self.now all.items in MatchResult result
-            (λ held. Reaches chains first 0
+            (λ (held, passed). Comes chains first passed 0
             × IsCount (λ i. Belongs self.now all bucket i × Reaches chains first i) held)
             (λ error. (n : ℕ) × LooksFrom (λ (e : E). ⊥) chains (Some (Ok first)) (Err error) n) }
     {
@@ -187,7 +203,7 @@ impl<'a> HashTable<'a> {
                 Err(error) => return Err(error),
             };
         }
-        Ok(held)
+        Ok((held, count))
     }
 
     // Whether a symbol must be held, by the chain of this bucket.
@@ -209,6 +225,182 @@ impl<'a> HashTable<'a> {
         match global_name(entry, strings, file) {
             Some(name) => hash(name) % bucket_count == bucket,
             None => false,
+        }
+    }
+
+    // The check where buckets share chains: of the chains alone, and then of each symbol by itself.
+    fn check_shared<E: Entry + Record>(
+        &self,
+        symbols: &Table<'_, E>,
+        strings: Strings<'_>,
+        file: &ElfFile<'_>,
+    ) -> Result<(), ElfError>
+        requires { IfSome strings (HoldsNames E.fields (λ e. E.text_in e file.now)) }
+        ensures { IsCheck self.now (symbols_of E.fields E.text_in symbols.now file.now) result }
+    {
+        match self.check_buckets(symbols) {
+            Ok(()) if self.holds_all(symbols, strings, file) => Ok(()),
+            Ok(()) => Err(ElfError::HashMissing),
+            Err(error) => Err(error),
+        }
+    }
+
+    // Whether the chains of all buckets end, or why that of the least bucket at fault doesn't.
+    fn check_buckets<E: Record>(&self, symbols: &Table<'_, E>) -> Result<(), ElfError>
+        ensures { let items = table_items symbols.now in MatchResult result
+            (λ _. EndsBelow self.now items (bucket_count_of self.now))
+            (λ error. (k : ℕ) × (k < bucket_count_of self.now) × EndsBelow self.now items k
+            × IsAtFault self.now items k error) }
+    {
+        let sound = self.ending(symbols);
+        let bucket_count = self.bucket_count();
+        for bucket in 0..bucket_count {
+            match self.ends(bucket, sound, symbols) {
+                Ok(()) => {}
+                Err(error) => return Err(error),
+            }
+        }
+        Ok(())
+    }
+
+    // An index below which each chain ends: the first that comes neither to a lesser index nor to the
+    // end, or else as many as can stand on a chain.
+    fn ending<E: Record>(&self, symbols: &Table<'_, E>) -> u32
+        ensures some { 0 < result }
+        ensures each { (i : ℕ) → i < result
+            → Reaches (chains_of self.now (table_items symbols.now)) i 0 }
+    {
+        let count = (self.chain_count() as usize).min(symbols.len()) as u32;
+        for index in 1..count {
+            match self.follow(index, 0, index, symbols) {
+                Ok(_) => {}
+                Err(_) => return index,
+            }
+        }
+        count.max(1)
+    }
+
+    // Whether the chain of a bucket ends, or why it doesn't, where those below an index do.
+    fn ends<E: Record>(
+        &self,
+        bucket: u32,
+        sound: u32,
+        symbols: &Table<'_, E>,
+    ) -> Result<(), ElfError>
+        requires some { 0 < sound }
+        requires each { (i : ℕ) → i < sound
+            → Reaches (chains_of self.now (table_items symbols.now)) i 0 }
+        ensures { let items = table_items symbols.now in MatchResult result
+            (λ _. Ends self.now items bucket) (λ error. IsAtFault self.now items bucket error) }
+    {
+        match self.get_bucket(bucket) {
+            Ok(first) => match self.follow(first, 0, sound, symbols) {
+                Ok(_) => Ok(()),
+                Err(error) => Err(error),
+            },
+            Err(error) => Err(error),
+        }
+    }
+
+    // Where the walk from an index on comes to the target or below the bound; or why it never does,
+    // and the chain doesn't end. It reads words of chains alone.
+    fn follow<E: Record>(
+        &self,
+        first: u32,
+        target: usize,
+        bound: u32,
+        symbols: &Table<'_, E>,
+    ) -> Result<u32, ElfError>
+        requires { 0 < bound }
+        ensures { let chains = chains_of self.now (table_items symbols.now) in MatchResult result
+            (λ last. Reaches chains first last × ((last ≡ target) ⊎ (last < bound))
+            × (Reaches chains first target → Reaches chains last target))
+            (λ error. (n : ℕ) × LooksFrom (λ (e : E). ⊥) chains (Some (Ok first)) (Err error) n) }
+    {
+        let mut index = first;
+        let mut count: u32 = 0;
+        while index >= bound && index as usize != target {
+            match self.symbol_at(index, count, symbols) {
+                Ok(_) => {}
+                Err(halt) => return Err(halt),
+            }
+            count += 1;
+            index = match self.get_chain(index) {
+                Ok(next) => next,
+                Err(error) => return Err(error),
+            };
+        }
+        Ok(index)
+    }
+
+    // Whether, where all chains end, each symbol is held that must be.
+    fn holds_all<E: Entry + Record>(
+        &self,
+        symbols: &Table<'_, E>,
+        strings: Strings<'_>,
+        file: &ElfFile<'_>,
+    ) -> bool
+        requires names { IfSome strings (HoldsNames E.fields (λ e. E.text_in e file.now)) }
+        requires ends { EndsBelow self.now (table_items symbols.now) (bucket_count_of self.now) }
+        ensures yes { let all = symbols_of E.fields E.text_in symbols.now file.now in
+            IsTrue result → (i : ℕ) (e : E) (name : List ℕ) → IsGlobal all i e name
+            → IsReached self.now all.items name i }
+        ensures no { let all = symbols_of E.fields E.text_in symbols.now file.now in
+            result ≡ false → (i : ℕ) × (e : E) × (name : List ℕ) × IsGlobal all i e name
+            × ¬ IsReached self.now all.items name i }
+    {
+        for index in 1..symbols.len() {
+            if let Some(entry) = symbols.get(index) {
+                if !self.holds(index, &entry, symbols, strings, file) {
+                    return false;
+                }
+            }
+        }
+        true
+    }
+
+    // Whether, where all chains end, the symbol at an index is held, if it must be.
+    fn holds<E: Entry + Record>(
+        &self,
+        index: usize,
+        entry: &E,
+        symbols: &Table<'_, E>,
+        strings: Strings<'_>,
+        file: &ElfFile<'_>,
+    ) -> bool
+        requires names { IfSome strings (HoldsNames E.fields (λ e. E.text_in e file.now)) }
+        requires ends { EndsBelow self.now (table_items symbols.now) (bucket_count_of self.now) }
+        requires symbol { 0 < index }
+        ensures yes { IsTrue result → (name : List ℕ) → (E.fields entry.now).info / 16 ≢ 0
+            → E.text_in entry.now file.now ≡ Some name
+            → IsReached self.now (table_items symbols.now) name index }
+        ensures no { result ≡ false → (name : List ℕ) × ((E.fields entry.now).info / 16 ≢ 0)
+            × (E.text_in entry.now file.now ≡ Some name)
+            × ¬ IsReached self.now (table_items symbols.now) name index }
+    {
+        match global_name(entry, strings, file) {
+            Some(name) => self.reaches(name, index, symbols),
+            None => true,
+        }
+    }
+
+    // Whether, where all chains end, an index is on the chain of a name.
+    #[tactic(auto, unfolding(crate::specs::HashTable::start_of))]
+    fn reaches<E: Record>(&self, name: &str, index: usize, symbols: &Table<'_, E>) -> bool
+        requires ends { EndsBelow self.now (table_items symbols.now) (bucket_count_of self.now) }
+        requires symbol { 0 < index }
+        ensures { IsTrue result ↔ IsReached self.now (table_items symbols.now) name.now index }
+    {
+        let bucket_count = self.bucket_count();
+        if bucket_count == 0 {
+            return false;
+        }
+        match self.get_bucket(hash(name) % bucket_count) {
+            Ok(first) => match self.follow(first, index, 1, symbols) {
+                Ok(last) => last as usize == index,
+                Err(_) => false,
+            },
+            Err(_) => false,
         }
     }
 }

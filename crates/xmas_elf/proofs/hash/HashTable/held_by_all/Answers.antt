@@ -9,6 +9,7 @@ use Rattle.xmas_elf.proofs.hash.HashTable.held_by_all.Goals as goal
 pub loop-bucket-init : goal.loop-bucket-init
 loop-bucket-init g c = record {
   few = omega arith;
+  short = omega arith;
   ends = λ k below. absurd (omega arith);
   count = held_none c.args.self.now (symbols_of g.E.Entry.fields g.E.Entry.text_in c.args.symbols.now c.args.file.now);
 }
@@ -19,10 +20,11 @@ returns-in-Err g c = (c.loop-bucket.bucket, omega arith, c.loop-bucket.invariant
 pub loop-bucket-preserved : goal.loop-bucket-preserved
 loop-bucket-preserved g c =
     let all = symbols_of g.E.Entry.fields g.E.Entry.text_in c.args.symbols.now c.args.file.now in
-    let (here, more) = c.in-Ok.ensures in
+    let ((first, at, end), more) = c.in-Ok.ensures in
     record {
       few = omega arith;
-      ends = below_more (Ends c.args.self.now (table_items c.args.symbols.now)) c.loop-bucket.bucket c.loop-bucket.invariant.ends here;
-      count = subst (λ m. IsCount (IsHeldBelow c.args.self.now all (c.loop-bucket.bucket + 1)) (c.loop-bucket.held + m)) (sym c.from.ensures)
-          (held_more c.args.self.now all c.loop-bucket.bucket c.loop-bucket.held c.in-Ok.more c.loop-bucket.invariant.count more);
+      short = omega arith;
+      ends = below_more (Ends c.args.self.now (table_items c.args.symbols.now)) c.loop-bucket.bucket c.loop-bucket.invariant.ends (first, at, (c.in-Ok.both.1, end));
+      count = subst (λ m. IsCount (IsHeldBelow c.args.self.now all (c.loop-bucket.bucket + 1)) (c.loop-bucket.held + m)) (sym c.from-held.ensures)
+          (held_more c.args.self.now all c.loop-bucket.bucket c.loop-bucket.held c.in-Ok.both.0 c.loop-bucket.invariant.count more);
     }

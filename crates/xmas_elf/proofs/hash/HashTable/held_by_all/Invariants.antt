@@ -9,6 +9,7 @@ invariant-loop-bucket g l =
     let all = symbols_of g.E.Entry.fields g.E.Entry.text_in l.symbols l.file in
     record {
       few : l.held ≤ l.bucket * 4294967296;
+      short : l.steps ≤ l.bucket * 4294967296;
       ends : EndsBelow l.self all.items l.bucket;
       count : IsCount (IsHeldBelow l.self all l.bucket) l.held;
     }

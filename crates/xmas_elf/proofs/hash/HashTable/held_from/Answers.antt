@@ -1,4 +1,4 @@
-use Rattle.std.proofs.Common.{arith, ◌≡◌, ◌≤◌, ◌<◌, ◌+◌, ◌↔◌, IsTrue, Some, Err, refl, sym, ◌∙◌, subst}
+use Rattle.std.proofs.Common.{arith, ◌+◌, ◌↔◌, IsTrue, Err, refl, sym, ◌∙◌, subst}
 use Rattle.elf_base.specs.Table.{table_items}
 use Rattle.xmas_elf.specs.Chain.{StandsAt, Comes, refused, chains_of}
 use Rattle.xmas_elf.specs.Good.{Belongs}
@@ -53,7 +53,7 @@ returns g c =
     let all = symbols_of g.E.Entry.fields g.E.Entry.text_in c.args.symbols.now c.args.file.now in
     let chains = chains_of c.args.self.now (table_items c.args.symbols.now) in
     let walked : Walked (λ _. ⊥) chains c.args.first c.loop-index.index c.loop-index.count = c.loop-index.invariant.walked in (
-      (c.loop-index.count, subst (λ i. Comes chains c.args.first c.loop-index.count i) c.loop-index-test.false walked.comes),
+      subst (λ i. Comes chains c.args.first c.loop-index.count i) c.loop-index-test.false walked.comes,
       picked_all chains (Belongs c.args.self.now all c.args.bucket) c.args.first c.loop-index.count c.loop-index.index c.loop-index.held
           (belongs_above c.args.self.now all c.args.bucket) c.loop-index-test.false walked.comes c.loop-index.invariant.picked,
     )
