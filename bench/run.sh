@@ -6,6 +6,7 @@ set -euo pipefail
 here="$(cd "$(dirname "$0")" && pwd)"
 top="$(dirname "$here")"
 room="${TMPDIR:-/tmp}/xmas_elf_bench"
+debian=/usr/share/cargo/registry
 sources="" runs=3 seconds=0.3 large="" paste="" programs="" growth=""
 while [ $# -gt 0 ]; do
     case "$1" in
@@ -60,6 +61,10 @@ if [ -n "$sources" ]; then
             name="$(basename "$folder")"
             echo "$name = { path = \"$(cd "$folder" && pwd -P)\" }"
         done
+        # What the folder lacks, from Debian's packages.
+        if [ -d "$debian" ]; then
+            printf '[source.crates-io]\nreplace-with = "debian"\n[source.debian]\ndirectory = "%s"\n' "$debian"
+        fi
         echo '[net]'
         echo 'offline = true'
     } > "$room/peers/.cargo/config.toml"

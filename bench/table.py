@@ -9,7 +9,7 @@ import re
 import subprocess
 import sys
 
-PEERS = ["crate", "object", "object, UTF-8", "libelf", "C"]
+PEERS = ["crate", "object", "object, UTF-8", "goblin", "libelf", "C"]
 HERE = ["here", "here, by a table"]
 
 

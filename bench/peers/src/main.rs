@@ -5,6 +5,7 @@
 mod crate_passes;
 mod facts;
 mod foreign;
+mod goblin_passes;
 mod object_passes;
 mod passes;
 

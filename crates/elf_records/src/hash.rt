@@ -9,10 +9,11 @@ pub fn hash(name: &str) -> u32
     ensures number { result ≡ hash_number name.now }
     ensures below { result < 2 ^ 28 }
 {
-    let mut number: u32 = 0;
+    // The number is kept times 16, as the next byte is added to it: a step shorter than to keep it.
+    let mut shifted: u32 = 0;
     for byte in name.as_bytes() {
-        let sum = number.wrapping_mul(16).wrapping_add(u32::from(*byte));
-        number = (sum % 0x1000_0000) ^ (16 * (sum / 0x1000_0000));
+        let sum = shifted.wrapping_add(u32::from(*byte));
+        shifted = (16 * (sum % 0x1000_0000)) ^ (256 * (sum / 0x1000_0000));
     }
-    number
+    shifted / 16
 }

@@ -1,11 +1,22 @@
 //! How many sections and segments a file has, and which section holds the names (gABI, "ELF Header").
 
-ghost use Rattle.std.specs.Prelude.{◌≡◌};
+ghost use Rattle.std.specs.Prelude.{◌≡◌, ◌==◌, [], ◌∷◌, None, if◌then◌else◌, length, nat_lt, not};
+ghost use Rattle.std.specs.Result.{result_ok};
+ghost use Rattle.elf_base.specs.HeaderNumbers.{class_number};
+ghost use Rattle.elf_base.specs.Refusal.{unless};
+ghost use Rattle.elf_base.specs.declared.error.ElfError.{ElfError};
 ghost use Rattle.xmas_elf.specs.Counts.{first_section, program_count_of, section_count_of};
 ghost use Rattle.xmas_elf.specs.Counts.{shstr_index_of};
+ghost use Rattle.xmas_elf.specs.HeaderTable.{entry_place, is_known_class};
+ghost use Rattle.xmas_elf.specs.SectionHeader.{section_at_place, section_header_size};
 
-use crate::sections::{SHN_LORESERVE, SHN_XINDEX, SectionHeader};
+use crate::bytes::Order;
+use crate::header::Class::{SixtyFour, ThirtyTwo};
+use crate::header::Class_;
+use crate::ranges::entry_at;
+use crate::sections::{SHN_LORESERVE, SHN_XINDEX, SectionHeader, section_at};
 use crate::{ElfError, ElfFile};
+use elf_base::header::byte_order;
 
 // The count of program headers that stands for one in section header 0 (PN_XNUM).
 const WIDE_PROGRAM_COUNT: u16 = 0xffff;
@@ -61,13 +72,46 @@ impl ElfFile<'_> {
     }
 
     // Section header 0, where there is a section header table and it can be read.
-    #[tactic(auto, unfolding(crate::specs::Counts::first_section))]
+    #[tactic(auto, unfolding(crate::specs::Counts::first_section, crate::specs::SectionHeader::section_entry))]
+    #[inline(always)]
     fn first_section(&self) -> Option<SectionHeader>
         ensures { result ≡ first_section self.now }
     {
-        if self.header.pt2.sh_offset() == 0 {
-            return None;
-        }
-        self.section_header_at(0).ok()
+        let offset = self.header.pt2.sh_offset();
+        let entry_size = self.header.pt2.sh_entry_size();
+        let order = byte_order(self.header.pt1.encoding);
+        first_at(self.input, offset, entry_size, self.header.pt1.class, order)
     }
+}
+
+// Section header 0 of a table at an offset, where that isn't 0 and the header can be read. It takes
+// numbers, so that the caller's file needs no place in memory: few files come here.
+#[cold]
+#[inline(never)]
+fn first_at(
+    input: &[u8],
+    offset: u64,
+    entry_size: u16,
+    class: Class_,
+    order: Order,
+) -> Option<SectionHeader>
+    ensures { result ≡ (if offset == 0 then None else result_ok (unless (
+        (nat_lt (length input.now) (entry_place offset entry_size 1), ElfError.ShortSectionHeader)
+        ∷ (not (is_known_class (class_number class)), ElfError.UnknownClass)
+        ∷ (nat_lt entry_size (section_header_size (class_number class)), ElfError.SmallEntry)
+        ∷ []) (section_at_place (class_number class) order (entry_place offset entry_size 0) input.now))) }
+{
+    if offset == 0 {
+        return None;
+    }
+    let place = entry_at(input, offset, entry_size, 0)?;
+    let least = match class.as_class() {
+        ThirtyTwo => 40,
+        SixtyFour => 64,
+        _ => return None,
+    };
+    if entry_size < least {
+        return None;
+    }
+    Some(section_at(input, place, class.raw(), order))
 }

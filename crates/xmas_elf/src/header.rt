@@ -24,11 +24,44 @@ pub use elf_base::header::{
 /// than that of its two parts; `NoClass` for class 0; `ClassMismatch` where the class is not that of
 /// part 2; `NoVersion` and `NoDataFormat` for a 0 there; `PhTableRange` and `ShTableRange` where a
 /// header table passes the end of the input.
-#[tactic(auto, unfolding(crate::specs::Checks::header_check))]
 pub fn sanity_check(file: &ElfFile<'_>) -> Result<(), ElfError>
     ensures exact { result ≡ header_check file.now }
 
     // Where all is well and the entries are large enough, each list is as long as its count says.
+    ensures sections { OnOk result (
+        section_header_size (file_class file.now.header)
+        ≤ (header_fields file.now.header.pt2).sh_entry_size
+        → length (section_list file.now) ≡ section_count_of file.now) }
+    ensures segments { OnOk result (
+        (header_fields file.now.header.pt2).ph_offset ≢ 0
+        → program_header_size (file_class file.now.header)
+        ≤ (header_fields file.now.header.pt2).ph_entry_size
+        → length (program_list file.now) ≡ program_count_of file.now) }
+{
+    // One choice of the class for all fields.
+    match file.header.pt2 {
+        HeaderPt2::Header32(part) => { check(&with_part(file, HeaderPt2::Header32(part))) }
+        HeaderPt2::Header64(part) => { check(&with_part(file, HeaderPt2::Header64(part))) }
+    }
+}
+
+// The file with this part 2: the same, where that is its own.
+#[inline(always)]
+fn with_part<'a>(file: &ElfFile<'a>, pt2: HeaderPt2) -> ElfFile<'a>
+    ensures { pt2 ≡ file.now.header.pt2 → result ≡ file.now }
+{
+    let pt1 = file.header.pt1;
+    ElfFile {
+        input: file.input,
+        header: Header { pt1, pt2 },
+    }
+}
+
+// The check. It is made into code for each class apart.
+#[tactic(auto, unfolding(crate::specs::Checks::header_check))]
+#[inline(always)]
+fn check(file: &ElfFile<'_>) -> Result<(), ElfError>
+    ensures exact { result ≡ header_check file.now }
     ensures sections { OnOk result (
         section_header_size (file_class file.now.header)
         ≤ (header_fields file.now.header.pt2).sh_entry_size

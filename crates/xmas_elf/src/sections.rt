@@ -231,7 +231,7 @@ fn header_at_place(
 
 // The section header at a place of the input, of 32 bits for class 1 and else of 64.
 #[inline(always)]
-fn section_at(input: &[u8], place: usize, class: u8, order: Order) -> SectionHeader
+pub(crate) fn section_at(input: &[u8], place: usize, class: u8, order: Order) -> SectionHeader
     requires { place + section_header_size class ≤ length input.now }
     ensures { result ≡ section_at_place class order place input.now }
 {

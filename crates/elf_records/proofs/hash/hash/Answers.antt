@@ -1,6 +1,11 @@
-use Rattle.std.proofs.Common.{◌<◌, ◌^◌, sym, subst}
-use Rattle.elf_records.proofs.HashNumbers.{hash_number-below}
+use Rattle.std.proofs.Common.{take, arith, rules}
+use Rattle.elf_records.proofs.HashNumbers.{hash_number-below, shifted_more}
 use Rattle.elf_records.proofs.hash.hash.Goals as goal
 
+pub loop-byte-preserved : goal.loop-byte-preserved
+loop-byte-preserved c = search (rules, shifted_more)
+
 pub returns-clause-below : goal.returns-clause-below
-returns-clause-below c = subst (λ n. n < 2 ^ 28) (sym c.loop-byte.invariant) (hash_number-below _)
+returns-clause-below c =
+    let below = hash_number-below (take c.loop-byte.byte-index c.as_bytes-byte-items.result.now) in
+    omega (arith, c.loop-byte.invariant, below)

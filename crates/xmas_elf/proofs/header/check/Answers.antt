@@ -7,7 +7,7 @@ use Rattle.xmas_elf.specs.SectionHeader.{section_place}
 use Rattle.xmas_elf.proofs.HeaderLists.{part_class-known}
 use Rattle.xmas_elf.proofs.SectionLists.{length-section_list}
 use Rattle.xmas_elf.proofs.ProgramLists.{length-program_list}
-use Rattle.xmas_elf.proofs.header.sanity_check.Goals as goal
+use Rattle.xmas_elf.proofs.header.check.Goals as goal
 
 pub returns-clause-sections : goal.returns-clause-sections
 returns-clause-sections c = λ large.
