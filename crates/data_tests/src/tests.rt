@@ -3,3 +3,4 @@
 mod data;
 mod extensions;
 mod records;
+mod want;

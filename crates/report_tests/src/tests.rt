@@ -4,4 +4,5 @@ mod messages;
 mod printed;
 mod reports;
 mod reports_of_hash;
+mod want;
 mod writers;

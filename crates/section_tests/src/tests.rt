@@ -5,3 +5,4 @@ mod iterators;
 mod names;
 mod sections;
 mod string_tables;
+mod want;

@@ -1,7 +1,7 @@
 //! The data of sections and segments, by their types.
 
+use crate::tests::want::{open, want, want_at};
 use std::process::Abort;
-use std::test::Fail;
 use worked_files::files::{debug_link_file, plain_header, strtab_file, with_class};
 use worked_files::places::{ENCODING, program_32, put, section_64, set};
 use xmas_elf::bytes::{Order, Record};
@@ -97,7 +97,7 @@ fn segment_data_of(
 }
 
 // Types whose records differ by class: what 48 bytes are in class 32 and in class 64.
-const BY_CLASS: [(u64, &str, usize, &str, usize); 8] = [
+const BY_CLASS: &[(u64, &str, usize, &str, usize)] = &[
     (2, "SymbolTable32", 3, "SymbolTable64", 2),
     (11, "DynSymbolTable32", 3, "DynSymbolTable64", 2),
     (14, "FnArray32", 12, "FnArray64", 6),
@@ -109,7 +109,7 @@ const BY_CLASS: [(u64, &str, usize, &str, usize); 8] = [
 ];
 
 // Types whose data is the same in every class: what 48 bytes are.
-const ALIKE: [(u64, &str, usize); 14] = [
+const ALIKE: &[(u64, &str, usize)] = &[
     (0, "Empty", 0),
     (8, "Empty", 0),
     (1, "Undefined", 48),
@@ -126,163 +126,155 @@ const ALIKE: [(u64, &str, usize); 14] = [
     (5, "HashTable", 0),
 ];
 
+// What a section of a type and size is in a file of class 32, in one of class 64, and in one of an
+// unknown class.
+type Shapes = [Result<(&'static str, usize), ElfError>; 3];
+
+// Files of ascending bytes: of both classes, and one whose header has an unknown class.
+#[derive(Drop)]
+struct Files<'a> {
+    narrow: ElfFile<'a>,
+    wide: ElfFile<'a>,
+    unknown: ElfFile<'a>,
+}
+
+impl Files<'_> {
+    fn data(&self, kind: u64, size: u64) -> Shapes {
+        [
+            data_of(&self.narrow, kind, size),
+            data_of(&self.wide, kind, size),
+            data_of(&self.unknown, kind, size),
+        ]
+    }
+}
+
+fn open_all<'a>(rt: &impl Abort, narrow: &'a [u8], wide: &'a [u8], class: u8) -> Files<'a> {
+    let wide = open(rt, wide);
+    Files {
+        narrow: open(rt, narrow),
+        unknown: with_class(&wide, class),
+        wide,
+    }
+}
+
+// Wants what 48 bytes are as each type.
+fn check_types(rt: &impl Abort, files: &Files<'_>) {
+    for &(kind, name_32, count_32, name_64, count_64) in BY_CLASS {
+        let wanted = [
+            Ok((name_32, count_32)),
+            Ok((name_64, count_64)),
+            Err(ElfError::UnknownClass),
+        ];
+        want_at(rt, kind, files.data(kind, 48), wanted);
+    }
+    for &(kind, name, count) in ALIKE {
+        want_at(rt, kind, files.data(kind, 48), [Ok((name, count)); 3]);
+    }
+    want(rt, files.data(7, 48), NOTES);
+}
+
+const NOTES: Shapes = [
+    Err(ElfError::Note32),
+    Ok(("Note64", 36)),
+    Err(ElfError::UnknownClass),
+];
+
 #[test]
-fn reads_the_data_of_each_type_in_each_class(rt: HostRuntime) -> Result<(), Fail> {
+fn reads_the_data_of_each_type_in_each_class(rt: HostRuntime) {
     for data_byte in [1, 2, 7] {
         let narrow = ascending_file(1, data_byte);
         let wide = ascending_file(2, data_byte);
-        let narrow = ElfFile::new(&narrow)?;
-        let wide = ElfFile::new(&wide)?;
-        let unknown = with_class(&wide, 7);
-        for (kind, name_32, count_32, name_64, count_64) in BY_CLASS {
-            let found = [
-                data_of(&narrow, kind, 48),
-                data_of(&wide, kind, 48),
-                data_of(&unknown, kind, 48),
-            ];
-            let wanted = [
-                Ok((name_32, count_32)),
-                Ok((name_64, count_64)),
-                Err(ElfError::UnknownClass),
-            ];
-            assert_eq!(rt; found, wanted);
-        }
-        for (kind, name, count) in ALIKE {
-            let found = [
-                data_of(&narrow, kind, 48),
-                data_of(&wide, kind, 48),
-                data_of(&unknown, kind, 48),
-            ];
-            let wanted = [Ok((name, count)), Ok((name, count)), Ok((name, count))];
-            assert_eq!(rt; found, wanted);
-        }
-        let found = [
-            data_of(&narrow, 7, 48),
-            data_of(&wide, 7, 48),
-            data_of(&unknown, 7, 48),
-        ];
-        let wanted = [
-            Err(ElfError::Note32),
-            Ok(("Note64", 36)),
-            Err(ElfError::UnknownClass),
-        ];
-        assert_eq!(rt; found, wanted);
+        check_types(&rt, &open_all(&rt, &narrow, &wide, 7));
     }
-    Ok(())
 }
 
-#[test]
-fn refuses_tables_that_are_cut(rt: HostRuntime) -> Result<(), Fail> {
-    let narrow = ascending_file(1, 1);
-    let wide = ascending_file(2, 1);
-    let narrow = ElfFile::new(&narrow)?;
-    let wide = ElfFile::new(&wide)?;
-    let unknown = with_class(&wide, 0);
-    for (kind, name_32, _count_32, name_64, _count_64) in BY_CLASS {
-        let found = [data_of(&narrow, kind, 0), data_of(&wide, kind, 0)];
-        let wanted = [Ok((name_32, 0)), Ok((name_64, 0))];
-        assert_eq!(rt; found, wanted);
-        for size in [1, 47, 49] {
-            let found = [
-                data_of(&narrow, kind, size),
-                data_of(&wide, kind, size),
-                data_of(&unknown, kind, size),
-            ];
-            let wanted = [
-                Err(ElfError::NotMultiple),
-                Err(ElfError::NotMultiple),
-                Err(ElfError::UnknownClass),
-            ];
-            assert_eq!(rt; found, wanted);
-        }
-        assert_eq!(rt; data_of(&unknown, kind, 61), Err(ElfError::DataRange));
-    }
-    let found = [
-        data_of(&unknown, 18, 0),
-        data_of(&unknown, 18, 47),
-        data_of(&unknown, 18, 60),
-        data_of(&unknown, 18, 61),
-    ];
-    let wanted = [
-        Ok(("SymTabShIndex", 0)),
-        Err(ElfError::NotMultiple),
-        Ok(("SymTabShIndex", 15)),
-        Err(ElfError::DataRange),
-    ];
-    assert_eq!(rt; found, wanted);
-    Ok(())
-}
+const CUT: Shapes = [
+    Err(ElfError::NotMultiple),
+    Err(ElfError::NotMultiple),
+    Err(ElfError::UnknownClass),
+];
 
 #[test]
-fn refuses_groups_notes_and_hash_tables_that_are_short(rt: HostRuntime) -> Result<(), Fail> {
-    let narrow = ascending_file(1, 1);
-    let wide = ascending_file(2, 1);
-    let narrow = ElfFile::new(&narrow)?;
-    let wide = ElfFile::new(&wide)?;
-    let unknown = with_class(&wide, 3);
-    for size in [0, 1, 3] {
-        assert_eq!(rt; data_of(&unknown, 17, size), Err(ElfError::ShortData));
+fn refuses_tables_that_are_cut(rt: HostRuntime) {
+    let (narrow, wide) = (ascending_file(1, 1), ascending_file(2, 1));
+    let files = open_all(&rt, &narrow, &wide, 0);
+    for &(kind, name_32, _count_32, name_64, _count_64) in BY_CLASS {
+        want_at(&rt, kind, data_of(&files.narrow, kind, 0), Ok((name_32, 0)));
+        want_at(&rt, kind, data_of(&files.wide, kind, 0), Ok((name_64, 0)));
+        want_at(&rt, kind, files.data(kind, 1), CUT);
+        want_at(&rt, kind, files.data(kind, 47), CUT);
+        want_at(&rt, kind, files.data(kind, 49), CUT);
+        let past = data_of(&files.unknown, kind, 61);
+        want_at(&rt, kind, past, Err(ElfError::DataRange));
     }
-    let found = [
-        data_of(&unknown, 17, 4),
-        data_of(&unknown, 17, 5),
-        data_of(&unknown, 17, 8),
-    ];
-    let wanted = [
-        Ok(("Group", 0)),
-        Err(ElfError::NotMultiple),
-        Ok(("Group", 1)),
-    ];
-    assert_eq!(rt; found, wanted);
+}
+
+// Types whose records have one size, by the size of the section, in a file of an unknown class.
+const OF_ONE_SIZE: &[(u64, u64, Result<(&str, usize), ElfError>)] = &[
+    (18, 0, Ok(("SymTabShIndex", 0))),
+    (18, 47, Err(ElfError::NotMultiple)),
+    (18, 60, Ok(("SymTabShIndex", 15))),
+    (18, 61, Err(ElfError::DataRange)),
+    (17, 0, Err(ElfError::ShortData)),
+    (17, 1, Err(ElfError::ShortData)),
+    (17, 3, Err(ElfError::ShortData)),
+    (17, 4, Ok(("Group", 0))),
+    (17, 5, Err(ElfError::NotMultiple)),
+    (17, 8, Ok(("Group", 1))),
+];
+
+#[test]
+fn refuses_groups_and_indices_that_are_cut(rt: HostRuntime) {
+    let bytes = ascending_file(2, 1);
+    let unknown = with_class(&open(&rt, &bytes), 3);
+    for &(kind, size, shape) in OF_ONE_SIZE {
+        want_at(&rt, (kind, size), data_of(&unknown, kind, size), shape);
+    }
+}
+
+// Notes that are too short for a header.
+const SHORT_NOTES: Shapes = [
+    Err(ElfError::Note32),
+    Err(ElfError::ShortData),
+    Err(ElfError::UnknownClass),
+];
+
+#[test]
+fn refuses_notes_and_hash_tables_that_are_short(rt: HostRuntime) {
+    let (narrow, wide) = (ascending_file(1, 1), ascending_file(2, 1));
+    let files = open_all(&rt, &narrow, &wide, 3);
     for size in [0, 11] {
-        let found = [
-            data_of(&unknown, 5, size),
-            data_of(&narrow, 7, size),
-            data_of(&wide, 7, size),
-            data_of(&unknown, 7, size),
-        ];
-        let wanted = [
-            Err(ElfError::ShortData),
-            Err(ElfError::Note32),
-            Err(ElfError::ShortData),
-            Err(ElfError::UnknownClass),
-        ];
-        assert_eq!(rt; found, wanted);
+        let table = data_of(&files.unknown, 5, size);
+        want_at(&rt, size, table, Err(ElfError::ShortData));
+        want_at(&rt, size, files.data(7, size), SHORT_NOTES);
     }
-    let found = [
-        data_of(&unknown, 5, 12),
-        data_of(&wide, 7, 12),
-        data_of(&narrow, 7, 61),
-    ];
-    let wanted = [
-        Ok(("HashTable", 0)),
-        Ok(("Note64", 0)),
-        Err(ElfError::DataRange),
-    ];
-    assert_eq!(rt; found, wanted);
-    Ok(())
+    want(&rt, data_of(&files.unknown, 5, 12), Ok(("HashTable", 0)));
+    want(&rt, data_of(&files.wide, 7, 12), Ok(("Note64", 0)));
+    want(&rt, data_of(&files.narrow, 7, 61), Err(ElfError::DataRange));
 }
 
 #[test]
-fn refuses_data_past_the_input_and_unknown_types(rt: HostRuntime) -> Result<(), Fail> {
+fn refuses_data_past_the_input(rt: HostRuntime) {
     let input = ascending_file(2, 1);
-    let file = ElfFile::new(&input)?;
-    for (kind, _name, _count) in ALIKE {
+    let file = open(&rt, &input);
+    for &(kind, _name, _count) in ALIKE {
         if kind == 0 || kind == 8 {
-            assert_eq!(rt; data_of(&file, kind, u64::MAX), Ok(("Empty", 0)));
+            want(&rt, data_of(&file, kind, u64::MAX), Ok(("Empty", 0)));
         } else {
             let found = [data_of(&file, kind, 61), data_of(&file, kind, u64::MAX)];
-            let wanted = [Err(ElfError::DataRange), Err(ElfError::DataRange)];
-            assert_eq!(rt; found, wanted);
+            want_at(&rt, kind, found, [Err(ElfError::DataRange); 2]);
         }
     }
+}
+
+#[test]
+fn refuses_unknown_types(rt: HostRuntime) {
+    let input = ascending_file(2, 1);
+    let file = open(&rt, &input);
     for kind in [12, 13, 19, 0x5fff_ffff] {
-        assert_eq!(rt;
-            data_of(&file, kind, u64::MAX),
-            Err(ElfError::InvalidShType)
-        );
+        let found = data_of(&file, kind, u64::MAX);
+        want_at(&rt, kind, found, Err(ElfError::InvalidShType));
     }
-    Ok(())
 }
 
 // The first function of an array, in class 32 and in class 64.
@@ -294,36 +286,34 @@ fn first_function(file: &ElfFile<'_>) -> Option<u64> {
     }
 }
 
+const FIRST: &[(u8, u64, u64)] = &[
+    (1, 1, 0x0302_0100),
+    (1, 2, 0x0001_0203),
+    (2, 1, 0x0706_0504_0302_0100),
+    (2, 2, 0x0001_0203_0405_0607),
+];
+
 #[test]
-fn reads_numbers_in_the_order_of_the_file(rt: HostRuntime) -> Result<(), Fail> {
-    let little = ascending_file(1, 1);
-    let little = ElfFile::new(&little)?;
-    let big = ascending_file(1, 2);
-    let big = ElfFile::new(&big)?;
-    assert_eq!(rt; first_function(&little), Some(0x0302_0100));
-    assert_eq!(rt; first_function(&big), Some(0x0001_0203));
-    let wide = ascending_file(2, 1);
-    let wide = ElfFile::new(&wide)?;
-    assert_eq!(rt; first_function(&wide), Some(0x0706_0504_0302_0100));
-    let wide = ascending_file(2, 2);
-    let wide = ElfFile::new(&wide)?;
-    assert_eq!(rt; first_function(&wide), Some(0x0001_0203_0405_0607));
-    Ok(())
+fn reads_numbers_in_the_order_of_the_file(rt: HostRuntime) {
+    for &(class, data_byte, number) in FIRST {
+        let bytes = ascending_file(class, data_byte);
+        let found = first_function(&open(&rt, &bytes));
+        want_at(&rt, (class, data_byte), found, Some(number));
+    }
 }
+
+const TWELVE: [u8; 12] = [0, 1, 2, 3, 4, 5, 6, 7, 8, 9, 10, 11];
 
 #[test]
 fn reads_the_counts_of_a_hash_table(rt: HostRuntime) -> Result<(), ElfError> {
-    let bytes = [0, 1, 2, 3, 4, 5, 6, 7, 8, 9, 10, 11];
-    let table = HashTable::read(&bytes, Order::Little)?;
-    assert_eq!(rt; table.bucket_count(), 0x0302_0100);
-    assert_eq!(rt; table.chain_count(), 0x0706_0504);
-    let table = HashTable::read(&bytes, Order::Big)?;
-    assert_eq!(rt; table.bucket_count(), 0x0001_0203);
-    assert_eq!(rt; table.chain_count(), 0x0405_0607);
-    assert_eq!(rt;
-        HashTable::read(&bytes[..11], LITTLE).err(),
-        Some(ElfError::ShortData)
-    );
+    let table = HashTable::read(&TWELVE, Order::Little)?;
+    want(&rt, table.bucket_count(), 0x0302_0100);
+    want(&rt, table.chain_count(), 0x0706_0504);
+    let table = HashTable::read(&TWELVE, Order::Big)?;
+    want(&rt, table.bucket_count(), 0x0001_0203);
+    want(&rt, table.chain_count(), 0x0405_0607);
+    let refused = HashTable::read(&TWELVE[..11], LITTLE).err();
+    want(&rt, refused, Some(ElfError::ShortData));
     Ok(())
 }
 
@@ -335,172 +325,189 @@ fn retyped_link(kind: u64, size: u64) -> [u8; 397] {
     input
 }
 
-fn link_refusal(kind: u64, size: u64) -> Result<Option<ElfError>, ElfError> {
+fn link_refusal(rt: &impl Abort, kind: u64, size: u64) -> Option<ElfError> {
     let input = retyped_link(kind, size);
-    let file = ElfFile::new(&input)?;
-    Ok(file.section_header(2)?.get_data(&file).err())
+    let file = open(rt, &input);
+    let link = file.section_header(2).expect(rt, "the link");
+    link.get_data(&file).err()
+}
+
+// By type and size.
+const LINKS: &[(u64, u64, Option<ElfError>)] = &[
+    (17, 11, Some(ElfError::NotMultiple)),
+    (17, 3, Some(ElfError::ShortData)),
+    (2, 12, Some(ElfError::NotMultiple)),
+    (12, 12, Some(ElfError::InvalidShType)),
+    (8, u64::MAX, None),
+    (0, u64::MAX, None),
+];
+
+#[test]
+fn reads_the_link_to_debug_information_by_its_type(rt: HostRuntime) {
+    for &(kind, size, refusal) in LINKS {
+        want_at(&rt, (kind, size), link_refusal(&rt, kind, size), refusal);
+    }
+}
+
+// Wants the flags and the indices of the link, read as a group.
+fn check_group(rt: &impl Abort, data: SectionData<'_>) {
+    let SectionData::Group { flags, indicies } = data else {
+        return assert!(rt; false);
+    };
+    want(rt, flags, 0x6564_2e61);
+    want(rt, indicies.len(), 2);
+    let found = [indicies.get(0), indicies.get(1), indicies.get(2)];
+    want(rt, found, [Some(0x0067_7562), Some(0x1234_5678), None]);
 }
 
 #[test]
-fn reads_the_link_to_debug_information_as_a_group(rt: HostRuntime) -> Result<(), Fail> {
+fn reads_the_link_to_debug_information_as_a_group(rt: HostRuntime) -> Result<(), ElfError> {
     let input = retyped_link(17, 12);
-    let file = ElfFile::new(&input)?;
-    match file.section_header(2)?.get_data(&file)? {
-        SectionData::Group { flags, indicies } => {
-            assert_eq!(rt; flags, 0x6564_2e61);
-            assert_eq!(rt; indicies.len(), 2);
-            assert_eq!(rt; indicies.get(0), Some(0x0067_7562));
-            assert_eq!(rt; indicies.get(1), Some(0x1234_5678));
-            assert_eq!(rt; indicies.get(2), None);
-        }
-        _ => assert!(rt; false),
-    }
-    let found = [
-        link_refusal(17, 11)?,
-        link_refusal(17, 3)?,
-        link_refusal(2, 12)?,
-        link_refusal(12, 12)?,
-        link_refusal(8, u64::MAX)?,
-        link_refusal(0, u64::MAX)?,
-    ];
-    let wanted = [
-        Some(ElfError::NotMultiple),
-        Some(ElfError::ShortData),
-        Some(ElfError::NotMultiple),
-        Some(ElfError::InvalidShType),
-        None,
-        None,
-    ];
-    assert_eq!(rt; found, wanted);
+    let file = open(&rt, &input);
+    check_group(&rt, file.section_header(2)?.get_data(&file)?);
     Ok(())
 }
 
+// Wants the type, the name and the description of the build id's note.
+fn check_note(rt: &impl Abort, data: SectionData<'_>) {
+    let SectionData::Note64(header, body) = data else {
+        return assert!(rt; false);
+    };
+    want(rt, header.type_(), 3);
+    want(rt, header.name(body), Ok("GNU"));
+    want(rt, header.desc(body), Ok(b"\xde\xad\xbe\xef"));
+}
+
 #[test]
-fn reads_a_note_with_its_name_and_description(rt: HostRuntime) -> Result<(), Fail> {
+fn reads_a_note_with_its_name_and_description(rt: HostRuntime) -> Result<(), ElfError> {
     let input = debug_link_file();
-    let file = ElfFile::new(&input)?;
-    match file.section_header(3)?.get_data(&file)? {
-        SectionData::Note64(header, body) => {
-            assert_eq!(rt; header.type_(), 3);
-            assert_eq!(rt; header.name(body), Ok("GNU"));
-            let want: &[u8] = &[0xde, 0xad, 0xbe, 0xef];
-            assert_eq!(rt; header.desc(body), Ok(want));
-        }
-        _ => assert!(rt; false),
-    }
+    let file = open(&rt, &input);
+    check_note(&rt, file.section_header(3)?.get_data(&file)?);
     Ok(())
 }
 
 #[test]
-fn reads_the_data_of_segments(rt: HostRuntime) -> Result<(), Fail> {
-    let narrow = ascending_file(1, 1);
-    let wide = ascending_file(2, 2);
-    let narrow = ElfFile::new(&narrow)?;
-    let wide = ElfFile::new(&wide)?;
-    let unknown = with_class(&wide, 9);
+fn reads_the_data_of_segments_as_bytes(rt: HostRuntime) {
+    let (narrow, wide) = (ascending_file(1, 1), ascending_file(2, 2));
+    let files = open_all(&rt, &narrow, &wide, 9);
     for kind in [1, 3, 5, 6, 7, 0x6474_e552, 0x6000_0000, 0x7000_0000] {
         let found = [
-            segment_data_of(&narrow, kind, 47),
-            segment_data_of(&unknown, kind, 60),
-            segment_data_of(&wide, kind, 61),
+            segment_data_of(&files.narrow, kind, 47),
+            segment_data_of(&files.unknown, kind, 60),
+            segment_data_of(&files.wide, kind, 61),
         ];
         let wanted = [
             Ok(("Undefined", 47)),
             Ok(("Undefined", 60)),
             Err(ElfError::DataRange),
         ];
-        assert_eq!(rt; found, wanted);
+        want_at(&rt, kind, found, wanted);
     }
-    let found = [
-        segment_data_of(&wide, 0, 61),
-        segment_data_of(&wide, 8, 61),
-        segment_data_of(&narrow, 2, 48),
-        segment_data_of(&wide, 2, 48),
-        segment_data_of(&narrow, 2, 47),
-        segment_data_of(&wide, 2, 56),
-        segment_data_of(&unknown, 2, 47),
-        segment_data_of(&unknown, 2, 61),
-        segment_data_of(&narrow, 4, 11),
-        segment_data_of(&wide, 4, 11),
-        segment_data_of(&wide, 4, 12),
-        segment_data_of(&wide, 4, 48),
-        segment_data_of(&unknown, 4, 11),
-        segment_data_of(&narrow, 4, 61),
-    ];
-    let wanted = [
-        Ok(("Empty", 0)),
-        Err(ElfError::InvalidPhType),
-        Ok(("Dynamic32", 6)),
-        Ok(("Dynamic64", 3)),
-        Err(ElfError::NotMultiple),
-        Err(ElfError::NotMultiple),
-        Err(ElfError::UnknownClass),
-        Err(ElfError::DataRange),
-        Err(ElfError::Note32),
-        Err(ElfError::ShortData),
-        Ok(("Note64", 0)),
-        Ok(("Note64", 36)),
-        Err(ElfError::UnknownClass),
-        Err(ElfError::DataRange),
-    ];
-    assert_eq!(rt; found, wanted);
-    Ok(())
+}
+
+// By type and size, in a file of class 32.
+const NARROW: &[(u64, u64, Result<(&str, usize), ElfError>)] = &[
+    (2, 48, Ok(("Dynamic32", 6))),
+    (2, 47, Err(ElfError::NotMultiple)),
+    (4, 11, Err(ElfError::Note32)),
+    (4, 61, Err(ElfError::DataRange)),
+];
+
+// In one of class 64.
+const WIDE: &[(u64, u64, Result<(&str, usize), ElfError>)] = &[
+    (0, 61, Ok(("Empty", 0))),
+    (8, 61, Err(ElfError::InvalidPhType)),
+    (2, 48, Ok(("Dynamic64", 3))),
+    (2, 56, Err(ElfError::NotMultiple)),
+    (4, 11, Err(ElfError::ShortData)),
+    (4, 12, Ok(("Note64", 0))),
+    (4, 48, Ok(("Note64", 36))),
+];
+
+// In one of an unknown class.
+const UNKNOWN: &[(u64, u64, Result<(&str, usize), ElfError>)] = &[
+    (2, 47, Err(ElfError::UnknownClass)),
+    (2, 61, Err(ElfError::DataRange)),
+    (4, 11, Err(ElfError::UnknownClass)),
+];
+
+#[test]
+fn reads_the_data_of_segments(rt: HostRuntime) {
+    let (narrow, wide) = (ascending_file(1, 1), ascending_file(2, 2));
+    let files = open_all(&rt, &narrow, &wide, 9);
+    for &(kind, size, shape) in NARROW {
+        let found = segment_data_of(&files.narrow, kind, size);
+        want_at(&rt, (kind, size), found, shape);
+    }
+    for &(kind, size, shape) in WIDE {
+        let found = segment_data_of(&files.wide, kind, size);
+        want_at(&rt, (kind, size), found, shape);
+    }
+    for &(kind, size, shape) in UNKNOWN {
+        let found = segment_data_of(&files.unknown, kind, size);
+        want_at(&rt, (kind, size), found, shape);
+    }
 }
 
 #[test]
-fn reads_the_data_of_a_string_table(rt: HostRuntime) -> Result<(), Fail> {
+fn reads_the_data_of_a_string_table(rt: HostRuntime) -> Result<(), ElfError> {
     let input = strtab_file(Order::Big);
-    let file = ElfFile::new(&input)?;
+    let file = open(&rt, &input);
     match file.section_header(1)?.get_data(&file)? {
-        SectionData::StrArray(bytes) => {
-            let want: &[u8] = b"\0.strtab\0ab\0";
-            assert_eq!(rt; bytes, want);
-        }
+        SectionData::StrArray(bytes) => want(&rt, bytes, b"\0.strtab\0ab\0"),
         _ => assert!(rt; false),
     }
     Ok(())
 }
 
+// Wants these texts of a string table, in turn.
+fn check_texts(
+    rt: &impl Abort,
+    table: SectionData<'static>,
+    wanted: &'static [Option<Result<&'static str, ElfError>>],
+) {
+    let Ok(mut texts) = table.strings() else {
+        return assert!(rt; false);
+    };
+    for text in wanted {
+        want(rt, texts.next(), *text);
+    }
+}
+
+const REFUSED: Option<Result<&str, ElfError>> = Some(Err(ElfError::TextUtf8));
+
+const TEXTS: &[(&[u8], &[Option<Result<&str, ElfError>>])] = &[
+    (
+        b"ab\0cd",
+        &[Some(Ok("ab")), Some(Err(ElfError::TextEnd)), None, None],
+    ),
+    (b"a\0\xff\0b\0", &[Some(Ok("a")), REFUSED, None]),
+    (b"a\0b\0\0c\0", &[Some(Ok("a")), Some(Ok("b")), None, None]),
+    (b"a\0", &[Some(Ok("a")), None]),
+];
+
 #[test]
-fn lists_the_texts_of_a_string_table(rt: HostRuntime) -> Result<(), Fail> {
-    let Ok(mut texts) = SectionData::StrArray(b"ab\0cd").strings() else {
+fn lists_the_texts_of_a_string_table(rt: HostRuntime) {
+    for &(bytes, wanted) in TEXTS {
+        check_texts(&rt, SectionData::StrArray(bytes), wanted);
+    }
+}
+
+#[test]
+fn an_ordinary_string_table_gives_no_text(rt: HostRuntime) -> Result<(), ElfError> {
+    let input = strtab_file(LITTLE);
+    let file = open(&rt, &input);
+    let Ok(mut texts) = file.section_header(1)?.get_data(&file)?.strings() else {
         return Ok(assert!(rt; false));
     };
-    let found = [texts.next(), texts.next(), texts.next(), texts.next()];
-    let wanted = [Some(Ok("ab")), Some(Err(ElfError::TextEnd)), None, None];
-    assert_eq!(rt; found, wanted);
-    let Ok(mut texts) = SectionData::StrArray(b"a\0\xff\0b\0").strings() else {
-        return Ok(assert!(rt; false));
-    };
-    let found = [texts.next(), texts.next(), texts.next()];
-    let wanted = [Some(Ok("a")), Some(Err(ElfError::TextUtf8)), None];
-    assert_eq!(rt; found, wanted);
-    let Ok(mut texts) = SectionData::StrArray(b"a\0b\0\0c\0").strings() else {
-        return Ok(assert!(rt; false));
-    };
-    let found = [texts.next(), texts.next(), texts.next(), texts.next()];
-    let wanted = [Some(Ok("a")), Some(Ok("b")), None, None];
-    assert_eq!(rt; found, wanted);
-    let Ok(mut texts) = SectionData::StrArray(b"a\0").strings() else {
-        return Ok(assert!(rt; false));
-    };
-    let found = [texts.next(), texts.next()];
-    let wanted = [Some(Ok("a")), None];
-    assert_eq!(rt; found, wanted);
+    want(&rt, texts.next().is_none(), true);
+    want(&rt, texts.next().is_none(), true);
     Ok(())
 }
 
 #[test]
-fn an_ordinary_string_table_gives_no_text(rt: HostRuntime) -> Result<(), Fail> {
-    let input = strtab_file(LITTLE);
-    let file = ElfFile::new(&input)?;
-    let Ok(mut texts) = file.section_header(1)?.get_data(&file)?.strings() else {
-        return Ok(assert!(rt; false));
-    };
-    let found = [texts.next(), texts.next()];
-    let wanted = [None, None];
-    assert_eq!(rt; found, wanted);
-    assert!(rt; SectionData::Empty.strings().is_err());
-    assert!(rt; SectionData::Undefined(b"ab\0").strings().is_err());
-    Ok(())
+fn other_data_has_no_texts(rt: HostRuntime) {
+    want(&rt, SectionData::Empty.strings().is_err(), true);
+    let other = SectionData::Undefined(b"ab\0");
+    want(&rt, other.strings().is_err(), true);
 }

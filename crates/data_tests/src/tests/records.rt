@@ -3,7 +3,8 @@
 ghost use Rattle.std.specs.Prelude.{◌≡◌, slice_index};
 ghost use Rattle.std.proofs.Common.{lit<};
 
-use std::test::Fail;
+use crate::tests::want::{want, want_at};
+use std::process::Abort;
 use xmas_elf::ElfError;
 use xmas_elf::bytes::{Order, Record, Table};
 
@@ -35,52 +36,70 @@ impl Record for Colour {
     }
 }
 
+const BYTES: [u8; 10] = [1, 2, 3, 4, 5, 6, 7, 8, 9, 10];
+
+const COLOURS: [Colour; 3] = [
+    Colour {
+        red: 1,
+        green: 2,
+        blue: 3,
+    },
+    Colour {
+        red: 4,
+        green: 5,
+        blue: 6,
+    },
+    Colour {
+        red: 7,
+        green: 8,
+        blue: 9,
+    },
+];
+
+// Wants three colours of a table, by index.
+fn check_table(rt: &impl Abort, table: Table<'_, Colour>) {
+    want(rt, table.len(), 3);
+    want(rt, table.is_empty(), false);
+    want(rt, table.bytes(), &BYTES[..9]);
+    for (index, colour) in COLOURS.iter().enumerate() {
+        want_at(rt, index, table.get(index), Some(*colour));
+    }
+    want(rt, table.get(3), None);
+    want(rt, table.get(usize::MAX), None);
+}
+
+// Wants them of its iterator.
+fn check_items(rt: &impl Abort, table: Table<'_, Colour>) {
+    let mut items = table.iter();
+    for colour in COLOURS {
+        want(rt, items.next(), Some(colour));
+    }
+    want(rt, items.next(), None);
+    want(rt, items.next(), None);
+}
+
 // A table of a record that the test brings itself.
 #[test]
-fn reads_tables_of_any_record(rt: HostRuntime) -> Result<(), Fail> {
-    let bytes = [1, 2, 3, 4, 5, 6, 7, 8, 9, 10];
-    let colours = [
-        Colour {
-            red: 1,
-            green: 2,
-            blue: 3,
-        },
-        Colour {
-            red: 4,
-            green: 5,
-            blue: 6,
-        },
-        Colour {
-            red: 7,
-            green: 8,
-            blue: 9,
-        },
-    ];
-    let table = Table::<Colour>::new(&bytes[..9], LITTLE)?;
-    assert_eq!(rt; table.len(), 3);
-    assert!(rt; !table.is_empty());
-    assert_eq!(rt; table.bytes(), &bytes[..9]);
-    for (index, colour) in colours.iter().enumerate() {
-        assert_eq!(rt; table.get(index), Some(*colour), "{index}");
-    }
-    assert_eq!(rt; table.get(3), None);
-    assert_eq!(rt; table.get(usize::MAX), None);
-    let mut items = table.iter();
-    for colour in colours {
-        assert_eq!(rt; items.next(), Some(colour));
-    }
-    assert_eq!(rt; items.next(), None);
-    assert_eq!(rt; items.next(), None);
+fn reads_tables_of_any_record(rt: HostRuntime) -> Result<(), ElfError> {
+    let table = Table::<Colour>::new(&BYTES[..9], LITTLE)?;
+    check_table(&rt, table);
+    check_items(&rt, table);
+    Ok(())
+}
+
+#[test]
+fn tables_have_whole_records(rt: HostRuntime) {
     for length in [1, 2, 4, 5, 7, 8, 10] {
-        assert_eq!(rt;
-            Table::<Colour>::new(&bytes[..length], LITTLE).err(),
-            Some(ElfError::NotMultiple),
-            "{length}"
-        );
+        let refused = Table::<Colour>::new(&BYTES[..length], LITTLE).err();
+        want_at(&rt, length, refused, Some(ElfError::NotMultiple));
     }
-    let none = Table::<Colour>::new(&bytes[..0], LITTLE)?;
-    assert!(rt; none.is_empty());
-    assert_eq!(rt; none.get(0), None);
-    assert_eq!(rt; none.iter().next(), None);
+}
+
+#[test]
+fn tables_may_be_empty(rt: HostRuntime) -> Result<(), ElfError> {
+    let none = Table::<Colour>::new(&BYTES[..0], LITTLE)?;
+    want(&rt, none.is_empty(), true);
+    want(&rt, none.get(0), None);
+    want(&rt, none.iter().next(), None);
     Ok(())
 }

@@ -1,5 +1,6 @@
 //! Which inputs are accepted, and what their headers hold.
 
+use crate::tests::want::{open, want, want_at};
 use std::test::Fail;
 use worked_files::files::{debug_link_file, plain_header, plain_header_len, strtab_file};
 use xmas_elf::bytes::Order;
@@ -8,19 +9,20 @@ use xmas_elf::header::{
 };
 use xmas_elf::{ElfError, ElfFile};
 
+const CLASSES: &[(u8, Option<ElfError>)] = &[
+    (0, Some(ElfError::InvalidClass)),
+    (1, None),
+    (2, None),
+    (42, Some(ElfError::InvalidClass)),
+];
+
 #[test]
 fn accepts_two_classes(rt: HostRuntime) {
-    let answers = [
-        (0, Some(ElfError::InvalidClass)),
-        (1, None),
-        (2, None),
-        (42, Some(ElfError::InvalidClass)),
-    ];
-    for (class, refusal) in answers {
+    for &(class, refusal) in CLASSES {
         let header = plain_header(class);
         let input = &header[..plain_header_len(class)];
-        assert_eq!(rt; ElfFile::new(input).err(), refusal, "class {class}");
-        assert_eq!(rt; parse_header(input).err(), refusal, "class {class}");
+        want_at(&rt, class, ElfFile::new(input).err(), refusal);
+        want_at(&rt, class, parse_header(input).err(), refusal);
     }
 }
 
@@ -49,21 +51,17 @@ fn refuses_by_the_first_condition(rt: HostRuntime) {
         (&no_class[..64], Some(ElfError::InvalidClass)),
     ];
     for (input, refusal) in answers {
-        assert_eq!(rt; ElfFile::new(input).err(), refusal, "{} bytes", input.len());
+        want_at(&rt, input.len(), ElfFile::new(input).err(), refusal);
     }
 }
 
 #[test]
 fn each_byte_of_the_magic_counts(rt: HostRuntime) {
-    assert_eq!(rt; MAGIC, [0x7f, 0x45, 0x4c, 0x46]);
+    want(&rt, MAGIC, [0x7f, 0x45, 0x4c, 0x46]);
     for k in 0..4 {
         let mut header = plain_header(2);
         header[k] ^= 1;
-        assert_eq!(rt;
-            ElfFile::new(&header).err(),
-            Some(ElfError::NoMagic),
-            "byte {k}"
-        );
+        want_at(&rt, k, ElfFile::new(&header).err(), Some(ElfError::NoMagic));
     }
 }
 
@@ -88,16 +86,23 @@ fn numbers(part: &HeaderPt2) -> [u64; 13] {
 
 // The getters, of both widths and in both orders.
 #[test]
-fn reads_both_widths_and_orders(rt: HostRuntime) -> Result<(), Fail> {
+fn reads_both_widths_and_orders(rt: HostRuntime) {
     for order in [Order::Little, Order::Big] {
         let file = strtab_file(order);
-        let part = ElfFile::new(&file)?.header.pt2;
-        assert_eq!(rt; numbers(&part), [36, 0, 0, 0, 0, 0, 52, 52, 0, 0, 40, 2, 1]);
+        let part = open(&rt, &file).header.pt2;
+        want(
+            &rt,
+            numbers(&part),
+            [36, 0, 0, 0, 0, 0, 52, 52, 0, 0, 40, 2, 1],
+        );
     }
     let file = debug_link_file();
-    let part = ElfFile::new(&file)?.header.pt2;
-    assert_eq!(rt; numbers(&part), [48, 0, 0, 0, 0, 0, 64, 64, 0, 0, 64, 4, 1]);
-    Ok(())
+    let part = open(&rt, &file).header.pt2;
+    want(
+        &rt,
+        numbers(&part),
+        [48, 0, 0, 0, 0, 0, 64, 64, 0, 0, 64, 4, 1],
+    );
 }
 
 // A header that was put together by hand, its parts of different classes.
@@ -115,11 +120,11 @@ fn holds_what_it_is_given(rt: HostRuntime) -> Result<(), Fail> {
         input: &class_32,
         header,
     };
-    assert_eq!(rt; file.header.pt1.class(), Class::Other(9));
-    assert_eq!(rt; file.header.pt1.data(), Data::Other(7));
-    assert_eq!(rt; file.header.pt1.version(), Version::Current);
-    assert_eq!(rt; file.header.pt1.os_abi(), OsAbi::Linux);
-    assert!(rt; matches!(file.header.pt2, HeaderPt2::Header64(_)));
-    assert_eq!(rt; file.input.len(), 144);
+    want(&rt, file.header.pt1.class(), Class::Other(9));
+    want(&rt, file.header.pt1.data(), Data::Other(7));
+    want(&rt, file.header.pt1.version(), Version::Current);
+    want(&rt, file.header.pt1.os_abi(), OsAbi::Linux);
+    want(&rt, matches!(file.header.pt2, HeaderPt2::Header64(_)), true);
+    want(&rt, file.input.len(), 144);
     Ok(())
 }

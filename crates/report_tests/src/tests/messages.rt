@@ -1,34 +1,37 @@
 //! The texts of a report's faults, and that options change no printed form.
 
-use std::alloc::AllocError;
+use crate::tests::want::{open, want};
+use std::alloc::{AllocError, Global};
 use std::fmt::Display;
 use std::io::Write;
+use std::process::Abort;
 use std::string::ToString;
 use std::test::Fail;
 use worked_files::files::strtab_file;
+use xmas_elf::ElfError;
 use xmas_elf::bytes::Order;
 use xmas_elf::header::{Class, Data, Machine, OsAbi, Type as FileType, Version};
 use xmas_elf::program::{Flags, Type};
 use xmas_elf::report::ReportFault;
 use xmas_elf::sections::ShType;
 use xmas_elf::symbol_table::{Binding, Type as SymbolType, Visibility};
-use xmas_elf::{ElfError, ElfFile};
+
+const TEXTS: [(ReportFault, &str); 3] = [
+    (
+        ReportFault::Elf(ElfError::NoMagic),
+        "Did not find ELF magic number",
+    ),
+    (
+        ReportFault::Elf(ElfError::HashMissing),
+        "Symbol is missing from the hash table",
+    ),
+    (ReportFault::Write, "cannot write"),
+];
 
 #[test]
 fn each_fault_has_its_text(rt: HostRuntime) -> Result<(), AllocError> {
-    let texts = [
-        (
-            ReportFault::Elf(ElfError::NoMagic),
-            "Did not find ELF magic number",
-        ),
-        (
-            ReportFault::Elf(ElfError::HashMissing),
-            "Symbol is missing from the hash table",
-        ),
-        (ReportFault::Write, "cannot write"),
-    ];
-    for (fault, text) in texts {
-        assert_eq!(rt; fault.to_string(rt.alloc())?.as_str(), text);
+    for (fault, text) in TEXTS {
+        want(&rt, fault.to_string(rt.alloc())?.as_str(), text);
     }
     Ok(())
 }
@@ -39,36 +42,49 @@ fn options_change_no_message(rt: HostRuntime) {
     let error = ElfError::InvalidClass;
     let fault = ReportFault::Elf(error);
     let written = write!(text, "{error:>19}|{error:.3}|{fault:<19}|");
-    assert!(rt; written.is_ok());
-    let want = "Invalid ELF class|Invalid ELF class|Invalid ELF class|";
-    assert_eq!(rt; text.as_slice(), want.as_bytes());
+    want(&rt, written.is_ok(), true);
+    let wanted = b"Invalid ELF class|Invalid ELF class|Invalid ELF class|";
+    want(&rt, text.as_slice(), wanted);
 }
 
 #[test]
-fn options_change_no_printed_form(rt: HostRuntime) -> Result<(), Fail> {
+fn options_change_no_name(rt: HostRuntime) -> Result<(), Fail> {
     let mut text = Vec::new(rt.alloc());
     let flags = Flags::from_raw(5);
     write!(text, "{:>9}|{:9}|{flags:<9}|", ShType::Null, Type::Load)?;
     write!(text, "{:^9}|{:.2}|", ShType::User(7), Type::OsSpecific(8))?;
     write!(text, "{:>9}|{:>9}|", Binding::Local, SymbolType::Func)?;
+    let wanted = b"Null|Load|X R|User(7)|OsSpecific(8)|Local|Func|";
+    want(&rt, text.as_slice(), wanted);
+    Ok(())
+}
+
+#[test]
+fn options_change_no_name_of_a_header(rt: HostRuntime) -> Result<(), Fail> {
+    let mut text = Vec::new(rt.alloc());
     write!(text, "{:>9}|{:>30}|", Visibility::Hidden, Class::SixtyFour)?;
     write!(text, "{:>30}|{:.1}|", Data::LittleEndian, Version::Current)?;
     write!(text, "{:>30}|{:>30}|", OsAbi::Linux, FileType::Executable)?;
     write!(text, "{:>30}|", Machine::X86_64)?;
-    let want = "Null|Load|X R|User(7)|OsSpecific(8)|Local|Func|Hidden|SixtyFour|\
-        LittleEndian|Current|Linux|Executable|X86_64|";
-    assert_eq!(rt; text.as_slice(), want.as_bytes());
-    let bytes = strtab_file(Order::Little);
-    let file = ElfFile::new(&bytes)?;
-    for section in file.section_iter() {
-        let plain = section.to_string(rt.alloc())?;
-        text.clear();
-        write!(text, "{section:>900}")?;
-        assert_eq!(rt; text.as_slice(), plain.as_bytes());
-    }
-    text.clear();
-    write!(text, "{:>900}", file.header)?;
-    let plain = file.header.to_string(rt.alloc())?;
-    assert_eq!(rt; text.as_slice(), plain.as_bytes());
+    let wanted = b"Hidden|SixtyFour|LittleEndian|Current|Linux|Executable|X86_64|";
+    want(&rt, text.as_slice(), wanted);
     Ok(())
+}
+
+// Wants the same text of a value with options.
+fn check_plain<T: Display>(rt: &impl Abort, alloc: Global, value: &T) -> Result<(), Fail> {
+    let plain = value.to_string(alloc)?;
+    let padded = format!(in alloc; "{value:>900}")?;
+    want(rt, padded.as_str(), plain.as_str());
+    Ok(())
+}
+
+#[test]
+fn options_change_no_printed_form(rt: HostRuntime) -> Result<(), Fail> {
+    let bytes = strtab_file(Order::Little);
+    let file = open(&rt, &bytes);
+    for section in file.section_iter() {
+        check_plain(&rt, rt.alloc(), &section)?;
+    }
+    check_plain(&rt, rt.alloc(), &file.header)
 }

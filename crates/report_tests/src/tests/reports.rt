@@ -1,11 +1,11 @@
 //! Reports, each written out by hand.
 
+use crate::tests::want::{want, want_at};
 use std::alloc::Global;
-use std::io::Write;
 use std::process::Abort;
 use worked_files::files::{debug_link_file, strtab_file};
 use worked_files::places::{
-    ABI_VERSION, OS_ABI, PADDING, VERSION, header_32, header_64, put, section_64, set,
+    ABI_VERSION, OS_ABI, PADDING, Place, VERSION, header_32, header_64, put, section_64, set,
 };
 use worked_files::reports::report_ends_with;
 use xmas_elf::bytes::Order;
@@ -107,10 +107,10 @@ hash: none
 ";
 
 // Wants this report of the input.
-fn check_report(rt: &impl Abort, alloc: Global, input: &[u8], want: &str) {
+fn check_report(rt: &impl Abort, alloc: Global, input: &[u8], wanted: &str) {
     let mut text = Vec::new(alloc);
-    assert_eq!(rt; report(input, &mut text), Ok(()));
-    assert_eq!(rt; text.as_slice(), want.as_bytes());
+    want(rt, report(input, &mut text), Ok(()));
+    want(rt, text.as_slice(), wanted.as_bytes());
 }
 
 #[test]
@@ -118,96 +118,132 @@ fn reports_the_strtab_file(rt: HostRuntime) {
     check_report(&rt, rt.alloc(), &strtab_file(Order::Little), STRTAB_REPORT);
 }
 
-// Class 64, each field with a number of its own.
+// Fields of class 64, each with a number of its own.
+const WIDE_FIELDS: [(Place, u64); 16] = [
+    (VERSION, 2),
+    (OS_ABI, 12),
+    (ABI_VERSION, 5),
+    (header_64::TYPE, 3),
+    (header_64::MACHINE, 0x3e),
+    (header_64::VERSION, 0x0102_0304),
+    (header_64::ENTRY_POINT, u64::MAX),
+    (header_64::PH_OFFSET, 0x0102_0304_0506_0708),
+    (header_64::SH_OFFSET, u64::MAX - 1),
+    (header_64::FLAGS, 0xffff_ffff),
+    (header_64::HEADER_SIZE, 0xffff),
+    (header_64::PH_ENTRY_SIZE, 56),
+    (header_64::PH_COUNT, 257),
+    (header_64::SH_ENTRY_SIZE, 64),
+    (header_64::SH_COUNT, 258),
+    (header_64::SH_STR_INDEX, 259),
+];
+
 #[test]
 fn reports_a_wide_header(rt: HostRuntime) {
-    let order = Order::Little;
     let mut file = [0; 64];
     put(&mut file, 0, &[0x7f, b'E', b'L', b'F', 2, 3]);
-    set(&mut file, 0, VERSION, 2, order);
-    set(&mut file, 0, OS_ABI, 12, order);
-    set(&mut file, 0, ABI_VERSION, 5, order);
     put(&mut file, PADDING.0, &[1, 2, 3, 4, 5, 6, 255]);
-    set(&mut file, 0, header_64::TYPE, 3, order);
-    set(&mut file, 0, header_64::MACHINE, 0x3e, order);
-    set(&mut file, 0, header_64::VERSION, 0x0102_0304, order);
-    set(&mut file, 0, header_64::ENTRY_POINT, u64::MAX, order);
-    set(
-        &mut file,
-        0,
-        header_64::PH_OFFSET,
-        0x0102_0304_0506_0708,
-        order,
-    );
-    set(&mut file, 0, header_64::SH_OFFSET, u64::MAX - 1, order);
-    set(&mut file, 0, header_64::FLAGS, 0xffff_ffff, order);
-    set(&mut file, 0, header_64::HEADER_SIZE, 0xffff, order);
-    set(&mut file, 0, header_64::PH_ENTRY_SIZE, 56, order);
-    set(&mut file, 0, header_64::PH_COUNT, 257, order);
-    set(&mut file, 0, header_64::SH_ENTRY_SIZE, 64, order);
-    set(&mut file, 0, header_64::SH_COUNT, 258, order);
-    set(&mut file, 0, header_64::SH_STR_INDEX, 259, order);
+    for (place, number) in WIDE_FIELDS {
+        set(&mut file, 0, place, number, Order::Little);
+    }
     check_report(&rt, rt.alloc(), &file, WIDE_REPORT);
 }
 
-// Class 32 and big-endian, each field with a number of its own.
+// Fields of class 32, each with a number of its own.
+const NARROW_FIELDS: [(Place, u64); 15] = [
+    (OS_ABI, 255),
+    (ABI_VERSION, 128),
+    (header_32::TYPE, 0xff00),
+    (header_32::MACHINE, 2),
+    (header_32::VERSION, 1),
+    (header_32::ENTRY_POINT, 0x0001_0000),
+    (header_32::PH_OFFSET, 0xffff_ffff),
+    (header_32::SH_OFFSET, 0xffff_fffe),
+    (header_32::FLAGS, 0x1234_5678),
+    (header_32::HEADER_SIZE, 53),
+    (header_32::PH_ENTRY_SIZE, 33),
+    (header_32::PH_COUNT, 2),
+    (header_32::SH_ENTRY_SIZE, 41),
+    (header_32::SH_COUNT, 3),
+    (header_32::SH_STR_INDEX, 0xffff),
+];
+
 #[test]
 fn reports_a_big_endian_header(rt: HostRuntime) {
-    let order = Order::Big;
     let mut file = [0; 52];
     put(&mut file, 0, &[0x7f, b'E', b'L', b'F', 1, 2, 0]);
-    set(&mut file, 0, OS_ABI, 255, order);
-    set(&mut file, 0, ABI_VERSION, 128, order);
     put(&mut file, PADDING.0, &[7, 6, 5, 4, 3, 2, 1]);
-    set(&mut file, 0, header_32::TYPE, 0xff00, order);
-    set(&mut file, 0, header_32::MACHINE, 2, order);
-    set(&mut file, 0, header_32::VERSION, 1, order);
-    set(&mut file, 0, header_32::ENTRY_POINT, 0x0001_0000, order);
-    set(&mut file, 0, header_32::PH_OFFSET, 0xffff_ffff, order);
-    set(&mut file, 0, header_32::SH_OFFSET, 0xffff_fffe, order);
-    set(&mut file, 0, header_32::FLAGS, 0x1234_5678, order);
-    set(&mut file, 0, header_32::HEADER_SIZE, 53, order);
-    set(&mut file, 0, header_32::PH_ENTRY_SIZE, 33, order);
-    set(&mut file, 0, header_32::PH_COUNT, 2, order);
-    set(&mut file, 0, header_32::SH_ENTRY_SIZE, 41, order);
-    set(&mut file, 0, header_32::SH_COUNT, 3, order);
-    set(&mut file, 0, header_32::SH_STR_INDEX, 0xffff, order);
+    for (place, number) in NARROW_FIELDS {
+        set(&mut file, 0, place, number, Order::Big);
+    }
     check_report(&rt, rt.alloc(), &file, BIG_ENDIAN_REPORT);
 }
 
 #[test]
 fn reports_each_section(rt: HostRuntime) {
-    assert!(rt; report_ends_with(rt.alloc(), &debug_link_file(), DEBUG_LINK_LINES));
+    want(
+        &rt,
+        report_ends_with(rt.alloc(), &debug_link_file(), DEBUG_LINK_LINES),
+        true,
+    );
 }
 
-// A refused name doesn't leave the section out, and an empty name is one.
+// How `strtab_file` ends its report where only so many bytes are left of it.
+const NAME_LINES: [(usize, &str); 4] = [
+    (
+        132,
+        "check: ok
+sections
+1 Ok(StrTab) ! Text starts past the end of its data
+
+program headers
+hash: none
+",
+    ),
+    (
+        133,
+        "check: ok
+sections
+1 Ok(StrTab) ! Text has no terminating zero
+
+program headers
+hash: none
+",
+    ),
+    (
+        140,
+        "check: ok
+sections
+1 Ok(StrTab) ! Text has no terminating zero
+
+program headers
+hash: none
+",
+    ),
+    (
+        141,
+        "check: ok
+sections
+1 Ok(StrTab) = .strtab
+
+program headers
+hash: none
+",
+    ),
+];
+
+// A refused name doesn't leave the section out.
 #[test]
-fn reports_refused_names(rt: HostRuntime) {
-    let lines = [
-        (132, "1 Ok(StrTab) ! Text starts past the end of its data\n"),
-        (133, "1 Ok(StrTab) ! Text has no terminating zero\n"),
-        (140, "1 Ok(StrTab) ! Text has no terminating zero\n"),
-        (141, "1 Ok(StrTab) = .strtab\n"),
-    ];
+fn reports_names_that_are_cut(rt: HostRuntime) {
     let file = strtab_file(Order::Little);
-    let mut want = Vec::new(rt.alloc());
-    for (len, line) in lines {
-        want.clear();
-        let joined = write!(
-            want,
-            "check: ok\nsections\n{line}\nprogram headers\nhash: none\n"
-        );
-        assert!(rt; joined.is_ok());
-        let mut text = Vec::new(rt.alloc());
+    for (len, lines) in NAME_LINES {
         let input = file.get(..len).unwrap_or(b"");
-        assert_eq!(rt; report(input, &mut text), Ok(()));
-        assert!(rt; text.as_slice().ends_with(want.as_slice()), "{len} bytes");
+        let ends = report_ends_with(rt.alloc(), input, lines);
+        want_at(&rt, len, ends, true);
     }
-    let mut file = debug_link_file();
-    set(&mut file, 128, section_64::NAME, 0, Order::Little);
-    set(&mut file, 192, section_64::TYPE, 12, Order::Little);
-    set(&mut file, 256, section_64::TYPE, 0, Order::Little);
-    let want = "sections
+}
+
+const REFUSED_LINES: &str = "sections
 1 Ok(StrTab) = 
 2 Err(\"Invalid sh type\") ! Invalid sh type
 3 Ok(Null) ! Attempt to get name of null section
@@ -215,5 +251,17 @@ fn reports_refused_names(rt: HostRuntime) {
 program headers
 hash: none
 ";
-    assert!(rt; report_ends_with(rt.alloc(), &file, want));
+
+// An empty name is one.
+#[test]
+fn reports_refused_names(rt: HostRuntime) {
+    let mut file = debug_link_file();
+    set(&mut file, 128, section_64::NAME, 0, Order::Little);
+    set(&mut file, 192, section_64::TYPE, 12, Order::Little);
+    set(&mut file, 256, section_64::TYPE, 0, Order::Little);
+    want(
+        &rt,
+        report_ends_with(rt.alloc(), &file, REFUSED_LINES),
+        true,
+    );
 }

@@ -1,9 +1,8 @@
 //! The last line of a report, which tells of the hash table.
 
-use std::alloc::Global;
-use std::process::Abort;
+use crate::tests::want::{want, want_at};
 use worked_files::files::{hash_file, put_words};
-use worked_files::places::{section_32, set};
+use worked_files::places::{Place, section_32, set};
 use worked_files::reports::report_ends_with;
 use xmas_elf::bytes::Order;
 
@@ -23,58 +22,57 @@ hash: ok
 
 #[test]
 fn reports_a_hash_table(rt: HostRuntime) {
-    assert!(rt; report_ends_with(rt.alloc(), &hash_file(), HASH_LINES));
+    want(
+        &rt,
+        report_ends_with(rt.alloc(), &hash_file(), HASH_LINES),
+        true,
+    );
 }
 
-// Wants this last line of `hash_file` with another word in its hash table.
-fn check_word(rt: &impl Abort, alloc: Global, place: usize, word: u32, want: &str) {
-    let mut file = hash_file();
-    put_words(
-        &mut file,
-        224usize.wrapping_add(place.wrapping_mul(4)),
-        &[word],
-    );
-    assert!(rt; report_ends_with(alloc, &file, want));
-}
+// The place of a word of the hash table, what it becomes, and the last line then.
+const WORDS: [(usize, u32, &str); 3] = [
+    (4, 1, "\nhash: ! Hash chain never ends\n"),
+    (2, 2, "\nhash: ! Chain index is out of range\n"),
+    (2, 0, "\nhash: ! Symbol is missing from the hash table\n"),
+];
 
 #[test]
 fn reports_what_is_wrong_with_a_hash_table(rt: HostRuntime) {
-    let lines = [
-        (4, 1, "\nhash: ! Hash chain never ends\n"),
-        (2, 2, "\nhash: ! Chain index is out of range\n"),
-        (2, 0, "\nhash: ! Symbol is missing from the hash table\n"),
-    ];
-    for (place, word, want) in lines {
-        check_word(&rt, rt.alloc(), place, word, want);
+    for (place, word, line) in WORDS {
+        let mut file = hash_file();
+        let start = 224usize.wrapping_add(place.wrapping_mul(4));
+        put_words(&mut file, start, &[word]);
+        want_at(&rt, line, report_ends_with(rt.alloc(), &file, line), true);
     }
 }
 
 // A field of section 2, the hash table, or of section 3, its symbols, has another number.
+const FIELDS: [(usize, Place, u64, &str); 8] = [
+    (
+        172,
+        section_32::SIZE,
+        16,
+        "\nhash: ! Symbol index is out of range\n",
+    ),
+    (132, section_32::SIZE, 11, "\nhash: ! Data is too short\n"),
+    (
+        132,
+        section_32::SIZE,
+        53,
+        "\nhash: ! Data is out of range\n",
+    ),
+    (132, section_32::LINK, 1, "\nhash: no symbols\n"),
+    (132, section_32::LINK, 2, "\nhash: no symbols\n"),
+    (132, section_32::LINK, 0x1_0000, "\nhash: no symbols\n"),
+    (172, section_32::SIZE, 31, "\nhash: no symbols\n"),
+    (132, section_32::TYPE, 1, "\nhash: none\n"),
+];
+
 #[test]
 fn reports_a_hash_table_without_symbols(rt: HostRuntime) {
-    let lines = [
-        (
-            172,
-            section_32::SIZE,
-            16,
-            "\nhash: ! Symbol index is out of range\n",
-        ),
-        (132, section_32::SIZE, 11, "\nhash: ! Data is too short\n"),
-        (
-            132,
-            section_32::SIZE,
-            53,
-            "\nhash: ! Data is out of range\n",
-        ),
-        (132, section_32::LINK, 1, "\nhash: no symbols\n"),
-        (132, section_32::LINK, 2, "\nhash: no symbols\n"),
-        (132, section_32::LINK, 0x1_0000, "\nhash: no symbols\n"),
-        (172, section_32::SIZE, 31, "\nhash: no symbols\n"),
-        (132, section_32::TYPE, 1, "\nhash: none\n"),
-    ];
-    for (start, field, number, want) in lines {
+    for (start, field, number, line) in FIELDS {
         let mut file = hash_file();
         set(&mut file, start, field, number, LITTLE);
-        assert!(rt; report_ends_with(rt.alloc(), &file, want));
+        want_at(&rt, line, report_ends_with(rt.alloc(), &file, line), true);
     }
 }

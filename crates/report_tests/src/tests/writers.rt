@@ -1,5 +1,6 @@
 //! The report into writers that take little, nothing, or only some calls.
 
+use crate::tests::want::{want, want_at};
 use std::alloc::Global;
 use std::io;
 use std::io::Write;
@@ -67,8 +68,8 @@ fn check_slow_writers(rt: &impl Abort, alloc: Global, input: &[u8]) -> Result<()
     report(input, &mut whole)?;
     for (most, passes) in [(1, u32::MAX), (usize::MAX, 0), (usize::MAX, 7), (1, 100)] {
         let mut slow = make_writer(alloc, most, passes, Then::IsInterrupted);
-        assert_eq!(rt; report(input, &mut slow), Ok(()));
-        assert_eq!(rt; slow.held.as_slice(), whole.as_slice());
+        want(rt, report(input, &mut slow), Ok(()));
+        want(rt, slow.held.as_slice(), whole.as_slice());
     }
     Ok(())
 }
@@ -95,13 +96,13 @@ fn check_faults(
         let mut writer = make_writer(alloc, usize::MAX, passes, then);
         let answer = report(input, &mut writer);
         if answer == Ok(()) {
-            assert_eq!(rt; writer.held.as_slice(), whole.as_slice());
+            want(rt, writer.held.as_slice(), whole.as_slice());
             ended = true;
             break;
         }
-        assert_eq!(rt; answer, Err(ReportFault::Write), "after {passes} calls");
+        want_at(rt, passes, answer, Err(ReportFault::Write));
     }
-    assert!(rt; ended);
+    want(rt, ended, true);
     Ok(())
 }
 
@@ -115,26 +116,33 @@ fn fails_as_its_writer_does(rt: HostRuntime) -> Result<(), Fail> {
     Ok(())
 }
 
+const REFUSALS: [(usize, ElfError); 4] = [
+    (0, ElfError::ShortPart1),
+    (3, ElfError::ShortPart1),
+    (15, ElfError::ShortPart1),
+    (51, ElfError::ShortHeaders),
+];
+
+// Wants this refusal of an input, and no call of the writer.
+fn check_refused(rt: &impl Abort, alloc: Global, input: &[u8], refusal: ElfError, then: Then) {
+    let mut writer = make_writer(alloc, usize::MAX, 0, then);
+    let answer = report(input, &mut writer);
+    want_at(rt, input.len(), answer, Err(ReportFault::Elf(refusal)));
+    want(rt, writer.passes, 0);
+}
+
 // On a refused input the writer is never called.
 #[test]
 fn refuses_whatever_the_writer_does(rt: HostRuntime) {
     let file = strtab_file(Order::Little);
-    let refusals = [
-        (0, ElfError::ShortPart1),
-        (3, ElfError::ShortPart1),
-        (15, ElfError::ShortPart1),
-        (51, ElfError::ShortHeaders),
-    ];
-    for (len, error) in refusals {
+    for (len, refusal) in REFUSALS {
         let input = file.get(..len).unwrap_or(b"");
-        for then in [Then::Fails, Then::TakesNothing, Then::IsInterrupted] {
-            let mut writer = make_writer(rt.alloc(), usize::MAX, 0, then);
-            let answer = report(input, &mut writer);
-            assert_eq!(rt; answer, Err(ReportFault::Elf(error)), "{len} bytes");
-            assert_eq!(rt; writer.passes, 0);
-        }
+        check_refused(&rt, rt.alloc(), input, refusal, Then::Fails);
+        check_refused(&rt, rt.alloc(), input, refusal, Then::TakesNothing);
+        check_refused(&rt, rt.alloc(), input, refusal, Then::IsInterrupted);
         let mut text = Vec::new(rt.alloc());
-        assert_eq!(rt; report(input, &mut text), Err(ReportFault::Elf(error)));
-        assert!(rt; text.is_empty());
+        let answer = report(input, &mut text);
+        want_at(&rt, len, answer, Err(ReportFault::Elf(refusal)));
+        want_at(&rt, len, text.is_empty(), true);
     }
 }
