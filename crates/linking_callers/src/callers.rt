@@ -2,14 +2,17 @@
 
 ghost use Rattle.std.specs.Borrow.{Bor};
 ghost use Rattle.std.specs.Fn.{FnReturnsAt};
-ghost use Rattle.std.specs.Prelude.{◌≡◌, ◌↔◌, ◌≤◌, ℕ, Contains, IfErr, IfOk, IfSome, IsTrue, List, MatchOption, None, Some, length, slice_get, true};
+ghost use Rattle.std.specs.Prelude.{◌≡◌, ◌↔◌, ◌≤◌, ℕ, Contains, IfErr, IfOk, IfSome, IsTrue, List, MatchOption, None, Option, Result, Some, length, slice_get, true};
 ghost use Rattle.elf_base.specs.Table.{table_items};
 ghost use Rattle.elf_linking.specs.GoodGnu.{IsExported, IsGood};
+ghost use Rattle.elf_linking.specs.Run.{Looks};
+ghost use Rattle.elf_linking.specs.declared.error.LinkError.{LinkError};
 ghost use Rattle.linking_callers.specs.Linked.{IsFaultOf, IsValueBy};
 ghost use Rattle.xmas_elf.specs.SymbolName.{HoldsNames};
-ghost use Rattle.xmas_elf.specs.Symbols.{Decides, symbols_of};
+ghost use Rattle.xmas_elf.specs.Symbols.{Decides, IsMatch, symbols_of};
 
 pub mod backtrace;
+pub mod equality;
 pub mod linked;
 pub mod notes;
 pub mod relr;
@@ -143,16 +146,23 @@ pub fn named_symbol<E: Entry + Record>(
     }
 }
 
-/// The number that `lookup_counted` answers, which is never above that of the symbols.
-pub fn words_looked_at<E: Entry + Record>(
+/// The number that `lookup_counted` answers: that of the chain words which the definition of a look-up
+/// passes, and never more than there are symbols. It says nothing of the work that was done.
+pub fn words_looked_at<E: Entry + Record, F: Fn(&E) -> bool>(
     table: &GnuHashTable<'_>,
     name: &str,
     symbols: &Table<'_, E>,
     file: &ElfFile<'_>,
+    f: F,
 ) -> u32
-    ensures { result ≤ length (table_items symbols.now) }
+    requires callable { (e : Bor E) → Contains (table_items symbols.now) e.now → F.pre f e }
+    requires decides { Decides (symbols_of E.fields E.text_in symbols.now file.now) F.Fn f }
+    ensures counted { let all = symbols_of E.fields E.text_in symbols.now file.now in
+        (answer : Result (Option (ℕ × E)) LinkError)
+        × Looks (IsMatch all F.Fn f name.now) table.now all.items name.now answer result }
+    ensures in_symbols { result ≤ length (table_items symbols.now) }
 {
-    table.lookup_counted(name, symbols, file, |_| true).1
+    table.lookup_counted(name, symbols, file, f).1
 }
 
 /// The hash table of a file's symbols, of either kind.

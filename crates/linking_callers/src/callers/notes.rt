@@ -1,13 +1,14 @@
 //! Callers that read notes.
 
-ghost use Rattle.std.specs.Prelude.{◌≡◌, ◌↔◌, Ok, Err, IsTrue, None, Some, MatchOption, MatchResult};
+ghost use Rattle.std.specs.Prelude.{◌≡◌, ◌↔◌, IsTrue};
 ghost use Rattle.elf_linking.specs.Notes.{note_parts, notes_left};
-ghost use Rattle.linking_callers.specs.BuildIds.{IsBuildId, id_among, is_build_id};
+ghost use Rattle.linking_callers.specs.BuildIds.{AnswersId, IsBuildId, id_among, id_by_sections, id_by_segments, id_of_section, id_of_segment, is_build_id};
 
 use elf_linking::LinkError;
 use elf_linking::notes::{Note, Notes, section_notes, segment_notes};
 use xmas_elf::ElfFile;
-use xmas_elf::program::Type;
+use xmas_elf::program::{ProgramHeader, Type};
+use xmas_elf::sections::SectionHeader;
 
 // The type of build ids among GNU's notes (NT_GNU_BUILD_ID).
 const BUILD_ID: u32 = 3;
@@ -23,11 +24,7 @@ pub fn is_build_id(note: &Note<'_>) -> bool
 /// The first build id among notes, of either class; refused where they are cut off before it.
 #[tactic(auto, using(crate::proofs::BuildIdSearch::search_end, crate::proofs::BuildIdSearch::search_fault, crate::proofs::BuildIdSearch::search_found, crate::proofs::BuildIdSearch::search_other))]
 pub fn build_id_among<'a>(notes: Notes<'a>) -> Result<Option<&'a [u8]>, LinkError>
-    ensures { MatchResult result
-        (λ found. MatchOption found
-        (id_among (notes_left notes.entry) ≡ Ok None)
-        (λ id. id_among (notes_left notes.entry) ≡ Ok (Some id.now)))
-        (λ error. id_among (notes_left notes.entry) ≡ Err error) }
+    ensures { AnswersId (id_among (notes_left notes.entry)) result }
 {
     for note in notes {
         match note {
@@ -42,22 +39,57 @@ pub fn build_id_among<'a>(notes: Notes<'a>) -> Result<Option<&'a [u8]>, LinkErro
     Ok(None)
 }
 
+// That of a section, of whatever type.
+#[tactic(auto, unfolding(crate::specs::BuildIds::id_of_section))]
+fn id_of_section<'a>(
+    file: &ElfFile<'a>,
+    section: &SectionHeader,
+) -> Result<Option<&'a [u8]>, LinkError>
+    ensures { AnswersId (id_of_section file.now section.now) result }
+{
+    match section_notes(file, section) {
+        Ok(notes) => build_id_among(notes),
+        Err(error) => Err(error),
+    }
+}
+
+// That of a segment, of whatever type.
+#[tactic(auto, unfolding(crate::specs::BuildIds::id_of_segment))]
+fn id_of_segment<'a>(
+    file: &ElfFile<'a>,
+    program: &ProgramHeader,
+) -> Result<Option<&'a [u8]>, LinkError>
+    ensures { AnswersId (id_of_segment file.now program.now) result }
+{
+    match segment_notes(file, program) {
+        Ok(notes) => build_id_among(notes),
+        Err(error) => Err(error),
+    }
+}
+
 /// The build id of a file of either class, by its section headers.
 ///
 /// Refused as `section_notes` is, and where the notes are cut off before it.
-pub fn build_id_of_section<'a>(file: &ElfFile<'a>) -> Result<Option<&'a [u8]>, LinkError> {
+pub fn build_id_of_section<'a>(file: &ElfFile<'a>) -> Result<Option<&'a [u8]>, LinkError>
+    ensures { AnswersId (id_by_sections file.now) result }
+{
     match file.find_section_by_name(".note.gnu.build-id") {
-        Some(section) => build_id_among(section_notes(file, &section)?),
+        Some(section) => id_of_section(file, &section),
         None => Ok(None),
     }
 }
 
 /// The build id of a file of either class, by its program headers: that of the first segment of notes
 /// that has one. Files without section headers have it too.
-pub fn build_id_of_segments<'a>(file: &ElfFile<'a>) -> Result<Option<&'a [u8]>, LinkError> {
+///
+/// Refused as `segment_notes` is, and where the notes are cut off before it.
+#[tactic(auto, using(crate::proofs::BuildIdSearch::segments_end, crate::proofs::BuildIdSearch::segments_fault, crate::proofs::BuildIdSearch::segments_found, crate::proofs::BuildIdSearch::segments_none, crate::proofs::BuildIdSearch::segments_other))]
+pub fn build_id_of_segments<'a>(file: &ElfFile<'a>) -> Result<Option<&'a [u8]>, LinkError>
+    ensures { AnswersId (id_by_segments file.now) result }
+{
     for program in file.program_iter() {
         if matches!(program.get_type(), Ok(Type::Note)) {
-            let id = build_id_among(segment_notes(file, &program)?)?;
+            let id = id_of_segment(file, &program)?;
             if id.is_some() {
                 return Ok(id);
             }

@@ -1,7 +1,7 @@
 //! Callers that read packed relative relocations.
 
-ghost use Rattle.std.specs.Prelude.{◌≡◌, ◌<◌, ◌^◌, Ok, Err, List, MatchResult, length, ℕ};
-ghost use Rattle.elf_linking.specs.Relr.{relr_of};
+ghost use Rattle.std.specs.Prelude.{◌≡◌, ◌↔◌, ◌<◌, ◌^◌, Contains, Ok, Err, IsTrue, List, MatchResult, length, ℕ};
+ghost use Rattle.elf_linking.specs.Relr.{relr_of, relr_rest};
 
 use elf_base::bytes::Order;
 use elf_base::header::Class;
@@ -20,8 +20,10 @@ pub fn relocation_count(bytes: &[u8], class: Class, order: Order) -> Result<usiz
     Ok(relr.count())
 }
 
-/// Whether an address is relocated.
-pub fn is_relocated(relr: Relr<'_>, address: u64) -> bool {
+/// Whether an address is relocated: whether it stands among those that are left.
+pub fn is_relocated(relr: Relr<'_>, address: u64) -> bool
+    ensures { IsTrue result ↔ Contains (relr_rest relr.entry) address }
+{
     let mut relr = relr;
     relr.any(|relocated| relocated == address)
 }

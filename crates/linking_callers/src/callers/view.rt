@@ -1,11 +1,11 @@
 //! Callers that read a file by its program headers alone.
 
-ghost use Rattle.std.specs.Prelude.{◌≡◌, ◌↔◌, ℕ, List, Ok, Err, IfOk, IsErrOf, MatchResult, length};
+ghost use Rattle.std.specs.Prelude.{◌≡◌, ◌↔◌, ℕ, List, Ok, Err, IfErr, IfOk, IsErrOf, MatchResult, length};
 ghost use Rattle.elf_base.specs.FileHeader.{file_order};
 ghost use Rattle.elf_base.specs.Number.{number};
 ghost use Rattle.elf_linking.specs.DynamicView.{dynamic_entries_of};
 ghost use Rattle.elf_linking.specs.DynamicEntries.{number_with};
-ghost use Rattle.elf_linking.specs.Loaded.{IsAt, NoneHolds};
+ghost use Rattle.elf_linking.specs.Loaded.{IsAt, NoneHolds, bytes_at_of};
 ghost use Rattle.elf_linking.specs.declared.error.LinkError.TheVariants.{Address};
 ghost use Rattle.elf_linking.specs.declared.view.entry.DynamicEntry.{DynamicEntry};
 ghost use Rattle.xmas_elf.specs.ProgramList.{program_list};
@@ -16,12 +16,14 @@ use elf_linking::LinkError;
 use elf_linking::view::{DynamicView, bytes_at};
 use xmas_elf::ElfFile;
 
-/// The word of four bytes at an address of the loaded file, as a debugger shows it.
+/// The word of four bytes at an address of the loaded file, as a debugger shows it. Refused as
+/// `bytes_at` is.
 pub fn word_at(file: &ElfFile<'_>, address: u64) -> Result<u32, LinkError>
     ensures found { IfOk result (λ word. (bytes : List ℕ) × IsAt file.now address 4 bytes
         × (word ≡ number (file_order file.now.header) 4 0 bytes)) }
     ensures missing { IsErrOf result Address
         ↔ NoneHolds file.now address 4 (length (program_list file.now)) }
+    ensures refused { IfErr result (λ error. bytes_at_of file.now address 4 ≡ Err error) }
 {
     match bytes_at(file, address, 4) {
         Ok(bytes) => Ok(read_u32(bytes, 0, byte_order(file.header.pt1.encoding))),

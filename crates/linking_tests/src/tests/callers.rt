@@ -1,5 +1,7 @@
 //! The callers, at a table of each kind.
 
+ghost use Rattle.std.specs.Prelude.{◌≡◌, true};
+
 use elf_base::ElfError;
 use elf_base::bytes::{Order, Table};
 use elf_base::header::Class;
@@ -42,7 +44,16 @@ fn finds_values_by_either_table(rt: HostRuntime) -> Result<(), Fail> {
         assert_eq!(rt; value_by_name(&table, "zz", &symbols, &file), Ok(None));
     }
     assert!(rt; finds_all(&table, &symbols, &file));
-    assert_eq!(rt; words_looked_at(&table, "ab", &symbols, &file), 1);
+    let words = words_looked_at(
+        &table,
+        "ab",
+        &symbols,
+        &file,
+        |_| -> bool
+            ensures { result ≡ true }
+        { true },
+    );
+    assert_eq!(rt; words, 1);
     put_words(&mut gnu, 20, &[0]);
     let table = GnuHashTable::read(&gnu, Class::ThirtyTwo, LITTLE)?;
     assert!(rt; !finds_all(&table, &symbols, &file));
