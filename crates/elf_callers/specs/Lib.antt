@@ -3,6 +3,7 @@ pub mod Refusals
 pub mod Numbered
 pub mod Linked
 pub mod Loaded
+pub mod LoadedAt
 pub mod FunctionAt
 pub mod Sizes
 pub mod Instructions

@@ -1,4 +1,13 @@
-//! Recipes: what the page for new users quotes. They have no contracts; each is proved not to panic.
+//! Recipes: what the page for new users quotes. Each is proved not to panic. Those for the segment of an
+//! address and for the instructions say in a contract what they answer; the others carry no claim.
+
+ghost use Rattle.std.specs.Prelude.{◌↔◌, IfNone, IfSome, IsTrue, codes, ℕ};
+ghost use Rattle.elf_callers.specs.LoadedAt.{IsLoadedAt};
+ghost use Rattle.xmas_elf.specs.First.{FindsFirst};
+ghost use Rattle.xmas_elf.specs.NameTable.{IsFirstNamed, section_named};
+ghost use Rattle.xmas_elf.specs.ProgramList.{program_list};
+ghost use Rattle.xmas_elf.specs.SectionData.{HasSectionData, IsSectionData};
+ghost use Rattle.xmas_elf.specs.Types.{SectionHeader};
 
 use std::io;
 use std::io::Write;
@@ -93,17 +102,31 @@ pub fn print_relocations<W: Write>(file: &ElfFile<'_>, out: &mut W) -> io::Resul
     Ok(())
 }
 
-/// The loaded segment that an address lies in.
-pub fn segment_of_address(file: &ElfFile<'_>, address: u64) -> Option<ProgramHeader> {
-    file.program_iter().find(|program| {
-        program.get_type() == Ok(Type::Load)
-            && program.virtual_addr() <= address
-            && address - program.virtual_addr() < program.mem_size()
-    })
+/// Whether an address lies in a segment, and that is one to be loaded.
+pub fn is_loaded_at(program: &ProgramHeader, address: u64) -> bool
+    ensures { IsTrue result ↔ IsLoadedAt address program.now }
+{
+    let start = program.virtual_addr();
+    matches!(program.get_type(), Ok(Type::Load))
+        && start <= address
+        && address - start < program.mem_size()
+}
+
+/// The first loaded segment that an address lies in.
+pub fn segment_of_address(file: &ElfFile<'_>, address: u64) -> Option<ProgramHeader>
+    ensures { FindsFirst (IsLoadedAt address) (program_list file.now) result }
+{
+    file.program_iter()
+        .find(|program| is_loaded_at(program, address))
 }
 
 /// The instructions of a file: the data of `.text`, which borrow its bytes.
-pub fn text_of<'a>(file: &ElfFile<'a>) -> Option<&'a [u8]> {
+pub fn text_of<'a>(file: &ElfFile<'a>) -> Option<&'a [u8]>
+    ensures found { IfSome result (λ bytes. (index : ℕ) × (section : SectionHeader)
+        × IsFirstNamed file.now (codes ".text") index section × IsSectionData file.now section bytes.now) }
+    ensures missing { IfNone result (IfSome (section_named file.now (codes ".text"))
+        (λ section. ¬ HasSectionData file.now section)) }
+{
     file.find_section_by_name(".text")?.raw_data(file).ok()
 }
 
