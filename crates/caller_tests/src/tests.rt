@@ -3,3 +3,4 @@
 mod backtrace;
 mod loader;
 mod sizes;
+mod want;

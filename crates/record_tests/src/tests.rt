@@ -9,3 +9,4 @@ mod symbols;
 mod tables;
 mod tags;
 mod texts;
+mod want;

@@ -3,3 +3,4 @@
 mod object_symbols;
 mod symbol_sections;
 mod symbols;
+mod want;

@@ -1,5 +1,6 @@
 //! The names of functions by addresses in them.
 
+use crate::tests::want::{want, want_at};
 use elf_callers::callers::backtrace::{function_at, function_name_in};
 use std::test::Fail;
 use worked_files::files::strtab_file;
@@ -17,7 +18,7 @@ const NAMES: &[u8; 23] = b"\0.strtab\0.symtab\0ab\0cd\0";
 
 // Symbols by name, info, value and size: an object and a function at the same place, a function that
 // begins within that one, and a function without a name.
-const SYMBOLS: [(u64, u64, u64, u64); 4] = [
+const SYMBOLS: &[(u64, u64, u64, u64)] = &[
     (20, 0x11, 0x100, 0x10),
     (17, 0x12, 0x100, 0x10),
     (20, 0x12, 0x108, 0x20),
@@ -25,7 +26,7 @@ const SYMBOLS: [(u64, u64, u64, u64); 4] = [
 ];
 
 // The first and the last address of each function, and the ones before and behind it.
-const ROWS: [(u64, Result<Option<&'static str>, ElfError>); 8] = [
+const ROWS: &[(u64, Result<Option<&'static str>, ElfError>)] = &[
     (0xff, Ok(None)),
     (0x100, Ok(Some("ab"))),
     (0x10f, Ok(Some("ab"))),
@@ -52,7 +53,7 @@ fn symtab_file_32() -> [u8; 259] {
     }
     put(&mut file, 172, NAMES);
     let mut start = 195;
-    for (name, info, value, size) in SYMBOLS {
+    for &(name, info, value, size) in SYMBOLS {
         set(&mut file, start, symbol_32::NAME, name, LITTLE);
         set(&mut file, start, symbol_32::INFO, info, LITTLE);
         set(&mut file, start, symbol_32::VALUE, value, LITTLE);
@@ -65,7 +66,7 @@ fn symtab_file_32() -> [u8; 259] {
 // Writes the symbols in class 64 from a place on.
 fn put_symbols_64(file: &mut [u8], place: usize) {
     let mut start = place;
-    for (name, info, value, size) in SYMBOLS {
+    for &(name, info, value, size) in SYMBOLS {
         set(file, start, symbol_64::NAME, name, LITTLE);
         set(file, start, symbol_64::INFO, info, LITTLE);
         set(file, start, symbol_64::VALUE, value, LITTLE);
@@ -94,18 +95,17 @@ fn symtab_file_64() -> [u8; 375] {
 }
 
 #[test]
-fn finds_the_name_by_an_address(rt: HostRuntime) -> Result<(), Fail> {
+fn finds_the_name_by_an_address(rt: HostRuntime) {
     let narrow = symtab_file_32();
     let wide = symtab_file_64();
-    for (address, name) in ROWS {
+    for &(address, name) in ROWS {
         let both = (
             function_name_in(&narrow, address),
             function_name_in(&wide, address),
         );
-        assert_eq!(rt; both, (name, name), "address {address}");
+        want_at(&rt, address, both, (name, name));
     }
-    assert_eq!(rt; function_name_in(&strtab_file(LITTLE), 0x100), Ok(None));
-    Ok(())
+    want(&rt, function_name_in(&strtab_file(LITTLE), 0x100), Ok(None));
 }
 
 // The end of a range may be past the greatest number.
@@ -118,7 +118,7 @@ fn finds_the_function_at_the_last_address(rt: HostRuntime) -> Result<(), Fail> {
     let table = Table::<Entry64>::new(&bytes, LITTLE)?;
     for (address, index) in [(u64::MAX, Some(3)), (u64::MAX - 1, None), (0x108, Some(1))] {
         let found = function_at(&table, address).map(|found| found.0);
-        assert_eq!(rt; found, index, "address {address}");
+        want_at(&rt, address, found, index);
     }
     Ok(())
 }

@@ -1,5 +1,6 @@
 //! Which bytes of a file are to be loaded where, and which files are refused.
 
+use crate::tests::want::{open, want, want_at};
 use elf_callers::callers::loader::{LoadError, check, pieces};
 use std::test::Fail;
 use worked_files::places::{Place, header_32, program_32, put, set};
@@ -41,14 +42,14 @@ fn load_file() -> [u8; 158] {
 #[test]
 fn pieces_come_in_the_order_of_the_headers(rt: HostRuntime) -> Result<(), Fail> {
     let bytes = load_file();
-    let file = ElfFile::new(&bytes)?;
+    let file = open(&rt, &bytes);
     let Ok(list) = pieces(rt.alloc(), &file) else {
         return Err(Fail::from("refused"));
     };
     let rows = [(&b"abcd"[..], 0x1000, 4), (&b"efghij"[..], 0x2000, 16)];
-    assert_eq!(rt; list.len(), 2);
+    want(&rt, list.len(), 2);
     for (piece, row) in list.iter().zip(rows) {
-        assert_eq!(rt; (piece.bytes, piece.address, piece.size), row);
+        want(&rt, (piece.bytes, piece.address, piece.size), row);
     }
     Ok(())
 }
@@ -64,7 +65,7 @@ fn with_changes(changes: [(usize, Place, u64); 2]) -> Option<Result<(), LoadErro
 }
 
 #[test]
-fn files_are_refused_for_their_segments_to_be_loaded(rt: HostRuntime) -> Result<(), Fail> {
+fn files_are_refused_for_their_segments_to_be_loaded(rt: HostRuntime) {
     let size = (LAST, program_32::FILE_SIZE, 6);
     let rows = [
         ((LAST, program_32::MEM_SIZE, 6), Ok(())),
@@ -79,11 +80,10 @@ fn files_are_refused_for_their_segments_to_be_loaded(rt: HostRuntime) -> Result<
         ((0, header_32::PH_COUNT, 4), Err(LoadError::Header)),
     ];
     for (k, (change, answer)) in rows.iter().enumerate() {
-        assert_eq!(rt; with_changes([*change, size]), Some(*answer), "row {k}");
+        want_at(&rt, k, with_changes([*change, size]), Some(*answer));
     }
     // a segment without bytes in the file may lie anywhere
     let empty = (LAST, program_32::FILE_SIZE, 0);
     let past = (LAST, program_32::OFFSET, 159);
-    assert_eq!(rt; with_changes([empty, past]), Some(Ok(())));
-    Ok(())
+    want(&rt, with_changes([empty, past]), Some(Ok(())));
 }

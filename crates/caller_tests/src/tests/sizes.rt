@@ -4,9 +4,9 @@
 //! the options that stand at each. What takes no memory `size` leaves out: that number adds up the
 //! sizes in the lines of `readelf -SW` that have no flag A.
 
+use crate::tests::want::{open, want};
 use elf_callers::callers::size_report::{size_report, whole_size_report};
-use std::test::Fail;
-use xmas_elf::{ElfError, ElfFile};
+use xmas_elf::ElfError;
 
 // `gcc -c` of
 //     int add(int a, int b) { return a + b; }
@@ -158,7 +158,7 @@ const SHARED: &[u8] = b"\
     \0\0\0E\0\0\0\0\0\0\0\0\0\0\0\0\0\0\0\x01\0\0\0\0\0\0\0\0\0\0\0\0\0\0\0";
 
 #[test]
-fn bytes_are_those_of_size(rt: HostRuntime) -> Result<(), Fail> {
+fn bytes_are_those_of_size(rt: HostRuntime) {
     // `text`, `data` and `bss` of `size`, `text` of `size -G`, which has no constants, and the rest
     let rows = [
         (CODE, (4, 0, 0, 4, 144)),
@@ -168,21 +168,23 @@ fn bytes_are_those_of_size(rt: HostRuntime) -> Result<(), Fail> {
         (SHARED, (106, 180, 32, 32, 69)),
     ];
     for (input, numbers) in rows {
-        let report = size_report(&ElfFile::new(input)?);
+        let report = size_report(&open(&rt, input));
         let (data, bss) = (report.initialised, report.zero_initialised);
         let text = report.code + report.constants;
-        assert_eq!(rt; (text, data, bss, report.code, report.other), numbers);
+        want(&rt, (text, data, bss, report.code, report.other), numbers);
     }
-    Ok(())
 }
 
 #[test]
-fn a_file_without_its_last_header_is_not_whole(rt: HostRuntime) -> Result<(), Fail> {
-    let file = ElfFile::new(CODE)?;
-    assert_eq!(rt; whole_size_report(&file), Ok(size_report(&file)));
+fn a_file_without_its_last_header_is_not_whole(rt: HostRuntime) {
+    let file = open(&rt, CODE);
+    want(&rt, whole_size_report(&file), Ok(size_report(&file)));
     // The last header, which ends the file, is that of `.shstrtab` of 60 bytes.
-    let cut = ElfFile::new(&CODE[..727])?;
-    assert_eq!(rt; whole_size_report(&cut), Err(ElfError::ShortSectionHeader));
-    assert_eq!(rt; size_report(&cut).other, 84);
-    Ok(())
+    let cut = open(&rt, &CODE[..727]);
+    want(
+        &rt,
+        whole_size_report(&cut),
+        Err(ElfError::ShortSectionHeader),
+    );
+    want(&rt, size_report(&cut).other, 84);
 }

@@ -1,5 +1,6 @@
 //! Notes: their names and descriptions.
 
+use crate::tests::want::want;
 use elf_base::ElfError;
 use elf_base::bytes::{Order, Record};
 use elf_records::sections::NoteHeader;
@@ -19,21 +20,25 @@ fn note(name_size: u8, desc_size: u8) -> NoteHeader {
 fn reads_notes(rt: HostRuntime) {
     let body = [0x41, 0, 0xff, 0xff, 0x07];
     let header = note(2, 1);
-    assert_eq!(rt; header.type_(), 3);
-    assert_eq!(rt; header.name(&body), Ok("A"));
-    assert_eq!(rt; header.desc(&body), Ok(&body[4..]));
-    assert_eq!(rt; header.desc(&body[..4]), Err(ElfError::NoteDesc));
-    assert_eq!(rt; note(2, 0).desc(&body[..4]), Ok(&body[..0]));
-    assert_eq!(rt; note(4, 1).desc(&body), Ok(&body[4..]));
-    assert_eq!(rt; note(0, 5).desc(&body), Ok(&body[..]));
-    assert_eq!(rt; note(5, 0).desc(&body), Err(ElfError::NoteDesc));
-    assert_eq!(rt; note(0, 0).name(&body[1..2]), Err(ElfError::NoteName));
-    assert_eq!(rt; note(1, 0).name(&body[1..2]), Ok(""));
-    assert_eq!(rt; note(3, 0).name(&body), Err(ElfError::NoteName));
-    assert_eq!(rt; note(1, 0).name(&body[..1]), Err(ElfError::TextEnd));
-    assert_eq!(rt; note(3, 0).name(&[0xff, 0xff, 0]), Err(ElfError::TextUtf8));
+    want(&rt, header.type_(), 3);
+    want(&rt, header.name(&body), Ok("A"));
+    want(&rt, header.desc(&body), Ok(&body[4..]));
+    want(&rt, header.desc(&body[..4]), Err(ElfError::NoteDesc));
+    want(&rt, note(2, 0).desc(&body[..4]), Ok(&body[..0]));
+    want(&rt, note(4, 1).desc(&body), Ok(&body[4..]));
+    want(&rt, note(0, 5).desc(&body), Ok(&body[..]));
+    want(&rt, note(5, 0).desc(&body), Err(ElfError::NoteDesc));
+    want(&rt, note(0, 0).name(&body[1..2]), Err(ElfError::NoteName));
+    want(&rt, note(1, 0).name(&body[1..2]), Ok(""));
+    want(&rt, note(3, 0).name(&body), Err(ElfError::NoteName));
+    want(&rt, note(1, 0).name(&body[..1]), Err(ElfError::TextEnd));
+    want(
+        &rt,
+        note(3, 0).name(&[0xff, 0xff, 0]),
+        Err(ElfError::TextUtf8),
+    );
     let greatest = NoteHeader::decode(&[0xff; 12], Order::Big);
-    assert_eq!(rt; greatest.type_(), u32::MAX);
-    assert_eq!(rt; greatest.name(&body), Err(ElfError::NoteName));
-    assert_eq!(rt; greatest.desc(&body), Err(ElfError::NoteDesc));
+    want(&rt, greatest.type_(), u32::MAX);
+    want(&rt, greatest.name(&body), Err(ElfError::NoteName));
+    want(&rt, greatest.desc(&body), Err(ElfError::NoteDesc));
 }

@@ -1,5 +1,6 @@
 //! Relocations of both widths.
 
+use crate::tests::want::want;
 use elf_base::bytes::{Order, Record};
 use elf_base::{P32, P64};
 use elf_records::sections::{Rel, Rela};
@@ -11,7 +12,7 @@ fn reads_narrow_relocations(rt: HostRuntime) {
     let bytes: [u8; 8] = [0x10, 0, 0, 0, 0x07, 0x03, 0, 0];
     let narrow = Rel::<P32>::decode(&bytes, LITTLE);
     let numbers = [narrow.get_offset(), narrow.get_symbol_table_index()];
-    assert_eq!(rt; (numbers, narrow.get_type()), ([0x10, 3], 7));
+    want(&rt, (numbers, narrow.get_type()), ([0x10, 3], 7));
     let bytes: [u8; 12] = [
         0, 0, 0, 0x10, 0xff, 0xff, 0xff, 0x07, 0xff, 0xff, 0xff, 0xfc,
     ];
@@ -21,9 +22,10 @@ fn reads_narrow_relocations(rt: HostRuntime) {
         narrow.get_symbol_table_index(),
         narrow.get_addend(),
     ];
-    assert_eq!(rt;
+    want(
+        &rt,
         (numbers, narrow.get_type()),
-        ([0x10, 0x00ff_ffff, 0xffff_fffc], 7)
+        ([0x10, 0x00ff_ffff, 0xffff_fffc], 7),
     );
 }
 
@@ -32,17 +34,18 @@ fn reads_wide_relocations(rt: HostRuntime) {
     let bytes: [u8; 16] = [1, 2, 3, 4, 5, 6, 7, 8, 7, 0, 0, 0x80, 3, 0, 0, 0xff];
     let wide = Rel::<P64>::decode(&bytes, LITTLE);
     let kind = (wide.get_symbol_table_index(), wide.get_type());
-    assert_eq!(rt; wide.get_offset(), 0x0807_0605_0403_0201);
-    assert_eq!(rt; kind, (0xff00_0003, 0x8000_0007));
+    want(&rt, wide.get_offset(), 0x0807_0605_0403_0201);
+    want(&rt, kind, (0xff00_0003, 0x8000_0007));
     let bytes: [u8; 24] = [
         0x10, 0, 0, 0, 0, 0, 0, 0, 7, 0, 0, 0, 3, 0, 0, 0, 0xfc, 0xff, 0xff, 0xff, 0xff, 0xff,
         0xff, 0xff,
     ];
     let wide = Rela::<P64>::decode(&bytes, LITTLE);
     let kind = (wide.get_symbol_table_index(), wide.get_type());
-    assert_eq!(rt;
+    want(
+        &rt,
         [wide.get_offset(), wide.get_addend()],
-        [0x10, u64::MAX - 3]
+        [0x10, u64::MAX - 3],
     );
-    assert_eq!(rt; kind, (3, 7));
+    want(&rt, kind, (3, 7));
 }

@@ -1,5 +1,6 @@
 //! Tables of words.
 
+use crate::tests::want::{want, want_at};
 use elf_base::ElfError;
 use elf_base::bytes::{Order, Table};
 use std::test::Fail;
@@ -17,22 +18,23 @@ fn reads_tables_of_words(rt: HostRuntime) -> Result<(), Fail> {
         let copy = table;
         let mut index = 0usize;
         for word in table {
-            assert_eq!(rt; words.get(index).copied(), Some(word), "{index}");
+            want_at(&rt, index, words.get(index).copied(), Some(word));
             index = index.wrapping_add(1);
         }
-        assert_eq!(rt; index, 4);
-        assert_eq!(rt; copy.into_iter().count(), 4);
-        assert_eq!(rt; table.iter().position(|word| word == words[2]), Some(2));
-        assert_eq!(rt; table.iter().find(|word| *word == 77), None);
+        want(&rt, index, 4);
+        want(&rt, copy.into_iter().count(), 4);
+        want(&rt, table.iter().position(|word| word == words[2]), Some(2));
+        want(&rt, table.iter().find(|word| *word == 77), None);
     }
     let wide = Table::<u64>::new(&bytes, Order::Big)?;
-    assert_eq!(rt; wide.len(), 2);
-    assert_eq!(rt; wide.get(0), Some(0x0100_0000_0000_0002));
+    want(&rt, wide.len(), 2);
+    want(&rt, wide.get(0), Some(0x0100_0000_0000_0002));
     let wide = Table::<u64>::new(&bytes, Order::Little)?;
-    assert_eq!(rt; wide.get(1), Some(0x0a09_0807_0605_0403));
-    assert_eq!(rt;
+    want(&rt, wide.get(1), Some(0x0a09_0807_0605_0403));
+    want(
+        &rt,
         Table::<u64>::new(&bytes[..12], LITTLE).err(),
-        Some(ElfError::NotMultiple)
+        Some(ElfError::NotMultiple),
     );
     Ok(())
 }

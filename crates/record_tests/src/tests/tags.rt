@@ -1,5 +1,6 @@
 //! Tags of the dynamic section.
 
+use crate::tests::want::{want, want_at};
 use elf_base::bytes::{Order, Record};
 use elf_base::{ElfError, P32, P64};
 use elf_records::dynamic::{Dynamic, Tag, Tag_};
@@ -50,63 +51,70 @@ where
 // Wants of a 32-bit entry with this tag its name, and whether it has a value and a pointer.
 fn check_narrow(rt: &impl Abort, number: u32, name: &Tag<P32>, has_value: bool, has_pointer: bool) {
     let entry = narrow_entry(number);
-    assert!(rt; entry.get_tag().ok().as_ref() == Some(name), "{number}");
+    want_at(
+        rt,
+        number,
+        entry.get_tag().ok().as_ref() == Some(name),
+        true,
+    );
     let found = [entry.get_val(), entry.get_ptr()];
-    assert_eq!(rt; found, numbers(8, has_value, has_pointer), "{number}");
+    want_at(rt, number, found, numbers(8, has_value, has_pointer));
 }
+
+const TAGS: &[(u32, Tag<P32>, bool, bool)] = &[
+    (0, Tag::Null, false, false),
+    (1, Tag::Needed, true, false),
+    (2, Tag::PltRelSize, true, false),
+    (3, Tag::Pltgot, false, true),
+    (4, Tag::Hash, false, true),
+    (5, Tag::StrTab, false, true),
+    (6, Tag::SymTab, false, true),
+    (7, Tag::Rela, false, true),
+    (8, Tag::RelaSize, true, false),
+    (9, Tag::RelaEnt, true, false),
+    (10, Tag::StrSize, true, false),
+    (11, Tag::SymEnt, true, false),
+    (12, Tag::Init, false, true),
+    (13, Tag::Fini, false, true),
+    (14, Tag::SoName, true, false),
+    (15, Tag::RPath, true, false),
+    (16, Tag::Symbolic, false, false),
+];
 
 #[test]
 fn names_the_tags_up_to_16(rt: HostRuntime) {
-    let tags = [
-        (0, Tag::Null, false, false),
-        (1, Tag::Needed, true, false),
-        (2, Tag::PltRelSize, true, false),
-        (3, Tag::Pltgot, false, true),
-        (4, Tag::Hash, false, true),
-        (5, Tag::StrTab, false, true),
-        (6, Tag::SymTab, false, true),
-        (7, Tag::Rela, false, true),
-        (8, Tag::RelaSize, true, false),
-        (9, Tag::RelaEnt, true, false),
-        (10, Tag::StrSize, true, false),
-        (11, Tag::SymEnt, true, false),
-        (12, Tag::Init, false, true),
-        (13, Tag::Fini, false, true),
-        (14, Tag::SoName, true, false),
-        (15, Tag::RPath, true, false),
-        (16, Tag::Symbolic, false, false),
-    ];
-    for (number, name, has_value, has_pointer) in &tags {
+    for (number, name, has_value, has_pointer) in TAGS {
         check_narrow(&rt, *number, name, *has_value, *has_pointer);
     }
 }
 
+const LATER_TAGS: &[(u32, Tag<P32>, bool, bool)] = &[
+    (17, Tag::Rel, false, true),
+    (18, Tag::RelSize, true, false),
+    (19, Tag::RelEnt, true, false),
+    (20, Tag::PltRel, true, false),
+    (21, Tag::Debug, false, true),
+    (22, Tag::TextRel, false, false),
+    (23, Tag::JmpRel, false, true),
+    (24, Tag::BindNow, false, false),
+    (25, Tag::InitArray, false, true),
+    (26, Tag::FiniArray, false, true),
+    (27, Tag::InitArraySize, true, false),
+    (28, Tag::FiniArraySize, true, false),
+    (29, Tag::RunPath, true, false),
+    (30, Tag::Flags, true, false),
+    (32, Tag::PreInitArray, false, true),
+    (33, Tag::PreInitArraySize, true, false),
+    (34, Tag::SymTabShIndex, false, true),
+    (35, Tag::RelrSize, true, false),
+    (36, Tag::Relr, false, true),
+    (37, Tag::RelrEnt, true, false),
+    (0x6fff_fffb, Tag::Flags1, true, false),
+];
+
 #[test]
 fn names_the_tags_from_17_on(rt: HostRuntime) {
-    let tags = [
-        (17, Tag::Rel, false, true),
-        (18, Tag::RelSize, true, false),
-        (19, Tag::RelEnt, true, false),
-        (20, Tag::PltRel, true, false),
-        (21, Tag::Debug, false, true),
-        (22, Tag::TextRel, false, false),
-        (23, Tag::JmpRel, false, true),
-        (24, Tag::BindNow, false, false),
-        (25, Tag::InitArray, false, true),
-        (26, Tag::FiniArray, false, true),
-        (27, Tag::InitArraySize, true, false),
-        (28, Tag::FiniArraySize, true, false),
-        (29, Tag::RunPath, true, false),
-        (30, Tag::Flags, true, false),
-        (32, Tag::PreInitArray, false, true),
-        (33, Tag::PreInitArraySize, true, false),
-        (34, Tag::SymTabShIndex, false, true),
-        (35, Tag::RelrSize, true, false),
-        (36, Tag::Relr, false, true),
-        (37, Tag::RelrEnt, true, false),
-        (0x6fff_fffb, Tag::Flags1, true, false),
-    ];
-    for (number, name, has_value, has_pointer) in &tags {
+    for (number, name, has_value, has_pointer) in LATER_TAGS {
         check_narrow(&rt, *number, name, *has_value, *has_pointer);
     }
 }
@@ -122,28 +130,39 @@ fn names_the_ranges_of_tags(rt: HostRuntime) {
     }
 }
 
+const WIDE_TAGS: &[(u32, Tag<P64>, bool, bool)] = &[
+    (0, Tag::Null, false, false),
+    (1, Tag::Needed, true, false),
+    (3, Tag::Pltgot, false, true),
+    (37, Tag::RelrEnt, true, false),
+    (0x6000_000d, Tag::OsSpecific(0x6000_000d), true, true),
+    (0x7fff_ffff, Tag::ProcessorSpecific(0x7fff_ffff), true, true),
+];
+
 // The same table serves class 64.
 #[test]
 fn names_the_tags_of_class_64(rt: HostRuntime) {
-    let tags = [
-        (0, Tag::Null, false, false),
-        (1, Tag::Needed, true, false),
-        (3, Tag::Pltgot, false, true),
-        (37, Tag::RelrEnt, true, false),
-        (0x6000_000d, Tag::OsSpecific(0x6000_000d), true, true),
-        (0x7fff_ffff, Tag::ProcessorSpecific(0x7fff_ffff), true, true),
-    ];
-    for (number, name, has_value, has_pointer) in &tags {
+    for (number, name, has_value, has_pointer) in WIDE_TAGS {
         let entry = wide_entry(*number);
-        assert!(rt; entry.get_tag().ok().as_ref() == Some(name), "{number}");
+        want_at(
+            &rt,
+            number,
+            entry.get_tag().ok().as_ref() == Some(name),
+            true,
+        );
         let found = [entry.get_val(), entry.get_ptr()];
-        assert_eq!(rt;
+        want_at(
+            &rt,
+            number,
             found,
             numbers(1 << 63, *has_value, *has_pointer),
-            "{number}"
         );
     }
-    assert!(rt; Tag_::<P64>::from_raw(0x1_0000_0001).as_tag().is_err());
+    want(
+        &rt,
+        Tag_::<P64>::from_raw(0x1_0000_0001).as_tag().is_err(),
+        true,
+    );
 }
 
 #[test]
@@ -156,7 +175,7 @@ fn refuses_other_tags(rt: HostRuntime) {
             entry.get_val().err(),
             entry.get_ptr().err(),
         ];
-        assert_eq!(rt; found, [refused; 3], "{number}");
-        assert_eq!(rt; wide_entry(number).get_tag().err(), refused, "{number}");
+        want_at(&rt, number, found, [refused; 3]);
+        want_at(&rt, number, wide_entry(number).get_tag().err(), refused);
     }
 }

@@ -1,37 +1,39 @@
 //! Texts compared in place.
 
+use crate::tests::want::{want, want_at};
 use elf_base::ElfError;
 use elf_base::bytes::{stands_at, text_at, text_is};
+
+const COMPARED: &[(usize, &str, (bool, usize))] = &[
+    (0, "", (true, 1)),
+    (0, "a", (false, 1)),
+    (1, "ab", (true, 3)),
+    (1, "", (false, 1)),
+    (1, "a", (false, 2)),
+    (1, "ac", (false, 2)),
+    (1, "abc", (false, 3)),
+    (1, "ab\0", (false, 0)),
+    (1, "\0", (false, 0)),
+    (2, "b", (true, 2)),
+    (4, "\u{ff}", (false, 1)),
+    (5, "", (true, 1)),
+    (6, "", (false, 1)),
+    (6, "c", (false, 2)),
+    (6, "cd", (false, 2)),
+    (6, "cde", (false, 2)),
+    (8, "", (false, 0)),
+    (8, "ab", (false, 0)),
+    (9, "", (false, 0)),
+    (usize::MAX, "ab", (false, 0)),
+];
 
 #[test]
 fn texts_are_compared_in_place(rt: HostRuntime) {
     let bytes = b"\0ab\0\xff\0cd";
-    let rows = [
-        (0, "", (true, 1)),
-        (0, "a", (false, 1)),
-        (1, "ab", (true, 3)),
-        (1, "", (false, 1)),
-        (1, "a", (false, 2)),
-        (1, "ac", (false, 2)),
-        (1, "abc", (false, 3)),
-        (1, "ab\0", (false, 0)),
-        (1, "\0", (false, 0)),
-        (2, "b", (true, 2)),
-        (4, "\u{ff}", (false, 1)),
-        (5, "", (true, 1)),
-        (6, "", (false, 1)),
-        (6, "c", (false, 2)),
-        (6, "cd", (false, 2)),
-        (6, "cde", (false, 2)),
-        (8, "", (false, 0)),
-        (8, "ab", (false, 0)),
-        (9, "", (false, 0)),
-        (usize::MAX, "ab", (false, 0)),
-    ];
-    for (start, text, answer) in rows {
+    for &(start, text, answer) in COMPARED {
         let found = (text_is(bytes, start, text), stands_at(bytes, start, text));
-        assert_eq!(rt; found, (answer, answer.0), "{text} at {start}");
+        want_at(&rt, (text, start), found, (answer, answer.0));
     }
-    assert_eq!(rt; text_is(b"", 0, ""), (false, 0));
-    assert_eq!(rt; text_at(bytes, 4), Err(ElfError::TextUtf8));
+    want(&rt, text_is(b"", 0, ""), (false, 0));
+    want(&rt, text_at(bytes, 4), Err(ElfError::TextUtf8));
 }

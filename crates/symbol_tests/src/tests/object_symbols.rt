@@ -14,8 +14,9 @@
 //!      7: 0000000000000000     0 NOTYPE  GLOBAL DEFAULT  UND outside
 //! ```
 
+use crate::tests::want::{want, want_at};
 use elf_callers::callers::symbols::name_in;
-use std::test::Fail;
+use xmas_elf::ElfError;
 use xmas_elf::bytes::{Order, Table};
 use xmas_elf::sections::{SHN_ABS, SHN_COMMON, SHN_UNDEF};
 use xmas_elf::symbol_table::{Binding, Entry, Entry64, Type, Visibility};
@@ -34,45 +35,48 @@ const SYMBOLS: [u8; 192] = [
 // The data of its `.strtab`.
 const STRINGS: &[u8; 42] = b"\0s.c\0pad\0start\0maybe\0table\0shared\0outside\0";
 
+// The value, the size, the section index and the name of each.
+const PLACES: &[(u64, u64, u16, &str)] = &[
+    (0, 0, SHN_UNDEF, ""),
+    (0, 0, SHN_ABS, "s.c"),
+    (0, 0, 2, "pad"),
+    (0, 1, 1, "start"),
+    (0, 0, SHN_UNDEF, "maybe"),
+    (8, 16, 2, "table"),
+    (8, 8, SHN_COMMON, "shared"),
+    (0, 0, SHN_UNDEF, "outside"),
+];
+
 #[test]
-fn places_and_names_are_those_of_readelf(rt: HostRuntime) -> Result<(), Fail> {
+fn places_and_names_are_those_of_readelf(rt: HostRuntime) -> Result<(), ElfError> {
     let table = Table::<Entry64>::new(&SYMBOLS, Order::Little)?;
-    let rows = [
-        (0, 0, SHN_UNDEF, ""),
-        (0, 0, SHN_ABS, "s.c"),
-        (0, 0, 2, "pad"),
-        (0, 1, 1, "start"),
-        (0, 0, SHN_UNDEF, "maybe"),
-        (8, 16, 2, "table"),
-        (8, 8, SHN_COMMON, "shared"),
-        (0, 0, SHN_UNDEF, "outside"),
-    ];
-    assert_eq!(rt; table.len(), 8);
-    for (symbol, (value, size, shndx, name)) in table.iter().zip(rows) {
-        assert_eq!(rt; name_in(STRINGS, &symbol), Ok(name));
-        assert_eq!(rt; (symbol.value(), symbol.size()), (value, size), "{name}");
-        assert_eq!(rt; symbol.shndx(), shndx, "{name}");
+    want(&rt, table.len(), 8);
+    for (symbol, &(value, size, shndx, name)) in table.iter().zip(PLACES.iter()) {
+        want(&rt, name_in(STRINGS, &symbol), Ok(name));
+        want_at(&rt, name, (symbol.value(), symbol.size()), (value, size));
+        want_at(&rt, name, symbol.shndx(), shndx);
     }
     Ok(())
 }
 
+const MEANINGS: &[(Type, Binding, Visibility)] = &[
+    (Type::NoType, Binding::Local, Visibility::Default),
+    (Type::File, Binding::Local, Visibility::Default),
+    (Type::NoType, Binding::Local, Visibility::Default),
+    (Type::Func, Binding::Global, Visibility::Default),
+    (Type::NoType, Binding::Weak, Visibility::Default),
+    (Type::Object, Binding::Global, Visibility::Hidden),
+    (Type::Object, Binding::Global, Visibility::Default),
+    (Type::NoType, Binding::Global, Visibility::Default),
+];
+
 #[test]
-fn meanings_are_those_of_readelf(rt: HostRuntime) -> Result<(), Fail> {
+fn meanings_are_those_of_readelf(rt: HostRuntime) -> Result<(), ElfError> {
     let table = Table::<Entry64>::new(&SYMBOLS, Order::Little)?;
-    let rows = [
-        (Type::NoType, Binding::Local, Visibility::Default),
-        (Type::File, Binding::Local, Visibility::Default),
-        (Type::NoType, Binding::Local, Visibility::Default),
-        (Type::Func, Binding::Global, Visibility::Default),
-        (Type::NoType, Binding::Weak, Visibility::Default),
-        (Type::Object, Binding::Global, Visibility::Hidden),
-        (Type::Object, Binding::Global, Visibility::Default),
-        (Type::NoType, Binding::Global, Visibility::Default),
-    ];
-    for (symbol, (kind, binding, visibility)) in table.iter().zip(rows) {
-        assert_eq!(rt; symbol.get_type(), Ok(kind));
-        assert_eq!(rt; symbol.get_binding(), Ok(binding));
-        assert_eq!(rt; symbol.get_other(), visibility);
+    for (symbol, &(kind, binding, visibility)) in table.iter().zip(MEANINGS.iter()) {
+        want(&rt, symbol.get_type(), Ok(kind));
+        want(&rt, symbol.get_binding(), Ok(binding));
+        want(&rt, symbol.get_other(), visibility);
     }
     Ok(())
 }
