@@ -50,6 +50,7 @@ notes() {
 
 sections 60000 sections.o
 exports 10000 exports.so
+exports 100000 exports_100000.so
 dynamic 20000 dynamic.o
 notes 2000 notes.o
 

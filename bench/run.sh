@@ -1,13 +1,13 @@
 #!/usr/bin/env bash
 # Measures this library beside its peers, in one process, and prints the table; README.md here says more.
 #
-#     bench/run.sh [--room FOLDER] [--sources FOLDER] [--runs N] [--seconds S] [--large FILE] [--paste] [--growth] [--programs ELFINFO]
+#     bench/run.sh [--room FOLDER] [--sources FOLDER] [--runs N] [--seconds S] [--large FILE] [--paste] [--growth] [--programs ELFINFO] [--bindings]
 set -euo pipefail
 here="$(cd "$(dirname "$0")" && pwd)"
 top="$(dirname "$here")"
 room="${TMPDIR:-/tmp}/xmas_elf_bench"
 debian=/usr/share/cargo/registry
-sources="" runs=3 seconds=0.3 large="" paste="" programs="" growth=""
+sources="" runs=3 seconds=0.3 large="" paste="" programs="" growth="" bindings=""
 while [ $# -gt 0 ]; do
     case "$1" in
         --room) room="$2"; shift ;;
@@ -18,6 +18,7 @@ while [ $# -gt 0 ]; do
         --paste) paste=1 ;;
         --programs) programs="$(realpath "$2")"; shift ;;
         --growth) growth=growth ;;
+        --bindings) bindings=elf_c ;;
         *) sed -n '2,5s/^# \{0,1\}//p' "$0" >&2; exit 2 ;;
     esac
     shift
@@ -28,7 +29,7 @@ room="$(cd "$room" && pwd)"
 # The library, as a static one, in a copy of the repository with a crate more.
 copy="$room/repository"
 mkdir -p "$copy/crates"
-for crate in elf_base elf_records xmas_elf elf_linking elfinfo; do
+for crate in elf_base elf_records xmas_elf elf_linking elfinfo $bindings; do
     mkdir -p "$copy/crates/$crate"
     find "$copy/crates/$crate" -mindepth 1 -maxdepth 1 ! -name out -exec rm -rf {} +
     find "$top/crates/$crate" -mindepth 1 -maxdepth 1 ! -name out ! -name must-fail ! -name wrong-bodies \
@@ -44,7 +45,7 @@ mkdir -p "$copy/crates/here/src"
 for file in "$here"/here/src/*.rt.in; do
     cp "$file" "$copy/crates/here/src/$(basename "$file" .in)"
 done
-grep -E '^(elf_base|elf_records|xmas_elf|elf_linking|elfinfo):' "$top/crates.txt" > "$copy/crates.txt"
+grep -E "^(elf_base|elf_records|xmas_elf|elf_linking|elfinfo|${bindings:-here})( staticlib)?:" "$top/crates.txt" > "$copy/crates.txt"
 echo 'here staticlib: elf_base elf_linking xmas_elf' >> "$copy/crates.txt"
 cp "$top/HANDLES" "$copy/"
 [ -d "$copy/.git" ] || git init -q "$copy"
@@ -97,6 +98,19 @@ if [ -n "$programs" ]; then
     if [ -n "$sources" ]; then from=(--path "$sources/xmas-elf"); else from=(--version 0.10.0 xmas-elf); fi
     cargo install --quiet --root "$room/crate" "${from[@]}" > "$room/crate.log" 2>&1 || true
     "$here/programs.py" "$room" "$programs" >> "$room/table.md"
+fi
+# The library by its exports for C, beside what the runs above took.
+if [ -n "$bindings" ]; then
+    archive="${XMAS_ELF_ARCHIVE:-}"
+    if [ -z "$archive" ]; then
+        (cd "$copy/crates/elf_c" && rt lib) > "$room/exports.log" 2>&1 || { tail -30 "$room/exports.log" >&2; exit 1; }
+        archive="$copy/crates/elf_c/out"
+    fi
+    gcc -std=c11 -O2 -march=x86-64-v2 -I"$top/bindings/include" "$top/bindings/c/speed.c" "$archive/libelf_c.a" -o "$room/speed"
+    for group in "${groups[@]}"; do
+        "$room/speed" "${group#*=}" | sed "s/^/${group%%=*}\t/"
+    done > "$room/exports.tsv"
+    "$here/table.py" exports "$room" >> "$room/table.md"
 fi
 cat "$room/table.md"
 [ -z "$growth" ] || "$here/growth.sh" "$room" | tee "$room/growth.md"

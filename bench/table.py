@@ -1,6 +1,7 @@
 #!/usr/bin/env python3
 """table.py passes REPOSITORY ROOM: the table of what the runs in ROOM measured, the least of each.
 table.py growth RUN: the same of one run over files of several sizes, without the peers but one.
+table.py exports ROOM: what `speed` measured by the exports for C, beside the runs in ROOM.
 table.py paste PAGE TABLE: puts a table into a page, between the lines `<!-- bench -->` and `<!-- /bench -->`.
 """
 import pathlib
@@ -80,6 +81,35 @@ def growth(run: pathlib.Path) -> None:
         print(f"| {name} | {file} | {count} | {number(best)} | {other} |")
 
 
+# What `bindings/c/speed.c` calls a pass, and which pass of the bench is the library's.
+EXPORTS = {
+    "header": "parse the header",
+    "section headers by index": "section headers by index",
+    "names of sections": "names of sections",
+    "the last section by its name": "find the last section by its name (a call)",
+    "symbols one by one": "all numbers of symbols",
+    "symbols, 64 at a time": "all numbers of symbols",
+    "symbols with names": "names of symbols, string table once",
+    "look-ups by GNU's hash table": "look-ups by GNU's hash table",
+    "the check of that table, for a symbol": "check of GNU's hash table (a symbol)",
+}
+
+
+def exports(room: pathlib.Path) -> None:
+    cells, _items = read(room)
+    print()
+    print("By the exports for C, `bindings/c/speed.c`: nanoseconds an item. The library's are those of the table above.")
+    print()
+    print("| Pass | file | by the exports | the library |")
+    print("|---|---|---:|---:|")
+    for line in (room / "exports.tsv").read_text(encoding="utf-8").splitlines():
+        group, name, each = re.match(r"(\w+)\t(.*?)  +([\d.]+) ns", line).groups()
+        row = group, EXPORTS[name]
+        if row in cells:
+            best = min(min(cells[row][who]) for who in HERE if who in cells[row])
+            print(f"| {name} | {group} | {number(float(each))} | {number(best)} |")
+
+
 def paste(page: pathlib.Path, table: pathlib.Path) -> None:
     text = page.read_text(encoding="utf-8")
     parts = re.split(r"(?m)^(<!-- /?bench -->)$", text)
@@ -93,6 +123,8 @@ if sys.argv[1:2] == ["passes"]:
     passes(sys.argv[2], pathlib.Path(sys.argv[3]))
 elif sys.argv[1:2] == ["growth"]:
     growth(pathlib.Path(sys.argv[2]))
+elif sys.argv[1:2] == ["exports"]:
+    exports(pathlib.Path(sys.argv[2]))
 elif sys.argv[1:2] == ["paste"]:
     paste(pathlib.Path(sys.argv[2]), pathlib.Path(sys.argv[3]))
 else:

@@ -29,6 +29,7 @@ macro_rules! passes {
 
 /// All passes, in the order of the table.
 pub const PASSES: &[Pass] = passes![
+    "an empty pass (a call)", "large", ONE, NOTHING, ["crate" original::nothing, "here" here::nothing];
     "parse the header", "large", ONE, NOTHING,
         ["crate" original::header, "object" object::header, "goblin" goblin::header, "libelf" libelf::header, "C" loops::header, "here" here::header];
     "the header's nine numbers", "large", ONE, NOTHING,
@@ -55,7 +56,8 @@ pub const PASSES: &[Pass] = passes![
     "find a section that isn't there (a call)", "large sections", ONE, |f| &f.missing,
         ["crate" original::find, "object" object::find, "C" loops::find, "here" here::find];
     "raw data of sections", "large sections", |f| f.sections, NOTHING,
-        ["crate" original::raw_data, "object" object::raw_data, "goblin" goblin::raw_data, "C" loops::raw_data, "here" here::raw_data];
+        ["crate" original::raw_data, "object" object::raw_data, "goblin" goblin::raw_data, "C" loops::raw_data, "here" here::raw_data,
+         "here, by a table" here::table_raw_data];
     "data of sections by type", "notes sections exports", |f| f.sections, NOTHING,
         ["crate" original::data, "object" object::data, "C" loops::data, "here" here::data, "here, by a table" here::table_data];
     "program headers", "large", |f| f.segments, NOTHING,
@@ -75,11 +77,13 @@ pub const PASSES: &[Pass] = passes![
     "find the last symbol by a search", "large exports", |f| f.symbols, |f| &f.last_symbol,
         ["crate" original::symbol_search, "object" object::symbol_search, "goblin" goblin::symbol_search, "C" loops::symbol_search, "here" here::symbol_search];
     "dynamic entries with their tags", "large dynamic", |f| f.dynamic, NOTHING,
-        ["crate" original::dynamic, "object" object::dynamic, "goblin" goblin::dynamic, "C" loops::dynamic, "here" here::dynamic];
+        ["crate" original::dynamic, "object" object::dynamic, "goblin" goblin::dynamic, "C" loops::dynamic, "here" here::dynamic,
+         "here, by a table" here::table_dynamic];
     "relocations", "large", |f| f.relocations, NOTHING,
         ["crate" original::relocations, "object" object::relocations, "goblin" goblin::relocations, "C" loops::relocations, "here" here::relocations];
     "first notes", "notes", |f| f.notes, NOTHING,
-        ["crate" original::notes, "object" object::notes, "goblin" goblin::notes, "C" loops::notes, "here" here::notes];
+        ["crate" original::notes, "object" object::notes, "goblin" goblin::notes, "C" loops::notes, "here" here::notes,
+         "here, by a table" here::table_notes];
     "build id (a call)", "exports", |f| f.build_id, NOTHING,
         ["crate" original::build_id, "object" object::build_id, "C" loops::build_id, "here" here::build_id];
     "hash numbers", "exports", |f| f.names.len() / crate::NAME, |f| &f.names,
