@@ -1,5 +1,5 @@
 -- The section with a name, in the list and by its index.
-use Rattle.std.proofs.Common.{◌≡◌, ◌≢◌, ℕ, ◌⊎◌, inl, inr, ◌<◌, ◌≤◌, nat_lt, Bool, true, false, IsTrue, ◌↔◌, Result, Err, drop, List, [], ◌∷◌, refl, length, Ok, Option, None, Some, IfSome, IfNone, ap, sym, subst, ◌∙◌, arith}
+use Rattle.std.proofs.Common.{◌≡◌, ◌≢◌, ℕ, ◌⊎◌, inl, inr, ◌<◌, nat_lt, Bool, true, false, IsTrue, ◌↔◌, Result, Err, drop, List, [], ◌∷◌, refl, length, Ok, Option, None, Some, IfSome, IfNone, ap, sym, subst, ◌∙◌, arith}
 use Rattle.std.proofs.lemmas.Bool.{cases_order, le-ltb, ltb-false}
 use Rattle.std.specs.Borrow.{Bor}
 use Rattle.std.specs.Result.{ForErr, ForOk}

@@ -1,5 +1,5 @@
 -- What is checked of a hash table is told by its bytes and their order alone.
-use Rattle.std.proofs.Common.{◌≡◌, ◌<◌, ◌+◌, ◌*◌, ◌%◌, ◌^◌, ℕ, List, [], ◌∷◌, length, Option, Some, None, Result, Ok, Err, if◌then◌else◌, nat_eq, nat_le, nat_lt, refl, sym, ◌∙◌, subst}
+use Rattle.std.proofs.Common.{◌≡◌, ◌<◌, ◌+◌, ◌*◌, ◌%◌, ◌^◌, ℕ, List, [], ◌∷◌, length, Option, Some, None, Result, Err, if◌then◌else◌, nat_eq, nat_le, nat_lt, refl, sym, ◌∙◌, subst}
 use Rattle.elf_base.specs.Number.{number}
 use Rattle.elf_base.specs.Refusal.{unless}
 use Rattle.elf_base.specs.declared.bytes.Order.{Order}
@@ -8,8 +8,8 @@ use Rattle.elf_base.specs.declared.error.ElfError.TheVariants.{BucketIndex, Chai
 use Rattle.elf_records.specs.HashNumber.{hash_number}
 use Rattle.xmas_elf.specs.Chain.{Chains, LooksFrom, Reaches, chains_of}
 use Rattle.xmas_elf.specs.Good.{Ends, EndsBelow, IsAtFault, IsReached, IsCheck, good, faulty, missing}
-use Rattle.xmas_elf.specs.HashTable.{bucket_count_of, bucket_of, chain_count_of, chain_of, hash_data, hash_order, start_of}
-use Rattle.xmas_elf.specs.Symbols.{IsGlobal, Symbols}
+use Rattle.xmas_elf.specs.HashTable.{bucket_count_of, bucket_of, chain_of, hash_data, hash_order, start_of}
+use Rattle.xmas_elf.specs.Symbols.{Symbols}
 use Rattle.xmas_elf.specs.declared.hash.HashTable.{HashTable}
 
 -- a bucket, the chains, and where a look-up begins, as they are read from the bytes

@@ -1,5 +1,5 @@
 -- A part of a part is a part of the whole: places add up.
-use Rattle.std.proofs.Common.{◌≡◌, ℕ, ◌+◌, List, Option, None, Some, IfSome, Result, Ok, Err, IfOk, codes, length, ◌∙◌, arith}
+use Rattle.std.proofs.Common.{ℕ, ◌+◌, List, Option, None, Some, IfSome, Result, Ok, Err, IfOk, codes, length, ◌∙◌, arith}
 use Rattle.std.specs.Borrow.{Bor}
 use Rattle.elf_base.specs.Lent.{LiesAt}
 use Rattle.elf_base.specs.declared.error.ElfError.{ElfError}

@@ -1,12 +1,11 @@
 -- A look-up answers HashCycle exactly where its walk reaches no stop: no refusal of a bucket or a chain is
 -- HashCycle.
-use Rattle.std.proofs.Common.{◌≡◌, ◌%◌, ◌^◌, ◌+◌, ◌*◌, ℕ, Bool, true, false, List, [], ◌∷◌, Option, Some, None, Result, Ok, Err, if◌then◌else◌, nat_eq, refl, sym, ◌∙◌, subst}
+use Rattle.std.proofs.Common.{◌≡◌, ℕ, Bool, true, false, List, [], ◌∷◌, Option, Some, None, Result, Err, if◌then◌else◌, refl, sym, subst}
 use Rattle.elf_base.specs.Refusal.{unless}
 use Rattle.elf_base.specs.declared.error.ElfError.{ElfError}
-use Rattle.elf_base.specs.declared.error.ElfError.TheVariants.{BucketIndex, ChainIndex, ChainSum, HashCycle, HashData, SymbolIndex}
-use Rattle.elf_records.specs.HashNumber.{hash_number}
-use Rattle.xmas_elf.specs.Chain.{Chains, Stops, at_end, past_chains, past_symbols, found, refused, IsEndless, LooksFrom, no_bucket, bad_bucket, reaches, endless, chains_of}
-use Rattle.xmas_elf.specs.HashTable.{bucket_count_of, bucket_of, chain_of, start_of}
+use Rattle.elf_base.specs.declared.error.ElfError.TheVariants.{BucketIndex, ChainIndex, ChainSum, HashCycle, HashData}
+use Rattle.xmas_elf.specs.Chain.{Stops, at_end, past_chains, past_symbols, found, refused, IsEndless, LooksFrom, no_bucket, bad_bucket, reaches, endless, chains_of}
+use Rattle.xmas_elf.specs.HashTable.{bucket_of, chain_of, start_of}
 use Rattle.xmas_elf.specs.declared.hash.HashTable.{HashTable}
 
 two_rows : (a b : Bool) (v : ℕ) → unless ((a, BucketIndex) ∷ (b, HashData) ∷ []) v ≡ Err HashCycle → ⊥

@@ -1,7 +1,6 @@
-use Rattle.std.proofs.Common.{◌≡◌, Some, Ok, Err, sym, ◌∙◌, subst}
+use Rattle.std.proofs.Common.{Some, Err, sym, ◌∙◌, subst}
 use Rattle.elf_base.specs.Table.{table_items}
 use Rattle.xmas_elf.specs.Chain.{LooksFrom, bad_bucket, chains_of}
-use Rattle.xmas_elf.specs.HashTable.{bucket_of}
 use Rattle.xmas_elf.specs.Symbols.{symbols_of}
 use Rattle.xmas_elf.proofs.ChainCounts.{held_by_bucket}
 use Rattle.xmas_elf.proofs.hash.HashTable.held_by.Goals as goal

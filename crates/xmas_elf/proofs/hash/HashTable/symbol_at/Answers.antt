@@ -1,4 +1,4 @@
-use Rattle.std.proofs.Common.{arith, ◌≡◌, ◌≤◌, ◌⊎◌, inl, inr, length, Some, slice_get, sym, ◌∙◌}
+use Rattle.std.proofs.Common.{arith, ◌≤◌, ◌⊎◌, inl, inr, length, sym, ◌∙◌}
 use Rattle.elf_base.specs.Table.{table_items}
 use Rattle.xmas_elf.specs.Chain.{StandsAt, chains_of, no_chain, no_symbol, too_many}
 use Rattle.xmas_elf.specs.HashTable.{chain_count_of}

@@ -1,4 +1,4 @@
-use Rattle.std.proofs.Common.{arith, ◌≡◌, ◌+◌, ℕ, Some, None, Ok, Err, slice_get, refl, sym, ◌∙◌, ap, subst}
+use Rattle.std.proofs.Common.{arith, Some, None, Ok, refl, sym, ◌∙◌, ap, subst}
 use Rattle.elf_base.specs.Table.{table_items}
 use Rattle.xmas_elf.specs.Chain.{StandsAt, at_end, found, refused, chains_of}
 use Rattle.xmas_elf.specs.Symbols.{IsMatch, symbols_of}

@@ -1,7 +1,7 @@
 use Rattle.std.proofs.Common.{◌≡◌, ◌≢◌, Ok, IsTrue, ◌↔◌, rules, subst, sym, ◌∙◌}
 use Rattle.elf_base.specs.Text.{IsText}
 use Rattle.elf_records.specs.declared.sections.ShType.TheVariants.{Null}
-use Rattle.xmas_elf.specs.SectionHeader.{section_fields, section_type}
+use Rattle.xmas_elf.specs.SectionHeader.{section_type}
 use Rattle.xmas_elf.proofs.FirstNamed.{borne_by, unborne_by}
 use Rattle.xmas_elf.proofs.sections.section_header.SectionHeader.bears.Goals as goal
 
