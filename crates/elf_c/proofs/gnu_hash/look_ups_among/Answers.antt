@@ -1,4 +1,4 @@
-use Rattle.std.proofs.Common.{rules, Ok, ap, sym, ◌∙◌}
+use Rattle.std.proofs.Common.{rules, Ok, ap, ◌∙◌}
 use Rattle.xmas_elf.specs.SectionContent.{content}
 use Rattle.elf_c.specs.GnuLookup.{LooksAmong}
 use Rattle.elf_c.proofs.Answering.{answered_so, by_found}
