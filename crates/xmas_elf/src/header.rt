@@ -40,8 +40,8 @@ pub fn sanity_check(file: &ElfFile<'_>) -> Result<(), ElfError>
 {
     // One choice of the class for all fields.
     match file.header.pt2 {
-        HeaderPt2::Header32(part) => { check(&with_part(file, HeaderPt2::Header32(part))) }
-        HeaderPt2::Header64(part) => { check(&with_part(file, HeaderPt2::Header64(part))) }
+        HeaderPt2::Header32(part) => check(&with_part(file, HeaderPt2::Header32(part))),
+        HeaderPt2::Header64(part) => check(&with_part(file, HeaderPt2::Header64(part))),
     }
 }
 
