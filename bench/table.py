@@ -81,17 +81,19 @@ def growth(run: pathlib.Path) -> None:
         print(f"| {name} | {file} | {count} | {number(best)} | {other} |")
 
 
-# What `bindings/c/speed.c` calls a pass, and which pass of the bench is the library's.
+# What `bindings/c/speed.c` calls a pass, and which pass of the bench is the library's, and by which way there.
 EXPORTS = {
-    "header": "parse the header",
-    "section headers by index": "section headers by index",
-    "names of sections": "names of sections",
-    "the last section by its name": "find the last section by its name (a call)",
-    "symbols one by one": "all numbers of symbols",
-    "symbols, 64 at a time": "all numbers of symbols",
-    "symbols with names": "names of symbols, string table once",
-    "look-ups by GNU's hash table": "look-ups by GNU's hash table",
-    "the check of that table, for a symbol": "check of GNU's hash table (a symbol)",
+    "header": ("parse the header", "here"),
+    "section headers by index": ("all ten fields of section headers", "here"),
+    "names of sections": ("names of sections", "here"),
+    "the same, the name table taken once": ("names of sections", "here, by a table"),
+    "the last section by its name": ("find the last section by its name (a call)", "here"),
+    "symbols one by one": ("all numbers of symbols", "here"),
+    "symbols, 64 at a time": ("all numbers of symbols", "here"),
+    "symbols with names": ("names of symbols, string table once", "here"),
+    "look-ups by GNU's hash table": ("look-ups by GNU's hash table", "here"),
+    "the same, 64 names by one call": ("look-ups by GNU's hash table", "here"),
+    "the check of that table, for a symbol": ("check of GNU's hash table (a symbol)", "here"),
 }
 
 
@@ -104,10 +106,10 @@ def exports(room: pathlib.Path) -> None:
     print("|---|---|---:|---:|")
     for line in (room / "exports.tsv").read_text(encoding="utf-8").splitlines():
         group, name, each = re.match(r"(\w+)\t(.*?)  +([\d.]+) ns", line).groups()
-        row = group, EXPORTS[name]
-        if row in cells:
-            best = min(min(cells[row][who]) for who in HERE if who in cells[row])
-            print(f"| {name} | {group} | {number(float(each))} | {number(best)} |")
+        wanted, way = EXPORTS[name]
+        found = cells.get((group, wanted), {}).get(way)
+        if found:
+            print(f"| {name} | {group} | {number(float(each))} | {number(min(found))} |")
 
 
 def paste(page: pathlib.Path, table: pathlib.Path) -> None:
