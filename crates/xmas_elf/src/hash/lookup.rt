@@ -218,7 +218,14 @@ impl<'a> HashTable<'a> {
             Ok(first) => first,
             Err(error) => return (Err(error), 0),
         };
-        self.walk(first, name, strings_of::<E>(prepared, file), symbols, file, f)
+        self.walk(
+            first,
+            name,
+            strings_of::<E>(prepared, file),
+            symbols,
+            file,
+            f,
+        )
     }
 
     // The walk from an index on.
