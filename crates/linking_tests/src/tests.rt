@@ -8,3 +8,4 @@ mod notes;
 mod relr;
 mod shared_object;
 mod view;
+mod want;

@@ -2,13 +2,14 @@
 
 ghost use Rattle.std.specs.Prelude.{◌≡◌, true};
 
+use crate::tests::want::{open, want};
 use elf_base::ElfError;
 use elf_base::bytes::{Order, Table};
 use elf_base::header::Class;
 use elf_linking::LinkError;
 use elf_linking::gnu_hash::GnuHashTable;
 use linking_callers::callers::{AnyTable, finds_all, value_by_name, words_looked_at};
-use std::test::Fail;
+use std::process::Abort;
 use worked_files::files::{put_words, strtab_file};
 use worked_files::places::{set, symbol_32};
 use xmas_elf::ElfFile;
@@ -27,24 +28,34 @@ fn symbol_bytes() -> [u8; 32] {
     bytes
 }
 
+// The words of a GNU table and of one of the standard, over those symbols.
+const GNU: [u32; 7] = [1, 1, 1, 5, 0x200_0100, 1, 0x0059_7729];
+
+const SYSV: [u32; 5] = [1, 2, 1, 0, 0];
+
+// Wants the value of the one name, and that none is found by another.
+fn check_values(
+    rt: &impl Abort,
+    table: &AnyTable<'_>,
+    symbols: &Table<'_, Entry32>,
+    file: &ElfFile<'_>,
+) {
+    want(rt, value_by_name(table, "ab", symbols, file), Ok(Some(7)));
+    want(rt, value_by_name(table, "zz", symbols, file), Ok(None));
+}
+
 #[test]
-fn finds_values_by_either_table(rt: HostRuntime) -> Result<(), Fail> {
+fn finds_values_by_the_table_of_gnu(rt: HostRuntime) -> Result<(), LinkError> {
     let file = strtab_file(LITTLE);
-    let file = ElfFile::new(&file)?;
+    let file = open(&rt, &file);
     let bytes = symbol_bytes();
     let symbols = Table::<Entry32>::new(&bytes, LITTLE)?;
-    let mut gnu = [0; 28];
-    put_words(&mut gnu, 0, &[1, 1, 1, 5, 0x200_0100, 1, 0x0059_7729]);
-    let table = GnuHashTable::read(&gnu, Class::ThirtyTwo, LITTLE)?;
-    let mut sysv = [0; 20];
-    put_words(&mut sysv, 0, &[1, 2, 1, 0, 0]);
-    let other = HashTable::read(&sysv, LITTLE)?;
-    for table in [AnyTable::Gnu(table), AnyTable::Sysv(other)] {
-        assert_eq!(rt; value_by_name(&table, "ab", &symbols, &file), Ok(Some(7)));
-        assert_eq!(rt; value_by_name(&table, "zz", &symbols, &file), Ok(None));
-    }
-    assert!(rt; finds_all(&table, &symbols, &file));
-    let words = words_looked_at(
+    let mut words = [0; 28];
+    put_words(&mut words, 0, &GNU);
+    let table = GnuHashTable::read(&words, Class::ThirtyTwo, LITTLE)?;
+    check_values(&rt, &AnyTable::Gnu(table), &symbols, &file);
+    want(&rt, finds_all(&table, &symbols, &file), true);
+    let looked_at = words_looked_at(
         &table,
         "ab",
         &symbols,
@@ -53,15 +64,28 @@ fn finds_values_by_either_table(rt: HostRuntime) -> Result<(), Fail> {
             ensures { result ≡ true }
         { true },
     );
-    assert_eq!(rt; words, 1);
-    put_words(&mut gnu, 20, &[0]);
-    let table = GnuHashTable::read(&gnu, Class::ThirtyTwo, LITTLE)?;
-    assert!(rt; !finds_all(&table, &symbols, &file));
+    want(&rt, looked_at, 1);
+    put_words(&mut words, 20, &[0]);
+    let table = GnuHashTable::read(&words, Class::ThirtyTwo, LITTLE)?;
+    want(&rt, finds_all(&table, &symbols, &file), false);
     let answer = value_by_name(&AnyTable::Gnu(table), "ab", &symbols, &file);
-    assert_eq!(rt; answer, Err(LinkError::Missing));
-    put_words(&mut sysv, 8, &[0]);
-    let other = HashTable::read(&sysv, LITTLE)?;
-    let answer = value_by_name(&AnyTable::Sysv(other), "ab", &symbols, &file);
-    assert_eq!(rt; answer, Err(LinkError::Elf(ElfError::HashMissing)));
+    want(&rt, answer, Err(LinkError::Missing));
+    Ok(())
+}
+
+#[test]
+fn finds_values_by_the_table_of_the_standard(rt: HostRuntime) -> Result<(), LinkError> {
+    let file = strtab_file(LITTLE);
+    let file = open(&rt, &file);
+    let bytes = symbol_bytes();
+    let symbols = Table::<Entry32>::new(&bytes, LITTLE)?;
+    let mut words = [0; 20];
+    put_words(&mut words, 0, &SYSV);
+    let table = HashTable::read(&words, LITTLE)?;
+    check_values(&rt, &AnyTable::Sysv(table), &symbols, &file);
+    put_words(&mut words, 8, &[0]);
+    let table = HashTable::read(&words, LITTLE)?;
+    let answer = value_by_name(&AnyTable::Sysv(table), "ab", &symbols, &file);
+    want(&rt, answer, Err(LinkError::Elf(ElfError::HashMissing)));
     Ok(())
 }

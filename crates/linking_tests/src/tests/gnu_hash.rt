@@ -2,28 +2,30 @@
 
 mod rows;
 
+use crate::tests::want::{want, want_at};
 use elf_base::bytes::Order;
 use elf_base::header::Class;
 use elf_linking::LinkError;
 use elf_linking::gnu_hash::{GnuHashTable, gnu_hash};
-use std::test::Fail;
+use std::process::Abort;
 use worked_files::places::{Place, WORD, set};
 
 const LITTLE: Order = Order::Little;
 
+const HASHES: &[(&str, u32)] = &[
+    ("", 0x1505),
+    ("printf", 0x156b_2bb8),
+    ("exit", 0x7c96_7e3f),
+    ("syscall", 0xbac2_12a0),
+    ("ab", 0x0059_7728),
+    (".strtab", 0xed6b_6063),
+    ("zz", 0x0059_7a79),
+];
+
 #[test]
 fn hashes_names(rt: HostRuntime) {
-    let numbers = [
-        ("", 0x1505),
-        ("printf", 0x156b_2bb8),
-        ("exit", 0x7c96_7e3f),
-        ("syscall", 0xbac2_12a0),
-        ("ab", 0x0059_7728),
-        (".strtab", 0xed6b_6063),
-        ("zz", 0x0059_7a79),
-    ];
-    for (name, number) in numbers {
-        assert_eq!(rt; gnu_hash(name), number, "{name}");
+    for &(name, number) in HASHES {
+        want_at(&rt, name, gnu_hash(name), number);
     }
 }
 
@@ -39,10 +41,6 @@ struct Words<'a> {
     start: [u32; 4],
     bloom: &'a [u64],
     rest: &'a [u32],
-}
-
-const fn table_words<'a>(start: [u32; 4], bloom: &'a [u64], rest: &'a [u32]) -> Words<'a> {
-    Words { start, bloom, rest }
 }
 
 // The bytes of such a table, which are 64 at most, and how many they are.
@@ -67,44 +65,85 @@ fn table_bytes(words: &Words<'_>, class: Class, order: Order) -> ([u8; 64], usiz
 
 const AB: u32 = 0x0059_7728;
 
+const ONE: Words<'static> = Words {
+    start: [1, 1, 1, 6],
+    bloom: &[ALL],
+    rest: &[1, AB + 1],
+};
+
+const READ: &[(Words<'static>, Option<LinkError>)] = &[
+    (
+        Words {
+            start: [1, 1, 3, 6],
+            bloom: &[ALL, ALL, ALL],
+            rest: &[1],
+        },
+        Some(LinkError::BloomCount),
+    ),
+    (
+        Words {
+            start: [1, 1, 0, 6],
+            bloom: &[],
+            rest: &[1],
+        },
+        Some(LinkError::BloomCount),
+    ),
+    (
+        Words {
+            start: [u32::MAX, 1, 1, 6],
+            bloom: &[ALL],
+            rest: &[],
+        },
+        Some(LinkError::ShortTable),
+    ),
+    (
+        Words {
+            start: [0, 1, 0x8000_0000, 6],
+            bloom: &[ALL],
+            rest: &[],
+        },
+        Some(LinkError::ShortTable),
+    ),
+    (
+        Words {
+            start: [1, 1, 1, 6],
+            bloom: &[ALL],
+            rest: &[],
+        },
+        Some(LinkError::ShortTable),
+    ),
+    (
+        Words {
+            start: [1, 1, 1, 6],
+            bloom: &[ALL],
+            rest: &[1],
+        },
+        None,
+    ),
+    (
+        Words {
+            start: [1, 1, 2, 6],
+            bloom: &[ALL, ALL],
+            rest: &[1],
+        },
+        None,
+    ),
+    (ONE, None),
+];
+
 #[test]
-fn reads_tables(rt: HostRuntime) -> Result<(), Fail> {
-    let one = table_words([1, 1, 1, 6], &[ALL], &[1, AB + 1]);
-    let rows = [
-        (
-            table_words([1, 1, 3, 6], &[ALL, ALL, ALL], &[1]),
-            Some(LinkError::BloomCount),
-        ),
-        (
-            table_words([1, 1, 0, 6], &[], &[1]),
-            Some(LinkError::BloomCount),
-        ),
-        (
-            table_words([u32::MAX, 1, 1, 6], &[ALL], &[]),
-            Some(LinkError::ShortTable),
-        ),
-        (
-            table_words([0, 1, 0x8000_0000, 6], &[ALL], &[]),
-            Some(LinkError::ShortTable),
-        ),
-        (
-            table_words([1, 1, 1, 6], &[ALL], &[]),
-            Some(LinkError::ShortTable),
-        ),
-        (table_words([1, 1, 1, 6], &[ALL], &[1]), None),
-        (table_words([1, 1, 2, 6], &[ALL, ALL], &[1]), None),
-        (one, None),
-    ];
-    for (number, (words, refusal)) in rows.iter().enumerate() {
+fn reads_tables(rt: HostRuntime) {
+    for (number, (words, refusal)) in READ.iter().enumerate() {
         let (bytes, len) = table_bytes(words, WIDE, LITTLE);
         let bytes = bytes.get(..len).unwrap_or(&[]);
-        assert_eq!(rt;
-            GnuHashTable::read(bytes, WIDE, LITTLE).err(),
-            *refusal,
-            "{number}"
-        );
+        let found = GnuHashTable::read(bytes, WIDE, LITTLE).err();
+        want_at(&rt, number, found, *refusal);
     }
-    let (bytes, len) = table_bytes(&one, WIDE, LITTLE);
+}
+
+#[test]
+fn reads_tables_that_are_cut(rt: HostRuntime) {
+    let (bytes, len) = table_bytes(&ONE, WIDE, LITTLE);
     for short in 0..len {
         let bytes = bytes.get(..short).unwrap_or(&[]);
         let refusal = if short < 28 {
@@ -112,41 +151,65 @@ fn reads_tables(rt: HostRuntime) -> Result<(), Fail> {
         } else {
             None
         };
-        let refused = GnuHashTable::read(bytes, WIDE, LITTLE).err();
-        assert_eq!(rt; refused, refusal, "{short} bytes");
+        let found = GnuHashTable::read(bytes, WIDE, LITTLE).err();
+        want_at(&rt, short, found, refusal);
         for class in [Class::None, Class::Other(3)] {
-            let refused = GnuHashTable::read(bytes, class, LITTLE).err();
-            assert_eq!(rt; refused, Some(LinkError::UnknownClass), "{short} bytes");
+            let found = GnuHashTable::read(bytes, class, LITTLE).err();
+            want_at(&rt, short, found, Some(LinkError::UnknownClass));
         }
+    }
+}
+
+const WORDS: Words<'static> = Words {
+    start: [3, 2, 2, 6],
+    bloom: &[0x1122_3344, 0x5566_7788],
+    rest: &[4, 5, 6, 7, 8],
+};
+
+const NO_BUCKET: LinkError = LinkError::BucketIndex;
+
+// Wants these words of the table of `WORDS`.
+fn check_words(rt: &impl Abort, table: &GnuHashTable<'_>) {
+    let found = [table.bucket_count(), table.first_symbol()];
+    want(rt, found, [3, 2]);
+    let found = [table.bloom_count(), table.bloom_shift()];
+    want(rt, found, [2, 6]);
+    let found = [table.get_bloom(0), table.get_bloom(1), table.get_bloom(2)];
+    let wanted = [Ok(0x1122_3344), Ok(0x5566_7788), Err(NO_BUCKET)];
+    want(rt, found, wanted);
+    let found = [
+        table.get_bucket(0),
+        table.get_bucket(2),
+        table.get_bucket(3),
+    ];
+    want(rt, found, [Ok(4), Ok(6), Err(NO_BUCKET)]);
+}
+
+// By the index of the symbol.
+const CHAIN: &[(u32, Result<u32, LinkError>)] = &[
+    (0, Err(LinkError::ChainIndex)),
+    (1, Err(LinkError::ChainIndex)),
+    (2, Ok(7)),
+    (3, Ok(8)),
+    (4, Err(LinkError::ChainData)),
+    (u32::MAX, Err(LinkError::ChainData)),
+];
+
+fn check_class(rt: &impl Abort, class: Class, order: Order) -> Result<(), LinkError> {
+    let (bytes, len) = table_bytes(&WORDS, class, order);
+    let bytes = bytes.get(..len).unwrap_or(&[]);
+    let table = GnuHashTable::read(bytes, class, order)?;
+    check_words(rt, &table);
+    for &(index, word) in CHAIN {
+        want_at(rt, index, table.get_chain(index), word);
     }
     Ok(())
 }
 
 #[test]
-fn gets_words(rt: HostRuntime) -> Result<(), Fail> {
-    let words = table_words([3, 2, 2, 6], &[0x1122_3344, 0x5566_7788], &[4, 5, 6, 7, 8]);
-    for class in [NARROW, WIDE] {
-        for order in [Order::Little, Order::Big] {
-            let (bytes, len) = table_bytes(&words, class, order);
-            let bytes = bytes.get(..len).unwrap_or(&[]);
-            let table = GnuHashTable::read(bytes, class, order)?;
-            assert_eq!(rt; table.bucket_count(), 3);
-            assert_eq!(rt; table.first_symbol(), 2);
-            assert_eq!(rt; table.bloom_count(), 2);
-            assert_eq!(rt; table.bloom_shift(), 6);
-            assert_eq!(rt; table.get_bloom(0), Ok(0x1122_3344));
-            assert_eq!(rt; table.get_bloom(1), Ok(0x5566_7788));
-            assert_eq!(rt; table.get_bloom(2), Err(LinkError::BucketIndex));
-            assert_eq!(rt; table.get_bucket(0), Ok(4));
-            assert_eq!(rt; table.get_bucket(2), Ok(6));
-            assert_eq!(rt; table.get_bucket(3), Err(LinkError::BucketIndex));
-            assert_eq!(rt; table.get_chain(0), Err(LinkError::ChainIndex));
-            assert_eq!(rt; table.get_chain(1), Err(LinkError::ChainIndex));
-            assert_eq!(rt; table.get_chain(2), Ok(7));
-            assert_eq!(rt; table.get_chain(3), Ok(8));
-            assert_eq!(rt; table.get_chain(4), Err(LinkError::ChainData));
-            assert_eq!(rt; table.get_chain(u32::MAX), Err(LinkError::ChainData));
-        }
-    }
-    Ok(())
+fn gets_words(rt: HostRuntime) -> Result<(), LinkError> {
+    check_class(&rt, NARROW, Order::Little)?;
+    check_class(&rt, NARROW, Order::Big)?;
+    check_class(&rt, WIDE, Order::Little)?;
+    check_class(&rt, WIDE, Order::Big)
 }

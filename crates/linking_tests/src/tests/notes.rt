@@ -1,5 +1,6 @@
 //! Which notes sections and segments have.
 
+use crate::tests::want::{open, want, want_at};
 use elf_base::ElfError;
 use elf_base::bytes::Order;
 use elf_linking::LinkError;
@@ -7,8 +8,8 @@ use elf_linking::notes::{Notes, section_notes, segment_notes};
 use linking_callers::callers::notes::{build_id_of_section, build_id_of_segments};
 use std::process::Abort;
 use std::test::Fail;
-use worked_files::places::{header_32, program_32, put, section_32, set};
-use xmas_elf::{ElfFile, Extensions};
+use worked_files::places::{Place, header_32, program_32, put, section_32, set};
+use xmas_elf::Extensions;
 
 const LITTLE: Order = Order::Little;
 
@@ -22,22 +23,22 @@ fn check(
     mut notes: Notes<'_>,
     said: &[Said<'_>],
     fault: Option<LinkError>,
-) -> Result<(), Fail> {
-    for (type_, name, desc) in said {
-        let note = notes.next().ok_or("a note is missing")??;
-        assert_eq!(rt; note.type_(), *type_, "row {row}");
-        assert_eq!(rt; note.name_bytes(), *name, "row {row}");
-        assert_eq!(rt; note.desc(), *desc, "row {row}");
+) {
+    for wanted in said {
+        want_at(rt, row, said_by(&mut notes), Some(*wanted));
     }
     if let Some(fault) = fault {
-        match notes.next() {
-            Some(Err(error)) => assert_eq!(rt; error, fault, "row {row}"),
-            _ => return Err(Fail::from("no fault")),
-        }
+        let refused = notes.next().and_then(|note| note.err());
+        want_at(rt, row, refused, Some(fault));
     }
-    assert!(rt; notes.next().is_none(), "row {row}");
-    assert!(rt; notes.next().is_none(), "row {row}");
-    Ok(())
+    want_at(rt, row, notes.next().is_none(), true);
+    want_at(rt, row, notes.next().is_none(), true);
+}
+
+// What the next note says.
+fn said_by<'a>(notes: &mut Notes<'a>) -> Option<Said<'a>> {
+    let note = notes.next()?.ok()?;
+    Some((note.type_(), note.name_bytes(), note.desc()))
 }
 
 // As linkers wrote them: a build id, and a property of class 64 in steps of eight.
@@ -59,78 +60,81 @@ const TWO: &[u8] = b"\x05\0\0\0\x01\0\0\0\x07\0\0\0Name\0\0\0\0d\0\0\0\
 const TWO_WIDE: &[u8] = b"\x05\0\0\0\x01\0\0\0\x07\0\0\0Name\0\0\0\0\0\0\0\0d\0\0\0\0\0\0\0\
     \x05\0\0\0\x01\0\0\0\x08\0\0\0Next\0\0\0\0\0\0\0\0e";
 
+const PROPERTY_DESC: &[u8] = b"\x02\x80\0\xc0\x04\0\0\0\x02\0\0\0\0\0\0\0";
+
 const ID: &[u8] = b"\x01\x23\x45\x67\x89\xab\xcd\xef";
 
 const NAME: Said<'static> = (7, b"Name\0", b"d");
 
 const NEXT: Said<'static> = (8, b"Next\0", b"e");
 
-#[test]
-fn notes_come_in_steps_of_four_or_eight(rt: HostRuntime) -> Result<(), Fail> {
-    let rows: [(&[u8], u64, &[Said<'_>]); 12] = [
-        (b"", 4, &[]),
-        (BUILD_ID, 4, &[(3, b"GNU\0", ID)]),
-        (BUILD_ID, 8, &[(3, b"GNU\0", ID)]),
-        (PROPERTY, 8, &[(5, b"GNU\0", &PROPERTY[16..])]),
-        (FOUR, 4, &[NAME]),
-        (FOUR, 0, &[NAME]),
-        (FOUR, 16, &[NAME]),
-        (EIGHT, 8, &[NAME]),
-        (TWO, 4, &[NAME, NEXT]),
-        (TWO_WIDE, 8, &[NAME, NEXT]),
-        // no name and no description
-        (b"\0\0\0\0\0\0\0\0\x09\0\0\0", 4, &[(9, b"", b"")]),
-        (b"\0\0\0\0\0\0\0\0\x09\0\0\0\0\0\0\0", 8, &[(9, b"", b"")]),
-    ];
-    for (row, (bytes, align, said)) in rows.iter().enumerate() {
-        check(&rt, row, Notes::new(bytes, LITTLE, *align), said, None)?;
-    }
-    Ok(())
-}
+const WHOLE: &[(&[u8], u64, &[Said<'_>])] = &[
+    (b"", 4, &[]),
+    (BUILD_ID, 4, &[(3, b"GNU\0", ID)]),
+    (BUILD_ID, 8, &[(3, b"GNU\0", ID)]),
+    (PROPERTY, 8, &[(5, b"GNU\0", PROPERTY_DESC)]),
+    (FOUR, 4, &[NAME]),
+    (FOUR, 0, &[NAME]),
+    (FOUR, 16, &[NAME]),
+    (EIGHT, 8, &[NAME]),
+    (TWO, 4, &[NAME, NEXT]),
+    (TWO_WIDE, 8, &[NAME, NEXT]),
+    // no name and no description
+    (b"\0\0\0\0\0\0\0\0\x09\0\0\0", 4, &[(9, b"", b"")]),
+    (b"\0\0\0\0\0\0\0\0\x09\0\0\0\0\0\0\0", 8, &[(9, b"", b"")]),
+];
 
 #[test]
-fn notes_that_are_cut_off_end_the_list(rt: HostRuntime) -> Result<(), Fail> {
-    let rows: [(&[u8], u64, &[Said<'_>]); 9] = [
-        // fewer bytes than the three words
-        (&BUILD_ID[..11], 4, &[]),
-        // no name, no description, half of it
-        (&BUILD_ID[..12], 4, &[]),
-        (&BUILD_ID[..16], 4, &[]),
-        (&BUILD_ID[..23], 4, &[]),
-        // the description stands one step later
-        (FOUR, 8, &[]),
-        // a whole note, and too little behind it
-        (&TWO[..25], 4, &[NAME]),
-        (&TWO[..44], 4, &[NAME]),
-        // without the padding behind the name
-        (&EIGHT[..17], 8, &[]),
-        // sizes that no data has
-        (&[0xff; 40], 4, &[]),
-    ];
-    let fault = Some(LinkError::ShortNote);
-    for (row, (bytes, align, said)) in rows.iter().enumerate() {
-        check(&rt, row, Notes::new(bytes, LITTLE, *align), said, fault)?;
+fn notes_come_in_steps_of_four_or_eight(rt: HostRuntime) {
+    for (row, (bytes, align, said)) in WHOLE.iter().enumerate() {
+        check(&rt, row, Notes::new(bytes, LITTLE, *align), said, None);
     }
-    Ok(())
 }
+
+// Bytes up to an end, steps, and the notes before the fault.
+const CUT: &[(&[u8], usize, u64, &[Said<'_>])] = &[
+    // fewer bytes than the three words
+    (BUILD_ID, 11, 4, &[]),
+    // no name, no description, half of it
+    (BUILD_ID, 12, 4, &[]),
+    (BUILD_ID, 16, 4, &[]),
+    (BUILD_ID, 23, 4, &[]),
+    // the description stands one step later
+    (FOUR, 21, 8, &[]),
+    // a whole note, and too little behind it
+    (TWO, 25, 4, &[NAME]),
+    (TWO, 44, 4, &[NAME]),
+    // without the padding behind the name
+    (EIGHT, 17, 8, &[]),
+    // sizes that no data has
+    (&[0xff; 40], 40, 4, &[]),
+];
+
+#[test]
+fn notes_that_are_cut_off_end_the_list(rt: HostRuntime) {
+    let fault = Some(LinkError::ShortNote);
+    for (row, (bytes, len, align, said)) in CUT.iter().enumerate() {
+        let bytes = bytes.get(..*len).unwrap_or(b"");
+        check(&rt, row, Notes::new(bytes, LITTLE, *align), said, fault);
+    }
+}
+
+const TEXTS: &[(&[u8], Result<&str, ElfError>)] = &[
+    (b"\0\0\0\x04\0\0\0\0\0\0\0\x01GNU\0", Ok("GNU")),
+    (b"\0\0\0\x04\0\0\0\0\0\0\0\x01A\0B\0", Ok("A")),
+    (b"\0\0\0\x04\0\0\0\0\0\0\0\x01CORE", Err(ElfError::TextEnd)),
+    (
+        b"\0\0\0\x02\0\0\0\0\0\0\0\x01\xff\0\0\0",
+        Err(ElfError::TextUtf8),
+    ),
+    (b"\0\0\0\0\0\0\0\0\0\0\0\x01", Err(ElfError::TextEnd)),
+];
 
 #[test]
 fn names_are_texts_where_they_end_in_zero(rt: HostRuntime) -> Result<(), Fail> {
-    let rows: [(&[u8], Result<&str, ElfError>); 5] = [
-        (b"\0\0\0\x04\0\0\0\0\0\0\0\x01GNU\0", Ok("GNU")),
-        (b"\0\0\0\x04\0\0\0\0\0\0\0\x01A\0B\0", Ok("A")),
-        (b"\0\0\0\x04\0\0\0\0\0\0\0\x01CORE", Err(ElfError::TextEnd)),
-        (
-            b"\0\0\0\x02\0\0\0\0\0\0\0\x01\xff\0\0\0",
-            Err(ElfError::TextUtf8),
-        ),
-        (b"\0\0\0\0\0\0\0\0\0\0\0\x01", Err(ElfError::TextEnd)),
-    ];
-    for (row, (bytes, name)) in rows.iter().enumerate() {
-        let mut notes = Notes::new(bytes, Order::Big, 4);
-        let note = notes.next().ok_or("no note")??;
-        assert_eq!(rt; note.type_(), 1, "row {row}");
-        assert_eq!(rt; note.name(), *name, "row {row}");
+    for (row, (bytes, name)) in TEXTS.iter().enumerate() {
+        let note = Notes::new(bytes, Order::Big, 4).next().ok_or("no note")??;
+        want_at(&rt, row, (note.type_(), note.name()), (1, *name));
     }
     Ok(())
 }
@@ -171,102 +175,81 @@ fn note_file() -> [u8; 248] {
     file
 }
 
-#[test]
-fn sections_and_segments_of_class_32_have_notes(rt: HostRuntime) -> Result<(), Fail> {
-    let bytes = note_file();
-    let file = ElfFile::new(&bytes)?;
-    let said: [Said<'_>; 1] = [(3, b"GNU\0", ID)];
-    check(
-        &rt,
-        0,
-        section_notes(&file, &file.section_header(2)?)?,
-        &said,
-        None,
-    )?;
-    check(
-        &rt,
-        1,
-        segment_notes(&file, &file.program_header(0)?)?,
-        &said,
-        None,
-    )?;
-    assert_eq!(rt; build_id_of_section(&file), Ok(Some(ID)));
-    assert_eq!(rt; build_id_of_segments(&file), Ok(Some(ID)));
-    assert_eq!(rt; file.get_gnu_buildid(), None);
+// Wants these notes of the section and of the segment, then this fault if there is one.
+fn check_both(
+    rt: &impl Abort,
+    bytes: &[u8],
+    said: &[Said<'_>],
+    fault: Option<LinkError>,
+) -> Result<(), LinkError> {
+    let file = open(rt, bytes);
+    let section = section_notes(&file, &file.section_header(2)?)?;
+    check(rt, 0, section, said, fault);
+    let segment = segment_notes(&file, &file.program_header(0)?)?;
+    check(rt, 1, segment, said, fault);
     Ok(())
 }
 
 #[test]
-fn the_steps_are_those_of_the_header(rt: HostRuntime) -> Result<(), Fail> {
+fn sections_and_segments_of_class_32_have_notes(rt: HostRuntime) -> Result<(), LinkError> {
+    let bytes = note_file();
+    check_both(&rt, &bytes, &[(3, b"GNU\0", ID)], None)?;
+    let file = open(&rt, &bytes);
+    want(&rt, build_id_of_section(&file), Ok(Some(ID)));
+    want(&rt, build_id_of_segments(&file), Ok(Some(ID)));
+    want(&rt, file.get_gnu_buildid(), None);
+    Ok(())
+}
+
+#[test]
+fn the_steps_are_those_of_the_header(rt: HostRuntime) -> Result<(), LinkError> {
     let mut bytes = note_file();
     // a name of five bytes and no description, in steps of four: eight bytes are left
     put(&mut bytes, 224, b"\x05\0\0\0\0\0\0\0\x07\0\0\0Name\0\0\0\0");
     set(&mut bytes, PROGRAM, program_32::FILE_SIZE, 20, LITTLE);
     set(&mut bytes, NOTE_SECTION, section_32::SIZE, 20, LITTLE);
-    let file = ElfFile::new(&bytes)?;
-    let said: [Said<'_>; 1] = [(7, b"Name\0", b"")];
-    check(
-        &rt,
-        0,
-        section_notes(&file, &file.section_header(2)?)?,
-        &said,
-        None,
-    )?;
-    check(
-        &rt,
-        1,
-        segment_notes(&file, &file.program_header(0)?)?,
-        &said,
-        None,
-    )?;
+    check_both(&rt, &bytes, &[(7, b"Name\0", b"")], None)?;
     // in steps of eight the description would begin at 24
     set(&mut bytes, PROGRAM, program_32::ALIGN, 8, LITTLE);
     set(&mut bytes, NOTE_SECTION, section_32::ALIGN, 8, LITTLE);
-    let file = ElfFile::new(&bytes)?;
-    let fault = Some(LinkError::ShortNote);
-    check(
-        &rt,
-        2,
-        section_notes(&file, &file.section_header(2)?)?,
-        &[],
-        fault,
-    )?;
-    check(
-        &rt,
-        3,
-        segment_notes(&file, &file.program_header(0)?)?,
-        &[],
-        fault,
-    )?;
-    assert_eq!(rt; build_id_of_segments(&file), Err(LinkError::ShortNote));
+    check_both(&rt, &bytes, &[], Some(LinkError::ShortNote))?;
+    let found = build_id_of_segments(&open(&rt, &bytes));
+    want(&rt, found, Err(LinkError::ShortNote));
     Ok(())
 }
 
+const SECTIONS: &[(Place, u64, ElfError)] = &[
+    (section_32::OFFSET, 225, ElfError::DataRange),
+    (section_32::TYPE, 0, ElfError::NullData),
+    (section_32::TYPE, 19, ElfError::InvalidShType),
+];
+
 #[test]
-fn data_that_is_refused_has_no_notes(rt: HostRuntime) -> Result<(), Fail> {
-    let rows = [
-        (section_32::OFFSET, 225, ElfError::DataRange),
-        (section_32::TYPE, 0, ElfError::NullData),
-        (section_32::TYPE, 19, ElfError::InvalidShType),
-    ];
-    for (place, number, error) in rows {
+fn sections_whose_data_is_refused_have_no_notes(rt: HostRuntime) -> Result<(), ElfError> {
+    for &(place, number, error) in SECTIONS {
         let mut bytes = note_file();
         set(&mut bytes, NOTE_SECTION, place, number, LITTLE);
-        let file = ElfFile::new(&bytes)?;
-        let notes = section_notes(&file, &file.section_header(2)?);
-        assert_eq!(rt; notes.err(), Some(LinkError::Elf(error)));
+        let file = open(&rt, &bytes);
+        let refused = section_notes(&file, &file.section_header(2)?).err();
+        want_at(&rt, number, refused, Some(LinkError::Elf(error)));
     }
-    let rows = [
-        (program_32::OFFSET, 225, ElfError::DataRange),
-        (program_32::TYPE, 0, ElfError::NullData),
-        (program_32::TYPE, 8, ElfError::InvalidPhType),
-    ];
-    for (place, number, error) in rows {
+    Ok(())
+}
+
+const SEGMENTS: &[(Place, u64, ElfError)] = &[
+    (program_32::OFFSET, 225, ElfError::DataRange),
+    (program_32::TYPE, 0, ElfError::NullData),
+    (program_32::TYPE, 8, ElfError::InvalidPhType),
+];
+
+#[test]
+fn segments_whose_data_is_refused_have_no_notes(rt: HostRuntime) -> Result<(), ElfError> {
+    for &(place, number, error) in SEGMENTS {
         let mut bytes = note_file();
         set(&mut bytes, PROGRAM, place, number, LITTLE);
-        let file = ElfFile::new(&bytes)?;
-        let notes = segment_notes(&file, &file.program_header(0)?);
-        assert_eq!(rt; notes.err(), Some(LinkError::Elf(error)));
+        let file = open(&rt, &bytes);
+        let refused = segment_notes(&file, &file.program_header(0)?).err();
+        want_at(&rt, number, refused, Some(LinkError::Elf(error)));
     }
     Ok(())
 }

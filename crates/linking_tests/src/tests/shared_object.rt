@@ -23,6 +23,7 @@
 //! -Wl,-z,max-page-size=16,-z,common-page-size=16
 //! ```
 
+use crate::tests::want::{open, want, want_at};
 use elf_base::bytes::{Order, Record, Table};
 use elf_base::header::Class;
 use elf_linking::LinkError;
@@ -161,12 +162,12 @@ fn check_table<E: Entry + Record>(
     values: [u64; 7],
 ) -> Result<(), LinkError> {
     let table = GnuHashTable::read(bytes, class, Order::Little)?;
-    assert_eq!(rt; table.first_symbol(), 2);
-    assert_eq!(rt; table.check(symbols, file), Ok(()));
-    assert!(rt; finds_each(&table, symbols, file, values));
+    want(rt, table.first_symbol(), 2);
+    want(rt, table.check(symbols, file), Ok(()));
+    want(rt, finds_each(&table, symbols, file, values), true);
     for name in ["inner", "", "firs", "first2", "outer"] {
         let found = table.lookup(name, symbols, file, |_| true)?;
-        assert!(rt; found.is_none(), "{name}");
+        want_at(rt, name, found.is_none(), true);
     }
     for place in 0..bytes.len() {
         for change in 1u8..=255 {
@@ -182,7 +183,7 @@ fn check_table<E: Entry + Record>(
                 }
                 Err(_) => true,
             };
-            assert!(rt; found, "{place}: {change}");
+            want_at(rt, (place, change), found, true);
         }
     }
     Ok(())
@@ -192,9 +193,9 @@ fn check_table<E: Entry + Record>(
 fn finds_what_shared_objects_export(rt: HostRuntime) -> Result<(), LinkError> {
     let inputs: [&[u8]; 2] = [NARROW, WIDE];
     for input in inputs {
-        let file = ElfFile::new(input)?;
+        let file = open(&rt, input);
         let hash = file.section_header(1)?.raw_data(&file)?;
-        assert!(rt; hash.len() <= 64);
+        want(&rt, hash.len() <= 64, true);
         match file.section_header(2)?.get_data(&file)? {
             SectionData::DynSymbolTable32(symbols) => {
                 check_table(&rt, hash, Class::ThirtyTwo, &symbols, &file, NARROW_VALUES)?

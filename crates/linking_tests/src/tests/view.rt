@@ -1,15 +1,14 @@
 //! What a shared object says without its section headers, as `readelf -l` and `-d` show it.
 
 use crate::tests::shared_object::NARROW;
+use crate::tests::want::{open, want, want_at};
 use elf_base::ElfError;
 use elf_base::bytes::Order;
 use elf_linking::LinkError;
 use elf_linking::view::{DynamicView, bytes_at, segment_at, strings};
 use linking_callers::callers::view::{dynamic_number, word_at};
-use std::test::Fail;
 use worked_files::files::put_words;
 use worked_files::places::{program_32, set};
-use xmas_elf::ElfFile;
 
 const LITTLE: Order = Order::Little;
 
@@ -22,8 +21,21 @@ const SECOND_LOAD: usize = 84;
 
 const DYNAMIC_HEADER: usize = 116;
 
+const RANGES: &[(u64, u64, Option<(usize, usize)>)] = &[
+    (0x184, 6, Some((0x184, 0x18a))),
+    (0, 0x240, Some((0, 0x240))),
+    (0x23f, 1, Some((0x23f, 0x240))),
+    (0x240, 0, Some((0x240, 0x240))),
+    (0x240, 1, None),
+    (0x1240, 0x8c, Some((0x240, 0x2cc))),
+    (0x12cb, 2, None),
+    (0x123f, 2, None),
+    (u64::MAX, 1, None),
+    (0, u64::MAX, None),
+];
+
 #[test]
-fn reads_bytes_at_addresses(rt: HostRuntime) -> Result<(), Fail> {
+fn reads_bytes_at_addresses(rt: HostRuntime) {
     let mut bytes = *NARROW;
     set(
         &mut bytes,
@@ -32,33 +44,20 @@ fn reads_bytes_at_addresses(rt: HostRuntime) -> Result<(), Fail> {
         0x1240,
         LITTLE,
     );
-    let file = ElfFile::new(&bytes)?;
-    let rows: [(u64, u64, Option<(usize, usize)>); 10] = [
-        (0x184, 6, Some((0x184, 0x18a))),
-        (0, 0x240, Some((0, 0x240))),
-        (0x23f, 1, Some((0x23f, 0x240))),
-        (0x240, 0, Some((0x240, 0x240))),
-        (0x240, 1, None),
-        (0x1240, 0x8c, Some((0x240, 0x2cc))),
-        (0x12cb, 2, None),
-        (0x123f, 2, None),
-        (u64::MAX, 1, None),
-        (0, u64::MAX, None),
-    ];
-    for (address, count, range) in rows {
-        let want = range.map(|(start, end)| bytes.get(start..end).unwrap_or(b"past the end"));
-        let want = want.ok_or(LinkError::Address);
-        assert_eq!(rt; bytes_at(&file, address, count), want, "{address}");
+    let file = open(&rt, &bytes);
+    for &(address, count, range) in RANGES {
+        let data = range.map(|(start, end)| bytes.get(start..end).unwrap_or(b"past the end"));
+        let data = data.ok_or(LinkError::Address);
+        want_at(&rt, address, bytes_at(&file, address, count), data);
         let segment = segment_at(&file, address, count);
-        assert_eq!(rt; segment.is_some(), range.is_some(), "{address}");
+        want_at(&rt, address, segment.is_some(), range.is_some());
     }
-    assert_eq!(rt; word_at(&file, 0x1240), Ok(0x6fff_fef5));
-    assert_eq!(rt; word_at(&file, 0x12c9), Err(LinkError::Address));
-    Ok(())
+    want(&rt, word_at(&file, 0x1240), Ok(0x6fff_fef5));
+    want(&rt, word_at(&file, 0x12c9), Err(LinkError::Address));
 }
 
 #[test]
-fn tells_where_a_loaded_segment_is_cut_off(rt: HostRuntime) -> Result<(), Fail> {
+fn tells_where_a_loaded_segment_is_cut_off(rt: HostRuntime) {
     let mut bytes = *NARROW;
     set(
         &mut bytes,
@@ -67,22 +66,27 @@ fn tells_where_a_loaded_segment_is_cut_off(rt: HostRuntime) -> Result<(), Fail> 
         0x10000,
         LITTLE,
     );
-    let file = ElfFile::new(&bytes)?;
+    let file = open(&rt, &bytes);
     let cut_off = LinkError::Elf(ElfError::DataRange);
-    assert_eq!(rt; bytes_at(&file, 0x184, 1), Err(cut_off));
-    assert_eq!(rt; strings(&file), Err(cut_off));
+    want(&rt, bytes_at(&file, 0x184, 1), Err(cut_off));
+    want(&rt, strings(&file), Err(cut_off));
+}
+
+#[test]
+fn tells_what_a_dynamic_segment_lacks(rt: HostRuntime) -> Result<(), LinkError> {
+    let mut bytes = *NARROW;
+    put_words(&mut bytes, DYNAMIC + 8, &[0x50, 0x184, 29, 7, 15, 7]);
+    let file = open(&rt, &bytes);
+    let view = DynamicView::read(&file)?;
+    want(&rt, strings(&file), Err(LinkError::NoEntry));
+    want(&rt, view.run_path(), Some(Err(LinkError::NoEntry)));
+    want(&rt, view.r_path(), Some(Err(LinkError::NoEntry)));
     Ok(())
 }
 
 #[test]
-fn tells_what_a_dynamic_segment_lacks(rt: HostRuntime) -> Result<(), Fail> {
+fn tells_what_no_dynamic_segment_is(rt: HostRuntime) {
     let mut bytes = *NARROW;
-    put_words(&mut bytes, DYNAMIC + 8, &[0x50, 0x184, 29, 7, 15, 7]);
-    let file = ElfFile::new(&bytes)?;
-    let view = DynamicView::read(&file)?;
-    assert_eq!(rt; strings(&file), Err(LinkError::NoEntry));
-    assert_eq!(rt; view.run_path(), Some(Err(LinkError::NoEntry)));
-    assert_eq!(rt; view.r_path(), Some(Err(LinkError::NoEntry)));
     set(
         &mut bytes,
         DYNAMIC_HEADER,
@@ -90,12 +94,10 @@ fn tells_what_a_dynamic_segment_lacks(rt: HostRuntime) -> Result<(), Fail> {
         0x77,
         LITTLE,
     );
-    let file = ElfFile::new(&bytes)?;
     let not_multiple = LinkError::Elf(ElfError::NotMultiple);
-    assert_eq!(rt; strings(&file), Err(not_multiple));
+    want(&rt, strings(&open(&rt, &bytes)), Err(not_multiple));
     set(&mut bytes, DYNAMIC_HEADER, program_32::TYPE, 4, LITTLE);
-    let file = ElfFile::new(&bytes)?;
-    assert_eq!(rt; strings(&file), Err(LinkError::NoDynamic));
-    assert_eq!(rt; dynamic_number(&file, 5), Err(LinkError::NoDynamic));
-    Ok(())
+    let file = open(&rt, &bytes);
+    want(&rt, strings(&file), Err(LinkError::NoDynamic));
+    want(&rt, dynamic_number(&file, 5), Err(LinkError::NoDynamic));
 }
