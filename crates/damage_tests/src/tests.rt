@@ -4,4 +4,5 @@ mod debug_link;
 mod every_call;
 mod other_headers;
 mod string_table;
+mod want;
 mod wanted;

@@ -3,7 +3,7 @@
 ghost use Rattle.std.specs.Prelude.{◌≤◌};
 
 use crate::tests::every_call::{WantedData, WantedFile, WantedSection, check_all_calls};
-use crate::tests::wanted::{CUT, LINK_HEADER, bytes, first, text};
+use crate::tests::wanted::{CUT, LINK_HEADER, bytes, check_refused, first, text};
 use std::alloc::Global;
 use std::process::Abort;
 use worked_files::files::debug_link_file;
@@ -30,43 +30,54 @@ fn link_name(
 }
 
 // What is wanted of sections 1 to 3 of `debug_link_file`, in a prefix of it.
-fn link_sections(input: &[u8]) -> [WantedSection<'_>; 4] {
-    let len = input.len();
+fn names_section(input: &[u8]) -> WantedSection<'_> {
     let names = bytes(input, 320, 365);
+    WantedSection {
+        numbers: [1, 0, 0, 320, 45, 0, 0, 0, 0],
+        kind: Ok(ShType::StrTab),
+        name: link_name(input.len(), 321, 330, ".shstrtab"),
+        bytes: names,
+        contents: match names {
+            Ok(names) => WantedData::StrArray(names),
+            Err(error) => WantedData::Refused(error),
+        },
+    }
+}
+
+fn link_section(input: &[u8]) -> WantedSection<'_> {
     let link = bytes(input, 365, 377);
+    WantedSection {
+        numbers: [11, 0, 0, 365, 12, 0, 0, 0, 0],
+        kind: Ok(ShType::ProgBits),
+        name: link_name(input.len(), 331, 345, ".gnu_debuglink"),
+        bytes: link,
+        contents: match link {
+            Ok(link) => WantedData::Undefined(link),
+            Err(error) => WantedData::Refused(error),
+        },
+    }
+}
+
+fn note_section(input: &[u8]) -> WantedSection<'_> {
     let note = bytes(input, 377, 397);
+    WantedSection {
+        numbers: [26, 0, 0, 377, 20, 0, 0, 0, 0],
+        kind: Ok(ShType::Note),
+        name: link_name(input.len(), 346, 364, ".note.gnu.build-id"),
+        bytes: note,
+        contents: match note {
+            Ok(_) => WantedData::Note(Ok(&BUILD_ID)),
+            Err(error) => WantedData::Refused(error),
+        },
+    }
+}
+
+fn link_sections(input: &[u8]) -> [WantedSection<'_>; 4] {
     [
         first(),
-        WantedSection {
-            numbers: [1, 0, 0, 320, 45, 0, 0, 0, 0],
-            kind: Ok(ShType::StrTab),
-            name: link_name(len, 321, 330, ".shstrtab"),
-            bytes: names,
-            contents: match names {
-                Ok(names) => WantedData::StrArray(names),
-                Err(error) => WantedData::Refused(error),
-            },
-        },
-        WantedSection {
-            numbers: [11, 0, 0, 365, 12, 0, 0, 0, 0],
-            kind: Ok(ShType::ProgBits),
-            name: link_name(len, 331, 345, ".gnu_debuglink"),
-            bytes: link,
-            contents: match link {
-                Ok(link) => WantedData::Undefined(link),
-                Err(error) => WantedData::Refused(error),
-            },
-        },
-        WantedSection {
-            numbers: [26, 0, 0, 377, 20, 0, 0, 0, 0],
-            kind: Ok(ShType::Note),
-            name: link_name(len, 346, 364, ".note.gnu.build-id"),
-            bytes: note,
-            contents: match note {
-                Ok(_) => WantedData::Note(Ok(&BUILD_ID)),
-                Err(error) => WantedData::Refused(error),
-            },
-        },
+        names_section(input),
+        link_section(input),
+        note_section(input),
     ]
 }
 
@@ -121,50 +132,47 @@ const NO_SEGMENTS: Segments = Segments {
     refusal: ElfError::NoProgramHeaders,
 };
 
-// Wants the answers of `debug_link_file` over a prefix of it.
-fn check_link_prefix(rt: &impl Abort, alloc: Global, input: &[u8], segments: &Segments) {
-    let len = input.len();
-    if len < 64 {
-        let refusal = if len < 16 {
-            ElfError::ShortPart1
-        } else {
-            ElfError::ShortHeaders
-        };
-        check_all_calls(rt, alloc, input, Err(refusal));
-        return;
-    }
-    let sections = link_sections(input);
-    let names = [
+// The names by their index, in a prefix of so many bytes.
+fn link_names(len: usize) -> [(u32, Result<&'static str, ElfError>); 4] {
+    [
         (1, link_name(len, 321, 330, ".shstrtab")),
         (11, link_name(len, 331, 345, ".gnu_debuglink")),
         (15, link_name(len, 335, 345, "_debuglink")),
         (44, link_name(len, 364, 364, "")),
-    ];
-    let named = [
-        (".shstrtab", if len >= 331 { Some(320) } else { None }),
-        (".gnu_debuglink", if len >= 346 { Some(365) } else { None }),
-        (
-            ".note.gnu.build-id",
-            if len >= 365 { Some(377) } else { None },
-        ),
+    ]
+}
+
+// The offsets of sections by their names, in a prefix of so many bytes.
+fn link_named(len: usize) -> [(&'static str, Option<u64>); 4] {
+    [
+        (".shstrtab", from(len, 331, 320)),
+        (".gnu_debuglink", from(len, 346, 365)),
+        (".note.gnu.build-id", from(len, 365, 377)),
         (".strtab", None),
-    ];
+    ]
+}
+
+// The offset in a prefix of at least so many bytes.
+fn from(len: usize, least: usize, offset: u64) -> Option<u64> {
+    if len >= least { Some(offset) } else { None }
+}
+
+// Wants the answers of `debug_link_file` over a prefix of it that has all of its ELF header.
+fn check_link_prefix(rt: &impl Abort, alloc: Global, input: &[u8], segments: &Segments) {
+    let len = input.len();
+    let sections = link_sections(input);
     let compared = len.saturating_sub(331).min(15);
     let wanted = WantedFile {
         sections: &sections[..link_count(len)],
         past: link_past(len),
-        names: &names,
+        names: &link_names(len),
         compared: &[(11, ".gnu_debuglink", (compared == 15, compared))],
-        named: &named,
+        named: &link_named(len),
         check: link_check(len, segments.check),
         program_count: segments.count,
         program: segments.refusal,
         build_id: if len == 397 { Some(&BUILD_ID) } else { None },
-        link: if len >= 377 {
-            Some(("a.debug", 0x1234_5678))
-        } else {
-            None
-        },
+        link: link_of(len),
         report: [
             segments.lines,
             if len >= 320 { segments.check_line } else { CUT },
@@ -174,6 +182,15 @@ fn check_link_prefix(rt: &impl Abort, alloc: Global, input: &[u8], segments: &Se
         ..NO_LINKS
     };
     check_all_calls(rt, alloc, input, Ok(wanted));
+}
+
+// The link to debug information in a prefix of so many bytes.
+fn link_of(len: usize) -> Option<(&'static str, u32)> {
+    if len >= 377 {
+        Some(("a.debug", 0x1234_5678))
+    } else {
+        None
+    }
 }
 
 // The check of the ELF header in a prefix of so many bytes, whose segments are refused so.
@@ -240,13 +257,12 @@ pub const NO_LINKS: WantedFile<'static> = WantedFile {
 #[test]
 fn each_prefix_of_a_link_answers_each_call(rt: HostRuntime) {
     let file = debug_link_file();
-    for len in 0..398 {
-        check_link_prefix(
-            &rt,
-            rt.alloc(),
-            file.get(..len).unwrap_or(b""),
-            &NO_SEGMENTS,
-        );
+    for len in 0..64 {
+        check_refused(&rt, rt.alloc(), file.get(..len).unwrap_or(b""));
+    }
+    for len in 64..398 {
+        let input = file.get(..len).unwrap_or(b"");
+        check_link_prefix(&rt, rt.alloc(), input, &NO_SEGMENTS);
     }
 }
 

@@ -1,5 +1,6 @@
 //! All calls of a file, of its headers and of `report` at once, with the answers that are wanted.
 
+use crate::tests::want::{want, want_at};
 use std::alloc::Global;
 use std::io::Write;
 use std::process::Abort;
@@ -69,13 +70,13 @@ pub fn check_all_calls(
     match (ElfFile::new(input), wanted) {
         (Ok(file), Ok(wanted)) => {
             check_file(rt, &file, &wanted);
-            assert_eq!(rt; answer, Ok(()));
+            want(rt, answer, Ok(()));
             check_report(rt, alloc, text.as_slice(), &wanted.report);
         }
         (Err(error), Err(refusal)) => {
-            assert_eq!(rt; error, refusal);
-            assert_eq!(rt; answer, Err(ReportFault::Elf(refusal)));
-            assert_eq!(rt; text.len(), 0);
+            want(rt, error, refusal);
+            want(rt, answer, Err(ReportFault::Elf(refusal)));
+            want(rt, text.len(), 0);
         }
         (found, _) => panic!(rt; "{} bytes: {}", input.len(), found.is_ok()),
     }
@@ -88,8 +89,8 @@ fn check_report(rt: &impl Abort, alloc: Global, text: &[u8], wanted: &[&str; 3])
         "{}check:{}\nsections\n{}\nprogram headers\nhash: none\n",
         wanted[0], wanted[1], wanted[2]
     );
-    assert!(rt; written.is_ok());
-    assert_eq!(rt; text, whole.as_slice());
+    want(rt, written.is_ok(), true);
+    want(rt, text, whole.as_slice());
 }
 
 /// Wants these answers over a file.
@@ -103,54 +104,54 @@ pub fn check_file(rt: &impl Abort, file: &ElfFile<'_>, wanted: &WantedFile<'_>) 
 }
 
 fn check_counts(rt: &impl Abort, file: &ElfFile<'_>, wanted: &WantedFile<'_>) {
-    assert_eq!(rt; sanity_check(file), wanted.check);
-    assert_eq!(rt; file.section_count(), wanted.section_count);
-    assert_eq!(rt; file.section_iter().count(), wanted.sections.len());
-    assert_eq!(rt; file.program_count(), wanted.program_count);
-    assert_eq!(rt; file.program_iter().count(), 0);
-    assert_eq!(rt; file.shstr_index(), Ok(1));
+    want(rt, sanity_check(file), wanted.check);
+    want(rt, file.section_count(), wanted.section_count);
+    want(rt, file.section_iter().count(), wanted.sections.len());
+    want(rt, file.program_count(), wanted.program_count);
+    want(rt, file.program_iter().count(), 0);
+    want(rt, file.shstr_index(), Ok(1));
 }
 
 fn check_headers(rt: &impl Abort, file: &ElfFile<'_>, wanted: &WantedFile<'_>) {
     let past = u64::from(wanted.past);
     let short = Some(ElfError::ShortSectionHeader);
-    assert_eq!(rt; file.section_header(wanted.past).err(), short);
-    assert_eq!(rt; file.section_header_at(past).err(), short);
-    assert_eq!(rt; file.section_header_at(u64::MAX).err(), short);
+    want(rt, file.section_header(wanted.past).err(), short);
+    want(rt, file.section_header_at(past).err(), short);
+    want(rt, file.section_header_at(u64::MAX).err(), short);
     let reserved = Some(ElfError::ReservedIndex);
-    assert_eq!(rt; file.section_header(0xff00).err(), reserved);
-    assert_eq!(rt; file.program_header(0).err(), Some(wanted.program));
-    assert_eq!(rt; file.program_header_at(0).err(), Some(wanted.program));
+    want(rt, file.section_header(0xff00).err(), reserved);
+    want(rt, file.program_header(0).err(), Some(wanted.program));
+    want(rt, file.program_header_at(0).err(), Some(wanted.program));
     let none = Some(ElfError::NoProgramHeaders);
-    assert_eq!(rt; file.program_header(1).err(), none);
-    assert_eq!(rt; file.program_header_at(u32::MAX).err(), none);
+    want(rt, file.program_header(1).err(), none);
+    want(rt, file.program_header_at(u32::MAX).err(), none);
 }
 
 fn check_names(rt: &impl Abort, file: &ElfFile<'_>, wanted: &WantedFile<'_>) {
     for (index, name) in wanted.names {
-        assert_eq!(rt; file.get_shstr(*index), *name, "name {index}");
+        want_at(rt, index, file.get_shstr(*index), *name);
     }
     for (index, name, answer) in wanted.compared {
-        assert_eq!(rt; file.shstr_is(*index, name), *answer, "{name} at {index}");
+        want_at(rt, (name, index), file.shstr_is(*index, name), *answer);
     }
 }
 
 fn check_texts(rt: &impl Abort, file: &ElfFile<'_>, wanted: &WantedFile<'_>) {
     for (index, text) in wanted.strings {
-        assert_eq!(rt; file.get_string(*index), *text, "text {index}");
+        want_at(rt, index, file.get_string(*index), *text);
     }
-    assert_eq!(rt; file.get_dyn_string(0), wanted.dyn_string);
-    assert_eq!(rt; file.get_dyn_string(9), wanted.dyn_string);
+    want(rt, file.get_dyn_string(0), wanted.dyn_string);
+    want(rt, file.get_dyn_string(9), wanted.dyn_string);
 }
 
 fn check_links(rt: &impl Abort, file: &ElfFile<'_>, wanted: &WantedFile<'_>) {
     for (name, offset) in wanted.named {
         let found = file.find_section_by_name(name);
-        assert_eq!(rt; found.map(|it| it.offset()), *offset, "{name}");
+        want_at(rt, name, found.map(|it| it.offset()), *offset);
     }
-    assert_eq!(rt; file.get_gnu_buildid(), wanted.build_id);
-    assert_eq!(rt; file.get_gnu_debuglink(), wanted.link);
-    assert_eq!(rt; file.get_gnu_debugaltlink(), wanted.alternate_link);
+    want(rt, file.get_gnu_buildid(), wanted.build_id);
+    want(rt, file.get_gnu_debuglink(), wanted.link);
+    want(rt, file.get_gnu_debugaltlink(), wanted.alternate_link);
 }
 
 // By the iterator, and by both calls with an index.
@@ -170,7 +171,7 @@ fn check_sections(rt: &impl Abort, file: &ElfFile<'_>, wanted: &[WantedSection<'
             Err(error) => panic!(rt; "section {index}: {error}"),
         }
     }
-    assert!(rt; sections.next().is_none());
+    want(rt, sections.next().is_none(), true);
 }
 
 fn check_section(
@@ -180,12 +181,12 @@ fn check_section(
     wanted: &WantedSection<'_>,
 ) {
     check_numbers(rt, section, &wanted.numbers);
-    assert_eq!(rt; section.get_type(), wanted.kind);
-    assert_eq!(rt; section.get_name(file), wanted.name);
-    assert_eq!(rt; section.raw_data(file), wanted.bytes);
+    want(rt, section.get_type(), wanted.kind);
+    want(rt, section.get_name(file), wanted.name);
+    want(rt, section.raw_data(file), wanted.bytes);
     check_data(rt, file, section, wanted.contents);
     let check = wanted.kind.map(|_| ());
-    assert_eq!(rt; sections::sanity_check(*section, file), check);
+    want(rt, sections::sanity_check(*section, file), check);
 }
 
 fn check_numbers(rt: &impl Abort, section: &SectionHeader, wanted: &[u64; 9]) {
@@ -194,13 +195,13 @@ fn check_numbers(rt: &impl Abort, section: &SectionHeader, wanted: &[u64; 9]) {
         u64::from(section.link()),
         u64::from(section.info()),
     ];
-    assert_eq!(rt; narrow, [wanted[0], wanted[5], wanted[6]]);
-    assert_eq!(rt; section.flags(), wanted[1]);
-    assert_eq!(rt; section.address(), wanted[2]);
-    assert_eq!(rt; section.offset(), wanted[3]);
-    assert_eq!(rt; section.size(), wanted[4]);
-    assert_eq!(rt; section.align(), wanted[7]);
-    assert_eq!(rt; section.entry_size(), wanted[8]);
+    want(rt, narrow, [wanted[0], wanted[5], wanted[6]]);
+    want(rt, section.flags(), wanted[1]);
+    want(rt, section.address(), wanted[2]);
+    want(rt, section.offset(), wanted[3]);
+    want(rt, section.size(), wanted[4]);
+    want(rt, section.align(), wanted[7]);
+    want(rt, section.entry_size(), wanted[8]);
 }
 
 fn check_data(
@@ -212,15 +213,15 @@ fn check_data(
     match (section.get_data(file), wanted) {
         (Ok(SectionData::Empty), WantedData::Empty) => {}
         (Ok(SectionData::Undefined(bytes)), WantedData::Undefined(wanted)) => {
-            assert_eq!(rt; bytes, wanted);
+            want(rt, bytes, wanted);
         }
         (Ok(SectionData::StrArray(bytes)), WantedData::StrArray(wanted)) => {
-            assert_eq!(rt; bytes, wanted);
+            want(rt, bytes, wanted);
         }
         (Ok(SectionData::Note64(header, body)), WantedData::Note(description)) => {
             check_note(rt, &header, body, description);
         }
-        (Err(error), WantedData::Refused(refusal)) => assert_eq!(rt; error, refusal),
+        (Err(error), WantedData::Refused(refusal)) => want(rt, error, refusal),
         (found, _) => panic!(rt; "other data, and an answer: {}", found.is_ok()),
     }
 }
@@ -231,7 +232,7 @@ fn check_note(
     body: &[u8],
     description: Result<&[u8], ElfError>,
 ) {
-    assert_eq!(rt; header.type_(), 3);
-    assert_eq!(rt; header.name(body), Ok("GNU"));
-    assert_eq!(rt; header.desc(body), description);
+    want(rt, header.type_(), 3);
+    want(rt, header.name(body), Ok("GNU"));
+    want(rt, header.desc(body), description);
 }

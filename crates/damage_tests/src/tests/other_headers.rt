@@ -3,8 +3,8 @@
 use crate::tests::debug_link::NO_LINKS;
 use crate::tests::every_call::{WantedData, WantedFile, WantedSection, check_file};
 use crate::tests::string_table::NO_STRTAB;
+use crate::tests::want::{open, want};
 use crate::tests::wanted::first;
-use std::test::Fail;
 use worked_files::files::{debug_link_file, strtab_file};
 use xmas_elf::bytes::Order;
 use xmas_elf::header::Header;
@@ -25,7 +25,7 @@ fn with_header<'a>(input: &'a [u8], of: &ElfFile<'_>) -> ElfFile<'a> {
 }
 
 #[test]
-fn inputs_under_other_headers_answer_each_call(rt: HostRuntime) -> Result<(), Fail> {
+fn inputs_under_other_headers_answer_each_call(rt: HostRuntime) {
     let narrow = strtab_file(LITTLE);
     let wide = debug_link_file();
     let mut only = first();
@@ -40,7 +40,7 @@ fn inputs_under_other_headers_answer_each_call(rt: HostRuntime) -> Result<(), Fa
         named: &[(".strtab", None)],
         ..NO_LINKS
     };
-    check_file(&rt, &with_header(&narrow, &ElfFile::new(&wide)?), &wanted);
+    check_file(&rt, &with_header(&narrow, &open(&rt, &wide)), &wanted);
     let unknown = WantedSection {
         numbers: [64, 65540, 0, 0, 0, 0, 0, 0, 0],
         kind: Err(ElfError::InvalidShType),
@@ -60,24 +60,22 @@ fn inputs_under_other_headers_answer_each_call(rt: HostRuntime) -> Result<(), Fa
         named: &[(".strtab", None)],
         ..NO_STRTAB
     };
-    check_file(&rt, &with_header(&wide, &ElfFile::new(&narrow)?), &wanted);
-    Ok(())
+    check_file(&rt, &with_header(&wide, &open(&rt, &narrow)), &wanted);
 }
 
 #[test]
-fn a_segment_whose_end_passes_64_bits_has_no_data(rt: HostRuntime) -> Result<(), Fail> {
+fn a_segment_whose_end_passes_64_bits_has_no_data(rt: HostRuntime) {
     let bytes = debug_link_file();
-    let file = ElfFile::new(&bytes)?;
+    let file = open(&rt, &bytes);
     let mut segment = ProgramHeader64::default();
     segment.type_ = Type_::from_raw(1);
     segment.offset = 2;
     segment.file_size = u64::MAX;
-    assert_eq!(rt; segment.raw_data(&file), Err(ElfError::DataRange));
+    want(&rt, segment.raw_data(&file), Err(ElfError::DataRange));
     let answers = [
         segment.get_data(&file).err(),
         ProgramHeader::Ph64(segment).get_data(&file).err(),
         ProgramHeader::Ph64(segment).raw_data(&file).err(),
     ];
-    assert_eq!(rt; answers, [Some(ElfError::DataRange); 3]);
-    Ok(())
+    want(&rt, answers, [Some(ElfError::DataRange); 3]);
 }

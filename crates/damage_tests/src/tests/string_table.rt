@@ -1,7 +1,9 @@
 //! Each prefix of a file with a string table, and that file damaged, through all calls.
 
+ghost use Rattle.std.specs.Prelude.{◌≤◌};
+
 use crate::tests::every_call::{WantedData, WantedFile, WantedSection, check_all_calls};
-use crate::tests::wanted::{CUT, STRTAB_HEADER, bytes, first, text};
+use crate::tests::wanted::{CUT, STRTAB_HEADER, bytes, check_refused, first, text};
 use std::alloc::Global;
 use std::process::Abort;
 use worked_files::files::strtab_file;
@@ -12,22 +14,9 @@ use xmas_elf::sections::ShType;
 
 const LITTLE: Order = Order::Little;
 
-const STRTAB_LINES: [&str; 4] = [
-    "1 Ok(StrTab) = .strtab\n",
-    "1 Ok(StrTab) ! Text has no terminating zero\n",
-    "1 Ok(StrTab) ! Text starts past the end of its data\n",
-    "",
-];
+const NAME_HAS_NO_END: &str = "1 Ok(StrTab) ! Text has no terminating zero\n";
 
-// The line of a string table or the like that is section `label`, with its name or why it has none.
-fn line(name: Result<&'static str, ElfError>, lines: [&'static str; 4]) -> &'static str {
-    match name {
-        Ok(_) => lines[0],
-        Err(ElfError::TextEnd) => lines[1],
-        Err(ElfError::TextStart) => lines[2],
-        Err(_) => lines[3],
-    }
-}
+const NAME_STARTS_PAST: &str = "1 Ok(StrTab) ! Text starts past the end of its data\n";
 
 // What is wanted of a text of `.strtab`, in a prefix of so many bytes of `strtab_file`.
 fn string(len: usize, text: &'static str) -> Result<&'static str, ElfError> {
@@ -38,79 +27,78 @@ fn string(len: usize, text: &'static str) -> Result<&'static str, ElfError> {
     }
 }
 
-// Wants the answers of `strtab_file` over a prefix of it.
-fn check_strtab_prefix(rt: &impl Abort, alloc: Global, input: &[u8]) {
-    let len = input.len();
-    if len < 52 {
-        let refusal = if len < 16 {
-            ElfError::ShortPart1
-        } else {
-            ElfError::ShortHeaders
-        };
-        check_all_calls(rt, alloc, input, Err(refusal));
-        return;
+// What is wanted of a name of `strtab_file`, from one byte up to a zero byte, in a prefix of so many bytes.
+fn strtab_name(
+    len: usize,
+    start: usize,
+    zero: usize,
+    name: &'static str,
+) -> Result<&'static str, ElfError> {
+    if len < 132 {
+        Err(ElfError::ShortSectionHeader)
+    } else {
+        text(len, start, zero, name)
     }
-    let whole = len >= 132;
-    let short = Err(ElfError::ShortSectionHeader);
-    let name = if whole {
-        text(len, 133, 140, ".strtab")
-    } else {
-        short
-    };
-    let ab = if whole {
-        text(len, 141, 143, "ab")
-    } else {
-        short
-    };
-    let empty = if whole {
-        text(len, 132, 132, "")
-    } else {
-        short
-    };
+}
+
+// What is wanted of section 1 of `strtab_file`, in a prefix of it.
+fn strtab_section(input: &[u8]) -> WantedSection<'_> {
     let held = bytes(input, 132, 144);
-    let table = WantedSection {
+    WantedSection {
         numbers: [1, 0, 0, 132, 12, 0, 0, 1, 0],
         kind: Ok(ShType::StrTab),
-        name,
+        name: strtab_name(input.len(), 133, 140, ".strtab"),
         bytes: held,
         contents: match held {
             Ok(held) => WantedData::StrArray(held),
             Err(error) => WantedData::Refused(error),
         },
-    };
-    let sections = [first(), table];
-    let count = if whole {
-        2
-    } else if len >= 92 {
-        1
-    } else {
-        0
-    };
+    }
+}
+
+// The names by their index, in a prefix of so many bytes.
+fn strtab_names(len: usize) -> [(u32, Result<&'static str, ElfError>); 4] {
+    [
+        (0, strtab_name(len, 132, 132, "")),
+        (1, strtab_name(len, 133, 140, ".strtab")),
+        (9, strtab_name(len, 141, 143, "ab")),
+        (u32::MAX, strtab_name(len, usize::MAX, usize::MAX, "")),
+    ]
+}
+
+// How many section headers of `strtab_file` lie in a prefix of so many bytes.
+fn strtab_count(len: usize) -> usize
+    ensures { result ≤ 2 }
+{
+    match len {
+        0..92 => 0,
+        92..132 => 1,
+        _ => 2,
+    }
+}
+
+// The check of a prefix of so many bytes, and its line and those of the sections.
+fn strtab_check(len: usize) -> (Result<(), ElfError>, &'static str, &'static str) {
+    match len {
+        0..132 => (Err(ElfError::ShTableRange), CUT, ""),
+        132 => (Ok(()), " ok", NAME_STARTS_PAST),
+        133..141 => (Ok(()), " ok", NAME_HAS_NO_END),
+        _ => (Ok(()), " ok", "1 Ok(StrTab) = .strtab\n"),
+    }
+}
+
+// Wants the answers of `strtab_file` over a prefix of it that has all of its ELF header.
+fn check_strtab_prefix(rt: &impl Abort, alloc: Global, input: &[u8]) {
+    let len = input.len();
+    let sections = [first(), strtab_section(input)];
+    let count = strtab_count(len);
     let compared = len.saturating_sub(133).min(8);
+    let (check, check_line, lines) = strtab_check(len);
     let wanted = WantedFile {
-        check: if whole {
-            Ok(())
-        } else {
-            Err(ElfError::ShTableRange)
-        },
+        check,
         sections: &sections[..count],
-        section_count: 2,
         past: count as u16,
-        program_count: 0,
-        program: ElfError::NoProgramHeaders,
-        names: &[
-            (0, empty),
-            (1, name),
-            (9, ab),
-            (
-                u32::MAX,
-                if whole {
-                    Err(ElfError::TextStart)
-                } else {
-                    short
-                },
-            ),
-        ],
+        names: &strtab_names(len),
         compared: &[
             (1, ".strtab", (compared == 8, compared)),
             (13, "", (false, 0)),
@@ -120,20 +108,13 @@ fn check_strtab_prefix(rt: &impl Abort, alloc: Global, input: &[u8]) {
             (1, string(len, ".strtab")),
             (9, string(len, "ab")),
         ],
-        dyn_string: Err(ElfError::NoDynstr),
         named: &[
             (".strtab", if len >= 141 { Some(132) } else { None }),
             ("ab", None),
             ("", None),
         ],
-        build_id: None,
-        link: None,
-        alternate_link: None,
-        report: [
-            STRTAB_HEADER,
-            if whole { " ok" } else { CUT },
-            if whole { line(name, STRTAB_LINES) } else { "" },
-        ],
+        report: [STRTAB_HEADER, check_line, lines],
+        ..NO_STRTAB
     };
     check_all_calls(rt, alloc, input, Ok(wanted));
 }
@@ -141,7 +122,10 @@ fn check_strtab_prefix(rt: &impl Abort, alloc: Global, input: &[u8]) {
 #[test]
 fn each_prefix_of_a_string_table_answers_each_call(rt: HostRuntime) {
     let file = strtab_file(LITTLE);
-    for len in 0..145 {
+    for len in 0..52 {
+        check_refused(&rt, rt.alloc(), file.get(..len).unwrap_or(b""));
+    }
+    for len in 52..145 {
         check_strtab_prefix(&rt, rt.alloc(), file.get(..len).unwrap_or(b""));
     }
 }

@@ -1,6 +1,8 @@
 //! What is wanted of a file's answers, as tests of damaged files share it.
 
-use crate::tests::every_call::{WantedData, WantedSection};
+use crate::tests::every_call::{WantedData, WantedSection, check_all_calls};
+use std::alloc::Global;
+use std::process::Abort;
 use xmas_elf::ElfError;
 use xmas_elf::sections::ShType;
 
@@ -81,4 +83,14 @@ pub fn text(
 /// What is wanted of the bytes from one up to another, which isn't among them.
 pub fn bytes(input: &[u8], start: usize, end: usize) -> Result<&[u8], ElfError> {
     input.get(start..end).ok_or(ElfError::DataRange)
+}
+
+/// Wants an input to be refused that ends in its ELF header.
+pub fn check_refused(rt: &impl Abort, alloc: Global, input: &[u8]) {
+    let refusal = if input.len() < 16 {
+        ElfError::ShortPart1
+    } else {
+        ElfError::ShortHeaders
+    };
+    check_all_calls(rt, alloc, input, Err(refusal));
 }

@@ -16,7 +16,7 @@ use xmas_elf::report::ReportFault;
 use xmas_elf::sections::ShType;
 use xmas_elf::symbol_table::{Binding, Type as SymbolType, Visibility};
 
-const TEXTS: [(ReportFault, &str); 3] = [
+const TEXTS: &[(ReportFault, &str)] = &[
     (
         ReportFault::Elf(ElfError::NoMagic),
         "Did not find ELF magic number",
@@ -30,7 +30,7 @@ const TEXTS: [(ReportFault, &str); 3] = [
 
 #[test]
 fn each_fault_has_its_text(rt: HostRuntime) -> Result<(), AllocError> {
-    for (fault, text) in TEXTS {
+    for &(fault, text) in TEXTS {
         want(&rt, fault.to_string(rt.alloc())?.as_str(), text);
     }
     Ok(())

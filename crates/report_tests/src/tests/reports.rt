@@ -119,7 +119,7 @@ fn reports_the_strtab_file(rt: HostRuntime) {
 }
 
 // Fields of class 64, each with a number of its own.
-const WIDE_FIELDS: [(Place, u64); 16] = [
+const WIDE_FIELDS: &[(Place, u64)] = &[
     (VERSION, 2),
     (OS_ABI, 12),
     (ABI_VERSION, 5),
@@ -143,14 +143,14 @@ fn reports_a_wide_header(rt: HostRuntime) {
     let mut file = [0; 64];
     put(&mut file, 0, &[0x7f, b'E', b'L', b'F', 2, 3]);
     put(&mut file, PADDING.0, &[1, 2, 3, 4, 5, 6, 255]);
-    for (place, number) in WIDE_FIELDS {
+    for &(place, number) in WIDE_FIELDS {
         set(&mut file, 0, place, number, Order::Little);
     }
     check_report(&rt, rt.alloc(), &file, WIDE_REPORT);
 }
 
 // Fields of class 32, each with a number of its own.
-const NARROW_FIELDS: [(Place, u64); 15] = [
+const NARROW_FIELDS: &[(Place, u64)] = &[
     (OS_ABI, 255),
     (ABI_VERSION, 128),
     (header_32::TYPE, 0xff00),
@@ -173,7 +173,7 @@ fn reports_a_big_endian_header(rt: HostRuntime) {
     let mut file = [0; 52];
     put(&mut file, 0, &[0x7f, b'E', b'L', b'F', 1, 2, 0]);
     put(&mut file, PADDING.0, &[7, 6, 5, 4, 3, 2, 1]);
-    for (place, number) in NARROW_FIELDS {
+    for &(place, number) in NARROW_FIELDS {
         set(&mut file, 0, place, number, Order::Big);
     }
     check_report(&rt, rt.alloc(), &file, BIG_ENDIAN_REPORT);
@@ -189,7 +189,7 @@ fn reports_each_section(rt: HostRuntime) {
 }
 
 // How `strtab_file` ends its report where only so many bytes are left of it.
-const NAME_LINES: [(usize, &str); 4] = [
+const NAME_LINES: &[(usize, &str)] = &[
     (
         132,
         "check: ok
@@ -236,7 +236,7 @@ hash: none
 #[test]
 fn reports_names_that_are_cut(rt: HostRuntime) {
     let file = strtab_file(Order::Little);
-    for (len, lines) in NAME_LINES {
+    for &(len, lines) in NAME_LINES {
         let input = file.get(..len).unwrap_or(b"");
         let ends = report_ends_with(rt.alloc(), input, lines);
         want_at(&rt, len, ends, true);

@@ -30,7 +30,7 @@ fn reports_a_hash_table(rt: HostRuntime) {
 }
 
 // The place of a word of the hash table, what it becomes, and the last line then.
-const WORDS: [(usize, u32, &str); 3] = [
+const WORDS: &[(usize, u32, &str)] = &[
     (4, 1, "\nhash: ! Hash chain never ends\n"),
     (2, 2, "\nhash: ! Chain index is out of range\n"),
     (2, 0, "\nhash: ! Symbol is missing from the hash table\n"),
@@ -38,7 +38,7 @@ const WORDS: [(usize, u32, &str); 3] = [
 
 #[test]
 fn reports_what_is_wrong_with_a_hash_table(rt: HostRuntime) {
-    for (place, word, line) in WORDS {
+    for &(place, word, line) in WORDS {
         let mut file = hash_file();
         let start = 224usize.wrapping_add(place.wrapping_mul(4));
         put_words(&mut file, start, &[word]);
@@ -47,7 +47,7 @@ fn reports_what_is_wrong_with_a_hash_table(rt: HostRuntime) {
 }
 
 // A field of section 2, the hash table, or of section 3, its symbols, has another number.
-const FIELDS: [(usize, Place, u64, &str); 8] = [
+const FIELDS: &[(usize, Place, u64, &str)] = &[
     (
         172,
         section_32::SIZE,
@@ -70,7 +70,7 @@ const FIELDS: [(usize, Place, u64, &str); 8] = [
 
 #[test]
 fn reports_a_hash_table_without_symbols(rt: HostRuntime) {
-    for (start, field, number, line) in FIELDS {
+    for &(start, field, number, line) in FIELDS {
         let mut file = hash_file();
         set(&mut file, start, field, number, LITTLE);
         want_at(&rt, line, report_ends_with(rt.alloc(), &file, line), true);

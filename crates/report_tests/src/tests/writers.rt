@@ -116,7 +116,7 @@ fn fails_as_its_writer_does(rt: HostRuntime) -> Result<(), Fail> {
     Ok(())
 }
 
-const REFUSALS: [(usize, ElfError); 4] = [
+const REFUSALS: &[(usize, ElfError)] = &[
     (0, ElfError::ShortPart1),
     (3, ElfError::ShortPart1),
     (15, ElfError::ShortPart1),
@@ -135,7 +135,7 @@ fn check_refused(rt: &impl Abort, alloc: Global, input: &[u8], refusal: ElfError
 #[test]
 fn refuses_whatever_the_writer_does(rt: HostRuntime) {
     let file = strtab_file(Order::Little);
-    for (len, refusal) in REFUSALS {
+    for &(len, refusal) in REFUSALS {
         let input = file.get(..len).unwrap_or(b"");
         check_refused(&rt, rt.alloc(), input, refusal, Then::Fails);
         check_refused(&rt, rt.alloc(), input, refusal, Then::TakesNothing);
