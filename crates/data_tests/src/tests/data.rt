@@ -223,13 +223,18 @@ const OF_ONE_SIZE: &[(u64, u64, Result<(&str, usize), ElfError>)] = &[
     (17, 8, Ok(("Group", 1))),
 ];
 
+fn check_one_size(rt: &impl Abort, unknown: &ElfFile<'_>) {
+    for &(kind, size, shape) in OF_ONE_SIZE {
+        want_at(rt, (kind, size), data_of(unknown, kind, size), shape);
+    }
+}
+
 #[test]
 fn refuses_groups_and_indices_that_are_cut(rt: HostRuntime) {
     let bytes = ascending_file(2, 1);
-    let unknown = with_class(&open(&rt, &bytes), 3);
-    for &(kind, size, shape) in OF_ONE_SIZE {
-        want_at(&rt, (kind, size), data_of(&unknown, kind, size), shape);
-    }
+    let wide = open(&rt, &bytes);
+    check_one_size(&rt, &with_class(&wide, 0));
+    check_one_size(&rt, &with_class(&wide, 3));
 }
 
 // Notes that are too short for a header.
