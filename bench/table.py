@@ -84,13 +84,14 @@ def growth(run: pathlib.Path) -> None:
 # What `bindings/c/speed.c` calls a pass, and which pass of the bench is the library's, and by which way there.
 EXPORTS = {
     "header": ("parse the header", "here"),
-    "section headers by index": ("all ten fields of section headers", "here"),
-    "names of sections": ("names of sections", "here"),
-    "the same, the name table taken once": ("names of sections", "here, by a table"),
+    "section headers one by one": ("all ten fields of section headers", "here"),
+    "section headers, 64 at a time": ("all ten fields of section headers", "here"),
+    "names of sections one by one": ("names of sections", "here"),
+    "names of sections, 64 at a time": ("names of sections", "here, by a table"),
     "the last section by its name": ("find the last section by its name (a call)", "here"),
     "symbols one by one": ("all numbers of symbols", "here"),
     "symbols, 64 at a time": ("all numbers of symbols", "here"),
-    "symbols with names": ("names of symbols, string table once", "here"),
+    "names of symbols, 64 at a time": ("names of symbols, string table once", "here"),
     "look-ups by GNU's hash table": ("look-ups by GNU's hash table", "here"),
     "the same, 64 names by one call": ("look-ups by GNU's hash table", "here"),
     "the check of that table, for a symbol": ("check of GNU's hash table (a symbol)", "here"),

@@ -21,17 +21,18 @@ static uint8_t *read_file(const char *path, size_t *size)
 static void print_symbols(const uint8_t *input, size_t size, const struct xmas_elf_header *header, uint64_t index)
 {
     struct xmas_elf_section section;
-    struct xmas_elf_range strings, name;
     struct xmas_elf_symbol symbols[64];
+    struct xmas_elf_name names[64];
     uint64_t count;
     if (xmas_elf_section(input, size, header, index, &section) != XMAS_ELF_OK) return;
     if (section.type != 2 && section.type != 11) return; /* SHT_SYMTAB, SHT_DYNSYM */
-    if (xmas_elf_section_data(input, size, header, section.link, &strings) != XMAS_ELF_OK) return;
-    for (uint64_t first = 1; xmas_elf_symbols(input, size, header, index, first, symbols, 64, &count) == XMAS_ELF_OK; first += count)
+    for (uint64_t first = 1; xmas_elf_symbols(input, size, header, index, first, symbols, 64, &count) == XMAS_ELF_OK; first += count) {
+        xmas_elf_symbol_names(input, size, header, index, first, names, 64, &count);
         for (uint64_t i = 0; i < count; i++)
-            if (xmas_elf_text(input, size, &strings, symbols[i].name, &name) == XMAS_ELF_OK)
-                printf("%016llx %5u %.*s\n", (unsigned long long)symbols[i].value, symbols[i].shndx, (int)name.size,
-                       (const char *)input + name.offset);
+            if (names[i].status == XMAS_ELF_OK)
+                printf("%016llx %5u %.*s\n", (unsigned long long)symbols[i].value, symbols[i].shndx, (int)names[i].range.size,
+                       (const char *)input + names[i].range.offset);
+    }
 }
 
 int main(int argc, char **argv)

@@ -39,17 +39,27 @@ static uint64_t names_pass(const struct input *input, uint64_t *sum)
     return input->sections;
 }
 
-/* The same with the name table taken once. */
-static uint64_t names_once_pass(const struct input *input, uint64_t *sum)
+/* The headers and the names by one call for 64. */
+static uint64_t sections_many_pass(const struct input *input, uint64_t *sum)
 {
-    struct xmas_elf_section section;
-    struct xmas_elf_range table, name;
-    if (xmas_elf_names(input->bytes, input->size, &input->header, &table) != XMAS_ELF_OK) return 1;
-    for (uint64_t i = 0; i < input->sections; i++)
-        if (xmas_elf_section(input->bytes, input->size, &input->header, i, &section) == XMAS_ELF_OK && section.type != 0 &&
-            xmas_elf_text(input->bytes, input->size, &table, section.name, &name) == XMAS_ELF_OK)
-            *sum += name.size;
-    return input->sections;
+    struct xmas_elf_section sections[64];
+    uint64_t first = 0, count;
+    while (xmas_elf_sections(input->bytes, input->size, &input->header, first, sections, 64, &count) == XMAS_ELF_OK) {
+        for (uint64_t i = 0; i < count; i++) *sum += sections[i].size;
+        first += count;
+    }
+    return first;
+}
+
+static uint64_t names_many_pass(const struct input *input, uint64_t *sum)
+{
+    struct xmas_elf_name names[64];
+    uint64_t first = 0, count;
+    while (xmas_elf_section_names(input->bytes, input->size, &input->header, first, names, 64, &count) == XMAS_ELF_OK) {
+        for (uint64_t i = 0; i < count; i++) *sum += names[i].range.size;
+        first += count;
+    }
+    return first;
 }
 
 static uint64_t symbols_pass(const struct input *input, uint64_t *sum)
@@ -76,15 +86,10 @@ static uint64_t symbols_many_pass(const struct input *input, uint64_t *sum)
 
 static uint64_t symbol_names_pass(const struct input *input, uint64_t *sum)
 {
-    struct xmas_elf_section section;
-    struct xmas_elf_range strings, name;
-    struct xmas_elf_symbol symbols[64];
+    struct xmas_elf_name names[64];
     uint64_t first = 0, count;
-    if (xmas_elf_section(input->bytes, input->size, &input->header, input->symbols_at, &section) != XMAS_ELF_OK) return 1;
-    if (xmas_elf_section_data(input->bytes, input->size, &input->header, section.link, &strings) != XMAS_ELF_OK) return 1;
-    while (xmas_elf_symbols(input->bytes, input->size, &input->header, input->symbols_at, first, symbols, 64, &count) == XMAS_ELF_OK) {
-        for (uint64_t i = 0; i < count; i++)
-            if (xmas_elf_text(input->bytes, input->size, &strings, symbols[i].name, &name) == XMAS_ELF_OK) *sum += symbols[i].value + name.size;
+    while (xmas_elf_symbol_names(input->bytes, input->size, &input->header, input->symbols_at, first, names, 64, &count) == XMAS_ELF_OK) {
+        for (uint64_t i = 0; i < count; i++) *sum += names[i].range.size;
         first += count;
     }
     return first;
@@ -191,13 +196,14 @@ int main(int argc, char **argv)
         if (section.type == 0x6ffffff6) find_names(&input, i, section.link);
     }
     measure("header", open_pass, &input);
-    measure("section headers by index", sections_pass, &input);
-    measure("names of sections", names_pass, &input);
-    measure("the same, the name table taken once", names_once_pass, &input);
+    measure("section headers one by one", sections_pass, &input);
+    measure("section headers, 64 at a time", sections_many_pass, &input);
+    measure("names of sections one by one", names_pass, &input);
+    measure("names of sections, 64 at a time", names_many_pass, &input);
     measure("the last section by its name", find_pass, &input);
     measure("symbols one by one", symbols_pass, &input);
     measure("symbols, 64 at a time", symbols_many_pass, &input);
-    measure("symbols with names", symbol_names_pass, &input);
+    measure("names of symbols, 64 at a time", symbol_names_pass, &input);
     if (input.names) {
         measure("look-ups by GNU's hash table", look_ups_pass, &input);
         measure("the same, 64 names by one call", look_ups_many_pass, &input);

@@ -55,6 +55,12 @@ struct xmas_elf_range {
     uint64_t size;
 };
 
+/* Where one name of many stands. */
+struct xmas_elf_name {
+    struct xmas_elf_range range; /* without the zero byte behind it; empty and at 0 where the name is refused */
+    uint32_t status;             /* of this name */
+};
+
 /* A section header (gABI, "Sections"). */
 struct xmas_elf_section {
     uint64_t flags;
@@ -147,6 +153,14 @@ uint32_t xmas_elf_names_index(const uint8_t *input, size_t input_size, const str
 uint32_t xmas_elf_section(const uint8_t *input, size_t input_size, const struct xmas_elf_header *header,
                           uint64_t index, struct xmas_elf_section *out);
 
+/* The section headers from index `first` on: as many as `out` has room for, or all that follow, up to the count of
+ * sections or the first that is refused. Their number goes to `*count`; what of `out` is behind them stays. Refused
+ * with XMAS_ELF_NO_RECORD where there is none at `first`, so that a loop ends:
+ *     for (first = 0; xmas_elf_sections(.., first, out, out_size, &count) == XMAS_ELF_OK; first += count) ..
+ * With no room at all (`out_size` 0) the number is 0. */
+uint32_t xmas_elf_sections(const uint8_t *input, size_t input_size, const struct xmas_elf_header *header,
+                           uint64_t first, struct xmas_elf_section *out, size_t out_size, uint64_t *count);
+
 /* The first section with a name: XMAS_ELF_NOT_FOUND where none has it, as where it isn't UTF-8. */
 uint32_t xmas_elf_find_section(const uint8_t *input, size_t input_size, const struct xmas_elf_header *header,
                                const uint8_t *name, size_t name_size, struct xmas_elf_section *out);
@@ -158,6 +172,11 @@ uint32_t xmas_elf_section_data(const uint8_t *input, size_t input_size, const st
 /* Where the name of a section stands, without the zero byte behind it. It is UTF-8. */
 uint32_t xmas_elf_section_name(const uint8_t *input, size_t input_size, const struct xmas_elf_header *header,
                                uint64_t index, struct xmas_elf_range *out);
+
+/* Where the names of the sections from index `first` on stand, each as by `xmas_elf_section_name` and with a status of
+ * its own. They are those of the sections that `xmas_elf_sections` gives, and as many. */
+uint32_t xmas_elf_section_names(const uint8_t *input, size_t input_size, const struct xmas_elf_header *header,
+                                uint64_t first, struct xmas_elf_name *out, size_t out_size, uint64_t *count);
 
 /* Where the table of those names stands. To be taken once: the name of a section is then the text there
  * at its `name`, by `xmas_elf_text`. */
@@ -191,6 +210,12 @@ uint32_t xmas_elf_symbol(const uint8_t *input, size_t input_size, const struct x
 uint32_t xmas_elf_symbols(const uint8_t *input, size_t input_size, const struct xmas_elf_header *header,
                           uint64_t section, uint64_t first, struct xmas_elf_symbol *out, size_t out_size,
                           uint64_t *count);
+
+/* Where the names of the same symbols stand, each with a status of its own: the texts of the string table that the
+ * section is linked to, at the `name` of each. Refused as `xmas_elf_symbols` is, and as many. */
+uint32_t xmas_elf_symbol_names(const uint8_t *input, size_t input_size, const struct xmas_elf_header *header,
+                               uint64_t section, uint64_t first, struct xmas_elf_name *out, size_t out_size,
+                               uint64_t *count);
 
 /* The relocation at an index of the section at an index, refused as symbols are. */
 uint32_t xmas_elf_relocation(const uint8_t *input, size_t input_size, const struct xmas_elf_header *header,

@@ -4,7 +4,7 @@ use object::elf::{FileHeader32, FileHeader64, PT_LOAD};
 use object::read::elf::{Dyn, FileHeader, ProgramHeader, Rel, Rela, SectionHeader, SectionTable, Sym, SymbolTable, VersionTable};
 use object::{Endianness, Object, SectionIndex};
 use std::fmt::Debug;
-use xmas_elf_proved::{Answer, ByteRange, ElfFile, HashTable, Section};
+use xmas_elf_proved::{Answer, ByteRange, ElfFile, HashTable, Name, Section};
 
 // Counts answers, and tells of those that differ.
 struct Answers<'p> {
@@ -39,6 +39,7 @@ fn compare<Elf: FileHeader<Endian = Endianness>>(input: &[u8], file: &ElfFile<'_
     compare_addresses::<Elf>(input, file, segments, endian, answers);
     let whole = object::read::elf::ElfFile::<Elf>::parse(input)?;
     answers.same("build id", file.build_id(), whole.build_id()?);
+    compare_section_names(file, answers);
     for (index, theirs) in sections.iter().enumerate() {
         let Ok(ours) = file.section(index as u64) else {
             answers.same("section is read", false, true);
@@ -53,6 +54,24 @@ fn compare<Elf: FileHeader<Endian = Endianness>>(input: &[u8], file: &ElfFile<'_
         }
     }
     Ok(())
+}
+
+// The sections and their names by many at once, as each by its own call.
+fn compare_section_names(file: &ElfFile<'_>, answers: &mut Answers<'_>) {
+    let mut names = vec![Name::default(); file.section_count() as usize];
+    let count = file.section_names_from(0, &mut names).unwrap_or(0);
+    answers.same("count of section names", file.sections().count(), count);
+    for (section, name) in file.sections().zip(&names) {
+        let alone = file.section(section.index()).map(|one| (one.name, one.type_, one.offset, one.size, one.link));
+        answers.same("section of many", alone.ok(), Some((section.name, section.type_, section.offset, section.size, section.link)));
+        answers.same("section name of many", section.name(), file.name_of(name));
+        let first = file.section_names_from(section.index(), &mut [Name::default()]);
+        answers.same("one section name", first, Ok(1));
+        if let Ok(name) = section.name() {
+            let found = file.sections().find(|one| one.name() == Ok(name)).map(|one| one.index());
+            answers.same("section by its name", file.section_by_name(name).map(|one| one.index()), found);
+        }
+    }
 }
 
 // The bytes at the first addresses of each loaded segment, at its last ones in the file, and past them.
@@ -181,6 +200,12 @@ fn compare_symbols<Elf: FileHeader<Endian = Endianness>>(
     }
     let table = sections.symbol_table_by_index(endian, input, SectionIndex(ours.index() as usize))?;
     answers.same("symbol count", ours.symbols().count(), table.len());
+    let mut names = vec![Name::default(); table.len()];
+    answers.same("count of symbol names", ours.symbol_names_from(0, &mut names).unwrap_or(0), table.len());
+    for (name, symbol) in names.iter().zip(ours.symbols()) {
+        let range = name.range().map(|range| input.get(range.offset as usize..(range.offset + range.size) as usize));
+        answers.same("symbol name of many", range, symbol.name_bytes().map(Some));
+    }
     for (ours, theirs) in ours.symbols().zip(table.iter()) {
         answers.same("symbol value", ours.value, theirs.st_value(endian).into());
         answers.same("symbol size", ours.size, theirs.st_size(endian).into());

@@ -83,6 +83,21 @@ impl Range {
     }
 }
 
+/// Where one name of many stands.
+#[repr(C)]
+#[derive(Clone, Copy, Debug, Default)]
+pub struct Name {
+    range: Range,
+    status: u32,
+}
+
+impl Name {
+    /// Where the name stands in the file, without the zero byte behind it, or why it has none.
+    pub fn range(&self) -> Result<Range, Error> {
+        checked(self.status).map(|()| self.range)
+    }
+}
+
 /// A section header, in numbers.
 #[repr(C)]
 #[derive(Clone, Copy, Debug, Default)]
@@ -223,6 +238,8 @@ extern "C" {
     fn xmas_elf_check_header(input: Bytes, size: usize, header: *const Header) -> u32;
     fn xmas_elf_counts(input: Bytes, size: usize, header: *const Header, out: *mut Counts) -> u32;
     fn xmas_elf_section(input: Bytes, size: usize, header: *const Header, index: u64, out: *mut SectionHeader) -> u32;
+    fn xmas_elf_sections(input: Bytes, size: usize, header: *const Header, first: u64, out: *mut SectionHeader, room: usize, count: *mut u64) -> u32;
+    fn xmas_elf_section_names(input: Bytes, size: usize, header: *const Header, first: u64, out: *mut Name, room: usize, count: *mut u64) -> u32;
     fn xmas_elf_section_data(input: Bytes, size: usize, header: *const Header, index: u64, out: *mut Range) -> u32;
     fn xmas_elf_section_name(input: Bytes, size: usize, header: *const Header, index: u64, out: *mut Range) -> u32;
     fn xmas_elf_text(input: Bytes, size: usize, part: *const Range, index: u64, out: *mut Range) -> u32;
@@ -232,6 +249,7 @@ extern "C" {
     fn xmas_elf_relocation(input: Bytes, size: usize, header: *const Header, section: u64, index: u64, out: *mut Relocation) -> u32;
     fn xmas_elf_dynamic(input: Bytes, size: usize, header: *const Header, section: u64, index: u64, out: *mut Dynamic) -> u32;
     fn xmas_elf_symbols(input: Bytes, size: usize, header: *const Header, section: u64, first: u64, out: *mut Entry, room: usize, count: *mut u64) -> u32;
+    fn xmas_elf_symbol_names(input: Bytes, size: usize, header: *const Header, section: u64, first: u64, out: *mut Name, room: usize, count: *mut u64) -> u32;
     fn xmas_elf_build_id(input: Bytes, size: usize, header: *const Header, out: *mut Range) -> u32;
     fn xmas_elf_bytes_at(input: Bytes, size: usize, header: *const Header, address: u64, count: u64, out: *mut Range) -> u32;
     fn xmas_elf_look_up(input: Bytes, size: usize, header: *const Header, section: u64, name: Bytes, name_size: usize, out: *mut LookUp) -> u32;
@@ -314,13 +332,29 @@ pub(crate) fn symbol(input: &[u8], header: &Header, section: u64, index: u64) ->
     filled(|out| unsafe { xmas_elf_symbol(input.as_ptr(), input.len(), header, section, index, out) })
 }
 
-// The symbols from an index on, put to the front of `out`, and how many they are.
+// How many records a call put to the front of its slice.
+fn counted(call: impl FnOnce(*mut u64) -> u32) -> Result<usize, Error> {
+    filled(call).map(|count| count as usize)
+}
+
+pub(crate) fn sections(input: &[u8], header: &Header, first: u64, out: &mut [SectionHeader]) -> Result<usize, Error> {
+    // SAFETY: see above; of `out` as many records are written as it has, at most.
+    counted(|count| unsafe { xmas_elf_sections(input.as_ptr(), input.len(), header, first, out.as_mut_ptr(), out.len(), count) })
+}
+
+pub(crate) fn section_names(input: &[u8], header: &Header, first: u64, out: &mut [Name]) -> Result<usize, Error> {
+    // SAFETY: see above; of `out` as many records are written as it has, at most.
+    counted(|count| unsafe { xmas_elf_section_names(input.as_ptr(), input.len(), header, first, out.as_mut_ptr(), out.len(), count) })
+}
+
 pub(crate) fn symbols(input: &[u8], header: &Header, section: u64, first: u64, out: &mut [Entry]) -> Result<usize, Error> {
     // SAFETY: see above; of `out` as many records are written as it has, at most.
-    let count = filled(|count| unsafe {
-        xmas_elf_symbols(input.as_ptr(), input.len(), header, section, first, out.as_mut_ptr(), out.len(), count)
-    });
-    count.map(|count: u64| count as usize)
+    counted(|count| unsafe { xmas_elf_symbols(input.as_ptr(), input.len(), header, section, first, out.as_mut_ptr(), out.len(), count) })
+}
+
+pub(crate) fn symbol_names(input: &[u8], header: &Header, section: u64, first: u64, out: &mut [Name]) -> Result<usize, Error> {
+    // SAFETY: see above; of `out` as many records are written as it has, at most.
+    counted(|count| unsafe { xmas_elf_symbol_names(input.as_ptr(), input.len(), header, section, first, out.as_mut_ptr(), out.len(), count) })
 }
 
 pub(crate) fn relocation(input: &[u8], header: &Header, section: u64, index: u64) -> Result<Relocation, Error> {

@@ -1,7 +1,8 @@
 //! Sections, segments and notes, each with the file that it belongs to.
 
+use crate::batch::Batch;
 use crate::ffi::{self, Range};
-use crate::{Dynamic, ElfFile, Entry, Error, HashTable, ProgramHeader, Relocation, SectionHeader, Symbols};
+use crate::{Dynamic, ElfFile, Entry, Error, HashTable, Name, ProgramHeader, Relocation, SectionHeader, Symbols};
 use core::ops::Deref;
 
 /// A section; the fields of its header are its own.
@@ -52,6 +53,12 @@ impl<'f, 'a> Section<'f, 'a> {
         ffi::symbols(self.file.input, &self.file.header, self.index, first, out)
     }
 
+    /// Puts where the names of the symbols from an index on stand to the front of `out`, as many as `symbols_from` gives,
+    /// and says how many. It costs less than a call of `name` for each.
+    pub fn symbol_names_from(&self, first: u64, out: &mut [Name]) -> Result<usize, Error> {
+        ffi::symbol_names(self.file.input, &self.file.header, self.index, first, out)
+    }
+
     /// The hash table that the section is by its type.
     pub fn hash_table(&self) -> Option<HashTable<'f, 'a>> {
         HashTable::new(self.file, self.index, &self.header)
@@ -72,6 +79,30 @@ impl<'f, 'a> Section<'f, 'a> {
     /// The notes that the data of the section is.
     pub fn notes(&self) -> Result<Notes<'f, 'a>, Error> {
         Ok(Notes { file: self.file, rest: self.data_range()?, align: self.header.align })
+    }
+}
+
+/// The sections of a file in order, which it asks the archive for by many at once.
+#[derive(Clone, Debug)]
+pub struct Sections<'f, 'a> {
+    file: &'f ElfFile<'a>,
+    batch: Batch<SectionHeader, 16>,
+}
+
+impl<'f, 'a> Sections<'f, 'a> {
+    pub(crate) fn new(file: &'f ElfFile<'a>) -> Sections<'f, 'a> {
+        Sections { file, batch: Batch::new() }
+    }
+}
+
+impl<'f, 'a> Iterator for Sections<'f, 'a> {
+    type Item = Section<'f, 'a>;
+
+    #[inline]
+    fn next(&mut self) -> Option<Section<'f, 'a>> {
+        let file = self.file;
+        let (index, header) = self.batch.next(|first, out| ffi::sections(file.input, &file.header, first, out))?;
+        Some(Section { file, index, header })
     }
 }
 

@@ -21,6 +21,7 @@
 #![deny(unsafe_op_in_unsafe_fn)]
 #![warn(missing_docs)]
 
+mod batch;
 mod error;
 // The calls of the archive, and nothing else: slices and texts are taken by safe code.
 #[allow(unsafe_code)]
@@ -31,10 +32,10 @@ mod message;
 mod symbols;
 
 pub use error::Error;
-pub use ffi::{Answer, Dynamic, Entry, Header, LookUp, ProgramHeader, Relocation, SectionHeader};
+pub use ffi::{Answer, Dynamic, Entry, Header, LookUp, Name, ProgramHeader, Relocation, SectionHeader};
 pub use ffi::Range as ByteRange;
 pub use hash::HashTable;
-pub use items::{Note, Notes, Section, Segment};
+pub use items::{Note, Notes, Section, Sections, Segment};
 pub use message::Message;
 pub use symbols::{Symbol, Symbols};
 
@@ -87,13 +88,33 @@ impl<'a> ElfFile<'a> {
     }
 
     /// The sections in order, up to their count or the first that is refused.
-    pub fn sections(&self) -> impl Iterator<Item = Section<'_, 'a>> + '_ {
-        (0..self.section_count()).map_while(|index| self.section(index).ok())
+    pub fn sections(&self) -> Sections<'_, 'a> {
+        Sections::new(self)
+    }
+
+    /// Puts where the names of the sections from an index on stand to the front of `out`, as many as it has room for or
+    /// all that follow, and says how many. Refused where `sections` has none at that index. It costs less than a call
+    /// of `name` for each.
+    pub fn section_names_from(&self, first: u64, out: &mut [Name]) -> Result<usize, Error> {
+        ffi::section_names(self.input, &self.header, first, out)
+    }
+
+    /// The text where a name stands.
+    pub fn name_of(&self, name: &Name) -> Result<&'a str, Error> {
+        Ok(self.text(name.range()?))
     }
 
     /// The first section with this name.
     pub fn section_by_name(&self, name: &str) -> Option<Section<'_, 'a>> {
-        self.sections().find(|section| section.name() == Ok(name))
+        let (mut first, mut names) = (0, [Name::default(); 16]);
+        while let Ok(count @ 1..) = self.section_names_from(first, &mut names) {
+            let bears = |one: &Name| one.range().is_ok_and(|range| self.bytes(range) == name.as_bytes());
+            if let Some(place) = names.iter().take(count).position(bears) {
+                return self.section(first + place as u64).ok();
+            }
+            first += count as u64;
+        }
+        None
     }
 
     /// The segment at an index.

@@ -1,11 +1,9 @@
 //! The symbols of a section.
 
+use crate::batch::Batch;
 use crate::ffi::{self, Range};
 use crate::{ElfFile, Entry, Error};
 use core::ops::Deref;
-
-// How many symbols are asked for at once.
-const BATCH: usize = 64;
 
 // The data of a string table.
 fn strings_of<'a>(file: &ElfFile<'a>, section: u64) -> Result<&'a [u8], Error> {
@@ -75,25 +73,12 @@ pub struct Symbols<'f, 'a> {
     file: &'f ElfFile<'a>,
     section: u64,
     strings: Result<&'a [u8], Error>,
-    // The index of the first symbol of the batch, how many of the batch are symbols, and which is next.
-    first: u64,
-    count: usize,
-    next: usize,
-    batch: [Entry; BATCH],
+    batch: Batch<Entry, 64>,
 }
 
 impl<'f, 'a> Symbols<'f, 'a> {
     pub(crate) fn new(file: &'f ElfFile<'a>, section: u64, link: u64) -> Symbols<'f, 'a> {
-        Symbols { file, section, strings: strings_of(file, link), first: 0, count: 0, next: 0, batch: [Entry::default(); BATCH] }
-    }
-
-    // Asks for the next symbols; none where there are no more.
-    #[cold]
-    fn refill(&mut self) -> Option<()> {
-        let first = self.first + self.count as u64;
-        let count = ffi::symbols(self.file.input, &self.file.header, self.section, first, &mut self.batch).ok()?;
-        (self.first, self.count, self.next) = (first, count.min(BATCH), 0);
-        (count > 0).then_some(())
+        Symbols { file, section, strings: strings_of(file, link), batch: Batch::new() }
     }
 }
 
@@ -102,12 +87,8 @@ impl<'a> Iterator for Symbols<'_, 'a> {
 
     #[inline]
     fn next(&mut self) -> Option<Symbol<'a>> {
-        if self.next == self.count {
-            self.refill()?;
-        }
-        let entry = *self.batch.get(self.next)?;
-        let index = self.first + self.next as u64;
-        self.next += 1;
+        let (file, section) = (self.file, self.section);
+        let (index, entry) = self.batch.next(|first, out| ffi::symbols(file.input, &file.header, section, first, out))?;
         Some(Symbol { strings: self.strings, index, entry })
     }
 }

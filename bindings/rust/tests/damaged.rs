@@ -1,6 +1,6 @@
 //! Damaged files: every call returns, and each part that it gives lies in the input.
 
-use xmas_elf_proved::{Answer, ByteRange, ElfFile, Entry, Error, HashTable, Section};
+use xmas_elf_proved::{Answer, ByteRange, ElfFile, Entry, Error, HashTable, Name, Section};
 
 // A stream of numbers (Marsaglia's xorshift of 64 bits), the same in each run.
 struct Numbers(u64);
@@ -35,6 +35,32 @@ fn visit_look_ups(table: &HashTable<'_, '_>) {
     assert!(answers[0].index() == Err(Error::DataRange) && answers[1].look_up().is_ok() == table.look_up("printf").is_ok());
     assert_eq!(table.look_ups(b"\xff", &[ByteRange::from(0..1)], &mut answers), 1);
     assert_eq!(answers[0].index(), Err(Error::TextUtf8));
+}
+
+// Sections and their names by many at once, as each by itself.
+fn visit_section_names(file: &ElfFile<'_>) {
+    let mut names = [Name::default(); 9];
+    for first in [0, 1, 5, u64::MAX] {
+        let count = file.section_names_from(first, &mut names).unwrap_or(0);
+        let left = usize::try_from(first).map_or(0, |first| file.sections().skip(first).take(9).count());
+        assert_eq!(count, left);
+        for (place, name) in names.iter().take(count).enumerate() {
+            assert_eq!(Ok(file.name_of(name)), file.section(first + place as u64).map(|section| section.name()));
+        }
+    }
+    let read = (0..file.section_count()).map_while(|index| file.section(index).ok()).take(200);
+    assert!(read.zip(file.sections()).all(|(one, of_many)| one.index() == of_many.index() && one.offset == of_many.offset));
+    assert_eq!(file.section_names_from(0, &mut []).is_ok(), file.sections().next().is_some());
+}
+
+// Names of symbols by many at once, as each by itself.
+fn visit_symbol_names(file: &ElfFile<'_>, section: &Section<'_, '_>) {
+    let mut names = [Name::default(); 7];
+    let count = section.symbol_names_from(3, &mut names).unwrap_or(0);
+    assert_eq!(count, section.symbols().skip(3).take(7).count());
+    for (name, symbol) in names.iter().take(count).zip(section.symbols().skip(3)) {
+        assert_eq!(file.name_of(name).map(str::as_bytes), symbol.name_bytes());
+    }
 }
 
 fn visit_section(input: &[u8], section: &Section<'_, '_>) -> usize {
@@ -74,6 +100,8 @@ fn visit(input: &[u8]) -> usize {
         return 0;
     };
     let _checked = file.check_header();
+    visit_section_names(&file);
+    file.sections().take(200).for_each(|section| visit_symbol_names(&file, &section));
     assert!(file.build_id().map_or(true, |id| lies_in(input, id)));
     let segments = file.segments().take(200).map(|segment| {
         assert!(segment.data().map_or(true, |data| lies_in(input, data)));

@@ -17,7 +17,9 @@ use Rattle.xmas_elf.specs.SegmentData.{segment_data_of}
 use Rattle.xmas_elf.specs.declared.ElfFile.{ElfFile}
 use Rattle.xmas_elf.specs.declared.program.records.ProgramHeader64.{ProgramHeader64}
 use Rattle.xmas_elf.specs.declared.sections.section_header.SectionHeader.{SectionHeader}
+use Rattle.elf_c.specs.Status.{error_number}
 use Rattle.elf_c.specs.declared.file.Counts.{Counts}
+use Rattle.elf_c.specs.declared.names.Name.{Name}
 use Rattle.elf_c.specs.declared.names.Range.{Range}
 use Rattle.elf_c.specs.declared.sections.Section.{Section}
 use Rattle.elf_c.specs.declared.segments.Segment.{Segment}
@@ -98,7 +100,16 @@ names_range file = and_then (names_section_of file) (λ section. unless (
     (nat_lt (length file.input.now) (section_fields section).offset, ShortSectionOffset)
     ∷ []) (range_at (section_fields section).offset (length file.input.now - (section_fields section).offset)))
 
--- where the name of a section stands, or why it has none: in the name table, at the section's index
+-- where the name of a section stands by where the name table does, or why it has none: there, at the section's
+-- index
+abbrev pub name_range_by : List ℕ → Result Range ElfError → SectionHeader → Result Range ElfError
+name_range_by input names section = and_then (section_type section) (λ kind. if is_sh_type Null kind then Err NullName
+    else and_then names (λ part. text_range input part (section_fields section).name))
+
 abbrev pub name_range : ElfFile → SectionHeader → Result Range ElfError
-name_range file section = and_then (section_type section) (λ kind. if is_sh_type Null kind then Err NullName
-    else and_then (names_range file) (λ names. text_range file.input.now names (section_fields section).name))
+name_range file section = name_range_by file.input.now (names_range file) section
+
+-- where a name stands with its status: an empty range at 0 where it is refused
+abbrev pub name_answer : Result Range ElfError → Name
+name_answer (Ok range) = record { range = range; status = 0 }
+name_answer (Err error) = record { range = range_at 0 0; status = error_number error }

@@ -1,9 +1,18 @@
 -- The symbols of a section, in numbers (gABI, "Symbol Table").
-use Rattle.std.specs.Prelude.{ℕ, Result, Err}
+use Rattle.std.specs.Prelude.{ℕ, List, Result, Err}
+use Rattle.elf_base.specs.Refusal.{and_then}
 use Rattle.elf_base.specs.Table.{records}
+use Rattle.elf_base.specs.declared.error.ElfError.{ElfError}
 use Rattle.xmas_elf.specs.Content.{Content, dyn_symbols_32, dyn_symbols_64, symbols_32, symbols_64, table_of}
+use Rattle.xmas_elf.specs.SectionContent.{section_content_of}
+use Rattle.xmas_elf.specs.SectionHeader.{section_fields, section_of}
 use Rattle.xmas_elf.specs.Symbol.{SymbolFields, dyn_entry_32, dyn_entry_32_fields, dyn_entry_64, dyn_entry_64_fields, entry_32, entry_32_fields, entry_64, entry_64_fields}
-use Rattle.elf_c.specs.Records.{found_in}
+use Rattle.xmas_elf.specs.declared.ElfFile.{ElfFile}
+use Rattle.xmas_elf.specs.declared.sections.section_header.SectionHeader.{SectionHeader}
+use Rattle.elf_c.specs.Records.{found_in, name_answer, section_range, text_range}
+use Rattle.elf_c.specs.Status.{and_so}
+use Rattle.elf_c.specs.declared.names.Name.{Name}
+use Rattle.elf_c.specs.declared.names.Range.{Range}
 use Rattle.elf_c.specs.declared.status.Refusal.{Refusal}
 use Rattle.elf_c.specs.declared.status.Refusal.TheVariants.{OtherData}
 use Rattle.elf_c.specs.declared.symbols.Symbol.{Symbol}
@@ -19,14 +28,31 @@ symbol_record fields = record {
   other = fields.other;
 }
 
--- the symbol at an index of what a section holds, or why there is none
+-- the symbol at an index of what a section holds, taken for a value, or why there is none
+abbrev pub symbol_at : {T : Type 0} → (SymbolFields → T) → ℕ → Content → Result T Refusal
+symbol_at value index (table_of symbols_32 order bytes) =
+    found_in (λ e. value (entry_32_fields e)) (records 16 (entry_32 order) bytes) index
+symbol_at value index (table_of symbols_64 order bytes) =
+    found_in (λ e. value (entry_64_fields e)) (records 24 (entry_64 order) bytes) index
+symbol_at value index (table_of dyn_symbols_32 order bytes) =
+    found_in (λ e. value (dyn_entry_32_fields e)) (records 16 (dyn_entry_32 order) bytes) index
+symbol_at value index (table_of dyn_symbols_64 order bytes) =
+    found_in (λ e. value (dyn_entry_64_fields e)) (records 24 (dyn_entry_64 order) bytes) index
+symbol_at value index _ = Err OtherData
+
+-- the numbers of that symbol
 abbrev pub symbol_in : ℕ → Content → Result Symbol Refusal
-symbol_in index (table_of symbols_32 order bytes) =
-    found_in (λ e. symbol_record (entry_32_fields e)) (records 16 (entry_32 order) bytes) index
-symbol_in index (table_of symbols_64 order bytes) =
-    found_in (λ e. symbol_record (entry_64_fields e)) (records 24 (entry_64 order) bytes) index
-symbol_in index (table_of dyn_symbols_32 order bytes) =
-    found_in (λ e. symbol_record (dyn_entry_32_fields e)) (records 16 (dyn_entry_32 order) bytes) index
-symbol_in index (table_of dyn_symbols_64 order bytes) =
-    found_in (λ e. symbol_record (dyn_entry_64_fields e)) (records 24 (dyn_entry_64 order) bytes) index
-symbol_in index _ = Err OtherData
+symbol_in index content = symbol_at symbol_record index content
+
+-- where the string table stands that a section is linked to, or why it can't be read (sh_link)
+abbrev pub linked_range : ElfFile → SectionHeader → Result Range ElfError
+linked_range file section = and_then (section_of file (section_fields section).link) (section_range file)
+
+-- where the name of a symbol stands in such a table, or why there is none
+abbrev pub symbol_name : List ℕ → Result Range ElfError → SymbolFields → Name
+symbol_name input strings fields = name_answer (and_then strings (λ part. text_range input part fields.name))
+
+-- where the name of the symbol at an index of the section at an index stands
+abbrev pub symbol_name_at : ElfFile → ℕ → ℕ → Result Name Refusal
+symbol_name_at file section index = and_so (section_of file section) (λ header.
+    and_so (section_content_of file header) (symbol_at (symbol_name file.input.now (linked_range file header)) index))

@@ -8,6 +8,7 @@
 #![tactic(auto)]
 
 pub mod addresses;
+mod batch;
 pub mod build_id;
 pub mod dynamic;
 pub mod file;

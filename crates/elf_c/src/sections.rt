@@ -1,19 +1,24 @@
 //! The sections of a file (gABI, "Sections").
 
-ghost use Rattle.std.specs.Prelude.{◌≡◌, Ok};
+ghost use Rattle.std.specs.Prelude.{◌≡◌, ℕ, Ok, Result};
 ghost use Rattle.elf_base.specs.Refusal.{and_then};
+ghost use Rattle.elf_c.specs.Batch.{Fills};
 ghost use Rattle.elf_c.specs.Parsed.{file_of};
-ghost use Rattle.elf_c.specs.Records.{found_section, section_range, section_record};
+ghost use Rattle.elf_c.specs.Records.{found_in, found_section, section_range, section_record};
 ghost use Rattle.elf_c.specs.Status.{Gives, GivesHere};
+ghost use Rattle.elf_c.specs.declared.status.Refusal.{Refusal};
 ghost use Rattle.xmas_elf.specs.SectionHeader.{section_of};
+ghost use Rattle.xmas_elf.specs.SectionList.{section_list};
+ghost use Rattle.xmas_elf.specs.SectionTable.{table_sections};
 
+use crate::batch::{Records, fill};
 use crate::file::Parsed;
 use crate::names::Range;
 use crate::status::{Refusal, give};
 use elf_base::ElfError;
 use std::str::from_utf8;
 use xmas_elf::ElfFile;
-use xmas_elf::sections::SectionHeader;
+use xmas_elf::sections::{SectionHeader, SectionTable};
 
 /// A section header, in numbers.
 #[repr(C)]
@@ -84,9 +89,54 @@ pub extern "C" fn xmas_elf_section(
     give(section_at(&header.file(input), index), out)
 }
 
+impl Records for SectionTable<'_, '_> {
+    type Item = SectionHeader;
+
+    type Record = Section;
+
+    ghost items = { table_sections };
+
+    ghost record_of = { λ _ section. section_record section };
+
+    #[inline(always)]
+    fn count(&self) -> usize {
+        self.len()
+    }
+
+    #[inline(always)]
+    fn record(&self, index: usize) -> Section {
+        match self.get(index) {
+            Some(section) => Section::of(&section),
+            None => unreachable!(),
+        }
+    }
+}
+
+/// The section headers from index `first` on, each as by `xmas_elf_section`: as many as `out` has room for, or all
+/// that follow, up to the count of sections or the first that is refused. Their number goes to `count`; what of
+/// `out` is behind them stays.
+///
+/// Refused with `NoRecord` where there is none at `first`; `out` and `count` then stay as they were.
+#[unsafe(no_mangle)]
+pub extern "C" fn xmas_elf_sections(
+    input: &[u8],
+    header: &Parsed,
+    first: u64,
+    out: &mut [Section],
+    count: &mut u64,
+) -> u32
+    ensures { (answer : Result ℕ Refusal)
+        × Fills (found_in section_record (section_list (file_of input.entry header.now)))
+        first out.old answer out.new
+        × GivesHere answer count.old result count.new }
+{
+    let file = header.file(input);
+    give(fill(file.section_table(), first, out), count)
+}
+
 // Where the data of the section at an index stands.
 #[inline(always)]
-fn data_at(file: &ElfFile<'_>, index: u64) -> Result<Range, ElfError>
+pub(crate) fn data_at(file: &ElfFile<'_>, index: u64) -> Result<Range, ElfError>
     ensures { result ≡ and_then (section_of file.now index) (section_range file.now) }
 {
     let (offset, size) = file.section_header_at(index)?.file_range(file)?;

@@ -5,15 +5,19 @@ ghost use Rattle.elf_base.specs.Refusal.{and_then};
 ghost use Rattle.elf_base.specs.Table.{table_items};
 ghost use Rattle.elf_c.specs.Batch.{Fills};
 ghost use Rattle.elf_c.specs.Parsed.{file_of};
-ghost use Rattle.elf_c.specs.Records.{found_in};
+ghost use Rattle.elf_c.specs.Records.{found_in, text_range};
 ghost use Rattle.elf_c.specs.Status.{GivesHere, and_so};
-ghost use Rattle.elf_c.specs.Symbols.{symbol_in, symbol_record};
+ghost use Rattle.elf_c.specs.Symbols.{symbol_in, symbol_name, symbol_name_at, symbol_record};
 ghost use Rattle.elf_c.specs.declared.status.Refusal.{Refusal};
 ghost use Rattle.xmas_elf.specs.SectionContent.{section_content_of};
 ghost use Rattle.xmas_elf.specs.SectionHeader.{section_of};
 
+use crate::batch::{Records, fill};
 use crate::file::Parsed;
+use crate::names::{Name, Range, text_in};
+use crate::sections::data_at;
 use crate::status::{Refusal, give};
+use elf_base::ElfError;
 use xmas_elf::ElfFile;
 use xmas_elf::bytes::{Record, Table};
 use xmas_elf::sections::SectionData;
@@ -100,31 +104,30 @@ pub extern "C" fn xmas_elf_symbol(
     give(symbol_of_section(&header.file(input), section, index), out)
 }
 
-// Puts the symbols of a table from an index on to the front of `out`, and says how many. It copies the table, so
-// that nothing of it is read again after a symbol is written.
-fn fill<E: Entry + Record>(
-    table: &Table<'_, E>,
-    first: u64,
-    out: &mut [Symbol],
-) -> Result<u64, Refusal>
-    ensures { Fills (found_in (λ e. symbol_record (E.fields e)) (table_items table.now)) first
-        out.old result out.new }
-{
-    let (table, first) = (*table, first as usize);
-    if first >= table.len() {
-        return Err(Refusal::NoRecord);
+impl<E: Entry + Record> Records for Table<'_, E> {
+    type Item = E;
+
+    type Record = Symbol;
+
+    ghost items = { table_items };
+
+    ghost record_of = { λ table entry. symbol_record (E.fields entry) };
+
+    #[inline(always)]
+    fn count(&self) -> usize {
+        self.len()
     }
-    let count = (table.len() - first).min(out.len());
-    for place in 0..count {
-        match table.get(first + place) {
-            Some(entry) => out[place] = Symbol::of(&entry),
+
+    #[inline(always)]
+    fn record(&self, index: usize) -> Symbol {
+        match self.get(index) {
+            Some(entry) => Symbol::of(&entry),
             None => unreachable!(),
         }
     }
-    Ok(count as u64)
 }
 
-// The same of the symbols of a section.
+// Puts the symbols of a section from an index on to the front of `out`, and says how many.
 fn fill_from_section(
     file: &ElfFile<'_>,
     section: u64,
@@ -135,10 +138,10 @@ fn fill_from_section(
         (section_content_of file.now)) (symbol_in index)) first out.old result out.new }
 {
     match file.section_header_at(section)?.get_data(file)? {
-        SectionData::SymbolTable32(table) => fill(&table, first, out),
-        SectionData::SymbolTable64(table) => fill(&table, first, out),
-        SectionData::DynSymbolTable32(table) => fill(&table, first, out),
-        SectionData::DynSymbolTable64(table) => fill(&table, first, out),
+        SectionData::SymbolTable32(table) => fill(table, first, out),
+        SectionData::SymbolTable64(table) => fill(table, first, out),
+        SectionData::DynSymbolTable32(table) => fill(table, first, out),
+        SectionData::DynSymbolTable64(table) => fill(table, first, out),
         _ => Err(Refusal::OtherData),
     }
 }
@@ -166,4 +169,112 @@ pub extern "C" fn xmas_elf_symbols(
         fill_from_section(&header.file(input), section, first, out),
         count,
     )
+}
+
+// The symbols of a table, and where the string table of their names stands.
+#[derive(Clone, Copy)]
+struct SymbolNames<'a, E: Record> {
+    symbols: Table<'a, E>,
+    strings: Result<Range, ElfError>,
+    input: &'a [u8],
+}
+
+impl<E: Entry + Record> Records for SymbolNames<'_, E> {
+    type Item = E;
+
+    type Record = Name;
+
+    ghost items = { λ names. table_items names.symbols };
+
+    ghost record_of = { λ names entry.
+        symbol_name names.input.now names.strings (E.fields entry) };
+
+    #[inline(always)]
+    fn count(&self) -> usize {
+        self.symbols.len()
+    }
+
+    #[inline(always)]
+    fn record(&self, index: usize) -> Name {
+        match self.symbols.get(index) {
+            Some(entry) => Name::of(name_at(self.input, self.strings, &entry)),
+            None => unreachable!(),
+        }
+    }
+}
+
+// Where the name of a symbol stands, by where the string table does.
+#[inline(always)]
+fn name_at<E: Entry>(
+    input: &[u8],
+    strings: Result<Range, ElfError>,
+    entry: &E,
+) -> Result<Range, ElfError>
+    ensures { result ≡ and_then strings
+        (λ part. text_range input.now part (E.fields entry.now).name) }
+{
+    text_in(input, &strings?, u64::from(entry.name()))
+}
+
+// Puts the names of the symbols of a table from an index on to the front of `out`, and says how many.
+#[inline(always)]
+fn names<E: Entry + Record>(
+    table: &Table<'_, E>,
+    strings: Result<Range, ElfError>,
+    input: &[u8],
+    first: u64,
+    out: &mut [Name],
+) -> Result<u64, Refusal>
+    ensures { Fills (found_in (λ e. symbol_name input.now strings (E.fields e)) (table_items table.now))
+        first out.old result out.new }
+{
+    let names = SymbolNames {
+        symbols: *table,
+        strings,
+        input,
+    };
+    fill(names, first, out)
+}
+
+// The same of the symbols of a section.
+fn fill_names(
+    file: &ElfFile<'_>,
+    section: u64,
+    first: u64,
+    out: &mut [Name],
+) -> Result<u64, Refusal>
+    ensures { Fills (symbol_name_at file.now section) first out.old result out.new }
+{
+    let header = file.section_header_at(section)?;
+    let strings = data_at(file, u64::from(header.link()));
+    match header.get_data(file)? {
+        SectionData::SymbolTable32(table) => names(&table, strings, file.input, first, out),
+        SectionData::SymbolTable64(table) => names(&table, strings, file.input, first, out),
+        SectionData::DynSymbolTable32(table) => names(&table, strings, file.input, first, out),
+        SectionData::DynSymbolTable64(table) => names(&table, strings, file.input, first, out),
+        _ => Err(Refusal::OtherData),
+    }
+}
+
+/// Where the names of the symbols from index `first` on of the section at an index stand, each with a status of
+/// its own: as many as `out` has room for, or all that follow. Their number goes to `count`; what of `out` is
+/// behind them stays.
+///
+/// Each is the text, by `xmas_elf_text`, at the symbol's `name` in the data of the section that this one is linked
+/// to (sh_link), or refused as that data is by `xmas_elf_section_data`. The call is refused as `xmas_elf_symbol` is
+/// at `first`; `out` and `count` then stay as they were.
+#[unsafe(no_mangle)]
+pub extern "C" fn xmas_elf_symbol_names(
+    input: &[u8],
+    header: &Parsed,
+    section: u64,
+    first: u64,
+    out: &mut [Name],
+    count: &mut u64,
+) -> u32
+    ensures { (answer : Result ℕ Refusal)
+        × Fills (symbol_name_at (file_of input.entry header.now) section) first out.old answer out.new
+        × GivesHere answer count.old result count.new }
+{
+    give(fill_names(&header.file(input), section, first, out), count)
 }

@@ -1,0 +1,40 @@
+//! Records that the archive is asked for by many at once.
+
+use crate::Error;
+
+// The records of one call, and which of them is next.
+#[derive(Clone, Debug)]
+pub(crate) struct Batch<T, const N: usize> {
+    // The index of the first record, how many there are, and which is next.
+    first: u64,
+    count: usize,
+    next: usize,
+    records: [T; N],
+}
+
+impl<T: Copy + Default, const N: usize> Batch<T, N> {
+    pub(crate) fn new() -> Batch<T, N> {
+        Batch { first: 0, count: 0, next: 0, records: [T::default(); N] }
+    }
+
+    // The next record, with its index. Where there is none left, `ask` puts those from an index on to the front of a
+    // slice, and says how many.
+    #[inline]
+    pub(crate) fn next(&mut self, ask: impl FnOnce(u64, &mut [T]) -> Result<usize, Error>) -> Option<(u64, T)> {
+        if self.next == self.count {
+            self.refill(ask)?;
+        }
+        let record = *self.records.get(self.next)?;
+        let index = self.first + self.next as u64;
+        self.next += 1;
+        Some((index, record))
+    }
+
+    #[cold]
+    fn refill(&mut self, ask: impl FnOnce(u64, &mut [T]) -> Result<usize, Error>) -> Option<()> {
+        let first = self.first + self.count as u64;
+        let count = ask(first, &mut self.records).ok()?;
+        (self.first, self.count, self.next) = (first, count.min(N), 0);
+        (count > 0).then_some(())
+    }
+}
