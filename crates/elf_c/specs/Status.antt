@@ -91,11 +91,7 @@ refusal_number OtherData = 201
 refusal_number NoRecord = 202
 refusal_number NotFound = 203
 
--- the same of what the exports answer that go on where others did not refuse
-abbrev pub from_elf : {T : Type 0} → Result T ElfError → Result T Refusal
-from_elf (Ok value) = Ok value
-from_elf (Err error) = Err (Elf error)
-
+-- the rest of an export, where a call of the library did not refuse
 abbrev pub and_so : {A B : Type 0} → Result A ElfError → (A → Result B Refusal) → Result B Refusal
 and_so (Ok value) next = next value
 and_so (Err error) next = Err (Elf error)
