@@ -9,7 +9,7 @@ use xmas_elf::bytes::Order;
 
 const LITTLE: Order = Order::Little;
 
-const BOTH_ORDERS: [Order; 2] = [Order::Little, Order::Big];
+const BOTH_ORDERS: &[Order] = &[Order::Little, Order::Big];
 
 // Wants the comparisons of `strtab_file` and `wide_strtab_file`.
 fn check_compared(rt: &impl Abort, file: &ElfFile<'_>) {
@@ -27,7 +27,7 @@ fn check_whole_and_cut(rt: &impl Abort, bytes: &[u8], len: usize) {
 
 #[test]
 fn names_are_compared_in_place(rt: HostRuntime) {
-    for order in BOTH_ORDERS {
+    for &order in BOTH_ORDERS {
         check_whole_and_cut(&rt, &strtab_file(order), 143);
         check_whole_and_cut(&rt, &wide_strtab_file(order), 203);
     }

@@ -41,7 +41,7 @@ fn names_are_refused(rt: HostRuntime) {
 }
 
 // The offset of the section that holds the names, one below, at and one above the input's length.
-const BY_OFFSET: [(u64, Result<&str, ElfError>); 4] = [
+const BY_OFFSET: &[(u64, Result<&str, ElfError>)] = &[
     (143, Ok("")),
     (144, Err(ElfError::TextEnd)),
     (145, Err(ElfError::ShortSectionOffset)),
@@ -50,7 +50,7 @@ const BY_OFFSET: [(u64, Result<&str, ElfError>); 4] = [
 
 #[test]
 fn names_lie_at_an_offset(rt: HostRuntime) {
-    for (offset, name) in BY_OFFSET {
+    for &(offset, name) in BY_OFFSET {
         let mut bytes = strtab_file(LITTLE);
         set(&mut bytes, 92, section_32::OFFSET, offset, LITTLE);
         want_at(&rt, offset, open(&rt, &bytes).get_shstr(0), name);
@@ -58,7 +58,7 @@ fn names_lie_at_an_offset(rt: HostRuntime) {
 }
 
 // The index of that section.
-const BY_INDEX: [(u64, Result<&str, ElfError>); 6] = [
+const BY_INDEX: &[(u64, Result<&str, ElfError>)] = &[
     (0, Ok("\x7fELF\x01\x01\x01")),
     (1, Ok("")),
     (2, Err(ElfError::ShortSectionHeader)),
@@ -70,7 +70,7 @@ const BY_INDEX: [(u64, Result<&str, ElfError>); 6] = [
 
 #[test]
 fn names_lie_in_a_section(rt: HostRuntime) {
-    for (index, name) in BY_INDEX {
+    for &(index, name) in BY_INDEX {
         let mut bytes = strtab_file(LITTLE);
         set(&mut bytes, 0, header_32::SH_STR_INDEX, index, LITTLE);
         want_at(&rt, index, open(&rt, &bytes).get_shstr(0), name);
@@ -92,7 +92,7 @@ fn data_may_be_the_whole_file(rt: HostRuntime) -> Result<(), ElfError> {
     Ok(())
 }
 
-const TEXTS: [(usize, Result<&str, ElfError>); 8] = [
+const TEXTS: &[(usize, Result<&str, ElfError>)] = &[
     (0, Ok("")),
     (1, Ok("ab")),
     (3, Ok("")),
@@ -105,7 +105,7 @@ const TEXTS: [(usize, Result<&str, ElfError>); 8] = [
 
 #[test]
 fn texts_are_refused_by_the_first_condition(rt: HostRuntime) {
-    for (start, text) in TEXTS {
+    for &(start, text) in TEXTS {
         want_at(&rt, start, text_at(b"\0ab\0\xff\0cd", start), text);
     }
 }

@@ -43,7 +43,7 @@ fn check_search(rt: &impl Abort, file: &ElfFile<'_>) {
     want(rt, found.expect(rt, "the section").offset(), 132);
 }
 
-const NAMES: [(u32, Result<&str, ElfError>); 5] = [
+const NAMES: &[(u32, Result<&str, ElfError>)] = &[
     (0, Ok("")),
     (1, Ok(".strtab")),
     (9, Ok("ab")),
@@ -56,7 +56,7 @@ fn check_strtab_file(rt: &impl Abort, input: &[u8]) {
     let file = open(rt, input);
     check_iterator(rt, &file);
     check_search(rt, &file);
-    for (index, name) in NAMES {
+    for &(index, name) in NAMES {
         want_at(rt, index, file.get_shstr(index), name);
     }
 }
@@ -186,7 +186,7 @@ fn section_of(kind: u64, size: u64) -> SectionHeader {
 }
 
 // The range of the data by its type and size.
-const DATA: [(u64, u64, Result<(usize, usize), ElfError>); 10] = [
+const DATA: &[(u64, u64, Result<(usize, usize), ElfError>)] = &[
     (1, u64::MAX, Err(ElfError::DataRange)),
     (8, u64::MAX, Err(ElfError::DataRange)),
     (12, u64::MAX, Err(ElfError::InvalidShType)),
@@ -203,7 +203,7 @@ const DATA: [(u64, u64, Result<(usize, usize), ElfError>); 10] = [
 fn data_lies_in_the_input(rt: HostRuntime) {
     let bytes = debug_link_file();
     let file = open(&rt, &bytes);
-    for (kind, size, range) in DATA {
+    for &(kind, size, range) in DATA {
         let data = range.map(|(start, end)| bytes.get(start..end).unwrap_or(b""));
         let section = section_of(kind, size);
         want_at(&rt, (kind, size), section.raw_data(&file), data);
@@ -367,7 +367,7 @@ fn reads_what_is_left_of_a_file(rt: HostRuntime) {
     }
 }
 
-const COUNTS: [(usize, usize); 8] = [
+const COUNTS: &[(usize, usize)] = &[
     (64, 0),
     (127, 0),
     (128, 1),
@@ -381,7 +381,7 @@ const COUNTS: [(usize, usize); 8] = [
 #[test]
 fn counts_what_is_left_of_a_wide_file(rt: HostRuntime) {
     let bytes = debug_link_file();
-    for (len, count) in COUNTS {
+    for &(len, count) in COUNTS {
         let file = open(&rt, bytes.get(..len).unwrap_or(b""));
         want_at(&rt, len, callers::readable_sections(&file), count);
     }

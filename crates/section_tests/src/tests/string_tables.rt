@@ -10,7 +10,7 @@ use xmas_elf::bytes::Order;
 const LITTLE: Order = Order::Little;
 
 // The texts of `.strtab` in `strtab_file` and its twin of class 64.
-const TEXTS: [(u32, Result<&str, ElfError>); 8] = [
+const TEXTS: &[(u32, Result<&str, ElfError>)] = &[
     (0, Ok("")),
     (1, Ok(".strtab")),
     (2, Ok("strtab")),
@@ -23,7 +23,7 @@ const TEXTS: [(u32, Result<&str, ElfError>); 8] = [
 
 fn check_texts(rt: &impl Abort, input: &[u8]) {
     let file = open(rt, input);
-    for (index, text) in TEXTS {
+    for &(index, text) in TEXTS {
         want_at(rt, index, file.get_string(index), text);
         want(rt, file.get_dyn_string(index), Err(ElfError::NoDynstr));
     }
@@ -53,7 +53,7 @@ fn check_size(rt: &impl Abort, order: Order, size: u64, text: Result<&str, ElfEr
     want_at(rt, size, open(rt, &bytes).get_dyn_string(9), text);
 }
 
-const BY_SIZE: [(u64, Result<&str, ElfError>); 5] = [
+const BY_SIZE: &[(u64, Result<&str, ElfError>)] = &[
     (12, Ok("ab")),
     (11, Err(ElfError::TextEnd)),
     (9, Err(ElfError::TextEnd)),
@@ -64,14 +64,14 @@ const BY_SIZE: [(u64, Result<&str, ElfError>); 5] = [
 // A text ends in its section, though the names of sections go on behind it.
 #[test]
 fn texts_end_in_their_section(rt: HostRuntime) {
-    for (size, text) in BY_SIZE {
+    for &(size, text) in BY_SIZE {
         check_size(&rt, Order::Little, size, text);
         check_size(&rt, Order::Big, size, text);
     }
 }
 
 // By its type and size.
-const STRTAB_TYPES: [(u64, u64, Result<&str, ElfError>); 6] = [
+const STRTAB_TYPES: &[(u64, u64, Result<&str, ElfError>)] = &[
     (3, 12, Ok("ab")),
     (1, 12, Err(ElfError::StrtabType)),
     (1, 13, Err(ElfError::StrtabType)),
@@ -83,7 +83,7 @@ const STRTAB_TYPES: [(u64, u64, Result<&str, ElfError>); 6] = [
 // `.strtab` is of type StrTab; what has no valid type, or type Null, has no name.
 #[test]
 fn the_type_of_strtab_is_asked(rt: HostRuntime) {
-    for (kind, size, text) in STRTAB_TYPES {
+    for &(kind, size, text) in STRTAB_TYPES {
         let mut bytes = strtab_file(LITTLE);
         set(&mut bytes, 92, section_32::TYPE, kind, LITTLE);
         set(&mut bytes, 92, section_32::SIZE, size, LITTLE);
@@ -91,7 +91,7 @@ fn the_type_of_strtab_is_asked(rt: HostRuntime) {
     }
 }
 
-const DYNSTR_TYPES: [(u64, Result<&str, ElfError>); 5] = [
+const DYNSTR_TYPES: &[(u64, Result<&str, ElfError>)] = &[
     (3, Ok("ab")),
     (1, Ok("ab")),
     (8, Ok("ab")),
@@ -102,7 +102,7 @@ const DYNSTR_TYPES: [(u64, Result<&str, ElfError>); 5] = [
 // `.dynstr` may be of any type.
 #[test]
 fn the_type_of_dynstr_is_not_asked(rt: HostRuntime) {
-    for (kind, text) in DYNSTR_TYPES {
+    for &(kind, text) in DYNSTR_TYPES {
         let mut bytes = dynstr_file(LITTLE);
         set(&mut bytes, 92, section_32::TYPE, kind, LITTLE);
         let file = open(&rt, &bytes);

@@ -103,7 +103,7 @@ fn data_may_end_past_a_segment_that_is_refused(rt: HostRuntime) {
 }
 
 // Fields of the program header, and the last lines of the report.
-const FAULTS: [(Place, u64, &str); 3] = [
+const FAULTS: &[(Place, u64, &str)] = &[
     (
         program_32::FILE_SIZE,
         84,
@@ -127,7 +127,7 @@ const UNALIGNED: &str =
 #[test]
 fn says_what_is_wrong_with_a_segment(rt: HostRuntime) {
     let alloc = rt.alloc();
-    for (place, number, lines) in FAULTS {
+    for &(place, number, lines) in FAULTS {
         let bytes = with_program(place, number);
         want_at(&rt, lines, report_ends_with(alloc, &bytes, lines), true);
     }
@@ -163,7 +163,7 @@ fn headers_lie_in_the_input(rt: HostRuntime) {
 }
 
 // Fields of the ELF header of `segment_file`, and what is said of program header 0.
-const TABLES: [(Place, u64, Option<ElfError>); 5] = [
+const TABLES: &[(Place, u64, Option<ElfError>)] = &[
     (header_32::PH_OFFSET, 51, None),
     (header_32::PH_OFFSET, 53, SHORT),
     (header_32::PH_OFFSET, 0, NONE),
@@ -173,7 +173,7 @@ const TABLES: [(Place, u64, Option<ElfError>); 5] = [
 
 #[test]
 fn a_table_has_a_place_and_entries(rt: HostRuntime) {
-    for (place, number, refusal) in TABLES {
+    for &(place, number, refusal) in TABLES {
         let bytes = with_header(place, number);
         let found = open(&rt, &bytes).program_header(0);
         want_at(&rt, (place.0, number), found.err(), refusal);
@@ -224,7 +224,7 @@ fn narrow_header(kind: u32, offset: u32, file_size: u32) -> ProgramHeader32 {
 }
 
 // By type, offset and file size, how many bytes of the file from its start are the data.
-const DATA: [(u32, u32, u32, Result<usize, ElfError>); 6] = [
+const DATA: &[(u32, u32, u32, Result<usize, ElfError>)] = &[
     (1, u32::MAX, 0, Ok(0)),
     (1, u32::MAX, 2, Err(ElfError::DataRange)),
     (1, 0, 52, Ok(52)),
@@ -237,7 +237,7 @@ const DATA: [(u32, u32, u32, Result<usize, ElfError>); 6] = [
 fn an_empty_segment_may_lie_anywhere(rt: HostRuntime) {
     let bytes = plain_file();
     let file = open(&rt, &bytes);
-    for (kind, offset, size, len) in DATA {
+    for &(kind, offset, size, len) in DATA {
         let data = len.map(|len| bytes.get(..len).unwrap_or(b""));
         let program = narrow_header(kind, offset, size);
         want_at(&rt, (kind, offset, size), program.raw_data(&file), data);
@@ -247,7 +247,7 @@ fn an_empty_segment_may_lie_anywhere(rt: HostRuntime) {
 }
 
 // By offset and file size.
-const CHECKS: [(u32, u32, Result<(), ElfError>); 3] = [
+const CHECKS: &[(u32, u32, Result<(), ElfError>)] = &[
     (u32::MAX, 2, Err(ElfError::EntryPointRange)),
     (0, 52, Err(ElfError::EntryPointRange)),
     (0, 51, Ok(())),
@@ -257,7 +257,7 @@ const CHECKS: [(u32, u32, Result<(), ElfError>); 3] = [
 fn a_segment_ends_before_the_end_of_the_input(rt: HostRuntime) {
     let bytes = plain_file();
     let file = open(&rt, &bytes);
-    for (offset, size, answer) in CHECKS {
+    for &(offset, size, answer) in CHECKS {
         let program = ProgramHeader::Ph32(narrow_header(1, offset, size));
         want_at(&rt, (offset, size), sanity_check(program, &file), answer);
     }
@@ -296,7 +296,7 @@ fn a_segment_has_the_class_of_its_file(rt: HostRuntime) {
     want(&rt, check, Err(ElfError::PhSizeMismatch));
 }
 
-const FIELDS: [(Place, u64); 8] = [
+const FIELDS: &[(Place, u64)] = &[
     (program_64::TYPE, 0x6474_e552),
     (program_64::FLAGS, 6),
     (program_64::OFFSET, 0x0102_0304_0506_0708),
@@ -320,7 +320,7 @@ const NUMBERS: [u64; 7] = [
 #[test]
 fn decodes_each_field_at_its_place(rt: HostRuntime) {
     let mut bytes = [0; 56];
-    for (place, number) in FIELDS {
+    for &(place, number) in FIELDS {
         set(&mut bytes, 0, place, number, Order::Big);
     }
     let program = ProgramHeader::Ph64(ProgramHeader64::decode(&bytes, Order::Big));

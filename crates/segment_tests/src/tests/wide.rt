@@ -17,7 +17,7 @@ use xmas_elf::{ElfError, ElfFile};
 
 const LITTLE: Order = Order::Little;
 
-const BOTH_ORDERS: [Order; 2] = [Order::Little, Order::Big];
+const BOTH_ORDERS: &[Order] = &[Order::Little, Order::Big];
 
 // Where the fields that these tests change lie in the files of one class, and the sizes of its records.
 #[derive(Clone, Copy)]
@@ -79,7 +79,7 @@ const WIDE: Fields = Fields {
     len: 204,
 };
 
-const NAMES: [(u32, Result<&str, ElfError>); 5] = [
+const NAMES: &[(u32, Result<&str, ElfError>)] = &[
     (0, Ok("")),
     (1, Ok(".strtab")),
     (9, Ok("ab")),
@@ -89,7 +89,7 @@ const NAMES: [(u32, Result<&str, ElfError>); 5] = [
 
 // Wants the names of `strtab_file` and `wide_strtab_file`, each read, compared and searched for.
 fn check_names(rt: &impl Abort, file: &ElfFile<'_>, fields: Fields) {
-    for (index, name) in NAMES {
+    for &(index, name) in NAMES {
         want_at(rt, index, file.get_shstr(index), name);
     }
     for (index, name, answer) in STRTAB_COMPARED {
@@ -106,7 +106,7 @@ const SECTION_RANGE: Result<(), ElfError> = Err(ElfError::ShTableRange);
 
 // The count of the ELF header and the size of section header 0; how many sections there are then, how
 // many of them can be read, and what the check says.
-const SECTION_COUNTS: [(u64, u64, (u64, usize, Result<(), ElfError>)); 10] = [
+const SECTION_COUNTS: &[(u64, u64, (u64, usize, Result<(), ElfError>))] = &[
     (0, 0, (0, 0, Ok(()))),
     (0, 1, (1, 1, Ok(()))),
     (0, 2, (2, 2, Ok(()))),
@@ -129,7 +129,7 @@ fn section_counts(file: &ElfFile<'_>) -> (u64, usize, Result<(), ElfError>) {
 }
 
 fn check_section_counts(rt: &impl Abort, bytes: &mut [u8], fields: Fields, order: Order) {
-    for (sh_count, size, wanted) in SECTION_COUNTS {
+    for &(sh_count, size, wanted) in SECTION_COUNTS {
         set(bytes, 0, fields.sh_count, sh_count, order);
         set(bytes, fields.first, fields.size, size, order);
         let file = open(rt, bytes);
@@ -142,7 +142,7 @@ fn check_section_counts(rt: &impl Abort, bytes: &mut [u8], fields: Fields, order
 
 #[test]
 fn section_0_has_the_count_of_sections(rt: HostRuntime) {
-    for order in BOTH_ORDERS {
+    for &order in BOTH_ORDERS {
         check_section_counts(&rt, &mut strtab_file(order), NARROW, order);
         check_section_counts(&rt, &mut wide_strtab_file(order), WIDE, order);
     }
@@ -150,7 +150,7 @@ fn section_0_has_the_count_of_sections(rt: HostRuntime) {
 
 #[test]
 fn section_0_has_a_count_of_64_bits(rt: HostRuntime) {
-    for order in BOTH_ORDERS {
+    for &order in BOTH_ORDERS {
         let mut bytes = wide_strtab_file(order);
         set(&mut bytes, 0, header_64::SH_COUNT, 0, order);
         set(&mut bytes, 64, section_64::SIZE, u64::MAX, order);
@@ -163,7 +163,7 @@ const SHORT: Result<&str, ElfError> = Err(ElfError::ShortSectionHeader);
 
 // The index of the ELF header and the link of section header 0; which index it is then, and the name
 // at 1.
-const STRING_INDICES: [(u64, u64, Result<u32, ElfError>, Result<&str, ElfError>); 12] = [
+const STRING_INDICES: &[(u64, u64, Result<u32, ElfError>, Result<&str, ElfError>)] = &[
     (1, 0, Ok(1), Ok(".strtab")),
     (0xffff, 1, Ok(1), Ok(".strtab")),
     (0xffff, 2, Ok(2), SHORT),
@@ -201,7 +201,7 @@ fn check_no_names(rt: &impl Abort, file: &ElfFile<'_>) {
 }
 
 fn check_string_indices(rt: &impl Abort, bytes: &mut [u8], fields: Fields, order: Order) {
-    for (str_index, link, index, name) in STRING_INDICES {
+    for &(str_index, link, index, name) in STRING_INDICES {
         set(bytes, 0, fields.sh_str_index, str_index, order);
         set(bytes, fields.first, fields.link, link, order);
         let file = open(rt, bytes);
@@ -217,7 +217,7 @@ fn check_string_indices(rt: &impl Abort, bytes: &mut [u8], fields: Fields, order
 
 #[test]
 fn section_0_has_the_index_of_the_names(rt: HostRuntime) {
-    for order in BOTH_ORDERS {
+    for &order in BOTH_ORDERS {
         check_string_indices(&rt, &mut strtab_file(order), NARROW, order);
         check_string_indices(&rt, &mut wide_strtab_file(order), WIDE, order);
     }
@@ -227,7 +227,7 @@ const PROGRAM_RANGE: Result<(), ElfError> = Err(ElfError::PhTableRange);
 
 // The count of the ELF header and the info of section header 0; how many segments there are then, how
 // many of them can be read, and what the check says.
-const PROGRAM_COUNTS: [(u64, u64, (u32, usize, Result<(), ElfError>)); 9] = [
+const PROGRAM_COUNTS: &[(u64, u64, (u32, usize, Result<(), ElfError>))] = &[
     (0xffff, 0, (0, 0, Ok(()))),
     (0xffff, 1, (1, 1, Ok(()))),
     (0xffff, 2, (2, 2, Ok(()))),
@@ -254,7 +254,7 @@ const NO_HEADERS: Option<ElfError> = Some(ElfError::NoProgramHeaders);
 fn check_program_counts(rt: &impl Abort, bytes: &mut [u8], fields: Fields, order: Order) {
     set(bytes, 0, fields.ph_offset, fields.first as u64, order);
     set(bytes, 0, fields.ph_entry_size, fields.program_len, order);
-    for (ph_count, info, wanted) in PROGRAM_COUNTS {
+    for &(ph_count, info, wanted) in PROGRAM_COUNTS {
         set(bytes, 0, fields.ph_count, ph_count, order);
         set(bytes, fields.first, fields.info, info, order);
         let file = open(rt, bytes);
@@ -266,7 +266,7 @@ fn check_program_counts(rt: &impl Abort, bytes: &mut [u8], fields: Fields, order
 
 #[test]
 fn section_0_has_the_count_of_segments(rt: HostRuntime) {
-    for order in BOTH_ORDERS {
+    for &order in BOTH_ORDERS {
         check_program_counts(&rt, &mut strtab_file(order), NARROW, order);
         check_program_counts(&rt, &mut wide_strtab_file(order), WIDE, order);
     }
@@ -306,7 +306,7 @@ fn check_two_segments(rt: &impl Abort, file: &ElfFile<'_>) -> Result<(), ElfErro
 // An index is compared with the wider count, and by the older call with that of the ELF header.
 #[test]
 fn segments_by_either_count(rt: HostRuntime) -> Result<(), ElfError> {
-    for order in BOTH_ORDERS {
+    for &order in BOTH_ORDERS {
         let bytes = counted_file(order, 2);
         check_two_segments(&rt, &open(&rt, &bytes))?;
         want(&rt, report_ends_with(rt.alloc(), &bytes, REPORT_END), true);
@@ -316,7 +316,7 @@ fn segments_by_either_count(rt: HostRuntime) -> Result<(), ElfError> {
 
 #[test]
 fn segments_by_the_widest_count(rt: HostRuntime) {
-    for order in BOTH_ORDERS {
+    for &order in BOTH_ORDERS {
         let bytes = counted_file(order, 0xffff_ffff);
         let file = open(&rt, &bytes);
         for index in [2, 1 << 27, 0xffff_fffe] {
@@ -391,7 +391,7 @@ fn check_damage(rt: &impl Abort, bytes: &mut [u8], fields: Fields, order: Order)
 
 #[test]
 fn section_0_may_be_unreadable(rt: HostRuntime) {
-    for order in BOTH_ORDERS {
+    for &order in BOTH_ORDERS {
         check_damage(&rt, &mut strtab_file(order), NARROW, order);
         check_damage(&rt, &mut wide_strtab_file(order), WIDE, order);
     }
@@ -439,7 +439,7 @@ fn check_indices(rt: &impl Abort, bytes: &mut [u8], fields: Fields, order: Order
 
 #[test]
 fn places_of_wide_indices_do_not_wrap(rt: HostRuntime) {
-    for order in BOTH_ORDERS {
+    for &order in BOTH_ORDERS {
         check_indices(&rt, &mut strtab_file(order), NARROW, order);
         check_indices(&rt, &mut wide_strtab_file(order), WIDE, order);
     }
@@ -453,7 +453,7 @@ fn counts_many_sections(rt: HostRuntime) -> Result<(), Fail> {
     Ok(())
 }
 
-const TYPES: [(u64, Result<ShType, ElfError>); 4] = [
+const TYPES: &[(u64, Result<ShType, ElfError>)] = &[
     (2, Ok(ShType::SymTabShIndex)),
     (0xff00, Ok(ShType::Null)),
     (69_998, Ok(ShType::Null)),
@@ -464,7 +464,7 @@ const TYPES: [(u64, Result<ShType, ElfError>); 4] = [
 fn reads_many_sections(rt: HostRuntime) -> Result<(), Fail> {
     let bytes = many_sections_file(rt.alloc())?;
     let file = open(&rt, bytes.as_slice());
-    for (index, kind) in TYPES {
+    for &(index, kind) in TYPES {
         let section = file.section_header_at(index)?;
         want_at(&rt, index, section.get_type(), kind);
     }
