@@ -9,6 +9,12 @@
  * No pointer may be null. An input of no bytes needs a pointer too, which is not read. `*out` is a record
  * whose memory the caller owns alone during the call; it need hold no value of a sort before. The same holds of
  * room for several, `out[0 .. out_size]`.
+ *
+ * Calls for many records put as many to the front of `out` as it has room for, or all that follow index `first`. Their
+ * number goes to `*count`; what of `out` is behind them stays. With no room (`out_size` 0) the number is 0. Where the
+ * call is refused, `out` and `*count` stay as they were. Behind the last record it is refused with
+ * XMAS_ELF_NO_RECORD, so that a loop ends:
+ *     for (first = 0; xmas_elf_sections(.., first, out, out_size, &count) == XMAS_ELF_OK; first += count) ..
  */
 #ifndef XMAS_ELF_H
 #define XMAS_ELF_H
@@ -141,7 +147,7 @@ uint32_t xmas_elf_open(const uint8_t *input, size_t input_size, struct xmas_elf_
 /* Whether the header makes sense over the input: its own size, its class, and where its tables end. */
 uint32_t xmas_elf_check_header(const uint8_t *input, size_t input_size, const struct xmas_elf_header *header);
 
-/* How many sections and segments there are. Never refused. */
+/* How many sections and segments there are, as the file says: its tables may be cut off. Never refused. */
 uint32_t xmas_elf_counts(const uint8_t *input, size_t input_size, const struct xmas_elf_header *header,
                          struct xmas_elf_counts *out);
 
@@ -149,32 +155,34 @@ uint32_t xmas_elf_counts(const uint8_t *input, size_t input_size, const struct x
 uint32_t xmas_elf_names_index(const uint8_t *input, size_t input_size, const struct xmas_elf_header *header,
                               uint32_t *out);
 
-/* The section header at an index. */
+/* The section header at an index, which isn't compared with the count of sections: behind that it is what the bytes
+ * there say, or refused. */
 uint32_t xmas_elf_section(const uint8_t *input, size_t input_size, const struct xmas_elf_header *header,
                           uint64_t index, struct xmas_elf_section *out);
 
-/* The section headers from index `first` on: as many as `out` has room for, or all that follow, up to the count of
- * sections or the first that is refused. Their number goes to `*count`; what of `out` is behind them stays. Refused
- * with XMAS_ELF_NO_RECORD where there is none at `first`, so that a loop ends:
- *     for (first = 0; xmas_elf_sections(.., first, out, out_size, &count) == XMAS_ELF_OK; first += count) ..
- * With no room at all (`out_size` 0) the number is 0. */
+/* The section headers from index `first` on, up to the count of sections or the first that is refused. Where they end
+ * before the count, `xmas_elf_section` says why. */
 uint32_t xmas_elf_sections(const uint8_t *input, size_t input_size, const struct xmas_elf_header *header,
                            uint64_t first, struct xmas_elf_section *out, size_t out_size, uint64_t *count);
 
-/* The first section with a name: XMAS_ELF_NOT_FOUND where none has it, as where it isn't UTF-8. */
+/* The first section with a name: XMAS_ELF_NOT_FOUND where none has it, as where it isn't UTF-8. Sections whose name is
+ * refused are passed over. */
 uint32_t xmas_elf_find_section(const uint8_t *input, size_t input_size, const struct xmas_elf_header *header,
                                const uint8_t *name, size_t name_size, struct xmas_elf_section *out);
 
-/* Where the data of a section stands. A section of type NoBits has none: its range belongs to others. */
+/* Where the data of a section stands. A section of type NoBits has none: its range belongs to others. Type Null (0) is
+ * refused with XMAS_ELF_NULL_DATA, and a type that the reader doesn't know with XMAS_ELF_INVALID_SH_TYPE. */
 uint32_t xmas_elf_section_data(const uint8_t *input, size_t input_size, const struct xmas_elf_header *header,
                                uint64_t index, struct xmas_elf_range *out);
 
-/* Where the name of a section stands, without the zero byte behind it. It is UTF-8. */
+/* Where the name of a section stands, without the zero byte behind it. It is UTF-8. Type Null (0), which section 0 has,
+ * is refused with XMAS_ELF_NULL_NAME, and a type that the reader doesn't know, as 19 (RELR), with
+ * XMAS_ELF_INVALID_SH_TYPE; `xmas_elf_names` and `xmas_elf_text` give the names of these too. */
 uint32_t xmas_elf_section_name(const uint8_t *input, size_t input_size, const struct xmas_elf_header *header,
                                uint64_t index, struct xmas_elf_range *out);
 
 /* Where the names of the sections from index `first` on stand, each as by `xmas_elf_section_name` and with a status of
- * its own. They are those of the sections that `xmas_elf_sections` gives, and as many. */
+ * its own. They are those of the sections that `xmas_elf_sections` gives, and as many; refused as that is. */
 uint32_t xmas_elf_section_names(const uint8_t *input, size_t input_size, const struct xmas_elf_header *header,
                                 uint64_t first, struct xmas_elf_name *out, size_t out_size, uint64_t *count);
 
@@ -196,23 +204,20 @@ uint32_t xmas_elf_segment(const uint8_t *input, size_t input_size, const struct 
 uint32_t xmas_elf_segment_data(const uint8_t *input, size_t input_size, const struct xmas_elf_header *header,
                                uint32_t index, struct xmas_elf_range *out);
 
-/* The symbol at an index of the section at an index: XMAS_ELF_OTHER_DATA where the section holds no symbols,
- * XMAS_ELF_NO_RECORD from their number on. Its name is a text of the string table whose section index is
- * the `link` of the symbols' section. */
+/* The symbol at an index of the section at an index: XMAS_ELF_OTHER_DATA where the section is of another type than 2
+ * (SHT_SYMTAB) and 11 (SHT_DYNSYM), XMAS_ELF_NO_RECORD from their number on. Else it is refused as the header of the
+ * section is, or for its data, as where its type isn't known or the data is cut off. Its name is a text of the string
+ * table whose section index is the `link` of the symbols' section. */
 uint32_t xmas_elf_symbol(const uint8_t *input, size_t input_size, const struct xmas_elf_header *header,
                          uint64_t section, uint64_t index, struct xmas_elf_symbol *out);
 
-/* The symbols from index `first` on of the section at an index: as many as `out` has room for, or all that
- * follow. Their number goes to `*count`; what of `out` is behind them stays. Refused as `xmas_elf_symbol` is at
- * `first`, so that a loop ends:
- *     for (first = 0; xmas_elf_symbols(.., first, out, out_size, &count) == XMAS_ELF_OK; first += count) ..
- * With no room at all (`out_size` 0) the number is 0. */
+/* The symbols from index `first` on of the section at an index, refused as `xmas_elf_symbol` is at `first`. */
 uint32_t xmas_elf_symbols(const uint8_t *input, size_t input_size, const struct xmas_elf_header *header,
                           uint64_t section, uint64_t first, struct xmas_elf_symbol *out, size_t out_size,
                           uint64_t *count);
 
 /* Where the names of the same symbols stand, each with a status of its own: the texts of the string table that the
- * section is linked to, at the `name` of each. Refused as `xmas_elf_symbols` is, and as many. */
+ * section is linked to, at the `name` of each. As many as `xmas_elf_symbols` gives, and refused as that is. */
 uint32_t xmas_elf_symbol_names(const uint8_t *input, size_t input_size, const struct xmas_elf_header *header,
                                uint64_t section, uint64_t first, struct xmas_elf_name *out, size_t out_size,
                                uint64_t *count);

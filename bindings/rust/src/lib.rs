@@ -92,6 +92,12 @@ impl<'a> ElfFile<'a> {
         Sections::new(self)
     }
 
+    /// Puts the section headers from an index on to the front of `out`, as many as it has room for or all that follow, and
+    /// says how many. Refused where `sections` has none at that index.
+    pub fn sections_from(&self, first: u64, out: &mut [SectionHeader]) -> Result<usize, Error> {
+        ffi::sections(self.input, &self.header, first, out)
+    }
+
     /// Puts where the names of the sections from an index on stand to the front of `out`, as many as it has room for or
     /// all that follow, and says how many. Refused where `sections` has none at that index. It costs less than a call
     /// of `name` for each.

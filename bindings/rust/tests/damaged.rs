@@ -1,6 +1,6 @@
 //! Damaged files: every call returns, and each part that it gives lies in the input.
 
-use xmas_elf_proved::{Answer, ByteRange, ElfFile, Entry, Error, HashTable, Name, Section};
+use xmas_elf_proved::{Answer, ByteRange, ElfFile, Entry, Error, HashTable, Name, Section, SectionHeader};
 
 // A stream of numbers (Marsaglia's xorshift of 64 bits), the same in each run.
 struct Numbers(u64);
@@ -50,6 +50,8 @@ fn visit_section_names(file: &ElfFile<'_>) {
     }
     let read = (0..file.section_count()).map_while(|index| file.section(index).ok()).take(200);
     assert!(read.zip(file.sections()).all(|(one, of_many)| one.index() == of_many.index() && one.offset == of_many.offset));
+    let mut headers = [SectionHeader::default(); 3];
+    assert_eq!(file.sections_from(0, &mut headers).unwrap_or(0), file.sections().take(3).count());
     assert_eq!(file.section_names_from(0, &mut []).is_ok(), file.sections().next().is_some());
 }
 
