@@ -3,6 +3,8 @@
 #   tools/bindings.sh            the C example, the header as C++, the Rust crate with its own tests: no registry
 #   tools/bindings.sh --compare  besides, all answers beside those of `object`, of Debian's librust-object-dev, over the
 #                                files of the system
+#   tools/bindings.sh --valgrind besides, the tests of the Rust crate and the C example under valgrind, which tells of
+#                                reads and writes outside of memory that is the program's
 # XMAS_ELF_ARCHIVE: a folder that holds libelf_c.a; where it isn't set, `rt lib` makes it.
 set -euo pipefail
 cd "$(dirname "$0")/.."
@@ -80,4 +82,12 @@ for name, wide, order in (("a", True, "little"), ("b", True, "big"), ("c", False
     (pathlib.Path(sys.argv[1]) / name).write_bytes(damage.worked(wide, order, ""))
 END
     "$CARGO_TARGET_DIR/release/compare" "$room"/worked/* /lib/x86_64-linux-gnu/*.so* /usr/bin/*
+fi
+
+if [ "${1:-}" = --valgrind ]; then
+    watched=(valgrind --quiet --error-exitcode=9)
+    export CARGO_TARGET_X86_64_UNKNOWN_LINUX_GNU_RUNNER="${watched[*]}"
+    cargo test --quiet --offline --release --manifest-path bindings/rust/Cargo.toml --tests
+    "${watched[@]}" "$room/nm_c" /lib/x86_64-linux-gnu/libc.so.6 > "$room/of_c"
+    echo "bindings: valgrind finds no fault"
 fi
