@@ -11,6 +11,7 @@ struct input {
     struct xmas_elf_header header;
     uint64_t sections, symbols_at, table_at, names;
     struct xmas_elf_range *name;
+    struct xmas_elf_range last;
 };
 
 /* Each pass adds numbers up, and says how many items it saw. */
@@ -99,11 +100,8 @@ static uint64_t symbol_names_pass(const struct input *input, uint64_t *sum)
 static uint64_t find_pass(const struct input *input, uint64_t *sum)
 {
     struct xmas_elf_section section;
-    struct xmas_elf_range name;
-    uint64_t i = input->sections;
-    while (i > 0 && xmas_elf_section_name(input->bytes, input->size, &input->header, i - 1, &name) != XMAS_ELF_OK) i--;
-    if (i > 0 && xmas_elf_find_section(input->bytes, input->size, &input->header, input->bytes + name.offset,
-                                       (size_t)name.size, &section) == XMAS_ELF_OK)
+    if (xmas_elf_find_section(input->bytes, input->size, &input->header, input->bytes + input->last.offset,
+                              (size_t)input->last.size, &section) == XMAS_ELF_OK)
         *sum += section.size;
     return 1;
 }
@@ -192,6 +190,7 @@ int main(int argc, char **argv)
     struct xmas_elf_section section;
     for (uint64_t i = 0; i < input.sections; i++) {
         if (xmas_elf_section(bytes, size, &input.header, i, &section) != XMAS_ELF_OK) continue;
+        xmas_elf_section_name(bytes, size, &input.header, i, &input.last); /* a refusal leaves the name before */
         if (section.type == 2 || (section.type == 11 && !input.symbols_at)) input.symbols_at = i;
         if (section.type == 0x6ffffff6) find_names(&input, i, section.link);
     }
