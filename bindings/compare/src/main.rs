@@ -177,6 +177,8 @@ fn compare_section<Elf: FileHeader<Endian = Endianness>>(
     answers.same("section info", ours.info, theirs.sh_info(endian));
     answers.same("section alignment", ours.align, wide(theirs.sh_addralign(endian)));
     answers.same("entry size", ours.entry_size, wide(theirs.sh_entsize(endian)));
+    let name = sections.section_name(endian, theirs).ok().and_then(|name| std::str::from_utf8(name).ok());
+    answers.same("section name, whatever its type", ours.raw_name().ok(), name);
     // A type that this library refuses, as RELR, or Null, has neither a name nor data here.
     if let Ok(name) = ours.name() {
         answers.same("section name", Some(name.as_bytes()), sections.section_name(endian, theirs).ok());

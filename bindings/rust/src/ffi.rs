@@ -242,6 +242,7 @@ extern "C" {
     fn xmas_elf_section_names(input: Bytes, size: usize, header: *const Header, first: u64, out: *mut Name, room: usize, count: *mut u64) -> u32;
     fn xmas_elf_section_data(input: Bytes, size: usize, header: *const Header, index: u64, out: *mut Range) -> u32;
     fn xmas_elf_section_name(input: Bytes, size: usize, header: *const Header, index: u64, out: *mut Range) -> u32;
+    fn xmas_elf_names(input: Bytes, size: usize, header: *const Header, out: *mut Range) -> u32;
     fn xmas_elf_text(input: Bytes, size: usize, part: *const Range, index: u64, out: *mut Range) -> u32;
     fn xmas_elf_segment(input: Bytes, size: usize, header: *const Header, index: u32, out: *mut ProgramHeader) -> u32;
     fn xmas_elf_segment_data(input: Bytes, size: usize, header: *const Header, index: u32, out: *mut Range) -> u32;
@@ -310,6 +311,11 @@ pub(crate) fn section_data(input: &[u8], header: &Header, index: u64) -> Result<
 pub(crate) fn section_name(input: &[u8], header: &Header, index: u64) -> Result<Range, Error> {
     // SAFETY: see above.
     filled(|out| unsafe { xmas_elf_section_name(input.as_ptr(), input.len(), header, index, out) })
+}
+
+pub(crate) fn names(input: &[u8], header: &Header) -> Result<Range, Error> {
+    // SAFETY: see above.
+    filled(|out| unsafe { xmas_elf_names(input.as_ptr(), input.len(), header, out) })
 }
 
 pub(crate) fn text(input: &[u8], part: &Range, index: u64) -> Result<Range, Error> {

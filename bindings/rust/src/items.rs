@@ -27,9 +27,16 @@ impl<'f, 'a> Section<'f, 'a> {
         self.index
     }
 
-    /// The name of the section.
+    /// The name of the section. Refused for type Null and for types that the reader doesn't know: see `raw_name`.
     pub fn name(&self) -> Result<&'a str, Error> {
         let range = ffi::section_name(self.file.input, &self.file.header, self.index)?;
+        Ok(self.file.text(range))
+    }
+
+    /// The name of the section, whatever its type, as RELR.
+    pub fn raw_name(&self) -> Result<&'a str, Error> {
+        let names = ffi::names(self.file.input, &self.file.header)?;
+        let range = ffi::text(self.file.input, &names, u64::from(self.header.name))?;
         Ok(self.file.text(range))
     }
 

@@ -93,7 +93,7 @@ fn visit_section(input: &[u8], section: &Section<'_, '_>) -> usize {
         }
     }
     assert!(section.data().map_or(true, |data| lies_in(input, data) && data.len() as u64 == section.size));
-    assert!(section.name().map_or(true, |name| lies_in(input, name.as_bytes())));
+    assert!(section.name().map_or(true, |name| lies_in(input, name.as_bytes()) && section.raw_name() == Ok(name)));
     found
 }
 
