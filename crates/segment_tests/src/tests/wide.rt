@@ -163,7 +163,7 @@ const SHORT: Result<&str, ElfError> = Err(ElfError::ShortSectionHeader);
 
 // The index of the ELF header and the link of section header 0; which index it is then, and the name
 // at 1.
-const STRING_INDICES: &[(u64, u64, Result<u32, ElfError>, Result<&str, ElfError>)] = &[
+const STRING_INDICES: [(u64, u64, Result<u32, ElfError>, Result<&str, ElfError>); 12] = [
     (1, 0, Ok(1), Ok(".strtab")),
     (0xffff, 1, Ok(1), Ok(".strtab")),
     (0xffff, 2, Ok(2), SHORT),
@@ -201,7 +201,7 @@ fn check_no_names(rt: &impl Abort, file: &ElfFile<'_>) {
 }
 
 fn check_string_indices(rt: &impl Abort, bytes: &mut [u8], fields: Fields, order: Order) {
-    for &(str_index, link, index, name) in STRING_INDICES {
+    for (str_index, link, index, name) in STRING_INDICES {
         set(bytes, 0, fields.sh_str_index, str_index, order);
         set(bytes, fields.first, fields.link, link, order);
         let file = open(rt, bytes);
