@@ -108,7 +108,7 @@ if [ -n "$bindings" ]; then
     fi
     gcc -std=c11 -O2 -march=x86-64-v2 -I"$top/bindings/include" "$top/bindings/c/speed.c" "$archive/libelf_c.a" -o "$room/speed"
     for group in "${groups[@]}"; do
-        "$room/speed" "${group#*=}" | sed "s/^/${group%%=*}\t/"
+        for ((run = 1; run <= runs; run++)); do "$room/speed" "${group#*=}" | sed "s/^/${group%%=*}\t/"; done
     done > "$room/exports.tsv"
     "$here/table.py" exports "$room" >> "$room/table.md"
 fi

@@ -101,16 +101,19 @@ EXPORTS = {
 def exports(room: pathlib.Path) -> None:
     cells, _items = read(room)
     print()
-    print("By the exports for C, `bindings/c/speed.c`: nanoseconds an item. The library's are those of the table above.")
+    print("By the exports for C, `bindings/c/speed.c`: nanoseconds an item, the least of several runs. The library's are those of the table above.")
     print()
     print("| Pass | file | by the exports | the library |")
     print("|---|---|---:|---:|")
+    least: dict[tuple[str, str], float] = {}
     for line in (room / "exports.tsv").read_text(encoding="utf-8").splitlines():
         group, name, each = re.match(r"(\w+)\t(.*?)  +([\d.]+) ns", line).groups()
+        least[group, name] = min(float(each), least.get((group, name), float(each)))
+    for (group, name), each in least.items():
         wanted, way = EXPORTS[name]
         found = cells.get((group, wanted), {}).get(way)
         if found:
-            print(f"| {name} | {group} | {number(float(each))} | {number(min(found))} |")
+            print(f"| {name} | {group} | {number(each)} | {number(min(found))} |")
 
 
 def paste(page: pathlib.Path, table: pathlib.Path) -> None:
