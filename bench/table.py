@@ -101,7 +101,7 @@ EXPORTS = {
 def exports(room: pathlib.Path) -> None:
     cells, _items = read(room)
     print()
-    print("By the exports for C, `bindings/c/speed.c`: nanoseconds an item, the least of several runs. The library's are those of the table above.")
+    print("By the exports for C, `bindings/c/speed.c`: nanoseconds an item, the least of as many runs. The library's are those of the table above.")
     print()
     print("| Pass | file | by the exports | the library |")
     print("|---|---|---:|---:|")
