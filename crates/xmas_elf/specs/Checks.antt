@@ -16,7 +16,7 @@ use Rattle.xmas_elf.specs.ProgramHeader.{program_fields, program_place, program_
 use Rattle.xmas_elf.specs.SectionHeader.{section_place, section_type}
 use Rattle.xmas_elf.specs.declared.ElfFile.{ElfFile}
 use Rattle.xmas_elf.specs.declared.program.program_header.ProgramHeader.{ProgramHeader}
-use Rattle.xmas_elf.specs.declared.program.records.ProgramHeader64.{ProgramHeader64}
+use Rattle.xmas_elf.specs.declared.program.program_header.ProgramHeader64.{ProgramHeader64}
 use Rattle.xmas_elf.specs.declared.sections.section_header.SectionHeader.{SectionHeader}
 
 -- the class whose part 2 this is

@@ -12,7 +12,7 @@ use Rattle.xmas_elf.specs.SectionHeader.{section_fields}
 use Rattle.xmas_elf.specs.declared.ElfFile.{ElfFile}
 use Rattle.xmas_elf.specs.declared.program.content.SegmentData.{SegmentData}
 use Rattle.xmas_elf.specs.declared.program.content.SegmentData.TheVariants as segment_data
-use Rattle.xmas_elf.specs.declared.program.records.ProgramHeader64.{ProgramHeader64}
+use Rattle.xmas_elf.specs.declared.program.program_header.ProgramHeader64.{ProgramHeader64}
 use Rattle.xmas_elf.specs.declared.sections.content.SectionData.{SectionData}
 use Rattle.xmas_elf.specs.declared.sections.content.SectionData.TheVariants as section_data
 use Rattle.xmas_elf.specs.declared.sections.section_header.SectionHeader.{SectionHeader}

@@ -14,8 +14,8 @@ use Rattle.elf_records.specs.declared.program.Type as the_type
 use Rattle.xmas_elf.specs.Counts.{program_count_of}
 use Rattle.xmas_elf.specs.HeaderTable.{IsKnownClass, entry_place, is_known_class}
 use Rattle.xmas_elf.specs.declared.ElfFile.{ElfFile}
-use Rattle.xmas_elf.specs.declared.program.records.ProgramHeader32.{ProgramHeader32}
-use Rattle.xmas_elf.specs.declared.program.records.ProgramHeader64.{ProgramHeader64}
+use Rattle.xmas_elf.specs.declared.program.program_header.ProgramHeader32.{ProgramHeader32}
+use Rattle.xmas_elf.specs.declared.program.program_header.ProgramHeader64.{ProgramHeader64}
 use Rattle.xmas_elf.specs.declared.program.program_header.ProgramHeader.{ProgramHeader}
 use Rattle.xmas_elf.specs.declared.program.program_header.ProgramHeader.TheVariants.{Ph32, Ph64}
 

@@ -13,7 +13,7 @@ use Rattle.elf_records.specs.SectionNumbers.{sh_type_number, sh_type_of, sh_type
 use Rattle.elf_records.specs.declared.sections.ShType.{ShType}
 use Rattle.xmas_elf.specs.HeaderTable.{IsKnownClass, entry_place, is_known_class}
 use Rattle.xmas_elf.specs.declared.ElfFile.{ElfFile}
-use Rattle.xmas_elf.specs.declared.sections.records.SectionHeader_.{SectionHeader_}
+use Rattle.xmas_elf.specs.declared.sections.section_header.SectionHeader_.{SectionHeader_}
 use Rattle.xmas_elf.specs.declared.sections.section_header.SectionHeader.{SectionHeader}
 use Rattle.xmas_elf.specs.declared.sections.section_header.SectionHeader.TheVariants.{Sh32, Sh64}
 

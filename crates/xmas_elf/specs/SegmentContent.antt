@@ -14,7 +14,7 @@ use Rattle.xmas_elf.specs.SegmentData.{segment_data_of}
 use Rattle.xmas_elf.specs.declared.ElfFile.{ElfFile}
 use Rattle.xmas_elf.specs.declared.program.content.SegmentData.{SegmentData}
 use Rattle.xmas_elf.specs.declared.program.content.SegmentData.TheVariants as segment_data
-use Rattle.xmas_elf.specs.declared.program.records.ProgramHeader64.{ProgramHeader64}
+use Rattle.xmas_elf.specs.declared.program.program_header.ProgramHeader64.{ProgramHeader64}
 
 -- what a value of `SegmentData` holds
 abbrev pub segment_content : SegmentData → Content

@@ -10,7 +10,7 @@ use Rattle.elf_records.specs.declared.program.Type.TheVariants.{Null}
 use Rattle.xmas_elf.specs.Range.{IsRange, range_of}
 use Rattle.xmas_elf.specs.ProgramHeader.{segment_type}
 use Rattle.xmas_elf.specs.declared.ElfFile.{ElfFile}
-use Rattle.xmas_elf.specs.declared.program.records.ProgramHeader64.{ProgramHeader64}
+use Rattle.xmas_elf.specs.declared.program.program_header.ProgramHeader64.{ProgramHeader64}
 
 -- a segment has data: its type is valid and not Null, and its range lies in the input or is empty
 pub record HasSegmentData (file : ElfFile) (segment : ProgramHeader64) : Type 0 where

@@ -47,12 +47,12 @@ use Rattle.xmas_elf.specs.declared.hash.HashTable.{HashTable as the_HashTable}
 use Rattle.xmas_elf.specs.declared.program.ProgramIter.{ProgramIter as the_ProgramIter}
 use Rattle.xmas_elf.specs.declared.program.content.SegmentData.{SegmentData as the_SegmentData}
 use Rattle.xmas_elf.specs.declared.program.program_header.ProgramHeader.{ProgramHeader as the_ProgramHeader}
-use Rattle.xmas_elf.specs.declared.program.records.ProgramHeader32.{ProgramHeader32 as the_ProgramHeader32}
-use Rattle.xmas_elf.specs.declared.program.records.ProgramHeader64.{ProgramHeader64 as the_ProgramHeader64}
+use Rattle.xmas_elf.specs.declared.program.program_header.ProgramHeader32.{ProgramHeader32 as the_ProgramHeader32}
+use Rattle.xmas_elf.specs.declared.program.program_header.ProgramHeader64.{ProgramHeader64 as the_ProgramHeader64}
 use Rattle.xmas_elf.specs.declared.report.ReportFault.{ReportFault as the_ReportFault}
 use Rattle.xmas_elf.specs.declared.sections.SectionIter.{SectionIter as the_SectionIter}
 use Rattle.xmas_elf.specs.declared.sections.content.SectionData.{SectionData as the_SectionData}
-use Rattle.xmas_elf.specs.declared.sections.records.SectionHeader_.{SectionHeader_ as the_SectionHeader_}
+use Rattle.xmas_elf.specs.declared.sections.section_header.SectionHeader_.{SectionHeader_ as the_SectionHeader_}
 use Rattle.xmas_elf.specs.declared.sections.section_header.SectionHeader.{SectionHeader as the_SectionHeader}
 use Rattle.xmas_elf.specs.declared.sections.strings.SectionStrings.{SectionStrings as the_SectionStrings}
 use Rattle.xmas_elf.specs.declared.symbol_table.entries.DynEntry32.{DynEntry32 as the_DynEntry32}

@@ -13,7 +13,7 @@ ghost use Rattle.xmas_elf.specs.SectionList.{section_list};
 ghost use Rattle.xmas_elf.specs.declared.sections.section_header.SectionHeader.{SectionHeader};
 
 use crate::bytes::{text_at, text_is};
-use crate::sections::SectionHeader;
+use crate::sections::{SectionHeader, section_entry};
 use crate::{ElfError, ElfFile};
 
 impl<'a> ElfFile<'a> {
@@ -56,7 +56,8 @@ impl<'a> ElfFile<'a> {
     fn names_section(&self) -> Result<SectionHeader, ElfError>
         ensures { result ≡ names_section_of self.now }
     {
-        self.section_header_at(u64::from(self.shstr_index()?))
+        let index = u64::from(self.shstr_index()?);
+        section_entry(self.input, &self.header, index)
     }
 
     // The name table, as a table of sections keeps it.

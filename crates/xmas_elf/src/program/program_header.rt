@@ -1,15 +1,205 @@
-//! A program header of either width (gABI, "Program Header").
+//! Program headers: their records in bytes, of either width, and what they say (gABI, "Program
+//! Header": Elf32_Phdr and Elf64_Phdr).
 
-ghost use Rattle.std.specs.Prelude.{◌≡◌, ◌≢◌, ◌↔◌, Err, IfOk, IsOk, MatchResult, Ok, drop, take};
+ghost use Rattle.std.specs.Prelude.{◌≡◌, ◌≢◌, ◌↔◌, ◌+◌, ◌≤◌, ◌<◌, [], ◌∷◌, Err, IfOk, IsOk, MatchResult, Ok, drop, is_none, length, nat_lt, not, take, unwrap_or};
+ghost use Rattle.std.specs.Option.{ForSome};
+ghost use Rattle.std.proofs.Common.{lit<};
+ghost use Rattle.elf_base.specs.FileHeader.{file_class};
+ghost use Rattle.elf_base.specs.HeaderLayout.{header_fields};
 ghost use Rattle.elf_base.specs.Lent.{Answers, Lends};
+ghost use Rattle.elf_base.specs.Refusal.{unless};
+ghost use Rattle.xmas_elf.specs.HeaderTable.{is_known_class};
 ghost use Rattle.xmas_elf.specs.Place.{LiesAsSegment};
-ghost use Rattle.xmas_elf.specs.ProgramHeader.{program_fields, program_record_size, segment_type};
+ghost use Rattle.xmas_elf.specs.ProgramHeader.{HasProgramEntry, HasProgramHeader, program_64};
+ghost use Rattle.xmas_elf.specs.ProgramHeader.{program_at_index, program_at_place, program_by_u16};
+ghost use Rattle.xmas_elf.specs.ProgramHeader.{program_entry, program_fields, program_header_32};
+ghost use Rattle.xmas_elf.specs.ProgramHeader.{program_header_64, program_header_size};
+ghost use Rattle.xmas_elf.specs.ProgramHeader.{program_record_size, segment_type};
 ghost use Rattle.xmas_elf.specs.SegmentData.{HasSegmentData, IsSegmentData, segment_data_of};
 
-use crate::program::records::{ProgramHeader32, ProgramHeader64};
+use crate::header::Class::{SixtyFour, ThirtyTwo};
+use crate::header::Header;
 use crate::program::{Flags, Type, Type_};
+use crate::ranges::{entry_at, range_at};
 use crate::{ElfError, ElfFile};
-use elf_base::bytes::Record;
+use elf_base::bytes::{Order, Record, read_u32, read_u64};
+use elf_base::header::byte_order;
+
+/// A program header of class 32 (gABI, "Program Header", Elf32_Phdr).
+#[derive(Clone, Copy, Debug, Default)]
+pub struct ProgramHeader32 {
+    /// What the segment is.
+    pub type_: Type_,
+    /// Where the segment's data lies, in bytes from the start of the file.
+    pub offset: u32,
+    /// The address of the segment in memory.
+    pub virtual_addr: u32,
+    /// The physical address of the segment, where that matters.
+    pub physical_addr: u32,
+    /// How many bytes the segment has in the file.
+    pub file_size: u32,
+    /// How many bytes the segment has in memory.
+    pub mem_size: u32,
+    /// What may be done with the segment's memory.
+    pub flags: Flags,
+    /// The alignment of the segment in memory and in the file, in bytes; 0 and 1 mean none.
+    pub align: u32,
+}
+
+/// A program header of class 64 (gABI, "Program Header", Elf64_Phdr).
+#[derive(Clone, Copy, Debug, Default)]
+pub struct ProgramHeader64 {
+    /// What the segment is.
+    pub type_: Type_,
+    /// What may be done with the segment's memory.
+    pub flags: Flags,
+    /// Where the segment's data lies, in bytes from the start of the file.
+    pub offset: u64,
+    /// The address of the segment in memory.
+    pub virtual_addr: u64,
+    /// The physical address of the segment, where that matters.
+    pub physical_addr: u64,
+    /// How many bytes the segment has in the file.
+    pub file_size: u64,
+    /// How many bytes the segment has in memory.
+    pub mem_size: u64,
+    /// The alignment of the segment in memory and in the file, in bytes; 0 and 1 mean none.
+    pub align: u64,
+}
+
+impl ProgramHeader32 {
+    /// What the segment is, or `InvalidPhType`.
+    #[inline(always)]
+    pub fn get_type(&self) -> Result<Type, ElfError>
+        ensures { result ≡ segment_type (program_64 self.now) }
+    {
+        self.type_.as_type()
+    }
+
+    /// The data of the segment as it stands in the input, where it lives as long.
+    ///
+    /// Refused with `InvalidPhType`, with `NullData` for type Null, and with `DataRange` where it
+    /// passes the end of the input; an empty segment is the empty slice, whatever its offset.
+    #[inline(always)]
+    pub fn raw_data<'a>(&self, file: &ElfFile<'a>) -> Result<&'a [u8], ElfError>
+        ensures readable { IsOk result ↔ HasSegmentData file.now (program_64 self.now) }
+        ensures range { Lends (IsSegmentData file.now (program_64 self.now)) result }
+        ensures place { IfOk result (LiesAsSegment file.now (program_64 self.now)) }
+        ensures exact { Answers (segment_data_of file.now (program_64 self.now)) result }
+    {
+        self.to_64().raw_data(file)
+    }
+
+    // The same numbers in the record of class 64.
+    #[inline(always)]
+    pub(crate) fn to_64(&self) -> ProgramHeader64
+        ensures { result ≡ program_64 self.now }
+    {
+        ProgramHeader64 {
+            type_: self.type_,
+            flags: self.flags,
+            offset: u64::from(self.offset),
+            virtual_addr: u64::from(self.virtual_addr),
+            physical_addr: u64::from(self.physical_addr),
+            file_size: u64::from(self.file_size),
+            mem_size: u64::from(self.mem_size),
+            align: u64::from(self.align),
+        }
+    }
+
+    // The 32 bytes from `place` on.
+    #[inline(always)]
+    pub(crate) fn read(bytes: &[u8], place: usize, order: Order) -> ProgramHeader32
+        requires { place + 32 ≤ length bytes.now }
+        ensures { result ≡ program_header_32 order place bytes.now }
+    {
+        ProgramHeader32 {
+            type_: Type_::from_raw(read_u32(bytes, place, order)),
+            offset: read_u32(bytes, place + 4, order),
+            virtual_addr: read_u32(bytes, place + 8, order),
+            physical_addr: read_u32(bytes, place + 12, order),
+            file_size: read_u32(bytes, place + 16, order),
+            mem_size: read_u32(bytes, place + 20, order),
+            flags: Flags(read_u32(bytes, place + 24, order)),
+            align: read_u32(bytes, place + 28, order),
+        }
+    }
+}
+
+impl Record for ProgramHeader32 {
+    ghost SIZE = { 32 };
+
+    const SIZE: usize = 32;
+
+    ghost value = { λ order bytes. program_header_32 order 0 bytes };
+
+    ghost size_above_zero = { lit< tt };
+
+    fn decode(bytes: &[u8], order: Order) -> ProgramHeader32 {
+        ProgramHeader32::read(bytes, 0, order)
+    }
+}
+
+impl ProgramHeader64 {
+    /// What the segment is, or `InvalidPhType`.
+    #[inline(always)]
+    pub fn get_type(&self) -> Result<Type, ElfError>
+        ensures { result ≡ segment_type self.now }
+    {
+        self.type_.as_type()
+    }
+
+    /// The data of the segment as it stands in the input, where it lives as long.
+    ///
+    /// Refused with `InvalidPhType`, with `NullData` for type Null, and with `DataRange` where it
+    /// passes the end of the input; an empty segment is the empty slice, whatever its offset.
+    #[tactic(auto, unfolding(crate::specs::SegmentData::segment_data_of))]
+    #[inline(always)]
+    pub fn raw_data<'a>(&self, file: &ElfFile<'a>) -> Result<&'a [u8], ElfError>
+        ensures readable { IsOk result ↔ HasSegmentData file.now self.now }
+        ensures range { Lends (IsSegmentData file.now self.now) result }
+        ensures place { IfOk result (LiesAsSegment file.now self.now) }
+        ensures exact { Answers (segment_data_of file.now self.now) result }
+    {
+        match self.get_type()? {
+            Type::Null => Err(ElfError::NullData),
+            _ if self.file_size == 0 => Ok(&[]),
+            _ => range_at(file.input, self.offset, self.file_size),
+        }
+    }
+
+    // The 56 bytes from `place` on.
+    #[inline(always)]
+    pub(crate) fn read(bytes: &[u8], place: usize, order: Order) -> ProgramHeader64
+        requires { place + 56 ≤ length bytes.now }
+        ensures { result ≡ program_header_64 order place bytes.now }
+    {
+        ProgramHeader64 {
+            type_: Type_::from_raw(read_u32(bytes, place, order)),
+            flags: Flags(read_u32(bytes, place + 4, order)),
+            offset: read_u64(bytes, place + 8, order),
+            virtual_addr: read_u64(bytes, place + 16, order),
+            physical_addr: read_u64(bytes, place + 24, order),
+            file_size: read_u64(bytes, place + 32, order),
+            mem_size: read_u64(bytes, place + 40, order),
+            align: read_u64(bytes, place + 48, order),
+        }
+    }
+}
+
+impl Record for ProgramHeader64 {
+    ghost SIZE = { 56 };
+
+    const SIZE: usize = 56;
+
+    ghost value = { λ order bytes. program_header_64 order 0 bytes };
+
+    ghost size_above_zero = { lit< tt };
+
+    fn decode(bytes: &[u8], order: Order) -> ProgramHeader64 {
+        ProgramHeader64::read(bytes, 0, order)
+    }
+}
 
 /// A program header of either width (gABI, "Program Header").
 #[derive(Clone, Copy, Debug)]
@@ -169,5 +359,112 @@ impl ProgramHeader {
             Self::Ph32(_) => ProgramHeader32::SIZE,
             Self::Ph64(_) => ProgramHeader64::SIZE,
         }
+    }
+}
+
+/// The program header at this index of the program header table.
+///
+/// Refused with `NoProgramHeaders` where the index is not below the count, or the offset or the entry
+/// size of the table is 0; `UnknownClass` where the class is neither 1 nor 2; `ShortProgramHeader`
+/// where the entry passes the end of the input; and `SmallEntry` where the entries are smaller than
+/// the record of the class.
+#[inline(always)]
+pub fn parse_program_header(
+    input: &[u8],
+    header: Header,
+    index: u16,
+) -> Result<ProgramHeader, ElfError>
+    ensures readable { IsOk result ↔ HasProgramHeader input.now header index }
+    ensures value { IfOk result (λ program. program ≡ program_at_index input.now header index) }
+    ensures exact { result ≡ program_by_u16 input.now header index }
+{
+    let count = u32::from(header.pt2.ph_count());
+    program_entry(input, &header, count, u32::from(index))
+}
+
+// The program header at any index below this count, refused as by `parse_program_header`.
+#[tactic(auto, unfolding(crate::specs::ProgramHeader::program_entry))]
+#[inline(always)]
+pub(crate) fn program_entry(
+    input: &[u8],
+    header: &Header,
+    count: u32,
+    index: u32,
+) -> Result<ProgramHeader, ElfError>
+    ensures readable { IsOk result ↔ HasProgramEntry input.now header.now count index }
+    ensures value { IfOk result (λ program. program ≡ program_at_index input.now header.now index) }
+    ensures exact { result ≡ program_entry input.now header.now count index }
+{
+    let offset = header.pt2.ph_offset();
+    let entry_size = header.pt2.ph_entry_size();
+    if index >= count || offset == 0 || entry_size == 0 {
+        return Err(ElfError::NoProgramHeaders);
+    }
+    let place = entry_at(input, offset, entry_size, u64::from(index));
+    // One choice of the order for all fields.
+    match byte_order(header.pt1.encoding) {
+        Order::Little => header_at_place(input, place, header, Order::Little),
+        Order::Big => header_at_place(input, place, header, Order::Big),
+    }
+}
+
+// The program header at a place of the input, if there is one, its width by the class.
+#[inline(always)]
+fn header_at_place(
+    input: &[u8],
+    place: Option<usize>,
+    header: &Header,
+    order: Order,
+) -> Result<ProgramHeader, ElfError>
+    requires { ForSome place (λ start. start + (header_fields header.now.pt2).ph_entry_size
+        ≤ length input.now) }
+    ensures { result ≡ unless (
+        (not (is_known_class (file_class header.now)), ElfError.UnknownClass)
+        ∷ (is_none place, ElfError.ShortProgramHeader)
+        ∷ (
+          nat_lt (header_fields header.now.pt2).ph_entry_size
+              (program_header_size (file_class header.now)),
+          ElfError.SmallEntry,
+        )
+        ∷ []) (program_at_place (file_class header.now) order (unwrap_or place 0) input.now) }
+{
+    let entry_size = usize::from(header.pt2.ph_entry_size());
+    match header.pt1.class() {
+        ThirtyTwo => {
+            let place = place.ok_or(ElfError::ShortProgramHeader)?;
+            if entry_size < ProgramHeader32::SIZE {
+                return Err(ElfError::SmallEntry);
+            }
+            let record = ProgramHeader32::read(input, place, order);
+            Ok(ProgramHeader::Ph32(record))
+        }
+        SixtyFour => {
+            let place = place.ok_or(ElfError::ShortProgramHeader)?;
+            if entry_size < ProgramHeader64::SIZE {
+                return Err(ElfError::SmallEntry);
+            }
+            let record = ProgramHeader64::read(input, place, order);
+            Ok(ProgramHeader::Ph64(record))
+        }
+        _ => Err(ElfError::UnknownClass),
+    }
+}
+
+// The program header at a place of the input, of 32 bits for class 1 and else of 64.
+#[inline(always)]
+pub(crate) fn program_at(input: &[u8], place: usize, class: u8, order: Order) -> ProgramHeader
+    requires { place + program_header_size class ≤ length input.now }
+    ensures { result ≡ program_at_place class order place input.now }
+{
+    // One choice of the order for all fields.
+    match (class, order) {
+        (1, Order::Little) => {
+            ProgramHeader::Ph32(ProgramHeader32::read(input, place, Order::Little))
+        }
+        (1, Order::Big) => ProgramHeader::Ph32(ProgramHeader32::read(input, place, Order::Big)),
+        (_, Order::Little) => {
+            ProgramHeader::Ph64(ProgramHeader64::read(input, place, Order::Little))
+        }
+        (_, Order::Big) => ProgramHeader::Ph64(ProgramHeader64::read(input, place, Order::Big)),
     }
 }

@@ -1,15 +1,22 @@
 //! The program header table, prepared once for many calls (gABI, "Program Header").
 
-ghost use Rattle.std.specs.Prelude.{◌≡◌, ◌+◌, ◌^◌, ◌<◌, ◌≤◌, ◌∷◌, [], drop, length, slice_get, MatchOption};
+ghost use Rattle.std.specs.Prelude.{◌≡◌, ◌+◌, ◌^◌, ◌<◌, ◌≤◌, ◌∷◌, [], drop, length, slice_get, MatchOption, ℕ};
 ghost use Rattle.std.specs.Iterator.{YieldsFirst, item_count};
+ghost use Rattle.elf_base.specs.FileHeader.{file_class, file_order};
+ghost use Rattle.elf_base.specs.HeaderLayout.{header_fields};
+ghost use Rattle.xmas_elf.specs.Counts.{program_count_of};
+ghost use Rattle.xmas_elf.specs.HeaderTable.{IsLongest};
 ghost use Rattle.xmas_elf.specs.Laid.{IsLaid};
-ghost use Rattle.xmas_elf.specs.ProgramHeader.{program_at_index, program_at_place};
+ghost use Rattle.xmas_elf.specs.ProgramHeader.{HasProgram, program_at_index, program_at_place};
 ghost use Rattle.xmas_elf.specs.ProgramHeader.{program_header_size, program_of};
 ghost use Rattle.xmas_elf.specs.ProgramList.{program_list};
 
 use crate::ElfFile;
+use crate::header::Class::{SixtyFour, ThirtyTwo};
 use crate::program::{ProgramHeader, program_at};
+use crate::ranges::entries_within;
 use elf_base::bytes::Order;
+use elf_base::header::byte_order;
 
 /// The program headers of a file, for many calls: where they lie, their width and their order are asked
 /// once.
@@ -27,6 +34,61 @@ pub struct ProgramTable<'b, 'a> {
     ghost laid: { IsLaid (program_of file.now)
         (λ place. program_at_place class order place file.now.input.now) offset entry_size
         (program_header_size class) len (length file.now.input.now) },
+}
+
+impl<'a> ElfFile<'a> {
+    ghost use Rattle.xmas_elf.specs.ProgramTable.{program_table_file, table_programs};
+
+    /// The program headers for many calls: the same as by `program_iter`.
+    #[inline(always)]
+    pub fn program_table(&self) -> ProgramTable<'_, 'a>
+        ensures file { program_table_file result ≡ self.now }
+        ensures longest { IsLongest (program_of self.now) (program_count_of self.now)
+            (table_programs result) }
+    {
+        ProgramTable {
+            file: self,
+            offset: self.header.pt2.ph_offset() as usize,
+            entry_size: usize::from(self.header.pt2.ph_entry_size()),
+            len: readable_programs(self),
+            class: self.header.pt1.class.raw(),
+            order: byte_order(self.header.pt1.encoding),
+        }
+    }
+}
+
+// How many program headers can be read, from index 0 on, and where they lie.
+#[inline(always)]
+fn readable_programs(file: &ElfFile<'_>) -> usize
+    ensures counted { result ≡ length (program_list file.now) }
+    ensures laid { IsLaid (program_of file.now) (λ place. program_at_place
+        (file_class file.now.header) (file_order file.now.header) place file.now.input.now)
+        (header_fields file.now.header.pt2).ph_offset
+        (header_fields file.now.header.pt2).ph_entry_size
+        (program_header_size (file_class file.now.header)) result (length file.now.input.now) }
+{
+    whole_programs(file)
+}
+
+// How many entries of the program header table are whole and large enough, from index 0 on.
+#[inline(always)]
+fn whole_programs(file: &ElfFile<'_>) -> usize
+    ensures few { result ≤ program_count_of file.now }
+    ensures each { (i : ℕ) → i < result → HasProgram file.now i }
+    ensures most { result < program_count_of file.now → ¬ HasProgram file.now result }
+{
+    let offset = file.header.pt2.ph_offset();
+    let entry_size = file.header.pt2.ph_entry_size();
+    let least = match file.header.pt1.class() {
+        ThirtyTwo => 32,
+        SixtyFour => 56,
+        _ => return 0,
+    };
+    if offset == 0 || entry_size < least {
+        return 0;
+    }
+    let count = u64::from(file.program_count());
+    entries_within(file.input, offset, entry_size, count)
 }
 
 impl<'b, 'a> ProgramTable<'b, 'a> {

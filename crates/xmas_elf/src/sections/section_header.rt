@@ -1,19 +1,136 @@
-//! A section header of either width (gABI, "Sections").
+//! Section headers: their records in bytes, of either width, and what they say (gABI, "Sections":
+//! Elf32_Shdr and Elf64_Shdr).
 
-ghost use Rattle.std.specs.Prelude.{◌≡◌, ◌↔◌, Err, IfOk, IsOk, IsTrue, MatchResult, Ok, drop, take};
+ghost use Rattle.std.specs.Prelude.{◌≡◌, ◌↔◌, ◌+◌, ◌≤◌, ◌<◌, [], ◌∷◌, Err, IfOk, IsOk, IsTrue, MatchResult, Ok, drop, length, nat_lt, not, take};
+ghost use Rattle.std.proofs.Common.{lit<};
+ghost use Rattle.elf_base.specs.FileHeader.{file_class};
+ghost use Rattle.elf_base.specs.HeaderLayout.{header_fields};
 ghost use Rattle.elf_base.specs.Lent.{Answers, Lends, LendsOnly};
+ghost use Rattle.elf_base.specs.Refusal.{unless};
 ghost use Rattle.elf_records.specs.SectionNumbers.{sh_type_raw};
+ghost use Rattle.xmas_elf.specs.HeaderTable.{is_known_class};
 ghost use Rattle.xmas_elf.specs.NameTable.{Bears, name_of, name_table_of};
 ghost use Rattle.xmas_elf.specs.Place.{LiesAsSection};
 ghost use Rattle.xmas_elf.specs.SectionData.{HasSectionData, IsSectionData, section_data_of};
-ghost use Rattle.xmas_elf.specs.SectionHeader.{record_fields, section_fields, section_type};
+ghost use Rattle.xmas_elf.specs.SectionHeader.{HasSectionEntry, HasSectionHeader, record_fields};
+ghost use Rattle.xmas_elf.specs.SectionHeader.{section_at_index, section_at_place, section_by_u16};
+ghost use Rattle.xmas_elf.specs.SectionHeader.{section_entry, section_fields, section_header_32};
+ghost use Rattle.xmas_elf.specs.SectionHeader.{section_header_64, section_header_size, section_type};
 ghost use Rattle.xmas_elf.specs.declared.ElfFile.{ElfFile};
 
-use crate::ranges::range_at;
-use crate::sections::records::SectionHeader_;
-use crate::sections::{ShType, ShType_};
+use crate::header::Class::{SixtyFour, ThirtyTwo};
+use crate::header::Header;
+use crate::ranges::{entry_at, range_at};
+use crate::sections::{SHN_LORESERVE, ShType, ShType_};
 use crate::{ElfError, ElfFile, P32, P64};
-use elf_base::bytes::stands_at;
+use elf_base::bytes::{Order, Record, read_u32, read_u64, stands_at};
+use elf_base::header::byte_order;
+
+/// A section header with numbers of type `P`, which `SectionHeader` reads (gABI, "Sections").
+#[derive(Clone, Copy, Debug)]
+pub struct SectionHeader_<P> {
+    pub(crate) name: u32,
+    pub(crate) type_: ShType_,
+    pub(crate) flags: P,
+    pub(crate) address: P,
+    pub(crate) offset: P,
+    pub(crate) size: P,
+    pub(crate) link: u32,
+    pub(crate) info: u32,
+    pub(crate) align: P,
+    pub(crate) entry_size: P,
+}
+
+impl SectionHeader_<P32> {
+    // The same numbers in the record of class 64.
+    #[inline(always)]
+    pub(crate) fn to_64(&self) -> SectionHeader_<P64>
+        ensures { result ≡ self.now }
+    {
+        SectionHeader_ {
+            name: self.name,
+            type_: self.type_,
+            flags: u64::from(self.flags),
+            address: u64::from(self.address),
+            offset: u64::from(self.offset),
+            size: u64::from(self.size),
+            link: self.link,
+            info: self.info,
+            align: u64::from(self.align),
+            entry_size: u64::from(self.entry_size),
+        }
+    }
+
+    // The 40 bytes from `place` on.
+    #[inline(always)]
+    pub(crate) fn read(bytes: &[u8], place: usize, order: Order) -> SectionHeader_<P32>
+        requires { place + 40 ≤ length bytes.now }
+        ensures { result ≡ section_header_32 order place bytes.now }
+    {
+        SectionHeader_ {
+            name: read_u32(bytes, place, order),
+            type_: ShType_::from_raw(read_u32(bytes, place + 4, order)),
+            flags: read_u32(bytes, place + 8, order),
+            address: read_u32(bytes, place + 12, order),
+            offset: read_u32(bytes, place + 16, order),
+            size: read_u32(bytes, place + 20, order),
+            link: read_u32(bytes, place + 24, order),
+            info: read_u32(bytes, place + 28, order),
+            align: read_u32(bytes, place + 32, order),
+            entry_size: read_u32(bytes, place + 36, order),
+        }
+    }
+}
+
+impl Record for SectionHeader_<P32> {
+    ghost SIZE = { 40 };
+
+    const SIZE: usize = 40;
+
+    ghost value = { λ order bytes. section_header_32 order 0 bytes };
+
+    ghost size_above_zero = { lit< tt };
+
+    fn decode(bytes: &[u8], order: Order) -> SectionHeader_<P32> {
+        SectionHeader_::<P32>::read(bytes, 0, order)
+    }
+}
+
+impl SectionHeader_<P64> {
+    // The 64 bytes from `place` on.
+    #[inline(always)]
+    pub(crate) fn read(bytes: &[u8], place: usize, order: Order) -> SectionHeader_<P64>
+        requires { place + 64 ≤ length bytes.now }
+        ensures { result ≡ section_header_64 order place bytes.now }
+    {
+        SectionHeader_ {
+            name: read_u32(bytes, place, order),
+            type_: ShType_::from_raw(read_u32(bytes, place + 4, order)),
+            flags: read_u64(bytes, place + 8, order),
+            address: read_u64(bytes, place + 16, order),
+            offset: read_u64(bytes, place + 24, order),
+            size: read_u64(bytes, place + 32, order),
+            link: read_u32(bytes, place + 40, order),
+            info: read_u32(bytes, place + 44, order),
+            align: read_u64(bytes, place + 48, order),
+            entry_size: read_u64(bytes, place + 56, order),
+        }
+    }
+}
+
+impl Record for SectionHeader_<P64> {
+    ghost SIZE = { 64 };
+
+    const SIZE: usize = 64;
+
+    ghost value = { λ order bytes. section_header_64 order 0 bytes };
+
+    ghost size_above_zero = { lit< tt };
+
+    fn decode(bytes: &[u8], order: Order) -> SectionHeader_<P64> {
+        SectionHeader_::<P64>::read(bytes, 0, order)
+    }
+}
 
 /// A section header of either width (gABI, "Sections").
 #[derive(Clone, Copy, Debug)]
@@ -212,6 +329,112 @@ impl SectionHeader {
         match self {
             Self::Sh32(header) => header.to_64(),
             Self::Sh64(header) => *header,
+        }
+    }
+}
+
+/// The section header at this index of the section header table.
+///
+/// The index is not compared with the count of sections. Refused with `ReservedIndex` from 0xff00 on,
+/// `ShortSectionHeader` where the entry passes the end of the input, `UnknownClass` where the class
+/// is neither 1 nor 2, and `SmallEntry` where the entries are smaller than the record of the class.
+#[tactic(auto, unfolding(crate::specs::SectionHeader::section_by_u16))]
+#[inline(always)]
+pub fn parse_section_header(
+    input: &[u8],
+    header: Header,
+    index: u16,
+) -> Result<SectionHeader, ElfError>
+    ensures readable { IsOk result ↔ HasSectionHeader input.now header index }
+    ensures value { IfOk result (λ section. section ≡ section_at_index input.now header index) }
+    ensures exact { result ≡ section_by_u16 input.now header index }
+{
+    if index >= SHN_LORESERVE {
+        return Err(ElfError::ReservedIndex);
+    }
+    section_entry(input, &header, u64::from(index))
+}
+
+// The section header at any index, refused as by `parse_section_header` but for `ReservedIndex`.
+#[tactic(auto, unfolding(crate::specs::SectionHeader::section_entry))]
+#[inline(always)]
+pub(crate) fn section_entry(
+    input: &[u8],
+    header: &Header,
+    index: u64,
+) -> Result<SectionHeader, ElfError>
+    ensures readable { IsOk result ↔ HasSectionEntry input.now header.now index }
+    ensures value { IfOk result (λ section. section ≡ section_at_index input.now header.now index) }
+    ensures exact { result ≡ section_entry input.now header.now index }
+{
+    let entry_size = header.pt2.sh_entry_size();
+    let Some(place) = entry_at(input, header.pt2.sh_offset(), entry_size, index) else {
+        return Err(ElfError::ShortSectionHeader);
+    };
+    // One choice of the order for all fields.
+    match byte_order(header.pt1.encoding) {
+        Order::Little => header_at_place(input, place, header, Order::Little),
+        Order::Big => header_at_place(input, place, header, Order::Big),
+    }
+}
+
+// The section header at a place of the input, its width by the class.
+#[inline(always)]
+fn header_at_place(
+    input: &[u8],
+    place: usize,
+    header: &Header,
+    order: Order,
+) -> Result<SectionHeader, ElfError>
+    requires { place + (header_fields header.now.pt2).sh_entry_size ≤ length input.now }
+    ensures { result ≡ unless (
+        (not (is_known_class (file_class header.now)), ElfError.UnknownClass)
+        ∷ (
+          nat_lt (header_fields header.now.pt2).sh_entry_size
+              (section_header_size (file_class header.now)),
+          ElfError.SmallEntry,
+        )
+        ∷ []) (section_at_place (file_class header.now) order place input.now) }
+{
+    let entry_size = usize::from(header.pt2.sh_entry_size());
+    match header.pt1.class() {
+        ThirtyTwo => {
+            if entry_size < SectionHeader_::<P32>::SIZE {
+                return Err(ElfError::SmallEntry);
+            }
+            let record = SectionHeader_::<P32>::read(input, place, order);
+            Ok(SectionHeader::Sh32(record))
+        }
+        SixtyFour => {
+            if entry_size < SectionHeader_::<P64>::SIZE {
+                return Err(ElfError::SmallEntry);
+            }
+            let record = SectionHeader_::<P64>::read(input, place, order);
+            Ok(SectionHeader::Sh64(record))
+        }
+        _ => Err(ElfError::UnknownClass),
+    }
+}
+
+// The section header at a place of the input, of 32 bits for class 1 and else of 64.
+#[inline(always)]
+pub(crate) fn section_at(input: &[u8], place: usize, class: u8, order: Order) -> SectionHeader
+    requires { place + section_header_size class ≤ length input.now }
+    ensures { result ≡ section_at_place class order place input.now }
+{
+    // One choice of the order for all fields.
+    match (class, order) {
+        (1, Order::Little) => {
+            SectionHeader::Sh32(SectionHeader_::<P32>::read(input, place, Order::Little))
+        }
+        (1, Order::Big) => {
+            SectionHeader::Sh32(SectionHeader_::<P32>::read(input, place, Order::Big))
+        }
+        (_, Order::Little) => {
+            SectionHeader::Sh64(SectionHeader_::<P64>::read(input, place, Order::Little))
+        }
+        (_, Order::Big) => {
+            SectionHeader::Sh64(SectionHeader_::<P64>::read(input, place, Order::Big))
         }
     }
 }

@@ -1,21 +1,29 @@
 //! The section header table, prepared once for many calls (gABI, "Sections": the section header table).
 
 ghost use Rattle.std.specs.Prelude.{◌≡◌, ◌+◌, ◌^◌, ◌<◌, ◌≤◌, ◌∷◌, [], drop, length, slice_get};
-ghost use Rattle.std.specs.Prelude.{Err, MatchOption, Ok};
+ghost use Rattle.std.specs.Prelude.{Err, MatchOption, Ok, ℕ};
 ghost use Rattle.std.specs.Result.{ForErr, ForOk};
 ghost use Rattle.std.specs.Iterator.{YieldsFirst, item_count};
+ghost use Rattle.elf_base.specs.FileHeader.{file_class, file_order};
+ghost use Rattle.elf_base.specs.HeaderLayout.{header_fields};
 ghost use Rattle.elf_base.specs.Lent.{Answers, Lends, LendsOnly};
+ghost use Rattle.xmas_elf.specs.Counts.{section_count_of};
 ghost use Rattle.xmas_elf.specs.First.{FindsFirstAt};
+ghost use Rattle.xmas_elf.specs.HeaderTable.{IsLongest};
 ghost use Rattle.xmas_elf.specs.Laid.{IsLaid};
 ghost use Rattle.xmas_elf.specs.NameTable.{Bears, FindsNamed, IsNameAt, IsNameTable, name_of};
 ghost use Rattle.xmas_elf.specs.NameTable.{name_table_of, section_named, shstr_of};
-ghost use Rattle.xmas_elf.specs.SectionHeader.{section_at_index, section_at_place, section_header_size, section_of};
+ghost use Rattle.xmas_elf.specs.SectionHeader.{HasSectionEntry, section_at_index, section_at_place};
+ghost use Rattle.xmas_elf.specs.SectionHeader.{section_header_size, section_of};
 ghost use Rattle.xmas_elf.specs.SectionList.{section_list};
 
 use crate::bytes::text_at;
+use crate::header::Class::{SixtyFour, ThirtyTwo};
+use crate::ranges::entries_within;
 use crate::sections::{SectionHeader, ShType, section_at};
 use crate::{ElfError, ElfFile};
 use elf_base::bytes::Order;
+use elf_base::header::byte_order;
 
 /// The section headers of a file, for many calls: where they lie, their width and their order are asked
 /// once, and so is the name table.
@@ -36,6 +44,63 @@ pub struct SectionTable<'b, 'a> {
     ghost laid: { IsLaid (section_of file.now)
         (λ place. section_at_place class order place file.now.input.now) offset entry_size
         (section_header_size class) len (length file.now.input.now) },
+}
+
+impl<'a> ElfFile<'a> {
+    ghost use Rattle.xmas_elf.specs.SectionTable.{table_file, table_sections};
+
+    /// The section headers for many calls: the same as by `section_iter`.
+    #[inline(always)]
+    pub fn section_table(&self) -> SectionTable<'_, 'a>
+        ensures file { table_file result ≡ self.now }
+        ensures longest { IsLongest (section_of self.now) (section_count_of self.now)
+            (table_sections result) }
+    {
+        SectionTable {
+            file: self,
+            names: self.kept_names(),
+            offset: self.header.pt2.sh_offset() as usize,
+            entry_size: usize::from(self.header.pt2.sh_entry_size()),
+            len: readable_sections(self),
+            class: self.header.pt1.class.raw(),
+            order: byte_order(self.header.pt1.encoding),
+        }
+    }
+}
+
+// How many section headers can be read, from index 0 on, and where they lie.
+#[inline(always)]
+fn readable_sections(file: &ElfFile<'_>) -> usize
+    ensures counted { result ≡ length (section_list file.now) }
+    ensures laid { IsLaid (section_of file.now) (λ place. section_at_place
+        (file_class file.now.header) (file_order file.now.header) place file.now.input.now)
+        (header_fields file.now.header.pt2).sh_offset
+        (header_fields file.now.header.pt2).sh_entry_size
+        (section_header_size (file_class file.now.header)) result (length file.now.input.now) }
+{
+    whole_sections(file)
+}
+
+// How many entries of the section header table are whole and large enough, from index 0 on.
+#[inline(always)]
+fn whole_sections(file: &ElfFile<'_>) -> usize
+    ensures few { result ≤ section_count_of file.now }
+    ensures each { (i : ℕ) → i < result
+        → HasSectionEntry file.now.input.now file.now.header i }
+    ensures most { result < section_count_of file.now
+        → ¬ HasSectionEntry file.now.input.now file.now.header result }
+{
+    let entry_size = file.header.pt2.sh_entry_size();
+    let least = match file.header.pt1.class() {
+        ThirtyTwo => 40,
+        SixtyFour => 64,
+        _ => return 0,
+    };
+    if entry_size < least {
+        return 0;
+    }
+    let offset = file.header.pt2.sh_offset();
+    entries_within(file.input, offset, entry_size, file.section_count())
 }
 
 impl<'b, 'a> SectionTable<'b, 'a> {

@@ -1,5 +1,5 @@
 use Rattle.xmas_elf.proofs.ReadableHeaders.{laid-sections, length-sections}
-use Rattle.xmas_elf.proofs.sections.readable_sections.Goals as goal
+use Rattle.xmas_elf.proofs.sections.table.readable_sections.Goals as goal
 
 pub returns-clause-counted : goal.returns-clause-counted
 returns-clause-counted c =

@@ -1,5 +1,5 @@
 use Rattle.xmas_elf.proofs.ReadableHeaders.{laid-programs, length-programs}
-use Rattle.xmas_elf.proofs.program.readable_programs.Goals as goal
+use Rattle.xmas_elf.proofs.program.table.readable_programs.Goals as goal
 
 pub returns-clause-counted : goal.returns-clause-counted
 returns-clause-counted c =
