@@ -16,6 +16,8 @@ import subprocess
 import sys
 import tempfile
 
+from program_ends import builds_of
+
 TOP = pathlib.Path(__file__).resolve().parent.parent
 CRATES = TOP / "crates"
 SAMPLE = CRATES / "elfanswers" / "data"
@@ -45,9 +47,6 @@ PROGRAMS = [
     Program("elfsym", (CRATES / "elfsym" / "args").read_text().split()[1:], {"a hash table": LINKED, "three bytes": LINKED[:3]},
         (CRATES / "elfsym" / "stdout").read_bytes()),
 ]
-
-# A program as LLVM builds it, and as Rattle's own compiler does.
-BUILDS = ("", ".by-rattle")
 
 # More calls of a kind than the program makes.
 MOST = 60
@@ -135,20 +134,15 @@ def unlike(built, program, room, name) -> int:
 
 
 def main() -> int:
-    given = [pathlib.Path(it).resolve() for it in sys.argv[1:]]
-    found = [CRATES / it.name / "out" / (it.name + end) for it in PROGRAMS for end in BUILDS]
-    paths = given or [it for it in found if it.exists()]
+    builds = builds_of([it.name for it in PROGRAMS])
     count = 0
     with tempfile.TemporaryDirectory() as room:
         os.environ.pop("LD_PRELOAD", None)
         library(room)
         for program in PROGRAMS:
-            mine = [it for it in paths if it.name.split(".")[0] == program.name]
-            if not mine and not given:
-                sys.exit(f"{program.name} is not built: run `rt run` in crates/{program.name} first")
             for at, (name, held) in enumerate(program.files.items()):
                 pathlib.Path(room, "a.elf").write_bytes(held)
-                for built in mine:
+                for built in builds[program.name]:
                     count += unlike(built, program, room, name)
                     count += at == 0 and run(built, program.words, room) != (0, program.first, b"")
     return 1 if count else 0

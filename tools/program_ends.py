@@ -210,16 +210,21 @@ def unlike(program, built: pathlib.Path) -> int:
     return count
 
 
-def main() -> int:
+def builds_of(names: list[str]) -> dict[str, list[pathlib.Path]]:
+    """The builds of each program: those that the command names, or else all that there are."""
     given = [pathlib.Path(it).resolve() for it in sys.argv[1:]]
-    found = [CRATES / it.name / "out" / (it.name + end) for it in PROGRAMS for end in BUILDS]
+    found = [CRATES / name / "out" / (name + end) for name in names for end in BUILDS]
     paths = given or [it for it in found if it.exists()]
-    count = 0
-    for program in PROGRAMS:
-        mine = [it for it in paths if it.name.split(".")[0] == program.name]
-        if not mine and not given:
-            sys.exit(f"{program.name} is not built: run `rt run` in crates/{program.name} first")
-        count += sum(unlike(program, it) for it in mine)
+    builds = {name: [it for it in paths if it.name.split(".")[0] == name] for name in names}
+    for name in names:
+        if not builds[name] and not given:
+            sys.exit(f"{name} is not built: run `rt run` in crates/{name} first")
+    return builds
+
+
+def main() -> int:
+    builds = builds_of([it.name for it in PROGRAMS])
+    count = sum(unlike(program, it) for program in PROGRAMS for it in builds[program.name])
     return 1 if count else 0
 
 

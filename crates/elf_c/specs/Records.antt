@@ -106,6 +106,7 @@ abbrev pub name_range_by : List ℕ → Result Range ElfError → SectionHeader 
 name_range_by input names section = and_then (section_type section) (λ kind. if is_sh_type Null kind then Err NullName
     else and_then names (λ part. text_range input part (section_fields section).name))
 
+-- the same by the name table of the file
 abbrev pub name_range : ElfFile → SectionHeader → Result Range ElfError
 name_range file section = name_range_by file.input.now (names_range file) section
 
