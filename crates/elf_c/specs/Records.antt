@@ -14,9 +14,7 @@ use Rattle.xmas_elf.specs.Range.{range_of}
 use Rattle.xmas_elf.specs.SectionData.{section_data_of}
 use Rattle.xmas_elf.specs.SectionHeader.{section_fields, section_type}
 use Rattle.xmas_elf.specs.SegmentData.{segment_data_of}
-use Rattle.xmas_elf.specs.declared.ElfFile.{ElfFile}
-use Rattle.xmas_elf.specs.declared.program.program_header.ProgramHeader64.{ProgramHeader64}
-use Rattle.xmas_elf.specs.declared.sections.section_header.SectionHeader.{SectionHeader}
+use Rattle.xmas_elf.specs.Types.{ElfFile, ProgramHeader64, SectionHeader}
 use Rattle.elf_c.specs.Status.{error_number}
 use Rattle.elf_c.specs.declared.file.Counts.{Counts}
 use Rattle.elf_c.specs.declared.names.Name.{Name}

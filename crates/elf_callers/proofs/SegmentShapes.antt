@@ -15,8 +15,7 @@ use Rattle.xmas_elf.specs.SegmentContent.{content_of_segment, segment_content_of
 use Rattle.xmas_elf.specs.SegmentData.{segment_data_of}
 use Rattle.xmas_elf.specs.SegmentType as segment_types
 use Rattle.xmas_elf.specs.SegmentType.TheVariants as ph_type
-use Rattle.xmas_elf.specs.declared.ElfFile.{ElfFile}
-use Rattle.xmas_elf.specs.declared.program.program_header.ProgramHeader64.{ProgramHeader64}
+use Rattle.xmas_elf.specs.Types.{ElfFile, ProgramHeader64}
 
 -- an answer over the data of a segment is Ok with a shape exactly where that is the one, and the bytes are
 -- there, if it has any, and fill it

@@ -8,8 +8,7 @@ use Rattle.xmas_elf.specs.ProgramHeader.{segment_type}
 use Rattle.xmas_elf.specs.ProgramNumbers.{is_ph_type}
 use Rattle.xmas_elf.specs.SegmentType as segment_types
 use Rattle.xmas_elf.specs.SegmentType.TheVariants as ph_type
-use Rattle.xmas_elf.specs.declared.ElfFile.{ElfFile}
-use Rattle.xmas_elf.specs.declared.program.program_header.ProgramHeader64.{ProgramHeader64}
+use Rattle.xmas_elf.specs.Types.{ElfFile, ProgramHeader64}
 
 -- what a segment of a type is in a file of a class
 abbrev pub segment_shape_in : segment_types.Type → ℕ → Option Shape

@@ -13,9 +13,7 @@ use Rattle.xmas_elf.specs.HeaderTable.{EachBelow}
 use Rattle.xmas_elf.specs.ProgramHeader.{program_fields, program_of, segment_type}
 use Rattle.xmas_elf.specs.ProgramList.{program_list}
 use Rattle.xmas_elf.specs.SegmentData.{segment_data_of}
-use Rattle.xmas_elf.specs.declared.ElfFile.{ElfFile}
-use Rattle.xmas_elf.specs.declared.program.program_header.ProgramHeader.{ProgramHeader}
-use Rattle.xmas_elf.specs.declared.program.program_header.ProgramHeader64.{ProgramHeader64}
+use Rattle.xmas_elf.specs.Types.{ElfFile, ProgramHeader, ProgramHeader64}
 
 -- what is lent, by its bytes, or why nothing is
 abbrev pub lent : Result (Bor (List ℕ)) LinkError → Result (List ℕ) LinkError
