@@ -116,6 +116,10 @@ class Source:
                 end = self.lines.index("}", at) if line != "}" and not line.endswith("}") else at
                 yield found[1], at, end, head.strip()
 
+    def given_by(self, trait: str) -> list[str]:
+        """The traits that a file implements for all types of a trait of its own."""
+        return re.findall(rf"^impl<\w: {trait}> (\w+) for \w ", "\n".join(self.lines), re.M)
+
 
 def read_sources() -> dict:
     found = {}
@@ -175,7 +179,7 @@ class Page:
                 continue
             for trait, at, end, _ in source.blocks_of(item.name):
                 if trait:
-                    traits.append(trait.split("::")[-1])
+                    traits += source.given_by(trait) or [trait.split("::")[-1]]
                     continue
                 self.write_block(source, at, end, label)
         at = item.source.lines.index(item.text.split("\n")[0])

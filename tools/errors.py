@@ -59,7 +59,8 @@ def calls_in(file: pathlib.Path) -> dict[str, str]:
             doc.append(line.lstrip()[3:].strip())
             continue
         if match := OWNER.match(line):
-            owner = match[2] or match[3]
+            # An impl for all types of a trait, as `impl<K: Kept> Entry for K`, goes by the trait's name.
+            owner = match[3] or (match[1] if len(match[2]) == 1 else match[2])
         if line == "}":
             owner = ""
         if match := CALL.match(line):
@@ -97,7 +98,8 @@ def calls_by_error() -> dict[str, list[str]]:
     """The calls that answer each error, in the order of the enum and of the sources."""
     docs = {}
     for file in sources():
-        docs |= {call: doc for call, doc in calls_in(file).items() if doc or call not in docs}
+        for call, doc in calls_in(file).items():
+            docs[call] = docs.get(call) or doc
     names = texts()
     said = {name: [] for name in names}
     for call in docs:

@@ -11,6 +11,8 @@ use Rattle.xmas_elf.specs.declared.symbol_table.entries.DynEntry32.{DynEntry32}
 use Rattle.xmas_elf.specs.declared.symbol_table.entries.DynEntry64.{DynEntry64}
 use Rattle.xmas_elf.specs.declared.symbol_table.entries.Entry32.{Entry32}
 use Rattle.xmas_elf.specs.declared.symbol_table.entries.Entry64.{Entry64}
+use Rattle.xmas_elf.specs.declared.symbol_table.entries.kept.Layout.{Layout}
+use Rattle.xmas_elf.specs.declared.symbol_table.entries.kept.Layout.TheVariants.{Narrow, Wide}
 
 -- what a symbol says, in numbers
 pub record SymbolFields : Type 0 where
@@ -42,6 +44,11 @@ symbol_64 order bytes = record {
   value = number order 8 8 bytes;
   size = number order 8 16 bytes;
 }
+
+-- what is said by the bytes that a type keeps
+abbrev pub symbol_in : Layout → SymbolFields
+symbol_in (Narrow bytes order) = symbol_32 order bytes.now
+symbol_in (Wide bytes order) = symbol_64 order bytes.now
 
 -- the entries that keep these bytes
 abbrev pub entry_32 : Order → List ℕ → Entry32

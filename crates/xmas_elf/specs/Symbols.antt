@@ -2,11 +2,12 @@
 use Rattle.std.specs.Prelude.{◌≡◌, ◌≢◌, ◌<◌, ◌/◌, ℕ, List, Option, Some, Bool, true, false, Contains, slice_get}
 use Rattle.std.specs.Borrow.{Bor}
 use Rattle.std.specs.Fn.{Shared, FnReturnsAt}
+use Rattle.std.specs.Result.{result_ok}
 use Rattle.elf_base.specs.Table.{records, table_items}
 use Rattle.elf_base.specs.declared.bytes.Order.{Order}
 use Rattle.elf_base.specs.declared.bytes.table.Table.{Table}
 use Rattle.xmas_elf.specs.Symbol.{SymbolFields, dyn_entry_32, dyn_entry_32_fields, dyn_entry_64, dyn_entry_64_fields, entry_32, entry_32_fields, entry_64, entry_64_fields}
-use Rattle.xmas_elf.specs.SymbolName.{dyn_entry_32_text, dyn_entry_64_text, entry_32_text, entry_64_text}
+use Rattle.xmas_elf.specs.SymbolName.{symbol_string_of}
 use Rattle.xmas_elf.specs.declared.ElfFile.{ElfFile}
 use Rattle.xmas_elf.specs.declared.symbol_table.entries.DynEntry32.{DynEntry32}
 use Rattle.xmas_elf.specs.declared.symbol_table.entries.DynEntry64.{DynEntry64}
@@ -24,34 +25,27 @@ abbrev pub symbols_of : {E : Type 0} → {r : _} → (E → SymbolFields) → (E
 symbols_of fields text_in table file =
     record { items = table_items table; fields = fields; text = λ e. text_in e file }
 
--- the symbols that stand in some bytes of a file, of each of the four kinds
-abbrev pub symbols_in_32 : ElfFile → Order → List ℕ → Symbols Entry32
-symbols_in_32 file order bytes = record {
-  items = records 16 (entry_32 order) bytes;
-  fields = entry_32_fields;
-  text = λ e. entry_32_text e file;
+-- the symbols of a size that stand in some bytes of a file, with their names in the table of symbols or in
+-- that of the dynamic linker
+abbrev pub symbols_in : {E : Type 0} → ℕ → (List ℕ → E) → (E → SymbolFields) → Bool → ElfFile → List ℕ → Symbols E
+symbols_in size entry fields dynamic file bytes = record {
+  items = records size entry bytes;
+  fields = fields;
+  text = λ e. result_ok (symbol_string_of dynamic file (fields e).name);
 }
+
+-- those of each of the four kinds
+abbrev pub symbols_in_32 : ElfFile → Order → List ℕ → Symbols Entry32
+symbols_in_32 file order bytes = symbols_in 16 (entry_32 order) entry_32_fields false file bytes
 
 abbrev pub symbols_in_64 : ElfFile → Order → List ℕ → Symbols Entry64
-symbols_in_64 file order bytes = record {
-  items = records 24 (entry_64 order) bytes;
-  fields = entry_64_fields;
-  text = λ e. entry_64_text e file;
-}
+symbols_in_64 file order bytes = symbols_in 24 (entry_64 order) entry_64_fields false file bytes
 
 abbrev pub dyn_symbols_in_32 : ElfFile → Order → List ℕ → Symbols DynEntry32
-dyn_symbols_in_32 file order bytes = record {
-  items = records 16 (dyn_entry_32 order) bytes;
-  fields = dyn_entry_32_fields;
-  text = λ e. dyn_entry_32_text e file;
-}
+dyn_symbols_in_32 file order bytes = symbols_in 16 (dyn_entry_32 order) dyn_entry_32_fields true file bytes
 
 abbrev pub dyn_symbols_in_64 : ElfFile → Order → List ℕ → Symbols DynEntry64
-dyn_symbols_in_64 file order bytes = record {
-  items = records 24 (dyn_entry_64 order) bytes;
-  fields = dyn_entry_64_fields;
-  text = λ e. dyn_entry_64_text e file;
-}
+dyn_symbols_in_64 file order bytes = symbols_in 24 (dyn_entry_64 order) dyn_entry_64_fields true file bytes
 
 -- the symbol at index i is not local (STB_LOCAL) and bears the name; index 0 is no symbol (STN_UNDEF)
 pub record IsGlobal {E : Type 0} (symbols : Symbols E) (i : ℕ) (e : E) (name : List ℕ) : Type 0 where

@@ -4,10 +4,7 @@ ghost use Rattle.std.specs.Prelude.{◌≡◌};
 ghost use Rattle.std.proofs.Common.{lit<};
 ghost use Rattle.xmas_elf.specs.Symbol.{dyn_entry_32, dyn_entry_64, entry_32, entry_64};
 
-mod dyn_entry_32;
-mod dyn_entry_64;
-mod entry_32;
-mod entry_64;
+mod kept;
 mod printed;
 
 use crate::bytes::{Order, Record};

@@ -1,8 +1,0 @@
-use Rattle.xmas_elf.specs.StringTable.{strtab_of, string_of}
-use Rattle.xmas_elf.specs.Symbol.{entry_64_fields}
-use Rattle.xmas_elf.proofs.SymbolNames.{holds_found}
-use Rattle.xmas_elf.proofs.symbol_table.entries.entry_64.Entry64Entry.string_table.Goals as goal
-
-pub returns-clause-names : goal.returns-clause-names
-unfolding string_of
-returns-clause-names c = λ entry. holds_found (strtab_of c.args.file.now) c.strtab.result (entry_64_fields entry).name c.strtab.ensures.exact
