@@ -9,7 +9,6 @@ pub mod NamedSections
 pub mod StringTables
 pub mod SymbolNames
 pub mod SymbolSections
-pub mod StringRuns
 pub mod StringItems
 pub mod SymbolCounts
 pub mod ChainPaths

@@ -1,5 +1,7 @@
 -- A part of a part is a part of the whole: places add up.
-use Rattle.std.proofs.Common.{ℕ, ◌+◌, List, Option, None, Some, IfSome, Result, Ok, Err, IfOk, codes, length, ◌∙◌, arith}
+use Rattle.std.proofs.Common.{◌≡◌, ℕ, ◌+◌, List, Option, IfSome, Result, IfOk, codes, length, ◌∙◌, arith}
+use Rattle.std.proofs.lemmas.Option.{IfSome_then}
+use Rattle.std.proofs.lemmas.Result.{IfOk-weaker}
 use Rattle.std.specs.Borrow.{Bor}
 use Rattle.elf_base.specs.Lent.{LiesAt}
 use Rattle.elf_base.specs.declared.error.ElfError.{ElfError}
@@ -7,58 +9,43 @@ use Rattle.elf_records.specs.Note.{note_name_size, rounded_up}
 use Rattle.elf_records.specs.declared.sections.note.NoteHeader.{NoteHeader}
 use Rattle.xmas_elf.specs.BuildId.{IsNoteSection}
 use Rattle.xmas_elf.specs.NameTable.{IsFirstNamed}
-use Rattle.xmas_elf.specs.Place.{LiesAsBuildId, LiesAsRest, Part, PartLies, all, behind, nothing, section_part, segment_part}
+use Rattle.xmas_elf.specs.Place.{LiesAsBuildId, LiesAsRest, Part, PartLies, all, behind, nothing, section_part}
 use Rattle.xmas_elf.specs.SectionHeader.{section_fields}
 use Rattle.xmas_elf.specs.declared.ElfFile.{ElfFile}
-use Rattle.xmas_elf.specs.declared.program.content.SegmentData.{SegmentData}
 use Rattle.xmas_elf.specs.declared.sections.content.SectionData.{SectionData}
 use Rattle.xmas_elf.specs.declared.sections.section_header.SectionHeader.{SectionHeader}
 
-part_lies : (whole middle : Bor (List ℕ)) (start : ℕ) (part : Part) → LiesAt whole start middle → PartLies middle 0 part → PartLies whole start part
+lies_within : {whole middle part : Bor (List ℕ)} {start place later : ℕ} → LiesAt whole start middle → LiesAt middle place part → later ≡ start + place → LiesAt whole later part
+lies_within outer inner sum = record { block = inner.block ∙ outer.block; place_is = omega (arith, outer.place_is, inner.place_is, sum) }
+
+-- what some data lend lies where the data lie
+pub part_lies : (whole middle : Bor (List ℕ)) (start : ℕ) (part : Part) → LiesAt whole start middle → PartLies middle 0 part → PartLies whole start part
 part_lies whole middle start nothing outer inner = tt
-part_lies whole middle start (all bytes) outer inner = record {
-  block = inner.block ∙ outer.block;
-  place_is = omega (arith, outer.place_is, inner.place_is);
-}
-part_lies whole middle start (behind count bytes) outer inner = record {
-  block = inner.block ∙ outer.block;
-  place_is = omega (arith, outer.place_is, inner.place_is);
-}
+part_lies whole middle start (all bytes) outer inner = lies_within outer inner (omega arith)
+part_lies whole middle start (behind count bytes) outer inner = lies_within outer inner (omega arith)
 
 -- what the data of a section lends lies in the section
 pub section_lies : (whole middle : Bor (List ℕ)) (start : ℕ) (answer : Result SectionData ElfError) → LiesAt whole start middle → IfOk answer (λ d. PartLies middle 0 (section_part d)) → IfOk answer (λ d. PartLies whole start (section_part d))
-section_lies whole middle start (Ok d) outer inner = part_lies whole middle start (section_part d) outer inner
-section_lies whole middle start (Err error) outer inner = tt
-
--- what the data of a segment lends lies in the segment
-pub segment_lies : (whole middle : Bor (List ℕ)) (start : ℕ) (d : SegmentData) → LiesAt whole start middle → PartLies middle 0 (segment_part d) → PartLies whole start (segment_part d)
-segment_lies whole middle start d outer inner = part_lies whole middle start (segment_part d) outer inner
+section_lies whole middle start answer outer inner =
+    IfOk-weaker answer (λ d. PartLies middle 0 (section_part d)) (λ d. PartLies whole start (section_part d)) (λ d. part_lies whole middle start (section_part d) outer) inner
 
 -- a build id lies behind the header of its note
 pub build_id_lies : (file : ElfFile) (index : ℕ) (section : SectionHeader) (header : NoteHeader) (body : Bor (List ℕ)) (id : Option (Bor (List ℕ))) → IsFirstNamed file (codes ".note.gnu.build-id") index section → IsNoteSection file section header body.now → LiesAt file.input ((section_fields section).offset + 12) body → IfSome id (LiesAt body (rounded_up (note_name_size header))) → IfSome id (LiesAsBuildId file)
-build_id_lies file index section header body None named in_section outer inner = tt
-build_id_lies file index section header body (Some id) named in_section outer inner = record {
+build_id_lies file index section header body id named in_section outer inner = IfSome_then id inner (λ part lies. record {
   index = index;
   section = section;
   header = header;
   body = body.now;
   named = named;
   in_section = in_section;
-  lies = record {
-    block = inner.block ∙ outer.block;
-    place_is = omega (arith, outer.place_is, inner.place_is);
-  };
-}
+  lies = lies_within outer lies (omega arith);
+})
 
 -- what follows the text of an alternate link lies behind it
 pub rest_lies : (file : ElfFile) (index : ℕ) (section : SectionHeader) (bytes : Bor (List ℕ)) (link : Option (Bor (List ℕ) × Bor (List ℕ))) → IsFirstNamed file (codes ".gnu_debugaltlink") index section → LiesAt file.input (section_fields section).offset bytes → IfSome link (λ l. LiesAt bytes (length l.0.now + 1) l.1) → IfSome link (λ l. LiesAsRest file l.0.now l.1)
-rest_lies file index section bytes None named outer inner = tt
-rest_lies file index section bytes (Some link) named outer inner = record {
+rest_lies file index section bytes link named outer inner = IfSome_then link inner (λ l lies. record {
   index = index;
   section = section;
   named = named;
-  lies = record {
-    block = inner.block ∙ outer.block;
-    place_is = omega (arith, outer.place_is, inner.place_is);
-  };
-}
+  lies = lies_within outer lies (omega arith);
+})

@@ -1,88 +1,129 @@
--- The items that are computed are those of the bytes.
-use Rattle.std.proofs.Common.{◌≡◌, ◌≢◌, ℕ, zero, suc, ◌+◌, ◌≤◌, ◌<◌, ◌==◌, if◌then◌else◌, Bool, true, false, Result, Ok, Err, List, [], ◌∷◌, ◌++◌, append_assoc, length, length-append, slice_index, refl, sym, subst, arith}
-use Rattle.std.proofs.lemmas.List.{append-nil}
+-- The items of a string table: what stands first among them, and that they are those of the bytes.
+use Rattle.std.proofs.Common.{◌≡◌, ◌≢◌, ℕ, zero, suc, ◌+◌, ◌-◌, ◌≤◌, ◌<◌, ◌==◌, ◌⊎◌, inl, inr, Bool, true, false, Result, Ok, Err, List, [], ◌∷◌, length, length-append, length-drop, drop, take, add-one, slice_index, refl, sym, ap, subst, arith}
+use Rattle.std.proofs.Math.Seq.{drop-append-add}
+use Rattle.std.proofs.lemmas.List.{take_all}
 use Rattle.std.proofs.lemmas.Bool.{eqb-true, eqb-false}
 use Rattle.std.specs.Str.{is_utf8}
-use Rattle.std.proofs.lemmas.Str.{IsUtf8-nil, IsUtf8-from_is_utf8, is_utf8-from_IsUtf8}
-use Rattle.elf_base.specs.Text.{EndsInZero}
+use Rattle.std.proofs.lemmas.Str.{IsUtf8-from_is_utf8, is_utf8-from_IsUtf8}
+use Rattle.elf_base.specs.Text.{EndsInZero, IsText, TextRefused}
 use Rattle.elf_base.specs.declared.error.ElfError.{ElfError}
 use Rattle.elf_base.specs.declared.error.ElfError.TheVariants.{TextEnd, TextUtf8}
-use Rattle.xmas_elf.specs.Strings.{Strings, at_end, at_empty, refused, text, run_ended, run_open, strings_after, strings_of}
+use Rattle.elf_base.proofs.lemmas.TextLemmas.{is-text_of}
+use Rattle.elf_base.proofs.Texts.{text_of-refused}
+use Rattle.xmas_elf.specs.Strings as the_items
+use Rattle.xmas_elf.specs.Strings.{Strings, strings_behind, strings_of}
+
+-- the items behind so many bytes are those of what lies there
+behind-drop : (count : ℕ) (bytes : List ℕ) → strings_behind count bytes ≡ strings_of (drop count bytes)
+unfolding strings_behind
+behind-drop zero bytes = refl
+behind-drop (suc count) [] = refl
+behind-drop (suc count) (byte ∷ bytes) = behind-drop count bytes
+
+-- the zero byte stands behind its text
+pub text_within : (bytes text : List ℕ) → IsText bytes 0 text → length text + 1 ≤ length bytes
+text_within bytes text is = omega (arith, ap length is.ended.begins, length-append text (0 ∷ is.ended.after))
+
+-- a text, and the items that follow
+strings_of_text : (bytes text : List ℕ) → text ≢ [] → IsText bytes 0 text → strings_of bytes ≡ Ok text ∷ strings_of (drop (length text + 1) bytes)
+unfolding strings_behind
+strings_of_text bytes [] some is = absurd (some refl)
+strings_of_text [] (first ∷ text) some is = absurd (omega (arith, text_within [] (first ∷ text) is))
+strings_of_text (byte ∷ bytes) (first ∷ text) some is =
+    rw (is-text_of (byte ∷ bytes) 0 (first ∷ text) is, add-one) (ap (λ items. Ok (first ∷ text) ∷ items) (behind-drop (suc (length text)) bytes))
+
+-- the same with the items that follow as `&bytes[length text + 1..]`
+pub strings_of_next : (bytes text : List ℕ) → text ≢ [] → IsText bytes 0 text
+    → strings_of bytes ≡ Ok text ∷ strings_of (take (length bytes - (length text + 1)) (drop (length text + 1) bytes))
+strings_of_next bytes text some is =
+    let others = length-drop (length text + 1) bytes in
+    let all : take (length bytes - (length text + 1)) (drop (length text + 1) bytes) ≡ drop (length text + 1) bytes =
+    take_all (length bytes - (length text + 1)) (drop (length text + 1) bytes) (omega (arith, others)) in
+    rw all (strings_of_text bytes text some is)
+
+-- no bytes, no items
+pub strings_none : (bytes : List ℕ) → length bytes ≡ 0 → strings_of bytes ≡ []
+unfolding strings_behind
+strings_none [] none = refl
+strings_none (byte ∷ bytes) none = absurd (omega (arith, none))
+
+-- an empty text ends them
+pub strings_bare : (bytes text : List ℕ) → length text ≡ 0 → IsText bytes 0 text → strings_of bytes ≡ []
+unfolding strings_behind
+strings_bare [] text none is = refl
+strings_bare (byte ∷ bytes) [] none is = rw (is-text_of (byte ∷ bytes) 0 [] is) refl
+strings_bare bytes (byte ∷ text) none is = absurd (omega (arith, none))
+
+-- a fault is the last
+pub strings_last : (bytes : List ℕ) (error : ElfError) → 0 < length bytes → TextRefused bytes 0 error → strings_of bytes ≡ Err error ∷ strings_of []
+unfolding strings_behind
+strings_last [] error some refused = absurd (omega (arith, some))
+strings_last (byte ∷ bytes) error some refused = rw (text_of-refused (byte ∷ bytes) 0 error refused) refl
 
 abbrev NoZero : List ℕ → Type 0
-NoZero run = (k : ℕ) → k < length run → slice_index run k ≢ 0
+NoZero bytes = (k : ℕ) → k < length bytes → slice_index bytes k ≢ 0
 
--- one more byte that isn't zero
-no_zero_more : (run : List ℕ) (byte : ℕ) → NoZero run → byte ≢ 0 → NoZero (run ++ (byte ∷ []))
-no_zero_more [] byte none other zero below = other
-no_zero_more [] byte none other (suc k) below = absurd (omega (arith, below))
-no_zero_more (x ∷ run) byte none other zero below = none 0 (omega arith)
-no_zero_more (x ∷ run) byte none other (suc k) below =
-    no_zero_more run byte (λ i h. none (suc i) (omega arith)) other k (omega arith)
+no_zero_before : (byte : ℕ) (bytes : List ℕ) → byte ≢ 0 → NoZero bytes → NoZero (byte ∷ bytes)
+no_zero_before byte bytes other none zero below = other
+no_zero_before byte bytes other none (suc k) below = none k (omega arith)
 
-ended : (run after : List ℕ) → NoZero run → EndsInZero (run ++ (0 ∷ after)) 0 run
-ended run after none = record { after = after; begins = refl; no_zero = none }
+-- bytes begin with a text, or there is a reason why they don't
+abbrev Front : List ℕ → Type 0
+Front bytes = ((text : List ℕ) × IsText bytes 0 text) ⊎ ((error : ElfError) × TextRefused bytes 0 error)
 
-run_is : (byte : ℕ) (run after : List ℕ) (items : List (Result (List ℕ) ElfError)) (good : Bool) → is_utf8 (byte ∷ run) ≡ good → NoZero (byte ∷ run) → Strings after items
-    → Strings ((byte ∷ run) ++ (0 ∷ after)) (if good then Ok (byte ∷ run) ∷ items else Err TextUtf8 ∷ [])
-run_is byte run after items true is none rest =
-    text (byte ∷ run) after items (λ e. cc) (record { utf8 = IsUtf8-from_is_utf8 (byte ∷ run) is; ended = ended (byte ∷ run) after none }) rest
-run_is byte run after items false is none rest =
-    refused ((byte ∷ run) ++ (0 ∷ after)) TextUtf8 (λ e. cc) (byte ∷ run, ended (byte ∷ run) after none, λ utf8. let h = is_utf8-from_IsUtf8 (byte ∷ run) utf8 in cc)
+front_run : (bytes run : List ℕ) (good : Bool) → is_utf8 run ≡ good → EndsInZero bytes 0 run → Front bytes
+front_run bytes run true is ended = inl (run, record { utf8 = IsUtf8-from_is_utf8 run is; ended = ended })
+front_run bytes run false is ended = inr (TextUtf8, (run, ended, λ utf8. let h = is_utf8-from_IsUtf8 run utf8 in cc))
 
-ended_is : (run after : List ℕ) (items : List (Result (List ℕ) ElfError)) → NoZero run → Strings after items → Strings (run ++ (0 ∷ after)) (run_ended run items)
-ended_is [] after items none rest = at_empty (0 ∷ after) (record { utf8 = IsUtf8-nil; ended = ended [] after none })
-ended_is (byte ∷ run) after items none rest = run_is byte run after items (is_utf8 (byte ∷ run)) refl none rest
+-- the bytes before the first zero byte, where there is one
+abbrev Run : List ℕ → Type 0
+Run bytes = ((run : List ℕ) × EndsInZero bytes 0 run) ⊎ NoZero bytes
 
-open_is : (run : List ℕ) → NoZero run → Strings run (run_open run)
-open_is [] none = at_end
-open_is (byte ∷ run) none = refused (byte ∷ run) TextEnd (λ e. cc) (omega arith, λ k low below. none k below)
+run_by : (byte : ℕ) (bytes : List ℕ) (zero_byte : Bool) → (byte == 0) ≡ zero_byte → Run bytes → Run (byte ∷ bytes)
+run_by byte bytes true is later =
+    inl ([], record { after = bytes; begins = ap (λ b. b ∷ bytes) (eqb-true byte 0 is); no_zero = λ k below. omega arith })
+run_by byte bytes false is (inl (run, ended)) =
+    inl (byte ∷ run, record { after = ended.after; begins = ap (λ l. byte ∷ l) ended.begins; no_zero = no_zero_before byte run (eqb-false byte 0 is) ended.no_zero })
+run_by byte bytes false is (inr none) = inr (no_zero_before byte bytes (eqb-false byte 0 is) none)
 
-byte_is : (run bytes : List ℕ) (byte : ℕ) (zero_byte : Bool) → (byte == 0) ≡ zero_byte → NoZero run
-    → Strings bytes (strings_of bytes) → (NoZero (run ++ (byte ∷ [])) → Strings ((run ++ (byte ∷ [])) ++ bytes) (strings_after (run ++ (byte ∷ [])) bytes))
-    → Strings (run ++ (byte ∷ bytes)) (if zero_byte then run_ended run (strings_of bytes) else strings_after (run ++ (byte ∷ [])) bytes)
-byte_is run bytes byte true is none rest later =
-    let here : byte ≡ 0 = eqb-true byte 0 is in
-    subst (λ b. Strings (run ++ (b ∷ bytes)) (run_ended run (strings_of bytes))) (sym here) (ended_is run bytes (strings_of bytes) none rest)
-byte_is run bytes byte false is none rest later =
-    let other : byte ≢ 0 = eqb-false byte 0 is in
-    subst (λ l. Strings l (strings_after (run ++ (byte ∷ [])) bytes)) (append_assoc run (byte ∷ []) bytes) (later (no_zero_more run byte none other))
+run_of : (bytes : List ℕ) → Run bytes
+run_of [] = inr (λ k below. omega arith)
+run_of (byte ∷ bytes) = run_by byte bytes (byte == 0) refl (run_of bytes)
 
-after_is : (bytes run : List ℕ) → NoZero run → Strings (run ++ bytes) (strings_after run bytes)
-unfolding strings_after
-after_is [] run none = subst (λ l. Strings l (run_open run)) (sym (append-nil run)) (open_is run none)
-after_is (byte ∷ bytes) run none =
-    byte_is run bytes byte (byte == 0) refl none (after_is bytes [] (λ k below. absurd (omega (arith, below)))) (λ more. after_is bytes (run ++ (byte ∷ [])) more)
+front : (bytes : List ℕ) → Run bytes → Front bytes
+front bytes (inl (run, ended)) = front_run bytes run (is_utf8 run) refl ended
+front bytes (inr none) = inr (TextEnd, (omega arith, λ k low below. none k below))
 
+front_are : (bytes : List ℕ) → bytes ≢ [] → 0 < length bytes → Front bytes → ((rest : List ℕ) → length rest < length bytes → Strings rest (strings_of rest)) → Strings bytes (strings_of bytes)
+front_are bytes some long (inl ([], is)) shorter = rw (strings_bare bytes [] refl is) (the_items.at_empty bytes is)
+front_are bytes some long (inl (first ∷ text, is)) shorter =
+    let rest = is.ended.after in
+    let one = the_items.text (first ∷ text) rest (strings_of rest) (λ e. cc)
+    (record { utf8 = is.utf8; ended = record { after = rest; begins = refl; no_zero = is.ended.no_zero } })
+    (shorter rest (omega (arith, ap length is.ended.begins, length-append text (0 ∷ rest)))) in
+    let left : drop (length (first ∷ text) + 1) bytes ≡ rest = rw is.ended.begins (drop-append-add (first ∷ text) (0 ∷ rest) 1) in
+    rw (strings_of_text bytes (first ∷ text) (λ e. cc) is, left) (subst (λ l. Strings l (Ok (first ∷ text) ∷ strings_of rest)) (sym is.ended.begins) one)
+front_are bytes some long (inr (error, why)) shorter =
+    rw (strings_last bytes error long why, strings_none [] refl) (the_items.refused bytes error some why)
+
+are : (n : ℕ) (bytes : List ℕ) → length bytes ≤ n → Strings bytes (strings_of bytes)
+unfolding strings_behind
+are n [] fits = the_items.at_end
+are zero (byte ∷ bytes) fits = absurd (omega arith)
+are (suc n) (byte ∷ bytes) fits =
+    front_are (byte ∷ bytes) (λ e. cc) (omega arith) (front (byte ∷ bytes) (run_of (byte ∷ bytes))) (λ rest below. are n rest (omega arith))
+
+-- the items that are computed are those of the bytes
 pub strings_are : (bytes : List ℕ) → Strings bytes (strings_of bytes)
-strings_are bytes = after_is bytes [] (λ k below. absurd (omega (arith, below)))
+strings_are bytes = are (length bytes) bytes (omega arith)
 
 -- there are no more items than bytes
-open_fit : (run : List ℕ) → length (run_open run) ≤ length run
-open_fit [] = omega arith
-open_fit (byte ∷ run) = omega arith
-
-utf8_fit : (byte : ℕ) (run : List ℕ) (items : List (Result (List ℕ) ElfError)) (good : Bool) → length (if good then Ok (byte ∷ run) ∷ items else Err TextUtf8 ∷ []) ≤ suc (length items)
-utf8_fit byte run items true = omega arith
-utf8_fit byte run items false = omega arith
-
-ended_fit : (run : List ℕ) (items : List (Result (List ℕ) ElfError)) → length (run_ended run items) ≤ length run + length items
-ended_fit [] items = omega arith
-ended_fit (byte ∷ run) items = let few = utf8_fit byte run items (is_utf8 (byte ∷ run)) in omega (arith, few)
-
-byte_fit : (run bytes : List ℕ) (byte : ℕ) (zero_byte : Bool) → length (strings_of bytes) ≤ length bytes → length (strings_after (run ++ (byte ∷ [])) bytes) ≤ length (run ++ (byte ∷ [])) + length bytes
-    → length (if zero_byte then run_ended run (strings_of bytes) else strings_after (run ++ (byte ∷ [])) bytes) ≤ length run + suc (length bytes)
-byte_fit run bytes byte true rest later =
-    let few = ended_fit run (strings_of bytes) in omega (arith, few, rest)
-byte_fit run bytes byte false rest later =
-    let len = length-append run (byte ∷ []) in omega (arith, len, later)
-
-after_fit : (bytes run : List ℕ) → length (strings_after run bytes) ≤ length run + length bytes
-unfolding strings_after
-after_fit [] run = let few = open_fit run in omega (arith, few)
-after_fit (byte ∷ bytes) run =
-    let rest = after_fit bytes [] in
-    byte_fit run bytes byte (byte == 0) (omega (arith, rest)) (after_fit bytes (run ++ (byte ∷ [])))
+fit : {bytes : List ℕ} {items : List (Result (List ℕ) ElfError)} → Strings bytes items → length items ≤ length bytes
+fit the_items.at_end = omega arith
+fit (the_items.at_empty bytes is) = omega arith
+fit (the_items.refused [] error some why) = absurd (some refl)
+fit (the_items.refused (byte ∷ bytes) error some why) = omega arith
+fit (the_items.text first rest items some is later) = omega (arith, fit later, length-append first (0 ∷ rest))
 
 pub strings_fit : (bytes : List ℕ) → length (strings_of bytes) ≤ length bytes
-strings_fit bytes = let few = after_fit bytes [] in omega (arith, few)
+strings_fit bytes = fit (strings_are bytes)

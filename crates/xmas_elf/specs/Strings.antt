@@ -1,10 +1,8 @@
 -- The texts of a string table in order (gABI, "String Table"; where they end is this project's own).
-use Rattle.std.specs.Prelude.{◌≢◌, ℕ, ◌==◌, List, [], ◌∷◌, ◌++◌, Option, None, Some, Result, Ok, Err, if◌then◌else◌}
+use Rattle.std.specs.Prelude.{◌≢◌, ℕ, zero, suc, List, [], ◌∷◌, ◌++◌, length, Option, None, Some, Result, Ok, Err}
 use Rattle.std.specs.Borrow.{Bor}
-use Rattle.std.specs.Str.{is_utf8}
-use Rattle.elf_base.specs.Text.{IsText, TextRefused}
+use Rattle.elf_base.specs.Text.{IsText, TextRefused, text_of}
 use Rattle.elf_base.specs.declared.error.ElfError.{ElfError}
-use Rattle.elf_base.specs.declared.error.ElfError.TheVariants.{TextEnd, TextUtf8}
 use Rattle.xmas_elf.specs.Content.{Content, strings}
 use Rattle.xmas_elf.specs.declared.sections.strings.SectionStrings.{SectionStrings}
 
@@ -19,25 +17,22 @@ pub data Strings : List ℕ → List (Result (List ℕ) ElfError) → Type 0 whe
       → IsText (first ++ (0 ∷ rest)) 0 first → Strings rest items
       → Strings (first ++ (0 ∷ rest)) (Ok first ∷ items)
 
--- what a zero byte makes of the bytes before it, before the items that follow
-abbrev pub run_ended : List ℕ → List (Result (List ℕ) ElfError) → List (Result (List ℕ) ElfError)
-run_ended [] items = []
-run_ended (byte ∷ run) items = if is_utf8 (byte ∷ run) then Ok (byte ∷ run) ∷ items else Err TextUtf8 ∷ []
+-- what the text at the front of bytes is among the items, or why there is none; those behind so many
+-- further bytes follow it
+abbrev pub first_item : Result (List ℕ) ElfError → (ℕ → List (Result (List ℕ) ElfError)) → List (Result (List ℕ) ElfError)
+first_item (Ok []) behind = []
+first_item (Ok (byte ∷ bytes)) behind = Ok (byte ∷ bytes) ∷ behind (length (byte ∷ bytes))
+first_item (Err error) behind = Err error ∷ []
 
--- what bytes that no zero byte ends are
-abbrev pub run_open : List ℕ → List (Result (List ℕ) ElfError)
-run_open [] = []
-run_open (byte ∷ run) = Err TextEnd ∷ []
-
--- the items of bytes that follow a run without a zero byte
-unfoldable pub strings_after : List ℕ → List ℕ → List (Result (List ℕ) ElfError)
-strings_after run [] = run_open run
-strings_after run (byte ∷ bytes) =
-    if byte == 0 then run_ended run (strings_after [] bytes) else strings_after (run ++ (byte ∷ [])) bytes
+-- the items behind so many bytes; the zero byte of a text lies behind as many as the text has
+unfoldable pub strings_behind : ℕ → List ℕ → List (Result (List ℕ) ElfError)
+strings_behind count [] = []
+strings_behind (suc count) (byte ∷ bytes) = strings_behind count bytes
+strings_behind zero (byte ∷ bytes) = first_item (text_of (byte ∷ bytes) 0) (λ count. strings_behind count bytes)
 
 -- the items of bytes, as they are computed
 abbrev pub strings_of : List ℕ → List (Result (List ℕ) ElfError)
-strings_of bytes = strings_after [] bytes
+strings_of bytes = strings_behind 0 bytes
 
 -- the bytes that an iterator has left
 abbrev pub strings_bytes : SectionStrings → List ℕ

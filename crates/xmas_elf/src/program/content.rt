@@ -78,7 +78,7 @@ impl ProgramHeader64 {
     ghost use Rattle.xmas_elf.specs.SegmentContent.{segment_content, segment_content_of};
 
     /// The data of the segment by its type, with the answer of `ProgramHeader::get_data`.
-    #[tactic(auto, using(crate::proofs::Places::segment_lies), unfolding(crate::specs::SegmentContent::segment_content_of))]
+    #[tactic(auto, using(crate::proofs::Places::part_lies), unfolding(crate::specs::SegmentContent::segment_content_of))]
     pub fn get_data<'a>(&self, file: &ElfFile<'a>) -> Result<SegmentData<'a>, ElfError>
         ensures exact { MatchResult result
             (λ d. segment_content_of file.now self.now ≡ Ok (segment_content d))
