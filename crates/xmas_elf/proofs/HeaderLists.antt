@@ -42,11 +42,6 @@ header_list-longest header_at limit =
     let all : limit - 0 ≡ limit = omega arith in
     rw all (longest-headers_from header_at header_at limit 0 (λ i. ap header_at (omega arith)))
 
--- an entry of a table that lies in the input lies there too
-pub entry_place-within : (offset size count len i : ℕ) → entry_place offset size count ≤ len → i < count → entry_place offset size (i + 1) ≤ len
-entry_place-within offset size count len i within below =
-    let more : (i + 1) * size ≤ count * size = grind (arith, below) in omega (arith, more, within)
-
 -- a table whose entries can be read just where `Has` holds of their index: each is large enough and ends
 -- in the input
 pub record IsTable {H : Type 0} (header_at : ℕ → Result H ElfError) (Has : ℕ → Type 0) (at_place : ℕ → H) (offset entry_size size len : ℕ) : Type 0 where
@@ -63,8 +58,9 @@ items_fit header_at (x ∷ others) least len each ends = ends (length others) _ 
 module _ {H : Type 0} {header_at : ℕ → Result H ElfError} {Has : ℕ → Type 0} {at_place : ℕ → H} {offset entry_size size len : ℕ} (table : IsTable header_at Has at_place offset entry_size size len) where
   pub table-laid : (n : ℕ) → ((i : ℕ) → i < n → Has i) → IsLaid header_at at_place offset entry_size size n len
   table-laid n each = λ i below.
-      let next : (i + 1) * entry_size ≡ i * entry_size + entry_size = grind arith in
-      (omega (arith, next, table.within i (each i below), table.large i (each i below)), table.at i (each i below))
+      let within = table.within i (each i below) in
+      let large = table.large i (each i below) in
+      (grind arith, table.at i (each i below))
 
   -- the list has as many as can be read from index 0 on
   pub length-table : (limit n : ℕ) → n ≤ limit → ((i : ℕ) → i < n → Has i) → (n < limit → ¬ Has n) → n ≡ length (header_list header_at limit)
@@ -79,12 +75,9 @@ module _ {H : Type 0} {header_at : ℕ → Result H ElfError} {Has : ℕ → Typ
   pub table-fits : (limit least : ℕ) → least ≤ size → length (header_list header_at limit) * least ≤ len
   table-fits limit least some =
       items_fit header_at (header_list header_at limit) least len (header_list-longest header_at limit).each (λ i h is.
-      let can = table.can i h is in
-      let large : least ≤ entry_size = omega (arith, table.large i can) in
-      let more : suc i * least ≤ suc i * entry_size = grind (arith, large) in
-      let next : suc i ≡ i + 1 = omega arith in
-      let same : suc i * entry_size ≡ (i + 1) * entry_size = ap (λ k. k * entry_size) next in
-      omega (arith, more, same, table.within i can))
+      let within = table.within i (table.can i h is) in
+      let large = table.large i (table.can i h is) in
+      grind arith)
 
   -- a header that was read is the item at its index
   pub table-item : (limit i : ℕ) (h : H) → i < length (header_list header_at limit) → header_at i ≡ Ok h → (Some h ≡ slice_get (header_list header_at limit) i) × (i < length (header_list header_at limit)) × (h ≡ at_place (entry_place offset entry_size i))

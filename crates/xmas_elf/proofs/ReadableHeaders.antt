@@ -9,9 +9,8 @@ use Rattle.xmas_elf.proofs.lemmas.HeaderList.{first_item}
 -- an item that is taken off what is left
 pub item_before : {H : Type 0} (items : List H) (i : ℕ) (h : H) → i < length items → slice_get items i ≡ Some h → drop i items ≡ h ∷ drop (i + 1) items
 item_before items i h below is =
-    let item : slice_index_or items i h ≡ h = let at = slice_get-get_or items i h below in cc in
-    let next : suc i ≡ i + 1 = omega arith in
-    subst (λ k. drop i items ≡ h ∷ drop k items) next (drop-cons items i h below ∙ ap (λ x. x ∷ drop (suc i) items) item)
+    let next = drop-cons items i h below in
+    let at = slice_get-get_or items i h below in grind arith
 
 pub none_left : {H : Type 0} (items : List H) (i : ℕ) → length items ≤ i → drop i items ≡ []
 none_left items i past = drop_of_length-le items past

@@ -1,4 +1,4 @@
-use Rattle.std.proofs.Common.{◌≡◌, ◌≤◌, length, sym}
+use Rattle.std.proofs.Common.{◌≡◌, ◌≤◌, length}
 use Rattle.elf_base.specs.FileHeader.{file_class}
 use Rattle.xmas_elf.specs.Checks.{part_class}
 use Rattle.xmas_elf.specs.Counts.{program_count_of, section_count_of}
@@ -15,7 +15,7 @@ returns-clause-sections c = λ large.
     let within : section_place file.header (section_count_of file) ≤ length file.input.now =
     rw (← c.sh_offset.ensures, ← c.sh_entry_size.ensures, ← c.section_count-sh_count.ensures) (c.table_is_within-2.ensures.0 c.if-not-table_is_within-2.false) in
     let same : file_class file.header ≡ part_class file.header.pt2 = cc in
-    sym (length-section_list file (part_class-known (file_class file.header) file.header.pt2 same) within large)
+    length-section_list file (part_class-known (file_class file.header) file.header.pt2 same) within large
 
 pub returns-clause-segments : goal.returns-clause-segments
 returns-clause-segments c = λ placed large.
@@ -23,4 +23,4 @@ returns-clause-segments c = λ placed large.
     let within : program_place file.header (program_count_of file) ≤ length file.input.now =
     rw (← c.ph_offset.ensures, ← c.ph_entry_size.ensures, ← c.program_count.ensures, ← c.from-ph_count.ensures) (c.table_is_within.ensures.0 c.if-not-table_is_within.false) in
     let same : file_class file.header ≡ part_class file.header.pt2 = cc in
-    sym (length-program_list file (part_class-known (file_class file.header) file.header.pt2 same) within placed large)
+    length-program_list file (part_class-known (file_class file.header) file.header.pt2 same) within placed large
