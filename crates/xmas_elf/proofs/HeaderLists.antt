@@ -1,41 +1,19 @@
 -- Lists of headers, as they are computed and as they are meant, and the tables that they are read from.
-use Rattle.std.proofs.Common.{◌≡◌, ℕ, zero, suc, ◌+◌, ◌-◌, ◌*◌, ◌≤◌, ◌<◌, ◌==◌, ◌||◌, List, [], ◌∷◌, inl, inr, Bool, true, false, not, length, slice_get, slice_index_or, Some, Result, Ok, Err, refl, sym, ap, ◌∙◌, if◌then◌else◌, arith, add-zero}
+use Rattle.std.proofs.Common.{◌≡◌, ℕ, zero, suc, ◌+◌, ◌-◌, ◌*◌, ◌≤◌, ◌<◌, List, [], ◌∷◌, length, drop, slice_get, Some, Result, Ok, ap, ◌∙◌, arith, add-zero}
 use Rattle.std.specs.List.{HoldsAt}
 use Rattle.elf_base.specs.declared.error.ElfError.{ElfError}
-use Rattle.elf_base.specs.declared.header.HeaderPt2.{HeaderPt2}
-use Rattle.elf_base.specs.declared.header.HeaderPt2.TheVariants.{Header32, Header64}
-use Rattle.std.proofs.lemmas.Option.{slice_get-get_or}
-use Rattle.xmas_elf.specs.Checks.{part_class}
-use Rattle.xmas_elf.specs.HeaderTable.{IsKnownClass, IsLongest, before, entry_place, header_list, headers_from, is_known_class}
+use Rattle.std.proofs.Math.Seq.{drop-cons}
+use Rattle.std.proofs.lemmas.Option.{get_or_from_slice_get, slice_get-get_or, slice_get_within}
+use Rattle.xmas_elf.specs.HeaderTable.{IsLongest, entry_place, header_list, headers_from}
 use Rattle.xmas_elf.specs.Laid.{IsLaid}
 
 -- the list that is computed is the longest one: each item is the header at its index, and the list
 -- stops only at a header that is refused
-each_before : {H : Type 0} (header_at : ℕ → Result H ElfError) (x : H) (others : List H) → header_at 0 ≡ Ok x → ((i : ℕ) → i < length others → HoldsAt (λ h. header_at (suc i) ≡ Ok h) others i) → (i : ℕ) → i < suc (length others) → HoldsAt (λ h. header_at i ≡ Ok h) (x ∷ others) i
-each_before header_at x others first rest zero below = λ d. first
-each_before header_at x others first rest (suc i) below = rest i (omega arith)
-
-longest_before : {H : Type 0} (header_at : ℕ → Result H ElfError) (r : Result H ElfError) (others : List H) (count : ℕ) → header_at 0 ≡ r → IsLongest (λ i. header_at (suc i)) count others → IsLongest header_at (suc count) (before r others)
-longest_before header_at (Ok x) others count first rest = record {
-  counted = let fewer = rest.counted in omega arith;
-  each = each_before header_at x others first rest.each;
-  longest = λ h short more. rest.longest h (omega arith) more;
-}
-longest_before header_at (Err error) others count first rest = record {
-  counted = omega arith;
-  each = λ i below d. absurd (omega arith);
-  longest = λ h short more. cc;
-}
-
 longest-headers_from : {H : Type 0} (header_at at : ℕ → Result H ElfError) (count index : ℕ) → ((i : ℕ) → at i ≡ header_at (index + i)) → IsLongest at count (headers_from header_at index count)
-longest-headers_from header_at at zero index same = record {
-  counted = omega arith;
-  each = λ i below d. absurd (omega arith);
-  longest = λ h short more. omega arith;
-}
+longest-headers_from header_at at zero index same = grind arith
 longest-headers_from header_at at (suc count) index same =
-    longest_before at (header_at index) (headers_from header_at (suc index) count) count (same 0 ∙ ap header_at (add-zero index))
-    (longest-headers_from header_at (λ i. at (suc i)) count (suc index) (λ i. same (suc i) ∙ ap header_at (omega arith)))
+    let first = same 0 ∙ ap header_at (add-zero index) in
+    let rest = longest-headers_from header_at (λ i. at (suc i)) count (suc index) (λ i. same (suc i) ∙ ap header_at (omega arith)) in grind arith
 
 pub header_list-longest : {H : Type 0} (header_at : ℕ → Result H ElfError) (limit : ℕ) → IsLongest header_at limit (header_list header_at limit)
 header_list-longest header_at limit =
@@ -57,10 +35,7 @@ items_fit header_at (x ∷ others) least len each ends = ends (length others) _ 
 
 module _ {H : Type 0} {header_at : ℕ → Result H ElfError} {Has : ℕ → Type 0} {at_place : ℕ → H} {offset entry_size size len : ℕ} (table : IsTable header_at Has at_place offset entry_size size len) where
   pub table-laid : (n : ℕ) → ((i : ℕ) → i < n → Has i) → IsLaid header_at at_place offset entry_size size n len
-  table-laid n each = λ i below.
-      let within = table.within i (each i below) in
-      let large = table.large i (each i below) in
-      (grind arith, table.at i (each i below))
+  table-laid n each i below = grind arith
 
   -- the list has as many as can be read from index 0 on
   pub length-table : (limit n : ℕ) → n ≤ limit → ((i : ℕ) → i < n → Has i) → (n < limit → ¬ Has n) → n ≡ length (header_list header_at limit)
@@ -76,17 +51,14 @@ module _ {H : Type 0} {header_at : ℕ → Result H ElfError} {Has : ℕ → Typ
   table-fits limit least some =
       items_fit header_at (header_list header_at limit) least len (header_list-longest header_at limit).each (λ i h is.
       let within = table.within i (table.can i h is) in
-      let large = table.large i (table.can i h is) in
-      grind arith)
+      let large = table.large i (table.can i h is) in grind arith)
 
   -- a header that was read is the item at its index
   pub table-item : (limit i : ℕ) (h : H) → i < length (header_list header_at limit) → header_at i ≡ Ok h → (Some h ≡ slice_get (header_list header_at limit) i) × (i < length (header_list header_at limit)) × (h ≡ at_place (entry_place offset entry_size i))
   table-item limit i h below is =
-      let item = (header_list-longest header_at limit).each i below h in
-      let at = slice_get-get_or (header_list header_at limit) i h below in
-      let there = table.at i (table.can i h is) in (cc, below, cc)
+      let item = (header_list-longest header_at limit).each i below h in grind (arith, slice_get-get_or)
 
--- part 2 is of one of the two classes
-pub part_class-known : (class : ℕ) (part : HeaderPt2) → class ≡ part_class part → IsKnownClass class
-part_class-known class (Header32 part) is = inl is
-part_class-known class (Header64 part) is = inr is
+-- an item that is taken off what is left
+pub item_before : {H : Type 0} (items : List H) (i : ℕ) (h : H) → slice_get items i ≡ Some h → drop i items ≡ h ∷ drop (i + 1) items
+item_before items i h is =
+    let next = drop-cons items i h in grind (arith, slice_get_within, get_or_from_slice_get)

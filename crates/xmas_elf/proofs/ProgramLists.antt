@@ -1,10 +1,10 @@
 -- When every segment of a file can be read, and how many can.
-use Rattle.std.proofs.Common.{◌≡◌, ◌≢◌, ℕ, ◌*◌, ◌≤◌, length, sym, arith}
+use Rattle.std.proofs.Common.{◌≡◌, ◌≢◌, ◌*◌, ◌≤◌, length, sym, arith}
 use Rattle.std.proofs.lemmas.Bool.Decides.{nat_tests}
 use Rattle.elf_base.specs.FileHeader.{file_class, file_order}
 use Rattle.elf_base.specs.HeaderLayout.{header_fields}
 use Rattle.xmas_elf.specs.Counts.{program_count_of}
-use Rattle.xmas_elf.specs.HeaderTable.{IsKnownClass}
+use Rattle.xmas_elf.specs.Checks.{part_class}
 use Rattle.xmas_elf.specs.ProgramHeader.{HasProgram, program_at_place, program_entry, program_header_size, program_of, program_place}
 use Rattle.xmas_elf.specs.ProgramList.{program_list}
 use Rattle.xmas_elf.specs.declared.ElfFile.{ElfFile}
@@ -20,7 +20,7 @@ programs file = record {
 }
 
 -- where the table lies in the input and its entries are large enough, no segment is missing
-pub length-program_list : (file : ElfFile) → IsKnownClass (file_class file.header)
+pub length-program_list : (file : ElfFile) → file_class file.header ≡ part_class file.header.pt2
     → program_place file.header (program_count_of file) ≤ length file.input.now
     → (header_fields file.header.pt2).ph_offset ≢ 0
     → program_header_size (file_class file.header) ≤ (header_fields file.header.pt2).ph_entry_size

@@ -1,10 +1,10 @@
 -- When every section of a file can be read, and how many can.
-use Rattle.std.proofs.Common.{◌≡◌, ℕ, ◌+◌, ◌*◌, ◌≤◌, ◌<◌, length, Ok, sym, arith}
+use Rattle.std.proofs.Common.{◌≡◌, ℕ, ◌*◌, ◌≤◌, ◌<◌, length, Ok, sym, arith}
 use Rattle.std.proofs.lemmas.Bool.Decides.{nat_tests}
 use Rattle.elf_base.specs.FileHeader.{file_class, file_order}
 use Rattle.elf_base.specs.HeaderLayout.{header_fields}
 use Rattle.xmas_elf.specs.Counts.{section_count_of}
-use Rattle.xmas_elf.specs.HeaderTable.{IsKnownClass}
+use Rattle.xmas_elf.specs.Checks.{part_class}
 use Rattle.xmas_elf.specs.SectionHeader.{HasSectionEntry, section_at_place, section_entry, section_header_size, section_of, section_place}
 use Rattle.xmas_elf.specs.SectionList.{section_list}
 use Rattle.xmas_elf.specs.declared.ElfFile.{ElfFile}
@@ -21,7 +21,7 @@ sections file = record {
 }
 
 -- where the table lies in the input and its entries are large enough, no section is missing
-pub length-section_list : (file : ElfFile) → IsKnownClass (file_class file.header)
+pub length-section_list : (file : ElfFile) → file_class file.header ≡ part_class file.header.pt2
     → section_place file.header (section_count_of file) ≤ length file.input.now
     → section_header_size (file_class file.header) ≤ (header_fields file.header.pt2).sh_entry_size
     → length (section_list file) ≡ section_count_of file
@@ -33,13 +33,11 @@ length-section_list file class within large =
 pub section_list-fits : (file : ElfFile) → length (section_list file) * 40 ≤ length file.input.now
 section_list-fits file = table-fits (sections file) (section_count_of file) 40 (grind (arith, nat_tests))
 
--- a section before one that can be read can be read, and stands in the list where it is counted
-section_before : (file : ElfFile) (i j : ℕ) → i ≤ j → HasSectionEntry file.input.now file.header j → HasSectionEntry file.input.now file.header i
-section_before file i j before can = grind arith
-
+-- a section before one that can be read can be read, and so it stands in the list where it is counted
 pub section_in_list : (file : ElfFile) (i : ℕ) (h : SectionHeader) → i < section_count_of file → section_of file i ≡ Ok h → i < length (section_list file)
 section_in_list file i h counted readable =
     let list = header_list-longest (section_of file) (section_count_of file) in
     let last = length (section_list file) in
-    let here : ¬ (last ≤ i) = λ past. list.longest _ (omega arith) ((sections file).at last (section_before file last i past ((sections file).can i h readable))) in
+    let can = (sections file).can i h readable in
+    let here : ¬ (last ≤ i) = λ past. list.longest _ (omega arith) ((sections file).at last (grind arith)) in
     omega (arith, here)

@@ -1,7 +1,6 @@
 -- What a caller knows of the header at an index of a list, of a search by position, and of one more turn
 -- of a loop.
-use Rattle.std.proofs.Common.{◌≡◌, ℕ, zero, suc, ◌+◌, ◌-◌, ◌≤◌, ◌<◌, List, [], ◌∷◌, length, slice_index_or, Option, None, Some, MatchOption, Result, Ok, Err, IsOkAnd, refl, sym, ap, ◌∙◌, subst, arith}
-use borrow.Author.Count.{below_more}
+use Rattle.std.proofs.Common.{◌≡◌, ℕ, ◌+◌, ◌-◌, ◌≤◌, ◌<◌, List, [], ◌∷◌, length, Option, None, Some, MatchOption, Result, Ok, IsOkAnd, refl, sym, ◌∙◌, arith}
 use Rattle.std.specs.List.{AllWithin, HoldsAt}
 use Rattle.elf_base.specs.declared.error.ElfError.{ElfError}
 use Rattle.xmas_elf.specs.Counts.{program_count_of, section_count_of}

@@ -1,4 +1,4 @@
-use Rattle.std.proofs.Common.{◌≡◌, ◌<◌, Ok, length, sym, ap, ◌∙◌, arith}
+use Rattle.std.proofs.Common.{arith}
 use Rattle.xmas_elf.specs.Counts.{section_count_of}
 use Rattle.xmas_elf.proofs.HeaderLists.{table-item}
 use Rattle.xmas_elf.proofs.SectionLists.{sections}
@@ -7,7 +7,5 @@ use Rattle.xmas_elf.proofs.sections.table.SectionTable.get.Goals as goal
 pub returns : goal.returns
 returns c =
     let table = c.args.self.now in
-    let file = table.file.now in
-    let i = c.args.index in
-    let item = table-item (sections file) (section_count_of file) i c.section_at.result (omega (arith, table.counted, c.if-index-self.false)) ((table.laid i (omega (arith, c.if-index-self.false))).1 ∙ ap Ok (sym c.section_at.ensures)) in
-    record { item = item.0; value = (item.1, item.2) }
+    let laid = table.laid c.args.index (omega (arith, c.if-index-self.false)) in
+    let item = table-item (sections table.file.now) (section_count_of table.file.now) c.args.index c.section_at.result in grind arith
