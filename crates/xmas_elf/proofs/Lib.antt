@@ -2,7 +2,6 @@ pub mod lemmas
 pub mod HeaderLists
 pub mod SectionLists
 pub mod ProgramLists
-pub mod ReadableHeaders
 pub mod ReportLines
 pub mod FirstNamed
 pub mod NamedSections

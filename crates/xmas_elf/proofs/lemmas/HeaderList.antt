@@ -1,7 +1,6 @@
 -- What a caller knows of the header at an index of a list, of a search by position, and of one more turn
 -- of a loop.
-use Rattle.std.proofs.Common.{◌≡◌, ℕ, zero, suc, ◌+◌, ◌-◌, ◌≤◌, ◌<◌, List, [], ◌∷◌, length, slice_index_or, Option, None, Some, MatchOption, Result, Ok, Err, IsOkAnd, refl, sym, ap, ◌∙◌, subst, arith}
-use borrow.Author.Count.{below_more}
+use Rattle.std.proofs.Common.{◌≡◌, ℕ, ◌+◌, ◌-◌, ◌≤◌, ◌<◌, List, [], ◌∷◌, length, Option, None, Some, MatchOption, Result, Ok, IsOkAnd, refl, sym, ◌∙◌, arith}
 use Rattle.std.specs.List.{AllWithin, HoldsAt}
 use Rattle.elf_base.specs.declared.error.ElfError.{ElfError}
 use Rattle.xmas_elf.specs.Counts.{program_count_of, section_count_of}
@@ -22,20 +21,11 @@ pub first_item : {H : Type 0} (items : List H) (i : ℕ) → i < length items �
 first_item [] i below = absurd (omega arith)
 first_item (h ∷ others) i below = h
 
--- what holds at a place of the longest list holds of the header at that index
-pub header_holds : {H : Type 0} (header_at : ℕ → Result H ElfError) (limit : ℕ) (items : List H) (P : H → Type 0) (i : ℕ) → IsLongest header_at limit items → i < length items → HoldsAt P items i → IsOkAnd (header_at i) P
-header_holds header_at limit items P i longest below holds =
-    let d = first_item items i below in
-    subst (λ r. IsOkAnd r P) (sym (longest.each i below d)) (holds d)
-
--- and the header at an index is the item there
-pub header-item : {H : Type 0} (header_at : ℕ → Result H ElfError) (limit : ℕ) (items : List H) (i : ℕ) (h : H) → IsLongest header_at limit items → i < length items → header_at i ≡ Ok h → slice_index_or items i h ≡ h
-header-item header_at limit items i h longest below is = let item = longest.each i below h in cc
-
--- what holds of all items below a place holds of the headers below that index
+-- what holds of all items below a place of the longest list holds of the headers below that index
 pub headers_within : {H : Type 0} (header_at : ℕ → Result H ElfError) (limit : ℕ) (items : List H) (P : H → Type 0) (high : ℕ) → IsLongest header_at limit items → high ≤ length items → AllWithin P items 0 high → EachBelow header_at P high
 headers_within header_at limit items P high longest fits all i h below is =
-    subst P (header-item header_at limit items i h longest (omega arith) is) (all i h (omega arith) below)
+    let item = longest.each i (omega arith) h in
+    let holds = all i h (omega arith) below in grind arith
 
 -- what a search by `position` in a list says of the headers by index: where something was found, the
 -- property holds of the header there and fails of those before it; else it fails of all in the list
@@ -51,7 +41,7 @@ module _ {H : Type 0} (header_at : ℕ → Result H ElfError) (limit : ℕ) (ite
   pub found_header : (r : Option ℕ) → IsLongest header_at limit items → FoundAt r → FoundHeader r
   found_header None longest found = headers_within header_at limit items N (length items) longest (omega arith) found
   found_header (Some i) longest found = (
-    header_holds header_at limit items P i longest found.0 found.1,
+    let d = first_item items i found.0 in let item = longest.each i found.0 d in let holds = found.1 d in grind arith,
     headers_within header_at limit items N i longest (let below = found.0 in omega arith) found.2,
   )
 
@@ -70,29 +60,11 @@ sections_within file P high fits all =
 
 -- one more turn of a loop: the first of what is left is the header at the index, and the others are what
 -- is left behind it
-before-first : {H : Type 0} (r : Result H ElfError) (rest others : List H) (h : H) → before r rest ≡ h ∷ others → (r ≡ Ok h) × (others ≡ rest)
-before-first (Ok x) rest others h is = (cc, cc)
-before-first (Err error) rest others h is = cc
-
 rest-first : {H : Type 0} (header_at : ℕ → Result H ElfError) (index count : ℕ) (h : H) (others : List H) → headers_from header_at index count ≡ h ∷ others → (header_at index ≡ Ok h) × (others ≡ headers_from header_at (index + 1) (count - 1))
-rest-first header_at index zero h others is = cc
-rest-first header_at index (suc count) h others is =
-    let first = before-first (header_at index) (headers_from header_at (suc index) count) others h is in
-    let next : suc index ≡ index + 1 = omega arith in
-    let fewer : count ≡ suc count - 1 = omega arith in
-    (first.0, first.1 ∙ ap (λ k. headers_from header_at k count) next ∙ ap (headers_from header_at (index + 1)) fewer)
+rest-first header_at index count h others is = grind arith
 
 pub first_of_rest : {H : Type 0} (header_at : ℕ → Result H ElfError) (limit index : ℕ) (h : H) (others : List H) → header_rest header_at limit index ≡ h ∷ others → (header_at index ≡ Ok h) × (others ≡ header_rest header_at limit (index + 1))
-first_of_rest header_at limit index h others is =
-    let first = rest-first header_at index (limit - index) h others is in
-    let fewer : limit - index - 1 ≡ limit - (index + 1) = omega arith in
-    (first.0, first.1 ∙ ap (headers_from header_at (index + 1)) fewer)
-
--- one more header with the property
-each_below-next : {H : Type 0} (header_at : ℕ → Result H ElfError) (P : H → Type 0) (index : ℕ) (h : H) → header_at index ≡ Ok h → P h → EachBelow header_at P index → EachBelow header_at P (index + 1)
-each_below-next header_at P index h here holds earlier i x below is =
-    below_more (λ k. header_at k ≡ Ok x → P x) index (λ k lower at. earlier k x lower at)
-    (λ at. let same : h ≡ x = cc in subst P same holds) i below is
+first_of_rest header_at limit index h others is = grind (arith, rest-first)
 
 -- how far a loop with a counter has come over the items of a list: all headers so far have the property,
 -- and what is left begins at the index
@@ -103,27 +75,11 @@ pub record HasPassed {H : Type 0} (header_at : ℕ → Result H ElfError) (limit
 
 pub has_passed_one : {H : Type 0} (header_at : ℕ → Result H ElfError) (limit : ℕ) (P : H → Type 0) (index : ℕ) (rest others : List H) (h : H) → rest ≡ h ∷ others → P h → HasPassed header_at limit P rest index → HasPassed header_at limit P others (index + 1)
 has_passed_one header_at limit P index rest others h is holds before =
-    let first = first_of_rest header_at limit index h others (sym before.left ∙ is) in
-    let one : length rest ≡ length others + 1 = grind (arith, ap length is) in
-    let counted = before.counted in record {
-      left = first.1;
-      counted = omega (arith, one, counted);
-      passed = each_below-next header_at P index h first.0 holds before.passed;
-    }
+    let first = first_of_rest header_at limit index h others (sym before.left ∙ is) in grind arith
 
 -- one call of `next`: it gives the header at the index, wherever that is below the limit and can be read
-rest_some : {H : Type 0} (header_at : ℕ → Result H ElfError) (index count : ℕ) (h : H) → 0 < count → header_at index ≡ Ok h → headers_from header_at index count ≡ [] → ⊥
-rest_some header_at index zero h some is empty = omega arith
-rest_some header_at index (suc count) h some is empty =
-    let first : before (header_at index) (headers_from header_at (suc index) count) ≡ h ∷ headers_from header_at (suc index) count = ap (λ r. before r (headers_from header_at (suc index) count)) is in cc
-
 step_gives : {H : Type 0} (header_at : ℕ → Result H ElfError) (limit index : ℕ) (h : H) (rest others : List H) (r : Option H) → index < limit → header_at index ≡ Ok h → rest ≡ header_rest header_at limit index → MatchOption r ((rest ≡ []) × (others ≡ [])) (λ x. rest ≡ x ∷ others) → r ≡ Some h
-step_gives header_at limit index h rest others None below is rest_is step =
-    let some : 0 < limit - index = omega arith in
-    absurd (rest_some header_at index (limit - index) h some is (sym rest_is ∙ step.0))
-step_gives header_at limit index h rest others (Some x) below is rest_is step =
-    let first = first_of_rest header_at limit index x others (sym rest_is ∙ step) in
-    let same : x ≡ h = let there = first.0 in cc in ap (λ y. Some y) same
+step_gives header_at limit index h rest others r below is rest_is step = grind arith
 
 pub next_section_gives : (old new : SectionIter) (r : Option SectionHeader) (h : SectionHeader) → SectionStep old r new → old.next_index < section_count_of old.file.now → section_of old.file.now old.next_index ≡ Ok h → r ≡ Some h
 next_section_gives old new r h step below is =

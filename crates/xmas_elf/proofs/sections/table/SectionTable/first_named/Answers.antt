@@ -1,7 +1,16 @@
+use Rattle.std.proofs.Common.{◌≡◌, ℕ, List, Option, None, Some, slice_get, sym, subst, arith}
+use Rattle.std.proofs.lemmas.Option.{get_or_from_slice_get, slice_get_cases}
+use Rattle.xmas_elf.specs.First.{FindsFirst, IsFirstAt}
 use Rattle.xmas_elf.specs.NameTable.{Bears}
 use Rattle.xmas_elf.specs.SectionList.{section_list}
-use Rattle.xmas_elf.proofs.ReadableHeaders.{finds_at}
 use Rattle.xmas_elf.proofs.sections.table.SectionTable.first_named.Goals as goal
+
+-- the item at the first position with a property is the first with it
+finds_at : {H : Type 0} (P : H → Type 0) (items : List H) (i : ℕ) (r : Option H) → r ≡ slice_get items i → IsFirstAt P items i → FindsFirst P items r
+finds_at P items i None is (below, holds, none) = let some = slice_get_cases items i in grind arith
+finds_at {H} P items i (Some h) is (below, holds, none) =
+    let item = λ (d : H). get_or_from_slice_get items i h d (sym is) in
+    (subst P (item h) (holds h), (i, below, item, none))
 
 pub returns : goal.returns
 returns c =
