@@ -1,5 +1,5 @@
 -- The section with a name, in the list and by its index.
-use Rattle.std.proofs.Common.{◌≡◌, ◌≢◌, ℕ, ◌⊎◌, inl, inr, ◌<◌, nat_lt, Bool, true, false, Result, Err, List, refl, length, Ok, if◌then◌else◌, Option, None, Some, IfSome, IfNone, ap, sym, subst, ◌∙◌, arith}
+use Rattle.std.proofs.Common.{◌≡◌, ℕ, ◌↔◌, inl, inr, nat_lt, Bool, true, false, Result, Err, List, refl, length, Ok, if◌then◌else◌, Option, None, Some, IfSome, IfNone, ap, sym, subst, ◌∙◌, arith}
 use Rattle.std.proofs.lemmas.Bool.{cases_order, le-ltb, ltb-false}
 use Rattle.std.specs.Borrow.{Bor}
 use Rattle.std.specs.Result.{ForErr, ForOk}
@@ -7,12 +7,10 @@ use Rattle.elf_base.specs.Lent.{Answers, Lends, LendsOnly}
 use Rattle.elf_base.specs.Refusal.{and_then}
 use Rattle.elf_base.specs.Text.{IsText}
 use Rattle.elf_base.specs.declared.error.ElfError.{ElfError}
-use Rattle.elf_records.specs.declared.sections.ShType.{ShType}
-use Rattle.elf_records.specs.declared.sections.ShType.TheVariants.{Null}
 use Rattle.xmas_elf.specs.Counts.{section_count_of}
 use Rattle.xmas_elf.specs.HeaderTable.{EachBelow}
-use Rattle.xmas_elf.specs.NameTable.{Bears, FindsNamed, IsFirstNamed, IsNameTable, name_table_of, names_section_of}
-use Rattle.xmas_elf.specs.SectionHeader.{section_fields, section_of, section_type}
+use Rattle.xmas_elf.specs.NameTable.{Bears, FindsNamed, IsFirstNamed, IsNameAt, IsNameTable, name_table_of, names_section_of}
+use Rattle.xmas_elf.specs.SectionHeader.{section_fields, section_of}
 use Rattle.xmas_elf.specs.SectionList.{section_list}
 use Rattle.xmas_elf.specs.declared.ElfFile.{ElfFile}
 use Rattle.xmas_elf.specs.declared.sections.section_header.SectionHeader.{SectionHeader}
@@ -44,19 +42,12 @@ is-name_table file t is =
     let within : nat_lt (length file.input.now) (section_fields is.section).offset ≡ false = le-ltb _ _ is.within in
     rw (names, within) (ap Ok (sym is.table_is))
 
--- a section bears the name that stands in the name table at its index
-pub bears_text : (file : ElfFile) (section : SectionHeader) (kind : ShType) (names name : List ℕ) → name_table_of file ≡ Ok names → section_type section ≡ Ok kind → kind ≢ Null → IsText names (section_fields section).name name → Bears file section name
-bears_text file section kind names name table typed not_null is = record {
-  kind = kind;
-  typed = typed;
-  not_null = not_null;
-  named = record { table = names; in_table = name_table-is file names table; is_text = is };
-}
-
-pub text_borne : (file : ElfFile) (section : SectionHeader) (names name : List ℕ) → name_table_of file ≡ Ok names → Bears file section name → IsText names (section_fields section).name name
-text_borne file section names name table bears =
-    let same : bears.named.table ≡ names = let own = is-name_table file bears.named.table bears.named.in_table in cc in
-    subst (λ t. IsText t (section_fields section).name name) same bears.named.is_text
+-- the text at an index of the name table is that of the table that is computed
+pub name_at : (file : ElfFile) (index : ℕ) (names name : List ℕ) → name_table_of file ≡ Ok names → IsNameAt file index name ↔ IsText names index name
+name_at file index names name table = (
+  λ at. let own = is-name_table file at.table at.in_table in let same : at.table ≡ names = cc in subst (λ t. IsText t index name) same at.is_text,
+  λ is. record { table = names; in_table = name_table-is file names table; is_text = is },
+)
 
 -- what is kept of an answer is the answer, and what is lent of it has what the answer has, and alone
 pub kept : (answer : Result (List ℕ) ElfError) (r : Result (Bor (List ℕ)) ElfError) → ForOk r (λ part. answer ≡ Ok part.now) → ForErr r (λ error. answer ≡ Err error) → Answers answer r
@@ -90,16 +81,14 @@ found_named file name (Some section) (bears, (i, below, at, none)) =
       },
     )
 
--- there is at most one first section with a name
-one_first : (file : ElfFile) (name : List ℕ) (i j : ℕ) (g h : SectionHeader) → IsFirstNamed file name i g → IsFirstNamed file name j h → (i ≡ j) ⊎ ((i < j) ⊎ (j < i)) → g ≡ h
-one_first file name i j g h one other (inl same) = let a = one.is_header in let b = other.is_header in cc
-one_first file name i j g h one other (inr (inl below)) = absurd (other.first i g below one.is_header one.bears)
-one_first file name i j g h one other (inr (inr above)) = absurd (one.first j h above other.is_header other.bears)
-
--- it is the answer of a search
+-- so there is at most one, which is the answer of a search
 pub only_named : (file : ElfFile) (name : List ℕ) (r : Option SectionHeader) → FindsNamed file name r → (index : ℕ) (section : SectionHeader) → IsFirstNamed file name index section → r ≡ Some section
 only_named file name None found index section first =
     absurd (missing_named file name None found index section (section_in_list file index section first.below first.is_header) first.is_header first.bears)
 only_named file name (Some other) found index section first =
     let (i, is) = found_named file name (Some other) found in
-    ap Some (one_first file name i index other section is first (cases_order i index))
+    elim (cases_order i index) [
+      | inl same ↦ let a = is.is_header in let b = first.is_header in cc
+      | inr (inl below) ↦ absurd (first.first i other below is.is_header is.bears)
+      | inr (inr above) ↦ absurd (is.first index section above first.is_header first.bears)
+    ]

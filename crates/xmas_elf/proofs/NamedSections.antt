@@ -16,7 +16,7 @@ use Rattle.xmas_elf.specs.SectionHeader.{section_fields, section_type}
 use Rattle.xmas_elf.specs.SectionList.{section_list}
 use Rattle.xmas_elf.specs.declared.ElfFile.{ElfFile}
 use Rattle.xmas_elf.specs.declared.sections.section_header.SectionHeader.{SectionHeader}
-use Rattle.xmas_elf.proofs.FirstNamed.{is-name_table, name_table-is, not_refused, went_on}
+use Rattle.xmas_elf.proofs.FirstNamed.{is-name_table, name_at, not_refused, went_on}
 
 -- a search by a test that decides a property finds the first that has it
 module _ {H : Type 0} (test : H → Bool) (P : H → Type 0) (decides : (h : H) → Decides (test h) (P h)) where
@@ -38,7 +38,7 @@ shstr_of-is : (file : ElfFile) (index : ℕ) (name : List ℕ) → shstr_of file
 unfolding shstr_of
 shstr_of-is file index name is =
     let (table, names, text) = went_on (name_table_of file) _ name is in
-    record { table = table; in_table = name_table-is file table names; is_text = text_of-is table index name text }
+    (name_at file index table name names).1 (text_of-is table index name text)
 
 is-shstr_of : (file : ElfFile) (index : ℕ) (name : List ℕ) → IsNameAt file index name → shstr_of file index ≡ Ok name
 unfolding shstr_of

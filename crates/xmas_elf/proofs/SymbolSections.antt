@@ -27,8 +27,8 @@ pub own_section : (file : ElfFile) (symbol : SymbolFields) (self_index index : �
 unfolding section_by_u16
 own_section file symbol self_index index r narrow exact is = elim is.is [
   | inl own ↦
-    let low : nat_le 0xff00 symbol.shndx ≡ false = lt-leb 0xff00 symbol.shndx own.0 in
-    exact ∙ rw low (ap (section_of file) (sym own.1))
+      let low : nat_le 0xff00 symbol.shndx ≡ false = lt-leb 0xff00 symbol.shndx own.0 in
+      exact ∙ rw low (ap (section_of file) (sym own.1))
   | inr wide ↦ absurd (narrow wide.0)
 ]
 

@@ -1,18 +1,14 @@
-use Rattle.std.proofs.Common.{◌≡◌, ◌≢◌, Ok, refl, rules, sym, ◌∙◌}
-use Rattle.elf_records.specs.declared.sections.ShType.TheVariants.{Null}
-use Rattle.xmas_elf.specs.SectionHeader.{section_type}
-use Rattle.xmas_elf.proofs.FirstNamed.{bears_text, text_borne}
+use Rattle.std.proofs.Common.{refl, rules, sym, ◌∙◌}
+use Rattle.xmas_elf.proofs.FirstNamed.{name_at}
 use Rattle.xmas_elf.proofs.sections.section_header.SectionHeader.bears.Goals as goal
 
 pub returns-then-not-stands_at : goal.returns-then-not-stands_at
 returns-then-not-stands_at c = λ file table.
     let stands = rw (c.name.ensures, c.if-not-stands_at.true) at c.stands_at.ensures in
-    (λ yes. cc, λ bears. stands.1 (text_borne file c.args.self.now c.args.names.now c.args.name.now table bears))
+    (λ yes. cc, λ bears. stands.1 ((name_at file _ c.args.names.now c.args.name.now table).0 bears.named))
 
 pub returns-in-Ok : goal.returns-in-Ok
 returns-in-Ok c = λ file table.
-    let section = c.args.self.now in
-    let typed : section_type section ≡ Ok c.in-Ok.field-0 = sym c.get_type.ensures ∙ c.in-Ok.is in
-    let not_null : c.in-Ok.field-0 ≢ Null = search rules in
     let stands = rw (c.name.ensures, c.if-not-stands_at.false) at c.stands_at.ensures in
-    (λ yes. bears_text file section c.in-Ok.field-0 c.args.names.now c.args.name.now table typed not_null (stands.0 refl), λ bears. refl)
+    let named = (name_at file _ c.args.names.now c.args.name.now table).1 (stands.0 refl) in
+    (λ yes. record { kind = c.in-Ok.field-0; typed = sym c.get_type.ensures ∙ c.in-Ok.is; not_null = search rules; named = named }, λ bears. refl)
