@@ -1,24 +1,21 @@
 -- The string tables of symbols, which are found by their names, and the texts there (gABI, "Special
 -- Sections": .strtab and .dynstr, and "String Table"; that the type of .strtab alone is asked is this
 -- project's own).
-use Rattle.std.specs.Prelude.{◌≡◌, ℕ, List, codes, Result, Ok, Err, if◌then◌else◌}
+use Rattle.std.specs.Prelude.{ℕ, List, codes, Result}
 use Rattle.std.specs.Option.{ok_or}
 use Rattle.elf_base.specs.Refusal.{and_then}
 use Rattle.elf_base.specs.Text.{IsText, text_of}
 use Rattle.elf_base.specs.declared.error.ElfError.{ElfError}
 use Rattle.elf_base.specs.declared.error.ElfError.TheVariants.{NoDynstr, NoStrtab, StrtabType}
-use Rattle.elf_records.specs.SectionNumbers.{has_sh_type}
 use Rattle.elf_records.specs.declared.sections.ShType.TheVariants.{StrTab}
 use Rattle.xmas_elf.specs.NameTable.{section_named}
-use Rattle.xmas_elf.specs.NamedData.{IsDataNamed}
+use Rattle.xmas_elf.specs.NamedData.{IsDataNamed, IsTypedData, typed_data_of}
 use Rattle.xmas_elf.specs.SectionData.{section_data_of}
-use Rattle.xmas_elf.specs.SectionHeader.{section_type}
 use Rattle.xmas_elf.specs.declared.ElfFile.{ElfFile}
 
 -- `table` is the string table of symbols: the data of .strtab, whose type is StrTab
-pub record IsStrtab (file : ElfFile) (table : List ℕ) : Type 0 where
-  pub named : IsDataNamed file (codes ".strtab") table
-  pub typed : section_type named.section ≡ Ok StrTab
+abbrev pub IsStrtab : ElfFile → List ℕ → Type 0
+IsStrtab file = IsTypedData file (codes ".strtab") StrTab
 
 -- `table` is that of the symbols of the dynamic linker: the data of .dynstr, of whatever type
 abbrev pub IsDynstr : ElfFile → List ℕ → Type 0
@@ -39,8 +36,7 @@ IsDynString file = IsTextIn (IsDynstr file)
 
 -- the two tables as they are computed, or why there is none
 unfoldable pub strtab_of : ElfFile → Result (List ℕ) ElfError
-strtab_of file = and_then (ok_or (section_named file (codes ".strtab")) NoStrtab)
-    (λ section. if has_sh_type StrTab (section_type section) then section_data_of file section else Err StrtabType)
+strtab_of file = typed_data_of file (codes ".strtab") StrTab NoStrtab StrtabType
 
 unfoldable pub dynstr_of : ElfFile → Result (List ℕ) ElfError
 dynstr_of file = and_then (ok_or (section_named file (codes ".dynstr")) NoDynstr) (section_data_of file)

@@ -1,26 +1,21 @@
 -- The section that a symbol belongs to (gABI, "Symbol Table", st_shndx, and "Sections": special section
 -- indexes and SHT_SYMTAB_SHNDX; which refusal comes first is this project's own).
-use Rattle.std.specs.Prelude.{◌≡◌, ◌≢◌, ℕ, ◌*◌, ◌%◌, ◌<◌, ◌==◌, ◌||◌, ◌⊎◌, nat_le, not, Bool, List, [], ◌∷◌, length, drop, take, codes, Result, Ok, Err, if◌then◌else◌}
-use Rattle.std.specs.Option.{ok_or}
+use Rattle.std.specs.Prelude.{◌≡◌, ◌≢◌, ℕ, ◌*◌, ◌%◌, ◌<◌, ◌==◌, ◌||◌, ◌⊎◌, nat_le, not, Bool, List, [], ◌∷◌, length, drop, take, codes, Result, Err, if◌then◌else◌}
 use Rattle.elf_base.specs.FileHeader.{file_order}
 use Rattle.elf_base.specs.Number.{number}
 use Rattle.elf_base.specs.Refusal.{and_then, unless}
 use Rattle.elf_base.specs.declared.error.ElfError.{ElfError}
 use Rattle.elf_base.specs.declared.error.ElfError.TheVariants.{ExpectedShIndex, NoShIndex, NotMultiple, ReservedSymbolIndex, SymbolIndex}
-use Rattle.elf_records.specs.SectionNumbers.{has_sh_type}
 use Rattle.elf_records.specs.declared.sections.ShType.TheVariants.{SymTabShIndex}
-use Rattle.xmas_elf.specs.NameTable.{section_named}
-use Rattle.xmas_elf.specs.SectionData.{section_data_of}
-use Rattle.xmas_elf.specs.SectionHeader.{section_by_u16, section_of, section_type}
-use Rattle.xmas_elf.specs.NamedData.{IsDataNamed}
+use Rattle.xmas_elf.specs.SectionHeader.{section_by_u16, section_of}
+use Rattle.xmas_elf.specs.NamedData.{IsTypedData, typed_data_of}
 use Rattle.xmas_elf.specs.Symbol.{SymbolFields}
 use Rattle.xmas_elf.specs.declared.ElfFile.{ElfFile}
 use Rattle.xmas_elf.specs.declared.sections.section_header.SectionHeader.{SectionHeader}
 
 -- `table` is the data of .symtab_shndx, whose type is SymTabShIndex
-pub record IsIndexTable (file : ElfFile) (table : List ℕ) : Type 0 where
-  pub named : IsDataNamed file (codes ".symtab_shndx") table
-  pub typed : section_type named.section ≡ Ok SymTabShIndex
+abbrev pub IsIndexTable : ElfFile → List ℕ → Type 0
+IsIndexTable file = IsTypedData file (codes ".symtab_shndx") SymTabShIndex
 
 -- `index` is word `self_index` of it, of the words of four bytes that it has one of for each symbol
 pub record IsWideIndex (file : ElfFile) (self_index index : ℕ) : Type 0 where
@@ -38,8 +33,7 @@ pub record IsSectionIndex (file : ElfFile) (symbol : SymbolFields) (self_index i
 
 -- that table as it is computed, or why there is none
 unfoldable pub index_table_of : ElfFile → Result (List ℕ) ElfError
-index_table_of file = and_then (ok_or (section_named file (codes ".symtab_shndx")) NoShIndex)
-    (λ section. if has_sh_type SymTabShIndex (section_type section) then section_data_of file section else Err ExpectedShIndex)
+index_table_of file = typed_data_of file (codes ".symtab_shndx") SymTabShIndex NoShIndex ExpectedShIndex
 
 -- and its word `self_index`
 unfoldable pub wide_index_of : ElfFile → ℕ → Result ℕ ElfError

@@ -3,17 +3,16 @@ use Rattle.xmas_elf.specs.NameTable.{FindsNamed, section_named}
 use Rattle.xmas_elf.proofs.FirstNamed.{found_named, missing_named, only_named}
 use Rattle.xmas_elf.proofs.ElfFile.find_section_by_name.Goals as goal
 
-pub returns-clause-list : goal.returns-clause-list
-returns-clause-list c = subst (λ file. FindsNamed file c.args.name.now c.find_by_name.result) c.section_table.ensures.file c.find_by_name.ensures.list
-
-pub returns-clause-found : goal.returns-clause-found
-returns-clause-found c = found_named c.args.self.now c.args.name.now c.find_by_name.result (subst (λ file. FindsNamed file c.args.name.now c.find_by_name.result) c.section_table.ensures.file c.find_by_name.ensures.list)
-
-pub returns-clause-missing : goal.returns-clause-missing
-returns-clause-missing c = missing_named c.args.self.now c.args.name.now c.find_by_name.result (subst (λ file. FindsNamed file c.args.name.now c.find_by_name.result) c.section_table.ensures.file c.find_by_name.ensures.list)
-
-pub returns-clause-only : goal.returns-clause-only
-returns-clause-only c index section first = only_named c.args.self.now c.args.name.now c.find_by_name.result (subst (λ file. FindsNamed file c.args.name.now c.find_by_name.result) c.section_table.ensures.file c.find_by_name.ensures.list) index section first
-
-pub returns-clause-exact : goal.returns-clause-exact
-returns-clause-exact c = subst (λ file. c.find_by_name.result ≡ section_named file c.args.name.now) c.section_table.ensures.file c.find_by_name.ensures.exact
+pub returns : goal.returns
+returns c =
+    let file = c.args.self.now in
+    let name = c.args.name.now in
+    let found = c.find_by_name.result in
+    let list = subst (λ f. FindsNamed f name found) c.section_table.ensures.file c.find_by_name.ensures.list in
+    record {
+      list = list;
+      found = found_named file name found list;
+      only = only_named file name found list;
+      missing = missing_named file name found list;
+      exact = subst (λ f. found ≡ section_named f name) c.section_table.ensures.file c.find_by_name.ensures.exact;
+    }

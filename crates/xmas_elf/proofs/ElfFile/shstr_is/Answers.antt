@@ -1,10 +1,7 @@
-use Rattle.std.proofs.Common.{subst}
-use Rattle.elf_base.specs.TextCompared.{TextCompared}
 use Rattle.xmas_elf.proofs.ElfFile.shstr_is.Goals as goal
 
 pub returns-in-Ok-clause-in_table : goal.returns-in-Ok-clause-in_table
-returns-in-Ok-clause-in_table c table is =
-    subst (λ t. TextCompared t c.args.index c.args.name.now c.text_is.result.0 c.text_is.result.1) (c.in-Ok.ensures.only table is) c.text_is.ensures.compared
+returns-in-Ok-clause-in_table c table is = rw (c.in-Ok.ensures.only table is) at c.text_is.ensures.compared
 
 pub returns-in-Ok-clause-no_table : goal.returns-in-Ok-clause-no_table
 returns-in-Ok-clause-no_table c none = absurd (none c.in-Ok.names.now c.in-Ok.ensures.table)

@@ -1,5 +1,4 @@
-use Rattle.std.proofs.Common.{◌≡◌, subst, sym}
-use Rattle.xmas_elf.specs.Link.{IsTextAndRest}
+use Rattle.std.proofs.Common.{◌≡◌}
 use Rattle.xmas_elf.proofs.Places.{rest_lies}
 use Rattle.xmas_elf.proofs.extensions.ElfFileExtensions.get_gnu_debugaltlink.Goals as goal
 
@@ -9,7 +8,7 @@ returns-in_err-bytes-clause-only c text rest is = absurd (c.in_err-bytes.ensures
 pub returns-clause-only : goal.returns-clause-only
 returns-clause-only c text rest is =
     let same : c.in_ok-bytes.bytes.now ≡ is.bytes = c.in_ok-bytes.ensures.only is.bytes is.is_data in
-    c.alternate_link.ensures.only text rest (subst (λ b. IsTextAndRest b text rest) (sym same) is.is_link)
+    c.alternate_link.ensures.only text rest (rw same is.is_link)
 
 pub returns-clause-place : goal.returns-clause-place
 returns-clause-place c =

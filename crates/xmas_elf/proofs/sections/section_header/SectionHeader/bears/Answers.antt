@@ -1,22 +1,14 @@
-use Rattle.std.proofs.Common.{◌≡◌, ◌≢◌, Ok, IsTrue, ◌↔◌, rules, subst, sym, ◌∙◌}
-use Rattle.elf_base.specs.Text.{IsText}
-use Rattle.elf_records.specs.declared.sections.ShType.TheVariants.{Null}
-use Rattle.xmas_elf.specs.SectionHeader.{section_type}
-use Rattle.xmas_elf.proofs.FirstNamed.{borne_by, unborne_by}
+use Rattle.std.proofs.Common.{refl, rules, sym, ◌∙◌}
+use Rattle.xmas_elf.proofs.FirstNamed.{name_at}
 use Rattle.xmas_elf.proofs.sections.section_header.SectionHeader.bears.Goals as goal
 
 pub returns-then-not-stands_at : goal.returns-then-not-stands_at
 returns-then-not-stands_at c = λ file table.
-    unborne_by file c.args.self.now c.args.names.now c.args.name.now c.stands_at.result table
-    (subst (λ place. IsTrue c.stands_at.result ↔ IsText c.args.names.now place c.args.name.now) c.name.ensures c.stands_at.ensures)
-    c.if-not-stands_at.true
+    let stands = rw (c.name.ensures, c.if-not-stands_at.true) at c.stands_at.ensures in
+    (λ yes. cc, λ bears. stands.1 ((name_at file _ c.args.names.now c.args.name.now table).0 bears.named))
 
 pub returns-in-Ok : goal.returns-in-Ok
 returns-in-Ok c = λ file table.
-    let section = c.args.self.now in
-    let kind = c.in-Ok.field-0 in
-    let typed : section_type section ≡ Ok kind = sym c.get_type.ensures ∙ c.in-Ok.is in
-    let not_null : kind ≢ Null = search rules in
-    borne_by file section kind c.args.names.now c.args.name.now c.stands_at.result table typed not_null
-    (subst (λ place. IsTrue c.stands_at.result ↔ IsText c.args.names.now place c.args.name.now) c.name.ensures c.stands_at.ensures)
-    c.if-not-stands_at.false
+    let stands = rw (c.name.ensures, c.if-not-stands_at.false) at c.stands_at.ensures in
+    let named = (name_at file _ c.args.names.now c.args.name.now table).1 (stands.0 refl) in
+    (λ yes. record { kind = c.in-Ok.field-0; typed = sym c.get_type.ensures ∙ c.in-Ok.is; not_null = search rules; named = named }, λ bears. refl)

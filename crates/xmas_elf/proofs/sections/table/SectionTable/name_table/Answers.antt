@@ -1,11 +1,14 @@
-use Rattle.xmas_elf.proofs.FirstNamed.{names_exact, names_lent, names_only}
+use Rattle.xmas_elf.specs.NameTable.{IsNameTable, name_table_of}
+use Rattle.xmas_elf.proofs.FirstNamed.{is-name_table, kept, lent, lent_only, name_table-is}
 use Rattle.xmas_elf.proofs.sections.table.SectionTable.name_table.Goals as goal
 
-pub returns-clause-table : goal.returns-clause-table
-returns-clause-table c = let table = c.args.self.now in names_lent table.file.now table.names table.named
-
-pub returns-clause-only : goal.returns-clause-only
-returns-clause-only c = let table = c.args.self.now in names_only table.file.now table.names table.named table.nameless
-
-pub returns-clause-exact : goal.returns-clause-exact
-returns-clause-exact c = let table = c.args.self.now in names_exact table.file.now table.names table.named table.nameless
+pub returns : goal.returns
+returns c =
+    let table = c.args.self.now in
+    let file = table.file.now in
+    let exact = kept (name_table_of file) table.names table.named table.nameless in
+    record {
+      table = lent (IsNameTable file) (name_table_of file) table.names exact (name_table-is file);
+      only = lent_only (IsNameTable file) (name_table_of file) table.names exact (is-name_table file);
+      exact = exact;
+    }
