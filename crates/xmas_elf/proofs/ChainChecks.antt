@@ -2,13 +2,12 @@
 use Rattle.std.proofs.Common.{◌≡◌, ◌≢◌, ◌<◌, ◌/◌, ◌%◌, ◌↔◌, ℕ, ◌⊎◌, inl, inr, List, Some, None, Result, Ok, Err, slice_get, refl, sym, ◌∙◌, ap, subst, arith}
 use Rattle.std.proofs.lemmas.Bool.{cases_order}
 use Rattle.std.specs.Prelude.{IsOk}
-use Rattle.elf_base.specs.declared.error.ElfError.{ElfError}
 use Rattle.elf_records.specs.HashNumber.{hash_number}
+use Rattle.xmas_elf.specs.Prelude.{ElfError, HashTable}
 use Rattle.xmas_elf.specs.Good.{Ends, IsAtFault, IsReached, IsGood, IsCheck, good, faulty, missing}
 use Rattle.xmas_elf.specs.Chain.{LooksFrom, Reaches, chains_of}
 use Rattle.xmas_elf.specs.HashTable.{bucket_count_of, bucket_of, start_of}
 use Rattle.xmas_elf.specs.Symbols.{IsGlobal, Symbols}
-use Rattle.xmas_elf.specs.declared.hash.HashTable.{HashTable}
 use Rattle.xmas_elf.proofs.ChainFinds.{not_at_fault}
 use Rattle.xmas_elf.proofs.ChainOnce.{looks_once}
 use Rattle.xmas_elf.proofs.ChainPaths.{end_reaches}

@@ -5,13 +5,12 @@ use Rattle.std.proofs.lemmas.Bool.{cases_order}
 use Rattle.std.proofs.lemmas.Option.{slice_get_within}
 use Rattle.std.specs.List.{IsDistinct}
 use Rattle.elf_records.specs.HashNumber.{hash_number}
-use Rattle.elf_base.specs.declared.error.ElfError.{ElfError}
+use Rattle.xmas_elf.specs.Prelude.{ElfError, HashTable}
 use Rattle.xmas_elf.specs.Chain.{Chains, Comes, LooksFrom, Reaches, chains_of}
 use Rattle.xmas_elf.specs.Counted.{IsCount}
 use Rattle.xmas_elf.specs.Good.{Belongs, IsAtFault, IsHeldBelow, IsHeldBy, IsReached, MustBeHeld}
 use Rattle.xmas_elf.specs.HashTable.{bucket_count_of, bucket_of, start_of}
 use Rattle.xmas_elf.specs.Symbols.{IsGlobal, Symbols}
-use Rattle.xmas_elf.specs.declared.hash.HashTable.{HashTable}
 use Rattle.xmas_elf.proofs.ChainPaths.{Apart, apart_before, by_order, comes_in, comes_once, end_links, goes_on}
 use Rattle.xmas_elf.proofs.ChainStarts.{start_none, start_some}
 use Rattle.xmas_elf.proofs.SymbolCounts.{In, count_all, count_join, count_lacks, count_more, count_none, count_same, distinct_cons, in_cons, in_here, in_later}

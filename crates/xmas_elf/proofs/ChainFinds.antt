@@ -2,14 +2,12 @@
 use Rattle.std.proofs.Math.Dec.{eqb}
 use Rattle.std.proofs.lemmas.Bool.Decides.{eqb_tells}
 use Rattle.std.proofs.Common.{◌≡◌, ◌≢◌, ◌<◌, ◌%◌, ℕ, zero, suc, ◌⊎◌, inl, inr, true, false, List, Option, Some, None, Result, Ok, Err, slice_get, refl, sym, ◌∙◌, subst, arith, below_more}
-use Rattle.elf_base.specs.declared.error.ElfError.{ElfError}
-use Rattle.elf_base.specs.declared.error.ElfError.TheVariants.{SymbolIndex, ChainIndex}
 use Rattle.elf_records.specs.HashNumber.{hash_number}
+use Rattle.xmas_elf.specs.Prelude.{ChainIndex, ElfError, HashTable, SymbolIndex}
 use Rattle.xmas_elf.specs.Chain.{Chains, StandsAt, Stops, at_end, past_chains, past_symbols, found, refused, Links, Comes, Reaches, NoneBefore, LooksFrom, no_bucket, bad_bucket, reaches, endless, chains_of}
 use Rattle.xmas_elf.specs.HashTable.{bucket_count_of, bucket_of, start_of}
 use Rattle.xmas_elf.specs.Good.{Ends, EndsBelow, IsAtFault, IsGood, FindsAll}
 use Rattle.xmas_elf.specs.Symbols.{Symbols}
-use Rattle.xmas_elf.specs.declared.hash.HashTable.{HashTable}
 use Rattle.xmas_elf.proofs.ChainPaths.{by_order, comes_in, comes_once, end_links, end_once, goes_on}
 use Rattle.xmas_elf.proofs.ChainStarts.{start_none, start_some}
 

@@ -1,7 +1,6 @@
 -- One look-up has one answer, and one number of symbols compared unless its chain never ends.
 use Rattle.std.proofs.Common.{◌≡◌, ◌≢◌, ◌<◌, ◌≤◌, ℕ, Option, Some, None, Result, Ok, Err, slice_get, refl, ap, sym, subst, arith}
-use Rattle.elf_base.specs.declared.error.ElfError.{ElfError}
-use Rattle.elf_base.specs.declared.error.ElfError.TheVariants.{SymbolIndex, ChainIndex, HashCycle}
+use Rattle.xmas_elf.specs.Prelude.{ChainIndex, ElfError, HashCycle, SymbolIndex}
 use Rattle.xmas_elf.specs.Chain.{Chains, StandsAt, Stops, at_end, past_chains, past_symbols, found, refused, Comes, NoneBefore, LooksFrom, no_bucket, bad_bucket, reaches, endless}
 use Rattle.xmas_elf.proofs.ChainPaths.{by_order, comes_in, comes_once, goes_on, stand_once, stop_or_link}
 

@@ -1,11 +1,10 @@
 -- Where a look-up begins.
 use Rattle.std.proofs.Common.{◌≡◌, ℕ, ◌%◌, List, Option, Some, None, Result, Ok, Err, sym, ◌∙◌, ap, subst}
 use Rattle.std.proofs.lemmas.Bool.{eq-eqb, ne_eqb}
-use Rattle.elf_base.specs.declared.error.ElfError.{ElfError}
 use Rattle.elf_records.specs.HashNumber.{hash_number}
+use Rattle.xmas_elf.specs.Prelude.{ElfError, HashTable}
 use Rattle.xmas_elf.specs.Chain.{Chains, LooksFrom, no_bucket, bad_bucket}
 use Rattle.xmas_elf.specs.HashTable.{bucket_count_of, bucket_of, start_of}
-use Rattle.xmas_elf.specs.declared.hash.HashTable.{HashTable}
 
 pub start_none : (table : HashTable) (name : List ℕ) → bucket_count_of table ≡ 0 → start_of table name ≡ None
 unfolding start_of

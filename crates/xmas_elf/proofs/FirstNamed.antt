@@ -6,14 +6,12 @@ use Rattle.std.specs.Result.{ForErr, ForOk}
 use Rattle.elf_base.specs.Lent.{Answers, Lends, LendsOnly}
 use Rattle.elf_base.specs.Refusal.{and_then}
 use Rattle.elf_base.specs.Text.{IsText}
-use Rattle.elf_base.specs.declared.error.ElfError.{ElfError}
+use Rattle.xmas_elf.specs.Prelude.{ElfError, ElfFile, SectionHeader}
 use Rattle.xmas_elf.specs.Counts.{section_count_of}
 use Rattle.xmas_elf.specs.HeaderTable.{EachBelow}
 use Rattle.xmas_elf.specs.NameTable.{Bears, FindsNamed, IsFirstNamed, IsNameAt, IsNameTable, name_table_of, names_section_of}
 use Rattle.xmas_elf.specs.SectionHeader.{section_fields, section_of}
 use Rattle.xmas_elf.specs.SectionList.{section_list}
-use Rattle.xmas_elf.specs.declared.ElfFile.{ElfFile}
-use Rattle.xmas_elf.specs.declared.sections.section_header.SectionHeader.{SectionHeader}
 use Rattle.xmas_elf.proofs.HeaderLists.{header_list-longest}
 use Rattle.xmas_elf.proofs.SectionLists.{section_in_list}
 use Rattle.xmas_elf.proofs.lemmas.HeaderList.{sections_within}

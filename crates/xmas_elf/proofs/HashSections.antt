@@ -2,18 +2,13 @@
 use Rattle.std.proofs.Common.{◌≡◌, ℕ, List, Result, Ok, Err, refl, arith}
 use Rattle.elf_base.specs.FileHeader.{file_class, file_order}
 use Rattle.elf_base.specs.Refusal.{and_then}
-use Rattle.elf_base.specs.declared.bytes.Order.{Order}
-use Rattle.elf_base.specs.declared.error.ElfError.{ElfError}
 use Rattle.elf_records.specs.declared.sections.ShType.TheVariants.{Hash}
+use Rattle.xmas_elf.specs.Prelude.{ElfError, ElfFile, HashTable, Order, SectionData, SectionHeader}
 use Rattle.xmas_elf.specs.Content.{Content, hash_table}
 use Rattle.xmas_elf.specs.Range.{range_of}
 use Rattle.xmas_elf.specs.SectionContent.{content, content_in, content_of, section_content_of}
 use Rattle.xmas_elf.specs.SectionHeader.{section_fields, section_type}
-use Rattle.xmas_elf.specs.declared.ElfFile.{ElfFile}
-use Rattle.xmas_elf.specs.declared.hash.HashTable.{HashTable}
-use Rattle.xmas_elf.specs.declared.sections.content.SectionData.{SectionData}
 use Rattle.xmas_elf.specs.declared.sections.content.SectionData.TheVariants as section_data
-use Rattle.xmas_elf.specs.declared.sections.section_header.SectionHeader.{SectionHeader}
 
 read_table : (class : ℕ) (order : Order) (r : Result (List ℕ) ElfError) (c : Content) → and_then r (content_of Hash class order) ≡ Ok c → (bytes : List ℕ) × (c ≡ hash_table order bytes)
 read_table class order (Ok bytes) c e = (bytes, grind (arith, e))

@@ -2,15 +2,12 @@
 use Rattle.std.proofs.Common.{◌≡◌, ◌<◌, ◌+◌, ◌*◌, ◌%◌, ◌^◌, ℕ, List, [], ◌∷◌, length, Option, Some, None, Result, Err, if◌then◌else◌, nat_eq, nat_le, nat_lt, refl, sym, ◌∙◌, subst}
 use Rattle.elf_base.specs.Number.{number}
 use Rattle.elf_base.specs.Refusal.{unless}
-use Rattle.elf_base.specs.declared.bytes.Order.{Order}
-use Rattle.elf_base.specs.declared.error.ElfError.{ElfError}
-use Rattle.elf_base.specs.declared.error.ElfError.TheVariants.{BucketIndex, ChainIndex, ChainSum, HashData}
 use Rattle.elf_records.specs.HashNumber.{hash_number}
+use Rattle.xmas_elf.specs.Prelude.{BucketIndex, ChainIndex, ChainSum, ElfError, HashData, HashTable, Order}
 use Rattle.xmas_elf.specs.Chain.{Chains, LooksFrom, Reaches, chains_of}
 use Rattle.xmas_elf.specs.Good.{Ends, EndsBelow, IsAtFault, IsReached, IsCheck, good, faulty, missing}
 use Rattle.xmas_elf.specs.HashTable.{bucket_count_of, bucket_of, chain_of, hash_data, hash_order, start_of}
 use Rattle.xmas_elf.specs.Symbols.{Symbols}
-use Rattle.xmas_elf.specs.declared.hash.HashTable.{HashTable}
 
 -- a bucket, the chains, and where a look-up begins, as they are read from the bytes
 abbrev bucket_by : Order → List ℕ → ℕ → Result ℕ ElfError

@@ -5,17 +5,14 @@ use Rattle.std.proofs.lemmas.List.Folds.{find_at}
 use Rattle.std.proofs.lemmas.List.Sums.{position_or_len_is}
 use Rattle.std.proofs.lemmas.Option.{slice_get-get_or, slice_get_past}
 use Rattle.std.proofs.lemmas.Slice.Eq.{bytes_eq-Decides}
-use Rattle.elf_base.specs.declared.error.ElfError.{ElfError}
 use Rattle.elf_base.proofs.lemmas.TextLemmas.{is-text_of, text_of-is}
 use Rattle.elf_records.specs.SectionNumbers.{is_sh_type}
-use Rattle.elf_records.specs.declared.sections.ShType.{ShType}
 use Rattle.elf_records.specs.declared.sections.ShType.TheVariants.{Null}
+use Rattle.xmas_elf.specs.Prelude.{ElfError, ElfFile, SectionHeader, ShType}
 use Rattle.xmas_elf.specs.First.{FindsFirst}
 use Rattle.xmas_elf.specs.NameTable.{Bears, FindsNamed, IsNameAt, is_name, name_of, name_table_of, section_named, shstr_of}
 use Rattle.xmas_elf.specs.SectionHeader.{section_fields, section_type}
 use Rattle.xmas_elf.specs.SectionList.{section_list}
-use Rattle.xmas_elf.specs.declared.ElfFile.{ElfFile}
-use Rattle.xmas_elf.specs.declared.sections.section_header.SectionHeader.{SectionHeader}
 use Rattle.xmas_elf.proofs.FirstNamed.{is-name_table, name_at, not_refused, went_on}
 
 -- a search by a test that decides a property finds the first that has it

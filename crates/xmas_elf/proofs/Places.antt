@@ -4,16 +4,12 @@ use Rattle.std.proofs.lemmas.Option.{IfSome_then}
 use Rattle.std.proofs.lemmas.Result.{IfOk-weaker}
 use Rattle.std.specs.Borrow.{Bor}
 use Rattle.elf_base.specs.Lent.{LiesAt}
-use Rattle.elf_base.specs.declared.error.ElfError.{ElfError}
 use Rattle.elf_records.specs.Note.{note_name_size, rounded_up}
-use Rattle.elf_records.specs.declared.sections.note.NoteHeader.{NoteHeader}
+use Rattle.xmas_elf.specs.Prelude.{ElfError, ElfFile, NoteHeader, SectionData, SectionHeader}
 use Rattle.xmas_elf.specs.BuildId.{IsNoteSection}
 use Rattle.xmas_elf.specs.NameTable.{IsFirstNamed}
 use Rattle.xmas_elf.specs.Place.{LiesAsBuildId, LiesAsRest, Part, PartLies, all, behind, nothing, section_part}
 use Rattle.xmas_elf.specs.SectionHeader.{section_fields}
-use Rattle.xmas_elf.specs.declared.ElfFile.{ElfFile}
-use Rattle.xmas_elf.specs.declared.sections.content.SectionData.{SectionData}
-use Rattle.xmas_elf.specs.declared.sections.section_header.SectionHeader.{SectionHeader}
 
 lies_within : {whole middle part : Bor (List ℕ)} {start place later : ℕ} → LiesAt whole start middle → LiesAt middle place part → later ≡ start + place → LiesAt whole later part
 lies_within outer inner sum = record { block = inner.block ∙ outer.block; place_is = omega (arith, outer.place_is, inner.place_is, sum) }

@@ -3,12 +3,11 @@ use Rattle.std.proofs.Common.{◌≡◌, ℕ, ◌*◌, ◌≤◌, ◌<◌, lengt
 use Rattle.std.proofs.lemmas.Bool.Decides.{nat_tests}
 use Rattle.elf_base.specs.FileHeader.{file_class, file_order}
 use Rattle.elf_base.specs.HeaderLayout.{header_fields}
+use Rattle.xmas_elf.specs.Prelude.{ElfFile, SectionHeader}
 use Rattle.xmas_elf.specs.Counts.{section_count_of}
 use Rattle.xmas_elf.specs.Checks.{part_class}
 use Rattle.xmas_elf.specs.SectionHeader.{HasSectionEntry, section_at_place, section_entry, section_header_size, section_of, section_place}
 use Rattle.xmas_elf.specs.SectionList.{section_list}
-use Rattle.xmas_elf.specs.declared.ElfFile.{ElfFile}
-use Rattle.xmas_elf.specs.declared.sections.section_header.SectionHeader.{SectionHeader}
 use Rattle.xmas_elf.proofs.HeaderLists.{IsTable, header_list-longest, length-table, table-fits}
 
 pub sections : (file : ElfFile) → IsTable (section_of file) (HasSectionEntry file.input.now file.header) (λ place. section_at_place (file_class file.header) (file_order file.header) place file.input.now) (header_fields file.header.pt2).sh_offset (header_fields file.header.pt2).sh_entry_size (section_header_size (file_class file.header)) (length file.input.now)

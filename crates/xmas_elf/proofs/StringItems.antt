@@ -6,10 +6,9 @@ use Rattle.std.proofs.lemmas.Bool.{eqb-true, eqb-false}
 use Rattle.std.specs.Str.{is_utf8}
 use Rattle.std.proofs.lemmas.Str.{IsUtf8-from_is_utf8, is_utf8-from_IsUtf8}
 use Rattle.elf_base.specs.Text.{EndsInZero, IsText, TextRefused}
-use Rattle.elf_base.specs.declared.error.ElfError.{ElfError}
-use Rattle.elf_base.specs.declared.error.ElfError.TheVariants.{TextEnd, TextUtf8}
 use Rattle.elf_base.proofs.lemmas.TextLemmas.{is-text_of}
 use Rattle.elf_base.proofs.Texts.{text_of-refused}
+use Rattle.xmas_elf.specs.Prelude.{ElfError, TextEnd, TextUtf8}
 use Rattle.xmas_elf.specs.Strings as the_items
 use Rattle.xmas_elf.specs.Strings.{Strings, strings_behind, strings_of}
 

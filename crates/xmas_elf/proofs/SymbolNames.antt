@@ -3,12 +3,11 @@ use Rattle.std.proofs.Common.{◌≡◌, ◌↔◌, ℕ, List, Option, Some, Res
 use Rattle.std.specs.Result.{result_ok}
 use Rattle.elf_base.specs.Lent.{Answers}
 use Rattle.elf_base.specs.Text.{IsText, text_of}
-use Rattle.elf_base.specs.declared.error.ElfError.{ElfError}
 use Rattle.elf_base.proofs.lemmas.TextLemmas.{text_of-is, is-text_of}
+use Rattle.xmas_elf.specs.Prelude.{ElfError, ElfFile}
 use Rattle.xmas_elf.specs.StringTable.{dyn_string_of, string_of}
 use Rattle.xmas_elf.specs.Symbol.{SymbolFields}
 use Rattle.xmas_elf.specs.SymbolName.{HoldsNames, name_in_table, symbol_string_of, symbol_strings_of}
-use Rattle.xmas_elf.specs.declared.ElfFile.{ElfFile}
 
 ok_of_some : (answer : Result (List ℕ) ElfError) (text : List ℕ) → result_ok answer ≡ Some text → answer ≡ Ok text
 ok_of_some (Ok one) text same = cc

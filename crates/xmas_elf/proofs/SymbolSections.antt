@@ -2,12 +2,10 @@
 use Rattle.std.proofs.Common.{◌≡◌, ◌≢◌, ℕ, ◌*◌, ◌≤◌, ◌<◌, inl, inr, nat_le, false, Option, None, Some, MatchOption, Result, Ok, Err, IfOk, refl, sym, ap, ◌∙◌, arith}
 use Rattle.std.specs.Option.{ok_or}
 use Rattle.std.proofs.lemmas.Bool.{lt-leb, leb-false}
-use Rattle.elf_base.specs.declared.error.ElfError.{ElfError}
+use Rattle.xmas_elf.specs.Prelude.{ElfError, ElfFile, SectionHeader}
 use Rattle.xmas_elf.specs.SectionHeader.{section_by_u16, section_of}
 use Rattle.xmas_elf.specs.Symbol.{SymbolFields}
 use Rattle.xmas_elf.specs.SymbolSection.{IsSectionIndex, IsWideIndex}
-use Rattle.xmas_elf.specs.declared.ElfFile.{ElfFile}
-use Rattle.xmas_elf.specs.declared.sections.section_header.SectionHeader.{SectionHeader}
 use Rattle.xmas_elf.proofs.FirstNamed.{not_refused}
 
 -- a word that is there is what a look-up gives

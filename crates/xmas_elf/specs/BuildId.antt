@@ -4,12 +4,10 @@ use Rattle.std.specs.Prelude.{◌≡◌, ℕ, List, Ok, codes}
 use Rattle.elf_base.specs.FileHeader.{file_class, file_order}
 use Rattle.elf_records.specs.Note.{IsNote, IsNoteDescription, IsNoteName, note_desc_size, note_name_size, note_type}
 use Rattle.elf_records.specs.declared.sections.ShType.TheVariants as sh_type
-use Rattle.elf_records.specs.declared.sections.note.NoteHeader.{NoteHeader}
+use Rattle.xmas_elf.specs.Prelude.{ElfFile, NoteHeader, SectionHeader}
 use Rattle.xmas_elf.specs.NameTable.{IsFirstNamed}
 use Rattle.xmas_elf.specs.SectionData.{IsSectionData}
 use Rattle.xmas_elf.specs.SectionHeader.{section_type}
-use Rattle.xmas_elf.specs.declared.ElfFile.{ElfFile}
-use Rattle.xmas_elf.specs.declared.sections.section_header.SectionHeader.{SectionHeader}
 
 -- a section of type Note, in a file of class 64, whose data is a note
 pub record IsNoteSection (file : ElfFile) (section : SectionHeader) (header : NoteHeader) (body : List ℕ) : Type 0 where

@@ -1,10 +1,8 @@
 -- The chains of a hash table: where a walk along one stops, what it goes on to, and what it reaches
 -- (gABI, "Hash Table"; how a walk is refused is this project's own).
 use Rattle.std.specs.Prelude.{◌≡◌, ◌<◌, ◌≤◌, ◌+◌, ◌⊎◌, ℕ, zero, suc, List, Option, Some, None, Result, Ok, Err, slice_get, length}
-use Rattle.elf_base.specs.declared.error.ElfError.{ElfError}
-use Rattle.elf_base.specs.declared.error.ElfError.TheVariants.{ChainIndex, HashCycle, SymbolIndex}
+use Rattle.xmas_elf.specs.Prelude.{ChainIndex, ElfError, HashCycle, HashTable, SymbolIndex}
 use Rattle.xmas_elf.specs.HashTable.{chain_count_of, chain_of, start_of}
-use Rattle.xmas_elf.specs.declared.hash.HashTable.{HashTable}
 
 -- what a walk reads: how many chains there are, each chain or why it can't be read, the symbols
 pub record Chains (E : Type 0) : Type 0 where

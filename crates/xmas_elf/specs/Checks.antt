@@ -5,19 +5,13 @@ use Rattle.elf_base.specs.Refusal.{and_then, unless}
 use Rattle.elf_base.specs.HeaderNumbers.{encoding_number, version_number}
 use Rattle.elf_base.specs.HeaderLayout.{header_fields, pt2_size}
 use Rattle.elf_base.specs.FileHeader.{file_class, magic_number}
-use Rattle.elf_base.specs.declared.error.ElfError.{ElfError}
-use Rattle.elf_base.specs.declared.error.ElfError.TheVariants.{BadMagic, HeaderSize, NoClass, ClassMismatch, NoVersion, NoDataFormat, PhTableRange, ShTableRange, PhSizeMismatch, EntryPointRange, InvalidPhType, ShLibUsed, BadAlign}
-use Rattle.elf_base.specs.declared.header.HeaderPt2.{HeaderPt2}
 use Rattle.elf_base.specs.declared.header.HeaderPt2.TheVariants.{Header32, Header64}
 use Rattle.elf_records.specs.ProgramNumbers.{has_ph_type}
 use Rattle.elf_records.specs.declared.program.Type.TheVariants.{ShLib}
+use Rattle.xmas_elf.specs.Prelude.{BadAlign, BadMagic, ClassMismatch, ElfError, ElfFile, EntryPointRange, HeaderPt2, HeaderSize, InvalidPhType, NoClass, NoDataFormat, NoVersion, PhSizeMismatch, PhTableRange, ProgramHeader, ProgramHeader64, SectionHeader, ShLibUsed, ShTableRange}
 use Rattle.xmas_elf.specs.Counts.{program_count_of, section_count_of}
 use Rattle.xmas_elf.specs.ProgramHeader.{program_fields, program_place, program_record_size, segment_type}
 use Rattle.xmas_elf.specs.SectionHeader.{section_place, section_type}
-use Rattle.xmas_elf.specs.declared.ElfFile.{ElfFile}
-use Rattle.xmas_elf.specs.declared.program.program_header.ProgramHeader.{ProgramHeader}
-use Rattle.xmas_elf.specs.declared.program.program_header.ProgramHeader64.{ProgramHeader64}
-use Rattle.xmas_elf.specs.declared.sections.section_header.SectionHeader.{SectionHeader}
 
 -- the class whose part 2 this is
 abbrev pub part_class : HeaderPt2 → ℕ

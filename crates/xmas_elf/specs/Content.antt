@@ -3,11 +3,8 @@
 use Rattle.std.specs.Prelude.{◌≡◌, ℕ, ◌%◌, ◌==◌, not, nat_lt, List, [], ◌∷◌, length, drop, take, Result, Err, if◌then◌else◌}
 use Rattle.elf_base.specs.Number.{number}
 use Rattle.elf_base.specs.Refusal.{unless}
-use Rattle.elf_base.specs.declared.bytes.Order.{Order}
-use Rattle.elf_base.specs.declared.error.ElfError.{ElfError}
-use Rattle.elf_base.specs.declared.error.ElfError.TheVariants.{Note32, NotMultiple, ShortData, UnknownClass}
 use Rattle.elf_records.specs.Note.{note_header}
-use Rattle.elf_records.specs.declared.sections.note.NoteHeader.{NoteHeader}
+use Rattle.xmas_elf.specs.Prelude.{ElfError, NotMultiple, Note32, NoteHeader, Order, ShortData, UnknownClass}
 
 -- what the records of a table are; the numbers in the names are the class
 pub data TableKind : Type 0 where

@@ -5,11 +5,8 @@ use Rattle.std.specs.Prelude.{ℕ, ◌==◌, nat_le, Option, None, Result, Ok, E
 use Rattle.std.specs.Option.{ok_or, option_map_or}
 use Rattle.std.specs.Result.{result_ok}
 use Rattle.elf_base.specs.HeaderLayout.{header_fields}
-use Rattle.elf_base.specs.declared.error.ElfError.{ElfError}
-use Rattle.elf_base.specs.declared.error.ElfError.TheVariants.{ReservedIndex}
+use Rattle.xmas_elf.specs.Prelude.{ElfError, ElfFile, ReservedIndex, SectionHeader}
 use Rattle.xmas_elf.specs.SectionHeader.{section_fields, section_of}
-use Rattle.xmas_elf.specs.declared.ElfFile.{ElfFile}
-use Rattle.xmas_elf.specs.declared.sections.section_header.SectionHeader.{SectionHeader}
 
 -- section header 0, where there is a section header table and it can be read
 unfoldable pub first_section : ElfFile → Option SectionHeader

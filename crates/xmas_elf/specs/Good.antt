@@ -1,13 +1,11 @@
 -- Hash tables whose chains end and hold every symbol that a search must find (this project's own, by
 -- the gABI's "Hash Table").
 use Rattle.std.specs.Prelude.{◌≡◌, ◌<◌, ◌%◌, ℕ, List, Option, Some, Result, Ok, Err, slice_get, MatchResult, MatchOption}
-use Rattle.elf_base.specs.declared.error.ElfError.{ElfError}
-use Rattle.elf_base.specs.declared.error.ElfError.TheVariants.{HashMissing}
 use Rattle.elf_records.specs.HashNumber.{hash_number}
+use Rattle.xmas_elf.specs.Prelude.{ElfError, HashMissing, HashTable}
 use Rattle.xmas_elf.specs.Chain.{LooksFrom, Reaches, chains_of}
 use Rattle.xmas_elf.specs.HashTable.{bucket_count_of, bucket_of, start_of}
 use Rattle.xmas_elf.specs.Symbols.{IsGlobal, Symbols}
-use Rattle.xmas_elf.specs.declared.hash.HashTable.{HashTable}
 
 -- the chain of bucket k comes to its end
 abbrev pub Ends : {E : Type 0} → HashTable → List E → ℕ → Type 0

@@ -2,8 +2,8 @@
 -- of a section of type SHT_HASH, says which section holds the symbols).
 use Rattle.std.specs.Prelude.{◌≡◌, ℕ, Option, None, Some, Result, Ok, Err}
 use Rattle.elf_base.specs.Refusal.{and_then}
-use Rattle.elf_base.specs.declared.error.ElfError.{ElfError}
 use Rattle.elf_records.specs.declared.sections.ShType.TheVariants.{Hash}
+use Rattle.xmas_elf.specs.Prelude.{ElfError, ElfFile, HashTable, SectionHeader}
 use Rattle.xmas_elf.specs.Content.{Content, dyn_symbols_32, dyn_symbols_64, hash_table, symbols_32, symbols_64, table_of}
 use Rattle.xmas_elf.specs.First.{FindsFirst}
 use Rattle.xmas_elf.specs.Good.{IsCheck}
@@ -12,11 +12,8 @@ use Rattle.xmas_elf.specs.SectionContent.{section_content_of}
 use Rattle.xmas_elf.specs.SectionHeader.{section_fields, section_of, section_type}
 use Rattle.xmas_elf.specs.SectionList.{section_list}
 use Rattle.xmas_elf.specs.Symbols.{Symbols, dyn_symbols_in_32, dyn_symbols_in_64, symbols_in_32, symbols_in_64}
-use Rattle.xmas_elf.specs.declared.ElfFile.{ElfFile}
-use Rattle.xmas_elf.specs.declared.hash.HashTable.{HashTable}
 use Rattle.xmas_elf.specs.declared.report.hash.HashVerdict.{HashVerdict}
 use Rattle.xmas_elf.specs.declared.report.hash.HashVerdict.TheVariants.{NoTable, NoSymbols, Checked}
-use Rattle.xmas_elf.specs.declared.sections.section_header.SectionHeader.{SectionHeader}
 
 -- the verdict is that of the check of a hash table with these symbols
 abbrev pub IsVerdictOf : {E : Type 0} → HashTable → Symbols E → HashVerdict → Type 0

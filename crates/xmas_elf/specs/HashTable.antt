@@ -4,11 +4,8 @@ use Rattle.std.specs.Prelude.{ℕ, ◌+◌, ◌*◌, ◌%◌, ◌^◌, ◌<◌, 
 use Rattle.std.specs.Borrow.{Bor}
 use Rattle.elf_base.specs.Number.{number}
 use Rattle.elf_base.specs.Refusal.{unless}
-use Rattle.elf_base.specs.declared.bytes.Order.{Order}
-use Rattle.elf_base.specs.declared.error.ElfError.{ElfError}
-use Rattle.elf_base.specs.declared.error.ElfError.TheVariants.{BucketIndex, ChainIndex, ChainSum, HashData}
 use Rattle.elf_records.specs.HashNumber.{hash_number}
-use Rattle.xmas_elf.specs.declared.hash.HashTable.{HashTable}
+use Rattle.xmas_elf.specs.Prelude.{BucketIndex, ChainIndex, ChainSum, ElfError, HashData, HashTable, Order}
 
 -- what a hash table lends: where its bytes lie, and which they are
 abbrev pub hash_bytes : HashTable → Bor (List ℕ)

@@ -41,6 +41,7 @@ pub use Rattle.elf_records.specs.declared.symbol_table.Binding
 pub use Rattle.elf_records.specs.declared.symbol_table.Type as SymbolType
 pub use Rattle.elf_records.specs.declared.symbol_table.Visibility
 pub use Rattle.elf_records.specs.declared.dynamic.Tag as DynamicTag
+pub mod Prelude
 pub mod First
 pub mod HeaderTable
 pub mod SectionHeader

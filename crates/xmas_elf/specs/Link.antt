@@ -4,10 +4,9 @@ use Rattle.std.specs.Prelude.{◌≡◌, ℕ, ◌+◌, ◌≤◌, List, codes, l
 use Rattle.elf_base.specs.FileHeader.{file_order}
 use Rattle.elf_base.specs.Number.{number}
 use Rattle.elf_base.specs.Text.{IsText}
-use Rattle.elf_base.specs.declared.bytes.Order.{Order}
 use Rattle.elf_records.specs.Note.{rounded_up}
+use Rattle.xmas_elf.specs.Prelude.{ElfFile, Order}
 use Rattle.xmas_elf.specs.NamedData.{IsDataNamed}
-use Rattle.xmas_elf.specs.declared.ElfFile.{ElfFile}
 
 -- where the checksum of a link stands: behind the text and its zero byte, at a multiple of four
 abbrev pub checksum_place : List ℕ → ℕ

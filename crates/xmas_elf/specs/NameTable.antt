@@ -6,18 +6,14 @@ use Rattle.std.specs.Str.{bytes_eq}
 use Rattle.elf_base.specs.Refusal.{and_then, unless}
 use Rattle.elf_base.specs.Text.{IsText, text_of}
 use Rattle.elf_base.specs.TextCompared.{TextCompared}
-use Rattle.elf_base.specs.declared.error.ElfError.{ElfError}
-use Rattle.elf_base.specs.declared.error.ElfError.TheVariants.{ShortSectionOffset, NullName}
 use Rattle.elf_records.specs.SectionNumbers.{is_sh_type}
-use Rattle.elf_records.specs.declared.sections.ShType.{ShType}
 use Rattle.elf_records.specs.declared.sections.ShType.TheVariants.{Null}
+use Rattle.xmas_elf.specs.Prelude.{ElfError, ElfFile, NullName, SectionHeader, ShType, ShortSectionOffset}
 use Rattle.xmas_elf.specs.Counts.{section_count_of, shstr_index_of}
 use Rattle.xmas_elf.specs.First.{FindsFirst}
 use Rattle.xmas_elf.specs.HeaderTable.{EachBelow}
 use Rattle.xmas_elf.specs.SectionHeader.{section_fields, section_of, section_type}
 use Rattle.xmas_elf.specs.SectionList.{section_list}
-use Rattle.xmas_elf.specs.declared.ElfFile.{ElfFile}
-use Rattle.xmas_elf.specs.declared.sections.section_header.SectionHeader.{SectionHeader}
 
 -- the section that holds the names, or why it can't be read
 unfoldable pub names_section_of : ElfFile → Result SectionHeader ElfError

@@ -3,14 +3,11 @@
 use Rattle.std.specs.Prelude.{◌≡◌, ℕ, List, Result, Ok, Err, if◌then◌else◌}
 use Rattle.std.specs.Option.{ok_or}
 use Rattle.elf_base.specs.Refusal.{and_then}
-use Rattle.elf_base.specs.declared.error.ElfError.{ElfError}
 use Rattle.elf_records.specs.SectionNumbers.{has_sh_type}
-use Rattle.elf_records.specs.declared.sections.ShType.{ShType}
+use Rattle.xmas_elf.specs.Prelude.{ElfError, ElfFile, SectionHeader, ShType}
 use Rattle.xmas_elf.specs.NameTable.{IsFirstNamed, section_named}
 use Rattle.xmas_elf.specs.SectionData.{HasSectionData, IsSectionData, section_data_of}
 use Rattle.xmas_elf.specs.SectionHeader.{section_type}
-use Rattle.xmas_elf.specs.declared.ElfFile.{ElfFile}
-use Rattle.xmas_elf.specs.declared.sections.section_header.SectionHeader.{SectionHeader}
 
 -- `bytes` are the data of the first section that bears the name
 pub record IsDataNamed (file : ElfFile) (name bytes : List ℕ) : Type 0 where

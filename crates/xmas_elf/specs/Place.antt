@@ -4,18 +4,13 @@ use Rattle.std.specs.Borrow.{Bor}
 use Rattle.elf_base.specs.Lent.{LiesAt}
 use Rattle.elf_base.specs.Table.{table_bytes}
 use Rattle.elf_records.specs.Note.{note_name_size, rounded_up}
-use Rattle.elf_records.specs.declared.sections.note.NoteHeader.{NoteHeader}
+use Rattle.xmas_elf.specs.Prelude.{ElfFile, NoteHeader, ProgramHeader64, SectionData, SectionHeader, SegmentData}
 use Rattle.xmas_elf.specs.BuildId.{IsNoteSection}
 use Rattle.xmas_elf.specs.HashTable.{hash_bytes}
 use Rattle.xmas_elf.specs.NameTable.{IsFirstNamed}
 use Rattle.xmas_elf.specs.SectionHeader.{section_fields}
-use Rattle.xmas_elf.specs.declared.ElfFile.{ElfFile}
-use Rattle.xmas_elf.specs.declared.program.content.SegmentData.{SegmentData}
 use Rattle.xmas_elf.specs.declared.program.content.SegmentData.TheVariants as segment_data
-use Rattle.xmas_elf.specs.declared.program.program_header.ProgramHeader64.{ProgramHeader64}
-use Rattle.xmas_elf.specs.declared.sections.content.SectionData.{SectionData}
 use Rattle.xmas_elf.specs.declared.sections.content.SectionData.TheVariants as section_data
-use Rattle.xmas_elf.specs.declared.sections.section_header.SectionHeader.{SectionHeader}
 
 -- the data of a section lies at its offset in the input
 abbrev pub LiesAsSection : ElfFile → SectionHeader → Bor (List ℕ) → Type 0

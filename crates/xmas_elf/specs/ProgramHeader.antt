@@ -5,18 +5,10 @@ use Rattle.elf_base.specs.Number.{number}
 use Rattle.elf_base.specs.Refusal.{unless}
 use Rattle.elf_base.specs.FileHeader.{file_class, file_order}
 use Rattle.elf_base.specs.HeaderLayout.{header_fields}
-use Rattle.elf_base.specs.declared.bytes.Order.{Order}
-use Rattle.elf_base.specs.declared.error.ElfError.{ElfError}
-use Rattle.elf_base.specs.declared.error.ElfError.TheVariants.{NoProgramHeaders, ShortProgramHeader, UnknownClass, SmallEntry}
-use Rattle.elf_base.specs.declared.header.Header.{Header}
 use Rattle.elf_records.specs.ProgramNumbers.{ph_type_number, ph_type_of, ph_type_raw}
-use Rattle.elf_records.specs.declared.program.Type as the_type
+use Rattle.xmas_elf.specs.Prelude.{ElfError, ElfFile, Header, NoProgramHeaders, Order, ProgramHeader, ProgramHeader32, ProgramHeader64, SegmentType, ShortProgramHeader, SmallEntry, UnknownClass}
 use Rattle.xmas_elf.specs.Counts.{program_count_of}
 use Rattle.xmas_elf.specs.HeaderTable.{IsKnownClass, entry_place, is_known_class}
-use Rattle.xmas_elf.specs.declared.ElfFile.{ElfFile}
-use Rattle.xmas_elf.specs.declared.program.program_header.ProgramHeader32.{ProgramHeader32}
-use Rattle.xmas_elf.specs.declared.program.program_header.ProgramHeader64.{ProgramHeader64}
-use Rattle.xmas_elf.specs.declared.program.program_header.ProgramHeader.{ProgramHeader}
 use Rattle.xmas_elf.specs.declared.program.program_header.ProgramHeader.TheVariants.{Ph32, Ph64}
 
 -- the 32 bytes of class 32
@@ -64,7 +56,7 @@ program_fields (Ph32 header) = program_64 header
 program_fields (Ph64 header) = header
 
 -- what a segment is, or why that can't be said
-abbrev pub segment_type : ProgramHeader64 → Result the_type.Type ElfError
+abbrev pub segment_type : ProgramHeader64 → Result SegmentType ElfError
 segment_type segment = ph_type_of (ph_type_number segment.type_)
 
 -- how many bytes a program header has

@@ -1,12 +1,10 @@
 -- The segments of a file in order, and what an iterator over them gives (gABI, "Program Header": the
 -- program header table).
 use Rattle.std.specs.Prelude.{◌≡◌, List, Option}
+use Rattle.xmas_elf.specs.Prelude.{ElfFile, ProgramHeader, ProgramIter}
 use Rattle.xmas_elf.specs.Counts.{program_count_of}
 use Rattle.xmas_elf.specs.HeaderTable.{HeaderStep, header_list, header_rest}
 use Rattle.xmas_elf.specs.ProgramHeader.{program_of}
-use Rattle.xmas_elf.specs.declared.ElfFile.{ElfFile}
-use Rattle.xmas_elf.specs.declared.program.ProgramIter.{ProgramIter}
-use Rattle.xmas_elf.specs.declared.program.program_header.ProgramHeader.{ProgramHeader}
 
 -- the segments of a file: its headers by index, up to the count or the first that is refused
 abbrev pub program_list : ElfFile → List ProgramHeader

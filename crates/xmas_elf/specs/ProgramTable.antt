@@ -1,8 +1,7 @@
 -- The program header table as it is kept for many calls (gABI, "Program Header").
 use Rattle.std.specs.Prelude.{List, drop}
+use Rattle.xmas_elf.specs.Prelude.{ElfFile, ProgramHeader}
 use Rattle.xmas_elf.specs.ProgramList.{program_list}
-use Rattle.xmas_elf.specs.declared.ElfFile.{ElfFile}
-use Rattle.xmas_elf.specs.declared.program.program_header.ProgramHeader.{ProgramHeader}
 use Rattle.xmas_elf.specs.declared.program.table.ProgramTable.{ProgramTable}
 use Rattle.xmas_elf.specs.declared.program.table.ProgramTableIter.{ProgramTableIter}
 

@@ -1,8 +1,7 @@
 -- Ranges of bytes (this project's own).
 use Rattle.std.specs.Prelude.{◌≡◌, ℕ, ◌+◌, ◌≤◌, nat_lt, List, [], ◌∷◌, length, drop, take, Result}
 use Rattle.elf_base.specs.Refusal.{unless}
-use Rattle.elf_base.specs.declared.error.ElfError.{ElfError}
-use Rattle.elf_base.specs.declared.error.ElfError.TheVariants.{DataRange}
+use Rattle.xmas_elf.specs.Prelude.{DataRange, ElfError}
 
 -- `range` is the `count` bytes from place `start` on, which lie in the bytes
 pub record IsRange (bytes : List ℕ) (start count : ℕ) (range : List ℕ) : Type 0 where

@@ -6,8 +6,8 @@ use Rattle.elf_base.specs.Message.{message_of}
 use Rattle.elf_base.specs.Printed.{joined}
 use Rattle.elf_base.specs.HeaderText.{header_text}
 use Rattle.elf_base.specs.FileHeader.{header_of}
-use Rattle.elf_base.specs.declared.error.ElfError.{ElfError}
 use Rattle.elf_records.specs.ProgramNumbers.{ph_type_number}
+use Rattle.xmas_elf.specs.Prelude.{ElfError, ElfFile, ProgramHeader, ReportFault, SectionHeader}
 use Rattle.xmas_elf.specs.Checks.{header_check, program_check}
 use Rattle.xmas_elf.specs.HashReport.{IsHashVerdict}
 use Rattle.xmas_elf.specs.NameTable.{name_of}
@@ -17,13 +17,9 @@ use Rattle.xmas_elf.specs.SectionHeader.{section_fields}
 use Rattle.xmas_elf.specs.SectionList.{section_list}
 use Rattle.xmas_elf.specs.SectionText.{section_type_text}
 use Rattle.xmas_elf.specs.ProgramText.{segment_type_text}
-use Rattle.xmas_elf.specs.declared.ElfFile.{ElfFile}
-use Rattle.xmas_elf.specs.declared.program.program_header.ProgramHeader.{ProgramHeader}
-use Rattle.xmas_elf.specs.declared.report.ReportFault.{ReportFault}
 use Rattle.xmas_elf.specs.declared.report.ReportFault.TheVariants.{Elf, Write}
 use Rattle.xmas_elf.specs.declared.report.hash.HashVerdict.{HashVerdict}
 use Rattle.xmas_elf.specs.declared.report.hash.HashVerdict.TheVariants.{NoTable, NoSymbols, Checked}
-use Rattle.xmas_elf.specs.declared.sections.section_header.SectionHeader.{SectionHeader}
 
 -- how a fault is printed
 abbrev pub fault_text : ReportFault → List ℕ

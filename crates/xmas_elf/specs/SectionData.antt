@@ -2,15 +2,11 @@
 -- no exception is this project's own).
 use Rattle.std.specs.Prelude.{◌≡◌, ◌≢◌, ℕ, ◌+◌, ◌≤◌, List, length, Result, Ok, Err, if◌then◌else◌}
 use Rattle.elf_base.specs.Refusal.{and_then}
-use Rattle.elf_base.specs.declared.error.ElfError.{ElfError}
-use Rattle.elf_base.specs.declared.error.ElfError.TheVariants.{NullData}
 use Rattle.elf_records.specs.SectionNumbers.{is_sh_type}
-use Rattle.elf_records.specs.declared.sections.ShType.{ShType}
 use Rattle.elf_records.specs.declared.sections.ShType.TheVariants.{Null}
+use Rattle.xmas_elf.specs.Prelude.{ElfError, ElfFile, NullData, SectionHeader, ShType}
 use Rattle.xmas_elf.specs.Range.{IsRange, range_of}
 use Rattle.xmas_elf.specs.SectionHeader.{section_fields, section_type}
-use Rattle.xmas_elf.specs.declared.ElfFile.{ElfFile}
-use Rattle.xmas_elf.specs.declared.sections.section_header.SectionHeader.{SectionHeader}
 
 -- a section has data: its type is valid and not Null, and its range lies in the input
 pub record HasSectionData (file : ElfFile) (section : SectionHeader) : Type 0 where

@@ -5,16 +5,9 @@ use Rattle.elf_base.specs.Number.{number}
 use Rattle.elf_base.specs.Refusal.{unless}
 use Rattle.elf_base.specs.FileHeader.{file_class, file_order}
 use Rattle.elf_base.specs.HeaderLayout.{header_fields}
-use Rattle.elf_base.specs.declared.bytes.Order.{Order}
-use Rattle.elf_base.specs.declared.error.ElfError.{ElfError}
-use Rattle.elf_base.specs.declared.error.ElfError.TheVariants.{ReservedIndex, ShortSectionHeader, UnknownClass, SmallEntry}
-use Rattle.elf_base.specs.declared.header.Header.{Header}
 use Rattle.elf_records.specs.SectionNumbers.{sh_type_number, sh_type_of, sh_type_raw}
-use Rattle.elf_records.specs.declared.sections.ShType.{ShType}
+use Rattle.xmas_elf.specs.Prelude.{ElfError, ElfFile, Header, Order, ReservedIndex, SectionHeader, SectionHeader_, ShType, ShortSectionHeader, SmallEntry, UnknownClass}
 use Rattle.xmas_elf.specs.HeaderTable.{IsKnownClass, entry_place, is_known_class}
-use Rattle.xmas_elf.specs.declared.ElfFile.{ElfFile}
-use Rattle.xmas_elf.specs.declared.sections.section_header.SectionHeader_.{SectionHeader_}
-use Rattle.xmas_elf.specs.declared.sections.section_header.SectionHeader.{SectionHeader}
 use Rattle.xmas_elf.specs.declared.sections.section_header.SectionHeader.TheVariants.{Sh32, Sh64}
 
 -- what a section header says, in numbers

@@ -1,12 +1,10 @@
 -- The sections of a file in order, and what an iterator over them gives (gABI, "Sections": the section
 -- header table).
 use Rattle.std.specs.Prelude.{◌≡◌, List, Option}
+use Rattle.xmas_elf.specs.Prelude.{ElfFile, SectionHeader, SectionIter}
 use Rattle.xmas_elf.specs.Counts.{section_count_of}
 use Rattle.xmas_elf.specs.HeaderTable.{HeaderStep, header_list, header_rest}
 use Rattle.xmas_elf.specs.SectionHeader.{section_of}
-use Rattle.xmas_elf.specs.declared.ElfFile.{ElfFile}
-use Rattle.xmas_elf.specs.declared.sections.SectionIter.{SectionIter}
-use Rattle.xmas_elf.specs.declared.sections.section_header.SectionHeader.{SectionHeader}
 
 -- the sections of a file: its headers by index, up to the count or the first that is refused
 abbrev pub section_list : ElfFile → List SectionHeader

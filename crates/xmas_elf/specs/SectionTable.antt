@@ -1,8 +1,7 @@
 -- The section header table as it is kept for many calls (gABI, "Sections": the section header table).
 use Rattle.std.specs.Prelude.{List, drop}
+use Rattle.xmas_elf.specs.Prelude.{ElfFile, SectionHeader}
 use Rattle.xmas_elf.specs.SectionList.{section_list}
-use Rattle.xmas_elf.specs.declared.ElfFile.{ElfFile}
-use Rattle.xmas_elf.specs.declared.sections.section_header.SectionHeader.{SectionHeader}
 use Rattle.xmas_elf.specs.declared.sections.table.SectionTable.{SectionTable}
 use Rattle.xmas_elf.specs.declared.sections.table.SectionTableIter.{SectionTableIter}
 

@@ -3,18 +3,13 @@ use Rattle.std.specs.Prelude.{ℕ, List, Result, Ok, if◌then◌else◌}
 use Rattle.elf_base.specs.FileHeader.{file_class, file_order}
 use Rattle.elf_base.specs.Refusal.{and_then}
 use Rattle.elf_base.specs.Table.{table_data, table_order}
-use Rattle.elf_base.specs.declared.bytes.Order.{Order}
-use Rattle.elf_base.specs.declared.error.ElfError.{ElfError}
 use Rattle.elf_records.specs.ProgramNumbers.{is_ph_type}
-use Rattle.elf_records.specs.declared.program.Type as the_type
 use Rattle.elf_records.specs.declared.program.Type.TheVariants as segment_type
+use Rattle.xmas_elf.specs.Prelude.{ElfError, ElfFile, Order, ProgramHeader64, SegmentData, SegmentType}
 use Rattle.xmas_elf.specs.Content.{Content, by_class, dynamic_32, dynamic_64, empty, note_64, note_of, table_of, undefined}
 use Rattle.xmas_elf.specs.ProgramHeader as program_header
 use Rattle.xmas_elf.specs.SegmentData.{segment_data_of}
-use Rattle.xmas_elf.specs.declared.ElfFile.{ElfFile}
-use Rattle.xmas_elf.specs.declared.program.content.SegmentData.{SegmentData}
 use Rattle.xmas_elf.specs.declared.program.content.SegmentData.TheVariants as segment_data
-use Rattle.xmas_elf.specs.declared.program.program_header.ProgramHeader64.{ProgramHeader64}
 
 -- what a value of `SegmentData` holds
 abbrev pub segment_content : SegmentData → Content
@@ -25,7 +20,7 @@ segment_content (segment_data.Dynamic64 table) = table_of dynamic_64 (table_orde
 segment_content (segment_data.Note64 header body) = note_64 header body.now
 
 -- what bytes are in a segment of this type, in a file of this class and order, or why they can't be
-abbrev pub content_of_segment : the_type.Type → ℕ → Order → List ℕ → Result Content ElfError
+abbrev pub content_of_segment : SegmentType → ℕ → Order → List ℕ → Result Content ElfError
 content_of_segment segment_type.Null class order bytes = Ok empty
 content_of_segment segment_type.Dynamic class order bytes = by_class dynamic_32 dynamic_64 class order bytes
 content_of_segment segment_type.Note class order bytes = note_of class order bytes

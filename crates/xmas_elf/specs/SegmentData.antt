@@ -2,19 +2,15 @@
 -- empty segment is this project's own).
 use Rattle.std.specs.Prelude.{◌≡◌, ◌≢◌, ℕ, ◌+◌, ◌≤◌, ◌==◌, List, [], length, Result, Ok, Err, if◌then◌else◌}
 use Rattle.elf_base.specs.Refusal.{and_then}
-use Rattle.elf_base.specs.declared.error.ElfError.{ElfError}
-use Rattle.elf_base.specs.declared.error.ElfError.TheVariants.{NullData}
 use Rattle.elf_records.specs.ProgramNumbers.{is_ph_type}
-use Rattle.elf_records.specs.declared.program.Type as the_type
 use Rattle.elf_records.specs.declared.program.Type.TheVariants.{Null}
+use Rattle.xmas_elf.specs.Prelude.{ElfError, ElfFile, NullData, ProgramHeader64, SegmentType}
 use Rattle.xmas_elf.specs.Range.{IsRange, range_of}
 use Rattle.xmas_elf.specs.ProgramHeader.{segment_type}
-use Rattle.xmas_elf.specs.declared.ElfFile.{ElfFile}
-use Rattle.xmas_elf.specs.declared.program.program_header.ProgramHeader64.{ProgramHeader64}
 
 -- a segment has data: its type is valid and not Null, and its range lies in the input or is empty
 pub record HasSegmentData (file : ElfFile) (segment : ProgramHeader64) : Type 0 where
-  pub kind : the_type.Type
+  pub kind : SegmentType
   pub typed : segment_type segment ≡ Ok kind
   pub not_null : kind ≢ Null
   pub within : segment.file_size ≢ 0 → segment.offset + segment.file_size ≤ length file.input.now

@@ -5,13 +5,11 @@ use Rattle.std.specs.Prelude.{ℕ, List, codes, Result}
 use Rattle.std.specs.Option.{ok_or}
 use Rattle.elf_base.specs.Refusal.{and_then}
 use Rattle.elf_base.specs.Text.{IsText, text_of}
-use Rattle.elf_base.specs.declared.error.ElfError.{ElfError}
-use Rattle.elf_base.specs.declared.error.ElfError.TheVariants.{NoDynstr, NoStrtab, StrtabType}
 use Rattle.elf_records.specs.declared.sections.ShType.TheVariants.{StrTab}
+use Rattle.xmas_elf.specs.Prelude.{ElfError, ElfFile, NoDynstr, NoStrtab, StrtabType}
 use Rattle.xmas_elf.specs.NameTable.{section_named}
 use Rattle.xmas_elf.specs.NamedData.{IsDataNamed, IsTypedData, typed_data_of}
 use Rattle.xmas_elf.specs.SectionData.{section_data_of}
-use Rattle.xmas_elf.specs.declared.ElfFile.{ElfFile}
 
 -- `table` is the string table of symbols: the data of .strtab, whose type is StrTab
 abbrev pub IsStrtab : ElfFile → List ℕ → Type 0

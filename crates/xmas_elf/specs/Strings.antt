@@ -2,9 +2,8 @@
 use Rattle.std.specs.Prelude.{◌≢◌, ℕ, zero, suc, List, [], ◌∷◌, ◌++◌, length, Option, None, Some, Result, Ok, Err}
 use Rattle.std.specs.Borrow.{Bor}
 use Rattle.elf_base.specs.Text.{IsText, TextRefused, text_of}
-use Rattle.elf_base.specs.declared.error.ElfError.{ElfError}
+use Rattle.xmas_elf.specs.Prelude.{ElfError, SectionStrings}
 use Rattle.xmas_elf.specs.Content.{Content, strings}
-use Rattle.xmas_elf.specs.declared.sections.strings.SectionStrings.{SectionStrings}
 
 -- `items` are the texts at the front of the bytes, none of them empty, each followed by a zero byte,
 -- up to the end of the bytes or an empty text; bytes that begin with no text are the last item, by why

@@ -4,14 +4,11 @@ use Rattle.std.specs.Prelude.{◌≡◌, ◌≢◌, ℕ, ◌*◌, ◌%◌, ◌<�
 use Rattle.elf_base.specs.FileHeader.{file_order}
 use Rattle.elf_base.specs.Number.{number}
 use Rattle.elf_base.specs.Refusal.{and_then, unless}
-use Rattle.elf_base.specs.declared.error.ElfError.{ElfError}
-use Rattle.elf_base.specs.declared.error.ElfError.TheVariants.{ExpectedShIndex, NoShIndex, NotMultiple, ReservedSymbolIndex, SymbolIndex}
 use Rattle.elf_records.specs.declared.sections.ShType.TheVariants.{SymTabShIndex}
+use Rattle.xmas_elf.specs.Prelude.{ElfError, ElfFile, ExpectedShIndex, NoShIndex, NotMultiple, ReservedSymbolIndex, SectionHeader, SymbolIndex}
 use Rattle.xmas_elf.specs.SectionHeader.{section_by_u16, section_of}
 use Rattle.xmas_elf.specs.NamedData.{IsTypedData, typed_data_of}
 use Rattle.xmas_elf.specs.Symbol.{SymbolFields}
-use Rattle.xmas_elf.specs.declared.ElfFile.{ElfFile}
-use Rattle.xmas_elf.specs.declared.sections.section_header.SectionHeader.{SectionHeader}
 
 -- `table` is the data of .symtab_shndx, whose type is SymTabShIndex
 abbrev pub IsIndexTable : ElfFile → List ℕ → Type 0

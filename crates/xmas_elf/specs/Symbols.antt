@@ -4,15 +4,9 @@ use Rattle.std.specs.Borrow.{Bor}
 use Rattle.std.specs.Fn.{Shared, FnReturnsAt}
 use Rattle.std.specs.Result.{result_ok}
 use Rattle.elf_base.specs.Table.{records, table_items}
-use Rattle.elf_base.specs.declared.bytes.Order.{Order}
-use Rattle.elf_base.specs.declared.bytes.table.Table.{Table}
+use Rattle.xmas_elf.specs.Prelude.{DynEntry32, DynEntry64, ElfFile, Entry32, Entry64, Order, Table}
 use Rattle.xmas_elf.specs.Symbol.{SymbolFields, dyn_entry_32, dyn_entry_32_fields, dyn_entry_64, dyn_entry_64_fields, entry_32, entry_32_fields, entry_64, entry_64_fields}
 use Rattle.xmas_elf.specs.SymbolName.{symbol_string_of}
-use Rattle.xmas_elf.specs.declared.ElfFile.{ElfFile}
-use Rattle.xmas_elf.specs.declared.symbol_table.entries.DynEntry32.{DynEntry32}
-use Rattle.xmas_elf.specs.declared.symbol_table.entries.DynEntry64.{DynEntry64}
-use Rattle.xmas_elf.specs.declared.symbol_table.entries.Entry32.{Entry32}
-use Rattle.xmas_elf.specs.declared.symbol_table.entries.Entry64.{Entry64}
 
 -- the symbols in order, what each says, and the text that each bears in the file, if any
 pub record Symbols (E : Type 0) : Type 0 where

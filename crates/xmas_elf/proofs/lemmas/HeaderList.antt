@@ -2,18 +2,13 @@
 -- of a loop.
 use Rattle.std.proofs.Common.{◌≡◌, ℕ, ◌+◌, ◌-◌, ◌≤◌, ◌<◌, List, [], ◌∷◌, length, Option, None, Some, MatchOption, Result, Ok, IsOkAnd, refl, sym, ◌∙◌, arith}
 use Rattle.std.specs.List.{AllWithin, HoldsAt}
-use Rattle.elf_base.specs.declared.error.ElfError.{ElfError}
+use Rattle.xmas_elf.specs.Prelude.{ElfError, ElfFile, ProgramHeader, ProgramIter, SectionHeader, SectionIter}
 use Rattle.xmas_elf.specs.Counts.{program_count_of, section_count_of}
 use Rattle.xmas_elf.specs.HeaderTable.{EachBelow, IsLongest, before, header_rest, headers_from}
 use Rattle.xmas_elf.specs.ProgramHeader.{program_of}
 use Rattle.xmas_elf.specs.ProgramList.{ProgramStep, program_list}
 use Rattle.xmas_elf.specs.SectionHeader.{section_of}
 use Rattle.xmas_elf.specs.SectionList.{SectionStep, section_list}
-use Rattle.xmas_elf.specs.declared.ElfFile.{ElfFile}
-use Rattle.xmas_elf.specs.declared.program.ProgramIter.{ProgramIter}
-use Rattle.xmas_elf.specs.declared.program.program_header.ProgramHeader.{ProgramHeader}
-use Rattle.xmas_elf.specs.declared.sections.SectionIter.{SectionIter}
-use Rattle.xmas_elf.specs.declared.sections.section_header.SectionHeader.{SectionHeader}
 use Rattle.xmas_elf.proofs.HeaderLists.{header_list-longest}
 
 -- some item of a list that isn't empty

@@ -1,17 +1,14 @@
 -- A file has one report: the verdict on its hash table is one thing alone.
 use Rattle.std.proofs.Common.{◌≡◌, ◌<◌, ◌⊎◌, inl, inr, Some, None, Result, Ok, Err, refl, sym, ap, ◌∙◌, subst, arith}
 use Rattle.std.proofs.lemmas.Bool.{cases_order}
-use Rattle.elf_base.specs.declared.error.ElfError.{ElfError}
+use Rattle.xmas_elf.specs.Prelude.{ElfError, ElfFile, HashTable, SectionHeader}
 use Rattle.xmas_elf.specs.Content.{Content, empty, undefined, strings, table_of, symbols_32, symbols_64, dyn_symbols_32, dyn_symbols_64, functions_32, functions_64, rela_32, rela_64, rel_32, rel_64, dynamic_32, dynamic_64, section_indices, group, note_64, hash_table}
 use Rattle.xmas_elf.specs.HashReport.{FindsHash, IsHashVerdict, IsLinkedVerdict, IsVerdictOf, content_at, linked, none, refused}
 use Rattle.xmas_elf.specs.HashTable.{hash_data, hash_order}
 use Rattle.xmas_elf.specs.SectionHeader.{section_fields, section_type}
 use Rattle.xmas_elf.specs.Symbols.{Symbols, dyn_symbols_in_32, dyn_symbols_in_64, symbols_in_32, symbols_in_64}
-use Rattle.xmas_elf.specs.declared.ElfFile.{ElfFile}
-use Rattle.xmas_elf.specs.declared.hash.HashTable.{HashTable}
 use Rattle.xmas_elf.specs.declared.report.hash.HashVerdict.{HashVerdict}
 use Rattle.xmas_elf.specs.declared.report.hash.HashVerdict.TheVariants.{Checked}
-use Rattle.xmas_elf.specs.declared.sections.section_header.SectionHeader.{SectionHeader}
 use Rattle.xmas_elf.proofs.ChainChecks.{check_once}
 use Rattle.xmas_elf.proofs.HashVerdicts.{check_on}
 

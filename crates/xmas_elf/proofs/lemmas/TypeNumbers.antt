@@ -1,13 +1,11 @@
 -- No two numbers mean one type, of sections and of segments.
 use Rattle.std.proofs.Common.{◌≡◌, ℕ, Bool, List, [], ◌∷◌, Result, Ok, Err, if◌then◌else◌, sym, ◌∙◌, rules, arith}
-use Rattle.elf_base.specs.declared.error.ElfError.{ElfError}
-use Rattle.elf_records.specs.declared.sections.ShType.{ShType}
 use Rattle.elf_records.specs.declared.sections.ShType.TheVariants as sh_type
-use Rattle.elf_records.specs.declared.program.Type as the_type
 use Rattle.elf_records.specs.declared.program.Type.TheVariants as ph_type
 use Rattle.elf_records.proofs.NamedRows.{named_has}
 use Rattle.elf_records.specs.ProgramNumbers.{has_ph_type, ph_type_in_range, ph_type_of}
 use Rattle.elf_records.specs.SectionNumbers.{has_sh_type, sh_type_in_range, sh_type_of}
+use Rattle.xmas_elf.specs.Prelude.{ElfError, SegmentType, ShType}
 
 -- the number beside a type in a table
 abbrev beside : {K : Type 0} → (K → Result K ElfError → Bool) → List (ℕ × Result K ElfError) → K → ℕ
@@ -40,10 +38,10 @@ sh_has n = named_has sh_type_in_range (HasNumber sh_number) sh_rows n (search ru
 pub one_section_number : (one other : ℕ) (kind : ShType) → sh_type_of one ≡ Ok kind → sh_type_of other ≡ Ok kind → one ≡ other
 one_section_number = one_number sh_number sh_type_of sh_has
 
-abbrev ph_rows : List (ℕ × Result the_type.Type ElfError)
+abbrev ph_rows : List (ℕ × Result SegmentType ElfError)
 ph_rows = (0, Ok ph_type.Null) ∷ (1, Ok ph_type.Load) ∷ (2, Ok ph_type.Dynamic) ∷ (3, Ok ph_type.Interp) ∷ (4, Ok ph_type.Note) ∷ (5, Ok ph_type.ShLib) ∷ (6, Ok ph_type.Phdr) ∷ (7, Ok ph_type.Tls) ∷ (0x6474e552, Ok ph_type.GnuRelro) ∷ []
 
-abbrev ph_number : the_type.Type → ℕ
+abbrev ph_number : SegmentType → ℕ
 ph_number (ph_type.OsSpecific n) = n
 ph_number (ph_type.ProcessorSpecific n) = n
 ph_number kind = beside has_ph_type ph_rows kind
@@ -53,5 +51,5 @@ unfolding ph_type_of
 ph_has n = named_has ph_type_in_range (HasNumber ph_number) ph_rows n (search rules) (grind arith)
 
 -- no two numbers mean one type of segment
-pub one_segment_number : (one other : ℕ) (kind : the_type.Type) → ph_type_of one ≡ Ok kind → ph_type_of other ≡ Ok kind → one ≡ other
+pub one_segment_number : (one other : ℕ) (kind : SegmentType) → ph_type_of one ≡ Ok kind → ph_type_of other ≡ Ok kind → one ≡ other
 one_segment_number = one_number ph_number ph_type_of ph_has

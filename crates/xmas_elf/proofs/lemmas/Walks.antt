@@ -2,11 +2,9 @@
 -- HashCycle.
 use Rattle.std.proofs.Common.{◌≡◌, ℕ, Bool, true, false, List, [], ◌∷◌, Option, Some, None, Result, Err, if◌then◌else◌, refl, sym, subst}
 use Rattle.elf_base.specs.Refusal.{unless}
-use Rattle.elf_base.specs.declared.error.ElfError.{ElfError}
-use Rattle.elf_base.specs.declared.error.ElfError.TheVariants.{BucketIndex, ChainIndex, ChainSum, HashCycle, HashData}
+use Rattle.xmas_elf.specs.Prelude.{BucketIndex, ChainIndex, ChainSum, ElfError, HashCycle, HashData, HashTable}
 use Rattle.xmas_elf.specs.Chain.{Stops, at_end, past_chains, past_symbols, found, refused, IsEndless, LooksFrom, no_bucket, bad_bucket, reaches, endless, chains_of}
 use Rattle.xmas_elf.specs.HashTable.{bucket_of, chain_of, start_of}
-use Rattle.xmas_elf.specs.declared.hash.HashTable.{HashTable}
 
 two_rows : (a b : Bool) (v : ℕ) → unless ((a, BucketIndex) ∷ (b, HashData) ∷ []) v ≡ Err HashCycle → ⊥
 two_rows true b v e = cc
