@@ -20,4 +20,3 @@ pub mod ChainChecks
 pub mod ChainCounts
 pub mod HashSections
 pub mod Places
-pub mod HashVerdicts
