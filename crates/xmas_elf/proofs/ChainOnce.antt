@@ -1,58 +1,32 @@
 -- One look-up has one answer, and one number of symbols compared unless its chain never ends.
-use Rattle.std.proofs.Common.{◌≡◌, ◌≢◌, ◌<◌, ◌≤◌, ℕ, Option, Some, None, Result, Ok, Err, slice_get, refl, ap, sym, subst, arith}
+use Rattle.std.proofs.Common.{◌≡◌, ◌≢◌, ◌<◌, ◌≤◌, ℕ, Option, Some, None, Result, Ok, Err, slice_get, ◌⊎◌, inl, inr, refl, subst, arith}
 use Rattle.xmas_elf.specs.Prelude.{ChainIndex, ElfError, HashCycle, SymbolIndex}
 use Rattle.xmas_elf.specs.Chain.{Chains, StandsAt, Stops, at_end, past_chains, past_symbols, found, refused, Comes, NoneBefore, LooksFrom, no_bucket, bad_bucket, reaches, endless}
-use Rattle.xmas_elf.proofs.ChainPaths.{by_order, comes_in, comes_once, goes_on, stand_once, stop_or_link}
+use Rattle.xmas_elf.proofs.ChainPaths.{by_order, comes_in, comes_once, goes_on, stop_or_link}
 
 module _ {E : Type 0} (P : E → Type 0) (chains : Chains E) where
   -- an answer, and how many symbols were compared for it
   abbrev Both : Result (Option (ℕ × E)) ElfError → ℕ → Result (Option (ℕ × E)) ElfError → ℕ → Type 0
   Both a n b m = (a ≡ b) × (n ≡ m)
 
-  end_once_at : (i n : ℕ) (a : Result (Option (ℕ × E)) ElfError) → i ≡ 0 → Stops P chains i a n → Both a n (Ok None) 0
-  end_once_at _ _ _ end at_end = (refl, refl)
-  end_once_at _ _ _ end (past_chains i above past) = absurd (omega arith)
-  end_once_at _ _ _ end (past_symbols i above within absent) = absurd (omega arith)
-  end_once_at _ _ _ end (found i e stands holds) = absurd (let h : 0 < i = stands.not_end in omega arith)
-  end_once_at _ _ _ end (refused i e error stands misses refuses) = absurd (let h : 0 < i = stands.not_end in omega arith)
+  -- a stop, told by what stands at its index
+  abbrev Told : ℕ → Result (Option (ℕ × E)) ElfError → ℕ → Type 0
+  Told i a n = ((i ≡ 0) × Both a n (Ok None) 0)
+      ⊎ (((0 < i) × (chains.count ≤ i) × Both a n (Err ChainIndex) 0)
+      ⊎ (((0 < i) × (i < chains.count) × (slice_get chains.symbols i ≡ None) × Both a n (Err SymbolIndex) 0)
+      ⊎ (((e : E) × StandsAt chains i e × P e × Both a n (Ok (Some (i, e))) 1)
+      ⊎ ((e : E) × (error : ElfError) × StandsAt chains i e × (P e → ⊥) × (chains.chain i ≡ Err error) × Both a n (Err error) 1))))
 
-  past_once : (i n : ℕ) (a : Result (Option (ℕ × E)) ElfError) → 0 < i → chains.count ≤ i → Stops P chains i a n → Both a n (Err ChainIndex) 0
-  past_once _ _ _ above past at_end = absurd (omega arith)
-  past_once _ _ _ above past (past_chains i h k) = (refl, refl)
-  past_once _ _ _ above past (past_symbols i h within absent) = absurd (omega arith)
-  past_once _ _ _ above past (found i e stands holds) = absurd (let h : i < chains.count = stands.below in omega arith)
-  past_once _ _ _ above past (refused i e error stands misses refuses) = absurd (let h : i < chains.count = stands.below in omega arith)
+  told : (i n : ℕ) (a : Result (Option (ℕ × E)) ElfError) → Stops P chains i a n → Told i a n
+  told _ _ _ at_end = inl (refl, (refl, refl))
+  told _ _ _ (past_chains i above past) = inr (inl (above, past, (refl, refl)))
+  told _ _ _ (past_symbols i above within absent) = inr (inr (inl (above, within, absent, (refl, refl))))
+  told _ _ _ (found i e stands holds) = inr (inr (inr (inl (e, stands, holds, (refl, refl)))))
+  told _ _ _ (refused i e error stands misses refuses) = inr (inr (inr (inr (e, error, stands, misses, refuses, (refl, refl)))))
 
-  absent_once : (i n : ℕ) (a : Result (Option (ℕ × E)) ElfError) → 0 < i → i < chains.count → slice_get chains.symbols i ≡ None → Stops P chains i a n → Both a n (Err SymbolIndex) 0
-  absent_once _ _ _ above within absent at_end = absurd (omega arith)
-  absent_once _ _ _ above within absent (past_chains i h k) = absurd (omega arith)
-  absent_once _ _ _ above within absent (past_symbols i h k l) = (refl, refl)
-  absent_once _ _ _ above within absent (found i e stands holds) = let symbol : slice_get chains.symbols i ≡ Some e = stands.symbol in absurd (cc)
-  absent_once _ _ _ above within absent (refused i e error stands misses refuses) = let symbol : slice_get chains.symbols i ≡ Some e = stands.symbol in absurd (cc)
-
-  found_once : (i n : ℕ) (e : E) (a : Result (Option (ℕ × E)) ElfError) → StandsAt chains i e → P e → Stops P chains i a n → Both a n (Ok (Some (i, e))) 1
-  found_once _ _ e _ stands holds at_end = absurd (let above : 0 < 0 = stands.not_end in omega arith)
-  found_once _ _ e _ stands holds (past_chains i h k) = absurd (let below : i < chains.count = stands.below in omega arith)
-  found_once _ _ e _ stands holds (past_symbols i h k l) = let symbol : slice_get chains.symbols i ≡ Some e = stands.symbol in absurd (cc)
-  found_once _ _ e _ stands holds (found i d stands' holds') = (ap (λ x. Ok (Some (i, x))) (stand_once chains i d e stands' stands), refl)
-  found_once _ _ e _ stands holds (refused i d error stands' misses refuses) = absurd (misses (subst P (stand_once chains i e d stands stands') holds))
-
-  refused_once : (i n : ℕ) (e : E) (error : ElfError) (a : Result (Option (ℕ × E)) ElfError) → StandsAt chains i e → (P e → ⊥) → chains.chain i ≡ Err error → Stops P chains i a n → Both a n (Err error) 1
-  refused_once _ _ e error _ stands misses refuses at_end = absurd (let above : 0 < 0 = stands.not_end in omega arith)
-  refused_once _ _ e error _ stands misses refuses (past_chains i h k) = absurd (let below : i < chains.count = stands.below in omega arith)
-  refused_once _ _ e error _ stands misses refuses (past_symbols i h k l) = let symbol : slice_get chains.symbols i ≡ Some e = stands.symbol in absurd (cc)
-  refused_once _ _ e error _ stands misses refuses (found i d stands' holds) = absurd (misses (subst P (stand_once chains i d e stands' stands) holds))
-  refused_once _ _ e error _ stands misses refuses (refused i d error' stands' misses' refuses') = (let same : error' ≡ error = cc in ap (λ x. Err x) same, refl)
-
-  flip : (a b : Result (Option (ℕ × E)) ElfError) (n m : ℕ) → Both a n b m → Both b m a n
-  flip a b n m both = (sym both.0, sym both.1)
-
+  -- at one index there is one answer
   answer_once : (i n m : ℕ) (a b : Result (Option (ℕ × E)) ElfError) → Stops P chains i a n → Stops P chains i b m → Both a n b m
-  answer_once _ _ m _ b at_end t = flip b (Ok None) m 0 (end_once_at 0 m b refl t)
-  answer_once _ _ m _ b (past_chains i above past) t = flip b (Err ChainIndex) m 0 (past_once i m b above past t)
-  answer_once _ _ m _ b (past_symbols i above within absent) t = flip b (Err SymbolIndex) m 0 (absent_once i m b above within absent t)
-  answer_once _ _ m _ b (found i e stands holds) t = flip b (Ok (Some (i, e))) m 1 (found_once i m e b stands holds t)
-  answer_once _ _ m _ b (refused i e error stands misses refuses) t = flip b (Err error) m 1 (refused_once i m e error b stands misses refuses t)
+  answer_once i n m a b s t = let one = told i n a s in let other = told i m b t in grind arith
 
   -- the first stop comes in so many steps
   steps_once : (first n k p m l q : ℕ) (a b : Result (Option (ℕ × E)) ElfError) → Comes chains first n k → NoneBefore P chains first n → Stops P chains k a p → Comes chains first m l → NoneBefore P chains first m → Stops P chains l b q → n ≡ m

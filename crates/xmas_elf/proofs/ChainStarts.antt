@@ -1,5 +1,5 @@
 -- Where a look-up begins.
-use Rattle.std.proofs.Common.{◌≡◌, ℕ, ◌%◌, List, Option, Some, None, Result, Ok, Err, sym, ◌∙◌, ap, subst}
+use Rattle.std.proofs.Common.{◌≡◌, ℕ, ◌%◌, List, Option, Some, None, Result, Ok, Err}
 use Rattle.std.proofs.lemmas.Bool.{eq-eqb, ne_eqb}
 use Rattle.elf_records.specs.HashNumber.{hash_number}
 use Rattle.xmas_elf.specs.Prelude.{ElfError, HashTable}
@@ -16,12 +16,10 @@ start_some table name some = rw (ne_eqb (bucket_count_of table) 0 some)
 
 module _ {E : Type 0} (P : E → Type 0) (chains : Chains E) (table : HashTable) (name : List ℕ) where
   pub looks_none : bucket_count_of table ≡ 0 → LooksFrom P chains (start_of table name) (Ok None) 0
-  looks_none e = subst (λ s. LooksFrom P chains s (Ok None) 0) (sym (start_none table name e)) no_bucket
+  looks_none none = rw (start_none table name none) no_bucket
 
   pub looks_bad : (error : ElfError) → (bucket_count_of table ≡ 0 → ⊥) → bucket_of table (hash_number name % bucket_count_of table) ≡ Err error → LooksFrom P chains (start_of table name) (Err error) 0
-  looks_bad error some bad =
-      subst (λ s. LooksFrom P chains s (Err error) 0) (sym (start_some table name some ∙ ap (λ b. Some b) bad)) (bad_bucket error)
+  looks_bad error some bad = rw (start_some table name some, bad) (bad_bucket error)
 
   pub looks_from : (first n : ℕ) (a : Result (Option (ℕ × E)) ElfError) → (bucket_count_of table ≡ 0 → ⊥) → bucket_of table (hash_number name % bucket_count_of table) ≡ Ok first → LooksFrom P chains (Some (Ok first)) a n → LooksFrom P chains (start_of table name) a n
-  looks_from first n a some at_bucket h =
-      subst (λ s. LooksFrom P chains s a n) (sym (start_some table name some ∙ ap (λ b. Some b) at_bucket)) h
+  looks_from first n a some at_bucket h = rw (start_some table name some, at_bucket) h

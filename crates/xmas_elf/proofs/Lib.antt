@@ -18,4 +18,3 @@ pub mod ChainChecks
 pub mod ChainCounts
 pub mod HashSections
 pub mod Places
-pub mod HashVerdicts

@@ -1,16 +1,17 @@
 -- A file has one report: the verdict on its hash table is one thing alone.
+use mathlib.Core.Path.{fun_ext}
 use Rattle.std.proofs.Common.{◌≡◌, ◌<◌, ◌⊎◌, inl, inr, Some, None, Result, Ok, Err, refl, sym, ap, ◌∙◌, subst, arith}
 use Rattle.std.proofs.lemmas.Bool.{cases_order}
 use Rattle.xmas_elf.specs.Prelude.{ElfError, ElfFile, HashTable, SectionHeader}
-use Rattle.xmas_elf.specs.Content.{Content, empty, undefined, strings, table_of, symbols_32, symbols_64, dyn_symbols_32, dyn_symbols_64, functions_32, functions_64, rela_32, rela_64, rel_32, rel_64, dynamic_32, dynamic_64, section_indices, group, note_64, hash_table}
+use Rattle.xmas_elf.specs.Content.{Content, table_of, symbols_32, symbols_64, dyn_symbols_32, dyn_symbols_64}
+use Rattle.xmas_elf.specs.Good.{IsCheck, good, faulty, missing}
 use Rattle.xmas_elf.specs.HashReport.{FindsHash, IsHashVerdict, IsLinkedVerdict, IsVerdictOf, content_at, linked, none, refused}
-use Rattle.xmas_elf.specs.HashTable.{hash_data, hash_order}
+use Rattle.xmas_elf.specs.HashTable.{bucket_of, chain_of, hash_data, hash_order, start_of}
 use Rattle.xmas_elf.specs.SectionHeader.{section_fields, section_type}
 use Rattle.xmas_elf.specs.Symbols.{Symbols, dyn_symbols_in_32, dyn_symbols_in_64, symbols_in_32, symbols_in_64}
 use Rattle.xmas_elf.specs.declared.report.hash.HashVerdict.{HashVerdict}
 use Rattle.xmas_elf.specs.declared.report.hash.HashVerdict.TheVariants.{Checked}
 use Rattle.xmas_elf.proofs.ChainChecks.{check_once}
-use Rattle.xmas_elf.proofs.HashVerdicts.{check_on}
 
 first_once : (file : ElfFile) (a b : SectionHeader) → FindsHash file (Some a) → FindsHash file (Some b) → a ≡ b
 first_once file a b (ta, (i, lowi, hi, ni)) (tb, (j, lowj, hj, nj)) = go (cases_order i j)
@@ -23,32 +24,28 @@ first_once file a b (ta, (i, lowi, hi, ni)) (tb, (j, lowj, hj, nj)) = go (cases_
 no_first : (file : ElfFile) (a : SectionHeader) → FindsHash file None → FindsHash file (Some a) → ⊥
 no_first file a n (ta, (i, low, h, _)) = n i a (omega arith) low (ap section_type (h a) ∙ ta)
 
-module _ {E : Type 0} (one other : HashTable) (order : hash_order one ≡ hash_order other) (bytes : hash_data one ≡ hash_data other) where
-  of_once : (symbols : Symbols E) (v w : HashVerdict) → IsVerdictOf one symbols v → IsVerdictOf other symbols w → v ≡ w
-  of_once symbols v w (a, is, c) (a', is', c') =
-      let same : a ≡ a' = check_once other symbols a a' (check_on one other order bytes symbols a c) c' in cc
+-- the check of a hash table is told by its order and its bytes alone
+module _ (one other : HashTable) (order : hash_order one ≡ hash_order other) (bytes : hash_data one ≡ hash_data other) where
+  same_chain : chain_of one ≡ chain_of other
+  unfolding chain_of
+  same_chain = fun_ext (λ i. rw (order, bytes))
 
-linked_once : (file : ElfFile) (one other : HashTable) → hash_order one ≡ hash_order other → hash_data one ≡ hash_data other → (c : Result Content ElfError) (v w : HashVerdict) → IsLinkedVerdict file one c v → IsLinkedVerdict file other c w → v ≡ w
-linked_once file one other o b (Ok (table_of symbols_32 order bytes)) v w l m = of_once one other o b (symbols_in_32 file order bytes) v w l m
-linked_once file one other o b (Ok (table_of symbols_64 order bytes)) v w l m = of_once one other o b (symbols_in_64 file order bytes) v w l m
-linked_once file one other o b (Ok (table_of dyn_symbols_32 order bytes)) v w l m = of_once one other o b (dyn_symbols_in_32 file order bytes) v w l m
-linked_once file one other o b (Ok (table_of dyn_symbols_64 order bytes)) v w l m = of_once one other o b (dyn_symbols_in_64 file order bytes) v w l m
-linked_once file one other o b (Ok empty) v w l m = l ∙ sym m
-linked_once file one other o b (Ok (undefined bytes)) v w l m = l ∙ sym m
-linked_once file one other o b (Ok (strings bytes)) v w l m = l ∙ sym m
-linked_once file one other o b (Ok (table_of functions_32 order bytes)) v w l m = l ∙ sym m
-linked_once file one other o b (Ok (table_of functions_64 order bytes)) v w l m = l ∙ sym m
-linked_once file one other o b (Ok (table_of rela_32 order bytes)) v w l m = l ∙ sym m
-linked_once file one other o b (Ok (table_of rela_64 order bytes)) v w l m = l ∙ sym m
-linked_once file one other o b (Ok (table_of rel_32 order bytes)) v w l m = l ∙ sym m
-linked_once file one other o b (Ok (table_of rel_64 order bytes)) v w l m = l ∙ sym m
-linked_once file one other o b (Ok (table_of dynamic_32 order bytes)) v w l m = l ∙ sym m
-linked_once file one other o b (Ok (table_of dynamic_64 order bytes)) v w l m = l ∙ sym m
-linked_once file one other o b (Ok (table_of section_indices order bytes)) v w l m = l ∙ sym m
-linked_once file one other o b (Ok (group flags order bytes)) v w l m = l ∙ sym m
-linked_once file one other o b (Ok (note_64 header bytes)) v w l m = l ∙ sym m
-linked_once file one other o b (Ok (hash_table order bytes)) v w l m = l ∙ sym m
-linked_once file one other o b (Err error) v w l m = l ∙ sym m
+  check_on : {E : Type 0} (symbols : Symbols E) (a : Result (Unit {0}) ElfError) → IsCheck one symbols a → IsCheck other symbols a
+  unfolding bucket_of start_of
+  check_on symbols _ (good h) = good (record { ends = rw (same_chain, order, bytes) at h.ends; holds = rw (same_chain, order, bytes) at h.holds })
+  check_on symbols _ (faulty k error low before fault) = faulty k error (rw (order, bytes) at low) (rw (same_chain, order, bytes) at before) (rw (same_chain, order, bytes) at fault)
+  check_on symbols _ (missing i e name all global lost) = missing i e name (rw (same_chain, order, bytes) at all) global (rw (same_chain, order, bytes) at lost)
+
+  of_once : {E : Type 0} (symbols : Symbols E) (v w : HashVerdict) → IsVerdictOf one symbols v → IsVerdictOf other symbols w → v ≡ w
+  of_once symbols v w (a, is, c) (a', is', c') =
+      let same : a ≡ a' = check_once other symbols a a' (check_on symbols a c) c' in cc
+
+  linked_once : (file : ElfFile) (c : Result Content ElfError) (v w : HashVerdict) → IsLinkedVerdict file one c v → IsLinkedVerdict file other c w → v ≡ w
+  linked_once file (Ok (table_of symbols_32 o b)) v w l m = of_once (symbols_in_32 file o b) v w l m
+  linked_once file (Ok (table_of symbols_64 o b)) v w l m = of_once (symbols_in_64 file o b) v w l m
+  linked_once file (Ok (table_of dyn_symbols_32 o b)) v w l m = of_once (dyn_symbols_in_32 file o b) v w l m
+  linked_once file (Ok (table_of dyn_symbols_64 o b)) v w l m = of_once (dyn_symbols_in_64 file o b) v w l m
+  linked_once file _ v w l m = l ∙ sym m
 
 pub verdict_once : (file : ElfFile) (v w : HashVerdict) → IsHashVerdict file v → IsHashVerdict file w → v ≡ w
 verdict_once file _ _ (none n) (none m) = refl
@@ -63,4 +60,4 @@ verdict_once file _ _ (linked s t v f c l) (linked s' t' w f' c' l') =
     let same : s ≡ s' = first_once file s s' f f' in
     let order : hash_order t ≡ hash_order t' = cc in
     let bytes : hash_data t ≡ hash_data t' = cc in
-    linked_once file t t' order bytes (content_at file (section_fields s').link) v w (subst (λ x. IsLinkedVerdict file t (content_at file (section_fields x).link) v) same l) l'
+    linked_once t t' order bytes file (content_at file (section_fields s').link) v w (subst (λ x. IsLinkedVerdict file t (content_at file (section_fields x).link) v) same l) l'
