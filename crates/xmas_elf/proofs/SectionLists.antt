@@ -4,8 +4,8 @@ use Rattle.std.proofs.lemmas.Bool.Decides.{nat_tests}
 use Rattle.elf_base.specs.FileHeader.{file_class, file_order}
 use Rattle.elf_base.specs.HeaderLayout.{header_fields}
 use Rattle.xmas_elf.specs.Prelude.{ElfFile, SectionHeader}
-use Rattle.xmas_elf.specs.Counts.{section_count_of}
 use Rattle.xmas_elf.specs.Checks.{part_class}
+use Rattle.xmas_elf.specs.Counts.{section_count_of}
 use Rattle.xmas_elf.specs.SectionHeader.{HasSectionEntry, section_at_place, section_entry, section_header_size, section_of, section_place}
 use Rattle.xmas_elf.specs.SectionList.{section_list}
 use Rattle.xmas_elf.proofs.HeaderLists.{IsTable, header_list-longest, length-table, table-fits}
