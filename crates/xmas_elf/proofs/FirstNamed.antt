@@ -47,18 +47,10 @@ name_at file index names name table = (
   λ is. record { table = names; in_table = name_table-is file names table; is_text = is },
 )
 
--- what is kept of an answer is the answer, and what is lent of it has what the answer has, and alone
-pub kept : (answer : Result (List ℕ) ElfError) (r : Result (Bor (List ℕ)) ElfError) → ForOk r (λ part. answer ≡ Ok part.now) → ForErr r (λ error. answer ≡ Err error) → Answers answer r
-kept answer (Ok part) is isnt = is part refl
-kept answer (Err error) is isnt = isnt error refl
-
-pub lent : (Is : List ℕ → Type 0) (answer : Result (List ℕ) ElfError) (r : Result (Bor (List ℕ)) ElfError) → Answers answer r → ((part : List ℕ) → answer ≡ Ok part → Is part) → Lends Is r
-lent Is answer (Ok part) is holds = holds part.now is
-lent Is answer (Err error) is holds = tt
-
-pub lent_only : (Is : List ℕ → Type 0) (answer : Result (List ℕ) ElfError) (r : Result (Bor (List ℕ)) ElfError) → Answers answer r → ((part : List ℕ) → Is part → answer ≡ Ok part) → LendsOnly Is r
-lent_only Is answer (Ok part) is holds = λ other has. let one = holds other has in cc
-lent_only Is answer (Err error) is holds = λ other has. let one = holds other has in cc
+-- what is kept of an answer that is computed has what the answer has, alone, and is the answer
+pub kept : (Is : List ℕ → Type 0) (answer : Result (List ℕ) ElfError) (r : Result (Bor (List ℕ)) ElfError) → ((part : List ℕ) → answer ≡ Ok part ↔ Is part) → ForOk r (λ part. answer ≡ Ok part.now) → ForErr r (λ error. answer ≡ Err error) → Lends Is r × LendsOnly Is r × Answers answer r
+kept Is answer (Ok part) same is isnt = let here = is part refl in ((same part.now).0 here, (λ other has. let one = (same other).1 has in cc), here)
+kept Is answer (Err error) same is isnt = let none = isnt error refl in (tt, (λ other has. let one = (same other).1 has in cc), none)
 
 -- where a search finds nothing no section bears the name, and what it finds is the first that does
 pub missing_named : (file : ElfFile) (name : List ℕ) (r : Option SectionHeader) → FindsNamed file name r → IfNone r (EachBelow (section_of file) (λ section. ¬ Bears file section name) (length (section_list file)))
