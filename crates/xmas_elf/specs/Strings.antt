@@ -16,14 +16,15 @@ pub data Strings : List ℕ → List (Result (List ℕ) ElfError) → Type 0 whe
       → IsText (first ++ (0 ∷ rest)) 0 first → Strings rest items
       → Strings (first ++ (0 ∷ rest)) (Ok first ∷ items)
 
--- what the text at the front of bytes is among the items, or why there is none; those behind so many
--- further bytes follow it
+-- the items of bytes by the text at their front, or by why there is none; `behind` has those that follow
+-- the zero byte of a text of so many bytes
 abbrev pub first_item : Result (List ℕ) ElfError → (ℕ → List (Result (List ℕ) ElfError)) → List (Result (List ℕ) ElfError)
 first_item (Ok []) behind = []
 first_item (Ok (byte ∷ bytes)) behind = Ok (byte ∷ bytes) ∷ behind (length (byte ∷ bytes))
 first_item (Err error) behind = Err error ∷ []
 
--- the items behind so many bytes; the zero byte of a text lies behind as many as the text has
+-- the items behind so many bytes; after the first byte of a text come as many as it is long, the zero byte
+-- among them
 unfoldable pub strings_behind : ℕ → List ℕ → List (Result (List ℕ) ElfError)
 strings_behind count [] = []
 strings_behind (suc count) (byte ∷ bytes) = strings_behind count bytes
