@@ -7,14 +7,17 @@ use Rattle.xmas_elf.specs.Chain.{Chains, StandsAt, Stops, at_end, past_chains, p
 use Rattle.xmas_elf.specs.HashTable.{bucket_count_of, start_of}
 use Rattle.xmas_elf.specs.Good.{Ends, EndsBelow, IsAtFault, IsGood, FindsAll, MustBeFound}
 use Rattle.xmas_elf.specs.Symbols.{Symbols}
-use Rattle.xmas_elf.proofs.ChainPaths.{by_order, comes_in, comes_once, end_links, end_once, goes_on}
+use Rattle.xmas_elf.proofs.ChainPaths.{by_order, comes_in, comes_once, end_links, goes_on}
 use Rattle.xmas_elf.proofs.ChainStarts.{start_none, start_some}
 
 module _ {E : Type 0} (P : E → Type 0) (chains : Chains E) where
-  -- where a walk along the whole chain ends, it goes on from each other index
-  stuck : (first n i : ℕ) → Reaches chains first 0 → Comes chains first n i → 0 < i → ((x : ℕ) → Links chains i x → ⊥) → ⊥
-  stuck first n i (m, end) c above stop =
-      let same : i ≡ 0 = end_once chains first n m i 0 c stop end (λ x l. end_links chains 0 x refl l) in omega arith
+  -- where a walk along the whole chain ends, it comes to each other index before, and goes on from there
+  goes : (first n v i : ℕ) → Comes chains first n 0 → Comes chains first v i → 0 < i → (v < n) × ((j : ℕ) × Links chains i j)
+  goes first n v i end at above =
+      by_order chains ((v < n) × ((j : ℕ) × Links chains i j)) v n
+      (λ same. absurd (let zero_at : i ≡ 0 = comes_once chains first n i 0 (comes_in chains first v n i same at) end in omega arith))
+      (λ earlier. (earlier, goes_on chains first n 0 v i end earlier at))
+      (λ later. absurd (let (j, l) = goes_on chains first v i n 0 at later end in end_links chains 0 j refl l))
 
   -- where no stop is reached, no entry with P is passed
   none_all : (first : ℕ) → ((last m p : ℕ) (a : Result (Option (ℕ × E)) ElfError) → Comes chains first m last → NoneBefore P chains first m → Stops P chains last a p → ⊥) → (n : ℕ) → NoneBefore P chains first n
@@ -26,21 +29,11 @@ module _ {E : Type 0} (P : E → Type 0) (chains : Chains E) where
   -- there a walk is not refused: it finds an entry with P, or comes to the end
   ends_well : (N : Type 0) (first n : ℕ) (a : Result (Option (ℕ × E)) ElfError) → Reaches chains first 0 → ((m : ℕ) → Comes chains first m 0 → NoneBefore P chains first m → N) → LooksFrom P chains (Some (Ok first)) a n → MatchResult a (λ o. MatchOption o N (λ (p : ℕ × E). (0 < p.0) × (slice_get chains.symbols p.0 ≡ Some p.1) × P p.1)) (λ _. ⊥)
   ends_well N first _ _ end nothing (reaches _ _ n _ _ c none at_end) = nothing n c none
-  ends_well N first _ _ end nothing (reaches _ _ n _ _ c none (past_chains i above past)) = stuck first n i end c above (λ x l. (let h : i < chains.count = l.stands.below in omega arith))
-  ends_well N first _ _ end nothing (reaches _ _ n _ _ c none (past_symbols i above within absent)) = stuck first n i end c above (λ x l. (let h : slice_get chains.symbols i ≡ Some l.entry = l.stands.symbol in cc))
+  ends_well N first _ _ (m, end) nothing (reaches _ _ n _ _ c none (past_chains i above past)) = let (before, (j, l)) = goes first m n i end c above in let h : i < chains.count = l.stands.below in absurd (omega arith)
+  ends_well N first _ _ (m, end) nothing (reaches _ _ n _ _ c none (past_symbols i above within absent)) = let (before, (j, l)) = goes first m n i end c above in let h : slice_get chains.symbols i ≡ Some l.entry = l.stands.symbol in absurd (cc)
   ends_well N first _ _ end nothing (reaches _ _ n _ _ c none (found i e stands holds)) = (stands.not_end, stands.symbol, holds)
-  ends_well N first _ _ end nothing (reaches _ _ n _ _ c none (refused i e error stands misses refuses)) = stuck first n i end c stands.not_end (λ x l. (let h : chains.chain i ≡ Ok x = l.next in cc))
+  ends_well N first _ _ (m, end) nothing (reaches _ _ n _ _ c none (refused i e error stands misses refuses)) = let (before, (j, l)) = goes first m n i end c stands.not_end in let h : chains.chain i ≡ Ok j = l.next in absurd (cc)
   ends_well N first _ _ (n, end) nothing (endless _ _ never) = absurd (never 0 n 0 (Ok None) end (none_all first never n) at_end)
-
-  -- what a walk that finds nothing could have reached has no P
-  passed_none : (first n i v : ℕ) (e : E) → Comes chains first n 0 → NoneBefore P chains first n → Comes chains first v i → 0 < i → slice_get chains.symbols i ≡ Some e → P e → ⊥
-  passed_none first n i v e end none at above there holds =
-      by_order chains ⊥ v n
-      (λ same. (let zero_at : i ≡ 0 = comes_once chains first n i 0 (comes_in chains first v n i same at) end in omega arith))
-      (λ earlier. (let (j, l) = goes_on chains first n 0 v i end earlier at in
-      let entry : e ≡ l.entry = let symbol = l.stands.symbol in cc in
-      none v earlier i l.entry at l.stands (subst P entry holds)))
-      (λ later. (let (j, l) = goes_on chains first v i n 0 at later end in end_links chains 0 j refl l))
 
 -- where the chains of all buckets end, so does that of a name
 start_ends : {E : Type 0} (table : HashTable) (symbols : List E) (name : List ℕ) (b : Result ℕ ElfError) → EndsBelow table symbols (bucket_count_of table) → start_of table name ≡ Some b → (first : ℕ) × (b ≡ Ok first) × Reaches (chains_of table symbols) first 0
@@ -61,7 +54,10 @@ finds_all P table symbols name (Some b) a n start good looks =
     (λ m c none (i, e, global, holds).
     let (first', start', (v, at)) = good.holds i e name global in
     let same : first' ≡ first = cc in
-    passed_none P (chains_of table symbols.items) first m i v e c none (subst (λ x. Comes (chains_of table symbols.items) x v i) same at) global.not_first global.stands holds)
+    let here = subst (λ x. Comes (chains_of table symbols.items) x v i) same at in
+    let (before, (j, l)) = goes P (chains_of table symbols.items) first m v i c here global.not_first in
+    let entry : e ≡ l.entry = let there = global.stands in let symbol = l.stands.symbol in cc in
+    none v before i l.entry here l.stands (subst P entry holds))
     (rw is at looks)
 
 pub not_at_fault : {E : Type 0} (table : HashTable) (symbols : List E) (k : ℕ) (error : ElfError) → Ends table symbols k → IsAtFault table symbols k error → ⊥

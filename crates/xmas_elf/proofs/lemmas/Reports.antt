@@ -58,6 +58,4 @@ verdict_once file _ _ (linked s t v f c l) (none n) = absurd (no_first file s n 
 verdict_once file _ _ (linked s t v f c l) (refused s' e f' c') = let same = first_once file s s' f f' in absurd (cc)
 verdict_once file _ _ (linked s t v f c l) (linked s' t' w f' c' l') =
     let same : s ≡ s' = first_once file s s' f f' in
-    let order : hash_order t ≡ hash_order t' = cc in
-    let bytes : hash_data t ≡ hash_data t' = cc in
-    linked_once t t' order bytes file (content_at file (section_fields s').link) v w (subst (λ x. IsLinkedVerdict file t (content_at file (section_fields x).link) v) same l) l'
+    linked_once t t' (cc) (cc) file (content_at file (section_fields s').link) v w (subst (λ x. IsLinkedVerdict file t (content_at file (section_fields x).link) v) same l) l'
