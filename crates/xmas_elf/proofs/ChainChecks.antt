@@ -3,9 +3,10 @@ use Rattle.std.proofs.Common.{◌≡◌, ◌≢◌, ◌<◌, ◌/◌, ◌%◌, �
 use Rattle.std.proofs.lemmas.Bool.{cases_order}
 use Rattle.std.specs.Prelude.{IsOk}
 use Rattle.elf_base.specs.declared.error.ElfError.{ElfError}
+use Rattle.elf_base.specs.declared.error.ElfError.TheVariants.{HashMissing}
 use Rattle.elf_records.specs.HashNumber.{hash_number}
 use Rattle.xmas_elf.specs.Good.{Ends, IsAtFault, IsReached, IsGood, IsCheck, good, faulty, missing}
-use Rattle.xmas_elf.specs.Chain.{LooksFrom, Reaches, chains_of}
+use Rattle.xmas_elf.specs.Chain.{LooksFrom, Reaches, bad_bucket, chains_of}
 use Rattle.xmas_elf.specs.HashTable.{bucket_count_of, bucket_of, start_of}
 use Rattle.xmas_elf.specs.Symbols.{IsGlobal, Symbols}
 use Rattle.xmas_elf.specs.declared.hash.HashTable.{HashTable}
@@ -28,12 +29,14 @@ module _ {E : Type 0} (table : HashTable) (symbols : List E) where
 
       met : (last ≡ i) ⊎ (last < 1) → Reaches (chains_of table symbols) last i → last ≡ i
       met (inl same) r = same
-      met (inr end) r = absurd (let none : i ≡ 0 = end_reaches (chains_of table symbols) last i (omega arith) r in omega arith)
+      met (inr end) r = absurd (let none : i ≡ 0 = end_reaches (chains_of table symbols) last r.0 i (omega arith) r.1 in omega arith)
 
   -- a walk along a chain that ends is not refused
   pub unrefused : (k first n : ℕ) (error : ElfError) → Ends table symbols k → bucket_of table k ≡ Ok first → LooksFrom (λ (e : E). ⊥) (chains_of table symbols) (Some (Ok first)) (Err error) n → ⊥
-  unrefused k first n error ends at looks =
-      not_at_fault table symbols k error ends (n, subst (λ b. LooksFrom (λ (e : E). ⊥) (chains_of table symbols) (Some b) (Err error) n) (sym at) looks)
+  unrefused k first n error ends at looks = not_at_fault table symbols k error ends (n, rw at looks)
+
+  pub bad_at_fault : (k : ℕ) (error : ElfError) → bucket_of table k ≡ Err error → IsAtFault table symbols k error
+  bad_at_fault k error at = (0, rw at (bad_bucket error))
 
 module _ {E : Type 0} (table : HashTable) (symbols : Symbols E) where
   -- the symbol at i is held, if there is one that must be
@@ -52,16 +55,16 @@ module _ {E : Type 0} (table : HashTable) (symbols : Symbols E) where
       let same : e ≡ d = cc in
       reached name (subst (λ x. (symbols.fields x).info / 16 ≢ 0) same global.binding) (subst (λ x. symbols.text x ≡ Some name) same global.named)
 
-  -- the check answers Ok exactly on a good table
-  pub ok_is_good : (r : Result (Unit {0}) ElfError) → IsCheck table symbols r → IsOk r → IsGood table symbols
-  ok_is_good _ (good h) ok = h
-  ok_is_good _ (faulty k error below before fault) ok = absurd (cc)
-  ok_is_good _ (missing i d name all global lost) ok = absurd (cc)
+  good_is : (r : Result (Unit {0}) ElfError) → IsCheck table symbols r → IsGood table symbols → Ok tt ≡ r
+  good_is _ (good h) sound = refl
+  good_is _ (faulty k error below before fault) sound = absurd (not_at_fault table symbols.items k error (sound.ends k below) fault)
+  good_is _ (missing i d name all global lost) sound = absurd (lost (sound.holds i d name global))
 
-  pub good_is_ok : (r : Result (Unit {0}) ElfError) → IsCheck table symbols r → IsGood table symbols → IsOk r
-  good_is_ok _ (good h) sound = refl
-  good_is_ok _ (faulty k error below before fault) sound = absurd (not_at_fault table symbols.items k error (sound.ends k below) fault)
-  good_is_ok _ (missing i d name all global lost) sound = absurd (lost (sound.holds i d name global))
+  -- the check answers Ok exactly on a good table
+  pub ok_is_good : (r : Result (Unit {0}) ElfError) → IsCheck table symbols r → IsOk r ↔ IsGood table symbols
+  ok_is_good _ (good h) = (λ _. h, λ _. refl)
+  ok_is_good _ (faulty k error below before fault) = (λ ok. absurd (cc), λ h. absurd (let same = good_is _ (faulty k error below before fault) h in cc))
+  ok_is_good _ (missing i d name all global lost) = (λ ok. absurd (cc), λ h. absurd (let same = good_is _ (missing i d name all global lost) h in cc))
 
   -- a bucket has one fault
   fault_once : (k k' : ℕ) (error error' : ElfError) → k ≡ k' → IsAtFault table symbols.items k error → IsAtFault table symbols.items k' error' → error ≡ error'
@@ -74,13 +77,8 @@ module _ {E : Type 0} (table : HashTable) (symbols : Symbols E) where
 
   -- the check has one answer
   pub check_once : (a b : Result (Unit {0}) ElfError) → IsCheck table symbols a → IsCheck table symbols b → a ≡ b
-  check_once _ b (good h) other = once b other (good_is_ok b other h)
-    where
-      once : (b : Result (Unit {0}) ElfError) → IsCheck table symbols b → IsOk b → Ok tt ≡ b
-      once _ (good h) ok = refl
-      once _ (faulty k error below before fault) ok = absurd (cc)
-      once _ (missing i d name all global lost) ok = absurd (cc)
-  check_once _ _ (faulty k error below before fault) (good h) = absurd (not_at_fault table symbols.items k error (h.ends k below) fault)
+  check_once _ b (good h) other = good_is b other h
+  check_once _ _ (faulty k error below before fault) (good h) = sym (good_is (Err error) (faulty k error below before fault) h)
   check_once _ _ (faulty k error below before fault) (missing i d name all global lost) = absurd (not_at_fault table symbols.items k error (all k below) fault)
   check_once _ _ (faulty k error below before fault) (faulty k' error' below' before' fault') = ap (λ x. Err x) (least (cases_order k k'))
     where
@@ -88,6 +86,6 @@ module _ {E : Type 0} (table : HashTable) (symbols : Symbols E) where
       least (inl same) = fault_once k k' error error' same fault fault'
       least (inr (inl earlier)) = absurd (not_at_fault table symbols.items k error (before' k earlier) fault)
       least (inr (inr later)) = absurd (not_at_fault table symbols.items k' error' (before k' later) fault')
-  check_once _ _ (missing i d name all global lost) (good h) = absurd (lost (h.holds i d name global))
+  check_once _ _ (missing i d name all global lost) (good h) = sym (good_is (Err HashMissing) (missing i d name all global lost) h)
   check_once _ _ (missing i d name all global lost) (faulty k error below before fault) = absurd (not_at_fault table symbols.items k error (all k below) fault)
   check_once _ _ (missing i d name all global lost) (missing i' d' name' all' global' lost') = refl

@@ -57,9 +57,7 @@ fn global_count<E: Entry + Record>(
 {
     let mut count = 0;
     for index in 1..symbols.len() {
-        if must_be_held(index, symbols, strings, file) {
-            count += 1;
-        }
+        count += usize::from(must_be_held(index, symbols, strings, file));
     }
     count
 }
@@ -99,6 +97,17 @@ impl<'a> HashTable<'a> {
             → IsCheck self.now (symbols_of E.fields E.text_in symbols.now file.now) other
             → other ≡ result }
     {
+        self.verdict(symbols, file)
+    }
+
+    // The answer of the check.
+    fn verdict<E: Entry + Record>(
+        &self,
+        symbols: &Table<'_, E>,
+        file: &ElfFile<'_>,
+    ) -> Result<(), ElfError>
+        ensures { IsCheck self.now (symbols_of E.fields E.text_in symbols.now file.now) result }
+    {
         let strings = E::string_table(file);
         match self.held_by_all(symbols, strings, file) {
             Ok(Some(held)) => {
@@ -126,8 +135,7 @@ impl<'a> HashTable<'a> {
         ensures { let all = symbols_of E.fields E.text_in symbols.now file.now in MatchResult result
             (λ found. IfSome found (λ held. EndsBelow self.now all.items (bucket_count_of self.now)
             × IsCount (IsHeldBelow self.now all (bucket_count_of self.now)) held))
-            (λ error. (k : ℕ) × (k < bucket_count_of self.now) × EndsBelow self.now all.items k
-            × IsAtFault self.now all.items k error) }
+            (λ error. IsCheck self.now all (Err error)) }
     {
         let most = u64::from(self.chain_count());
         let mut steps: u64 = 0;
@@ -163,45 +171,21 @@ impl<'a> HashTable<'a> {
             × IsCount (IsHeldBy self.now all bucket) held)
             (λ error. IsAtFault self.now all.items bucket error) }
     {
-        match self.get_bucket(bucket) {
-            Ok(first) => self.held_from(first, bucket, symbols, strings, file),
-            Err(error) => Err(error),
-        }
-    }
-
-    // The walk from an index on, along the whole chain.
-    fn held_from<E: Entry + Record>(
-        &self,
-        first: u32,
-        bucket: u32,
-        symbols: &Table<'_, E>,
-        strings: Strings<'_>,
-        file: &ElfFile<'_>,
-    ) -> Result<(u32, u32), ElfError>
-        requires names { IfSome strings (HoldsNames E.fields (λ e. E.text_in e file.now)) }
-        requires below { bucket < bucket_count_of self.now }
-        ensures { let all = symbols_of E.fields E.text_in symbols.now file.now in
-            let chains = chains_of self.now all.items in MatchResult result
-            (λ (held, passed). Comes chains first passed 0
-            × IsCount (λ i. Belongs self.now all bucket i × Reaches chains first i) held)
-            (λ error. (n : ℕ) × LooksFrom (λ (e : E). ⊥) chains (Some (Ok first)) (Err error) n) }
-    {
+        let first = match self.get_bucket(bucket) {
+            Ok(first) => first,
+            Err(error) => return Err(error),
+        };
         let mut index = first;
         let mut count: u32 = 0;
         let mut held: u32 = 0;
         while index != 0 {
-            let entry = match self.symbol_at(index, count, symbols) {
-                Ok(entry) => entry,
-                Err(halt) => return Err(halt),
-            };
-            count += 1;
-            if self.belongs(&entry, bucket, strings, file) {
-                held += 1;
-            }
-            index = match self.get_chain(index) {
-                Ok(next) => next,
+            let (entry, next) = match self.step(index, count, symbols) {
+                Ok(both) => both,
                 Err(error) => return Err(error),
             };
+            count += 1;
+            held += u32::from(self.belongs(&entry, bucket, strings, file));
+            index = next;
         }
         Ok((held, count))
     }
@@ -320,15 +304,11 @@ impl<'a> HashTable<'a> {
         let mut index = first;
         let mut count: u32 = 0;
         while index >= bound && index as usize != target {
-            match self.symbol_at(index, count, symbols) {
-                Ok(_) => {}
-                Err(halt) => return Err(halt),
-            }
-            count += 1;
-            index = match self.get_chain(index) {
-                Ok(next) => next,
+            index = match self.step(index, count, symbols) {
+                Ok((_, next)) => next,
                 Err(error) => return Err(error),
             };
+            count += 1;
         }
         Ok(index)
     }

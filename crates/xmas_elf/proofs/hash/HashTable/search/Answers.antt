@@ -1,8 +1,7 @@
 use Rattle.std.proofs.Common.{◌≡◌, ◌%◌, None, Ok, Err, refl, sym, ◌∙◌}
 use Rattle.elf_records.specs.HashNumber.{hash_number}
-use Rattle.xmas_elf.specs.Chain.{at_end}
 use Rattle.xmas_elf.specs.HashTable.{bucket_count_of, bucket_of}
-use Rattle.xmas_elf.proofs.ChainPaths.{looks, walked_first}
+use Rattle.xmas_elf.proofs.ChainPaths.{looks_end, walked_first}
 use Rattle.xmas_elf.proofs.ChainStarts.{looks_none, looks_bad, looks_from}
 use Rattle.xmas_elf.proofs.hash.HashTable.search.Goals as goal
 
@@ -14,7 +13,7 @@ pub returns-in-Ok-eq0-clause-answer : goal.returns-in-Ok-eq0-clause-answer
 returns-in-Ok-eq0-clause-answer g c = λ names d.
     let at_bucket : bucket_of c.args.self.now (hash_number c.args.name.now % bucket_count_of c.args.self.now) ≡ Ok 0 = cc in
     looks_from _ _ _ _ 0 0 (Ok None) (λ e. c.if-bucket_count-eq0.false (c.bucket_count-bucket_count.ensures ∙ e)) at_bucket
-    (looks _ _ 0 0 0 0 0 (Ok None) (walked_first _ _ 0) at_end refl)
+    (looks_end _ _ 0 0 0 (walked_first _ _ 0) refl)
 
 pub returns-clause-answer : goal.returns-clause-answer
 returns-clause-answer g c = λ names d.
