@@ -46,14 +46,18 @@ module _ {E : Type 0} (table : HashTable) (symbols : Symbols E) where
   pub held_first : (i : ℕ) → i < 1 → Held i
   held_first i below e name global = absurd (let above : 0 < i = global.not_first in omega arith)
 
-  pub held_absent : (i : ℕ) → slice_get symbols.items i ≡ None → Held i
-  held_absent i absent e name global = let there : slice_get symbols.items i ≡ Some e = global.stands in cc
+  -- a symbol has one name
+  pub named_once : (i : ℕ) (d e : E) (name other : List ℕ) → IsGlobal symbols i d name → IsGlobal symbols i e other → name ≡ other
+  named_once i d e name other a b =
+      let there : slice_get symbols.items i ≡ Some d = a.stands in
+      let there' : slice_get symbols.items i ≡ Some e = b.stands in
+      let named : symbols.text d ≡ Some name = a.named in
+      let named' : symbols.text e ≡ Some other = b.named in
+      let same : d ≡ e = cc in
+      cc
 
-  pub held_entry : (i : ℕ) (d : E) → slice_get symbols.items i ≡ Some d → ((name : List ℕ) → (symbols.fields d).info / 16 ≢ 0 → symbols.text d ≡ Some name → IsReached table symbols.items name i) → Held i
-  held_entry i d at reached e name global =
-      let there : slice_get symbols.items i ≡ Some e = global.stands in
-      let same : e ≡ d = cc in
-      reached name (subst (λ x. (symbols.fields x).info / 16 ≢ 0) same global.binding) (subst (λ x. symbols.text x ≡ Some name) same global.named)
+  pub held_named : (i : ℕ) (d : E) (name : List ℕ) → IsGlobal symbols i d name → IsReached table symbols.items name i → Held i
+  held_named i d name global reached e other global' = subst (λ n. IsReached table symbols.items n i) (named_once i d e name other global global') reached
 
   good_is : (r : Result (Unit {0}) ElfError) → IsCheck table symbols r → IsGood table symbols → Ok tt ≡ r
   good_is _ (good h) sound = refl

@@ -10,6 +10,7 @@ use Rattle.xmas_elf.specs.Good.{Belongs, IsHeldBelow, IsHeldBy, IsReached, MustB
 use Rattle.xmas_elf.specs.HashTable.{bucket_count_of, bucket_of, start_of}
 use Rattle.xmas_elf.specs.Symbols.{IsGlobal, Symbols}
 use Rattle.xmas_elf.specs.declared.hash.HashTable.{HashTable}
+use Rattle.xmas_elf.proofs.ChainChecks.{named_once}
 use Rattle.xmas_elf.proofs.ChainPaths.{Passes, Picked, apart_before, by_order, comes_same, count_next, end_links, goes_on}
 use Rattle.xmas_elf.proofs.ChainStarts.{start_none, start_some}
 use Rattle.xmas_elf.proofs.SymbolCounts.{count_all, count_join, count_lacks, count_none, count_same}
@@ -18,13 +19,7 @@ module _ {E : Type 0} (table : HashTable) (symbols : Symbols E) where
   -- a symbol belongs to one bucket
   pub belongs_once : (k l x : ℕ) → Belongs table symbols k x → Belongs table symbols l x → k ≡ l
   belongs_once k l x (e, name, global, bucket) (d, other, global', bucket') =
-      let there : slice_get symbols.items x ≡ Some e = global.stands in
-      let there' : slice_get symbols.items x ≡ Some d = global'.stands in
-      let same : e ≡ d = cc in
-      let named : symbols.text d ≡ Some name = subst (λ z. symbols.text z ≡ Some name) same global.named in
-      let named' : symbols.text d ≡ Some other = global'.named in
-      let names : name ≡ other = cc in
-      sym bucket ∙ ap (λ n. hash_number n % bucket_count_of table) names ∙ bucket'
+      sym bucket ∙ ap (λ n. hash_number n % bucket_count_of table) (named_once table symbols x e d name other global global') ∙ bucket'
 
   -- what a walk from a bucket has picked up to the end, that bucket holds
   pub picked_held : (k first n i many : ℕ) → bucket_of table k ≡ Ok first → i ≡ 0 → Comes (chains_of table symbols.items) first n i → Picked (chains_of table symbols.items) (Belongs table symbols k) first n many → IsCount (IsHeldBy table symbols k) many

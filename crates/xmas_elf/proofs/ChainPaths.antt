@@ -178,9 +178,9 @@ module _ {E : Type 0} (P : E → Type 0) (chains : Chains E) where
           let new : (k : ℕ) → k < m → Comes chains first k last → ⊥ = λ k below at. (let (j, l) = goes_on chains first m last k last c' below at in stop_or_link last j p a s l (λ d stands. none' k below last d at stands)) in
           let count = picked_next chains (λ _. IsTrue true) first n i n 1 true refl (λ h. h, λ h. h) c (passes_all chains first n i c) (apart_before chains first m last (n + 1) c' new (omega arith)) in
           let few : n + 1 ≤ bound = count_bound (Passes chains (λ _. IsTrue true) first (n + 1)) (n + 1) bound (λ x (_, (k, below, at)). by_order chains (x < bound) k n
-              (λ same. subst (λ z. z < bound) (comes_same chains first n k i x (sym same) c at) (within i e stands))
-              (λ earlier. (let (j, l) = goes_on chains first n i k x c earlier at in within x l.entry l.stands))
-              (λ later. absurd (omega arith))) count in
+          (λ same. subst (λ z. z < bound) (comes_same chains first n k i x (sym same) c at) (within i e stands))
+          (λ earlier. (let (j, l) = goes_on chains first n i k x c earlier at in within x l.entry l.stands))
+          (λ later. absurd (omega arith))) count in
           omega arith
 
   -- a walk has come to an index in so many steps, and passed no entry with P

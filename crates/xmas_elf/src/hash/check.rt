@@ -27,6 +27,25 @@ fn global_name<'a, E: Entry>(entry: &E, strings: Strings<'a>, file: &ElfFile<'a>
     entry.name_in(strings, file).ok()
 }
 
+// The name of the symbol at an index, if it must be held.
+#[inline(always)]
+fn name_at<'a, E: Entry + Record>(
+    index: usize,
+    symbols: &Table<'_, E>,
+    strings: Strings<'a>,
+    file: &ElfFile<'a>,
+) -> Option<&'a str>
+    requires names { IfSome strings (HoldsNames E.fields (λ e. E.text_in e file.now)) }
+    requires symbol { 0 < index }
+    ensures { let all = symbols_of E.fields E.text_in symbols.now file.now in MatchOption result
+        (¬ MustBeHeld all index) (λ name. (e : E) × IsGlobal all index e name.now) }
+{
+    match symbols.get(index) {
+        Some(entry) => global_name(&entry, strings, file),
+        None => None,
+    }
+}
+
 // Whether the symbol at an index must be held.
 #[inline(always)]
 fn must_be_held<E: Entry + Record>(
@@ -40,10 +59,7 @@ fn must_be_held<E: Entry + Record>(
     ensures { IsTrue result
         ↔ MustBeHeld (symbols_of E.fields E.text_in symbols.now file.now) index }
 {
-    match symbols.get(index) {
-        Some(entry) => global_name(&entry, strings, file).is_some(),
-        None => false,
-    }
+    name_at(index, symbols, strings, file).is_some()
 }
 
 // How many symbols must be held.
@@ -330,10 +346,8 @@ impl<'a> HashTable<'a> {
             × ¬ IsReached self.now all.items name i }
     {
         for index in 1..symbols.len() {
-            if let Some(entry) = symbols.get(index) {
-                if !self.holds(index, &entry, symbols, strings, file) {
-                    return false;
-                }
+            if !self.holds(index, symbols, strings, file) {
+                return false;
             }
         }
         true
@@ -343,7 +357,6 @@ impl<'a> HashTable<'a> {
     fn holds<E: Entry + Record>(
         &self,
         index: usize,
-        entry: &E,
         symbols: &Table<'_, E>,
         strings: Strings<'_>,
         file: &ElfFile<'_>,
@@ -351,14 +364,14 @@ impl<'a> HashTable<'a> {
         requires names { IfSome strings (HoldsNames E.fields (λ e. E.text_in e file.now)) }
         requires ends { EndsBelow self.now (table_items symbols.now) (bucket_count_of self.now) }
         requires symbol { 0 < index }
-        ensures yes { IsTrue result → (name : List ℕ) → (E.fields entry.now).info / 16 ≢ 0
-            → E.text_in entry.now file.now ≡ Some name
-            → IsReached self.now (table_items symbols.now) name index }
-        ensures no { result ≡ false → (name : List ℕ) × ((E.fields entry.now).info / 16 ≢ 0)
-            × (E.text_in entry.now file.now ≡ Some name)
-            × ¬ IsReached self.now (table_items symbols.now) name index }
+        ensures yes { let all = symbols_of E.fields E.text_in symbols.now file.now in
+            IsTrue result → (e : E) (name : List ℕ) → IsGlobal all index e name
+            → IsReached self.now all.items name index }
+        ensures no { let all = symbols_of E.fields E.text_in symbols.now file.now in
+            result ≡ false → (e : E) × (name : List ℕ) × IsGlobal all index e name
+            × ¬ IsReached self.now all.items name index }
     {
-        match global_name(entry, strings, file) {
+        match name_at(index, symbols, strings, file) {
             Some(name) => self.reaches(name, index, symbols),
             None => true,
         }

@@ -13,7 +13,7 @@ returns-in-Err g c = bad_at_fault c.args.self.now _ c.args.bucket c.in-Err.error
 
 pub returns-in-Err-step : goal.returns-in-Err-step
 returns-in-Err-step g c =
-    let at : bucket_of c.args.self.now c.args.bucket ≡ Ok c.in-Ok.first = sym c.get_bucket.ensures.exact ∙ c.in-Ok.is in
+    let at : bucket_of c.args.self.now c.args.bucket ≡ Ok c.in-Ok.first = cc in
     rw at (c.in-Err-step.ensures c.in-Ok.first c.loop-index.invariant.comes)
 
 pub loop-index-init : goal.loop-index-init
@@ -33,7 +33,7 @@ loop-index-preserved g c =
 pub returns : goal.returns
 returns g c =
     let all = symbols_of g.E.Entry.fields g.E.Entry.text_in c.args.symbols.now c.args.file.now in
-    let at : bucket_of c.args.self.now c.args.bucket ≡ Ok c.in-Ok.first = sym c.get_bucket.ensures.exact ∙ c.in-Ok.is in
+    let at : bucket_of c.args.self.now c.args.bucket ≡ Ok c.in-Ok.first = cc in
     let comes = c.loop-index.invariant.comes in (
       (c.in-Ok.first, at, subst (λ i. Comes (chains_of c.args.self.now (table_items c.args.symbols.now)) c.in-Ok.first c.loop-index.count i) c.loop-index-test.false comes),
       picked_held c.args.self.now all c.args.bucket c.in-Ok.first c.loop-index.count c.loop-index.index c.loop-index.held at c.loop-index-test.false comes c.loop-index.invariant.picked,
