@@ -1,11 +1,11 @@
 -- What passes the check of a hash table, and what doesn't.
-use Rattle.std.proofs.Common.{◌≡◌, ◌≢◌, ◌<◌, ◌/◌, ◌%◌, ◌↔◌, ℕ, ◌⊎◌, inl, inr, List, Some, None, Result, Ok, Err, slice_get, refl, sym, ◌∙◌, ap, subst, arith}
+use Rattle.std.proofs.Common.{◌≡◌, ◌<◌, ◌%◌, ◌↔◌, ℕ, ◌⊎◌, inl, inr, List, Some, Result, Ok, Err, slice_get, refl, sym, ap, subst, arith}
 use Rattle.std.proofs.lemmas.Bool.{cases_order}
 use Rattle.std.specs.Prelude.{IsOk}
 use Rattle.elf_base.specs.declared.error.ElfError.{ElfError}
 use Rattle.elf_base.specs.declared.error.ElfError.TheVariants.{HashMissing}
 use Rattle.elf_records.specs.HashNumber.{hash_number}
-use Rattle.xmas_elf.specs.Good.{Ends, IsAtFault, IsReached, IsGood, IsCheck, good, faulty, missing}
+use Rattle.xmas_elf.specs.Good.{EndsBelow, IsAtFault, IsReached, IsGood, IsCheck, good, faulty, missing}
 use Rattle.xmas_elf.specs.Chain.{LooksFrom, Reaches, bad_bucket, chains_of}
 use Rattle.xmas_elf.specs.HashTable.{bucket_count_of, bucket_of, start_of}
 use Rattle.xmas_elf.specs.Symbols.{IsGlobal, Symbols}
@@ -13,27 +13,26 @@ use Rattle.xmas_elf.specs.declared.hash.HashTable.{HashTable}
 use Rattle.xmas_elf.proofs.ChainFinds.{not_at_fault}
 use Rattle.xmas_elf.proofs.ChainOnce.{looks_once}
 use Rattle.xmas_elf.proofs.ChainPaths.{end_reaches}
-use Rattle.xmas_elf.proofs.ChainStarts.{start_some}
+use Rattle.xmas_elf.proofs.ChainStarts.{start_at}
 
 module _ {E : Type 0} (table : HashTable) (symbols : List E) where
   -- whether a walk from the bucket of a name stops at an index, which it does there or at the end, tells
   -- whether the index is on the chain of the name
-  pub found_reached : (name : List ℕ) (i first last : ℕ) → 0 < i → (bucket_count_of table ≡ 0 → ⊥) → bucket_of table (hash_number name % bucket_count_of table) ≡ Ok first → Reaches (chains_of table symbols) first last → (last ≡ i) ⊎ (last < 1) → (Reaches (chains_of table symbols) first i → Reaches (chains_of table symbols) last i) → (last ≡ i) ↔ IsReached table symbols name i
-  found_reached name i first last above some at along stop ahead = (
+  pub found_reached : (name : List ℕ) (i first last : ℕ) → 0 < i → start_of table name ≡ Some (Ok first) → Reaches (chains_of table symbols) first last → (last ≡ i) ⊎ (last < 1) → (Reaches (chains_of table symbols) first i → Reaches (chains_of table symbols) last i) → (last ≡ i) ↔ IsReached table symbols name i
+  found_reached name i first last above start along stop ahead = (
     λ same. (first, start, subst (λ x. Reaches (chains_of table symbols) first x) same along),
-    λ (other, start', r). met stop (ahead (subst (λ x. Reaches (chains_of table symbols) x i) (let both : Some (Ok other) ≡ Some (Ok first) = sym start' ∙ start in cc) r)),
+    λ (other, start', r). (let one : other ≡ first = cc in met stop (ahead (subst (λ x. Reaches (chains_of table symbols) x i) one r))),
   )
     where
-      start : start_of table name ≡ Some (Ok first)
-      start = start_some table name some ∙ ap (λ b. Some b) at
-
       met : (last ≡ i) ⊎ (last < 1) → Reaches (chains_of table symbols) last i → last ≡ i
       met (inl same) r = same
       met (inr end) r = absurd (let none : i ≡ 0 = end_reaches (chains_of table symbols) last r.0 i (omega arith) r.1 in omega arith)
 
-  -- a walk along a chain that ends is not refused
-  pub unrefused : (k first n : ℕ) (error : ElfError) → Ends table symbols k → bucket_of table k ≡ Ok first → LooksFrom (λ (e : E). ⊥) (chains_of table symbols) (Some (Ok first)) (Err error) n → ⊥
-  unrefused k first n error ends at looks = not_at_fault table symbols k error ends (n, rw at looks)
+  -- where all chains end, a walk along that of a name is not refused
+  pub unrefused : (name : List ℕ) (first n : ℕ) (error : ElfError) → EndsBelow table symbols (bucket_count_of table) → start_of table name ≡ Some (Ok first) → LooksFrom (λ (e : E). ⊥) (chains_of table symbols) (Some (Ok first)) (Err error) n → ⊥
+  unrefused name first n error ends start looks =
+      let (some, at) = start_at table name (Ok first) start in
+      not_at_fault table symbols _ error (ends (hash_number name % bucket_count_of table) (omega arith)) (n, rw at looks)
 
   pub bad_at_fault : (k : ℕ) (error : ElfError) → bucket_of table k ≡ Err error → IsAtFault table symbols k error
   bad_at_fault k error at = (0, rw at (bad_bucket error))
@@ -71,13 +70,9 @@ module _ {E : Type 0} (table : HashTable) (symbols : Symbols E) where
   ok_is_good _ (missing i d name all global lost) = (λ ok. absurd (cc), λ h. absurd (let same = good_is _ (missing i d name all global lost) h in cc))
 
   -- a bucket has one fault
-  fault_once : (k k' : ℕ) (error error' : ElfError) → k ≡ k' → IsAtFault table symbols.items k error → IsAtFault table symbols.items k' error' → error ≡ error'
-  fault_once k k' error error' same (n, looks) (m, looks') =
-      let chains = chains_of table symbols.items in
-      let P : E → Type 0 = λ _. ⊥ in
-      let one : LooksFrom P chains (Some (bucket_of table k')) (Err error) n = subst (λ x. LooksFrom P chains (Some (bucket_of table x)) (Err error) n) same looks in
-      let both : Err error ≡ Err error' = (looks_once P chains (Some (bucket_of table k')) (Err error) (Err error') n m one looks').0 in
-      cc
+  fault_once : (k : ℕ) (error error' : ElfError) → IsAtFault table symbols.items k error → IsAtFault table symbols.items k error' → error ≡ error'
+  fault_once k error error' (n, looks) (m, looks') =
+      let both : Err error ≡ Err error' = (looks_once _ (chains_of table symbols.items) _ (Err error) (Err error') n m looks looks').0 in cc
 
   -- the check has one answer
   pub check_once : (a b : Result (Unit {0}) ElfError) → IsCheck table symbols a → IsCheck table symbols b → a ≡ b
@@ -87,7 +82,7 @@ module _ {E : Type 0} (table : HashTable) (symbols : Symbols E) where
   check_once _ _ (faulty k error below before fault) (faulty k' error' below' before' fault') = ap (λ x. Err x) (least (cases_order k k'))
     where
       least : (k ≡ k') ⊎ ((k < k') ⊎ (k' < k)) → error ≡ error'
-      least (inl same) = fault_once k k' error error' same fault fault'
+      least (inl same) = fault_once k' error error' (subst (λ x. IsAtFault table symbols.items x error) same fault) fault'
       least (inr (inl earlier)) = absurd (not_at_fault table symbols.items k error (before' k earlier) fault)
       least (inr (inr later)) = absurd (not_at_fault table symbols.items k' error' (before k' later) fault')
   check_once _ _ (missing i d name all global lost) (good h) = sym (good_is (Err HashMissing) (missing i d name all global lost) h)

@@ -7,12 +7,12 @@ use Rattle.elf_records.specs.HashNumber.{hash_number}
 use Rattle.xmas_elf.specs.Chain.{Comes, chains_of}
 use Rattle.xmas_elf.specs.Counted.{IsCount}
 use Rattle.xmas_elf.specs.Good.{Belongs, IsHeldBelow, IsHeldBy, IsReached, MustBeHeld}
-use Rattle.xmas_elf.specs.HashTable.{bucket_count_of, bucket_of, start_of}
+use Rattle.xmas_elf.specs.HashTable.{bucket_count_of, bucket_of}
 use Rattle.xmas_elf.specs.Symbols.{IsGlobal, Symbols}
 use Rattle.xmas_elf.specs.declared.hash.HashTable.{HashTable}
 use Rattle.xmas_elf.proofs.ChainChecks.{named_once}
 use Rattle.xmas_elf.proofs.ChainPaths.{Passes, Picked, apart_before, by_order, comes_same, count_next, end_links, goes_on}
-use Rattle.xmas_elf.proofs.ChainStarts.{start_none, start_some}
+use Rattle.xmas_elf.proofs.ChainStarts.{start_at, start_some}
 use Rattle.xmas_elf.proofs.SymbolCounts.{count_all, count_join, count_lacks, count_none, count_same}
 
 module _ {E : Type 0} (table : HashTable) (symbols : Symbols E) where
@@ -56,13 +56,9 @@ module _ {E : Type 0} (table : HashTable) (symbols : Symbols E) where
 
   -- a symbol is on the chain of its name exactly if the bucket of the name holds it
   pub reached_held : (i : ℕ) (e : E) (name : List ℕ) → IsGlobal symbols i e name → IsReached table symbols.items name i → IsHeldBelow table symbols (bucket_count_of table) i
-  reached_held i e name global (first, start, r) = elim (cases_order (bucket_count_of table) 0) [
-    | inl none ↦ (let e : start_of table name ≡ _ = start_none table name none in absurd (cc))
-    | inr other ↦ (
-        let some : bucket_count_of table ≡ 0 → ⊥ = elim other [ inl below ↦ (λ is. omega arith) | inr above ↦ (λ is. omega arith) ] in
-        let at : Some (bucket_of table (hash_number name % bucket_count_of table)) ≡ Some (Ok first) = sym (start_some table name some) ∙ start in
-        (hash_number name % bucket_count_of table, omega arith, ((e, name, global, refl), (first, cc, r))))
-  ]
+  reached_held i e name global (first, start, r) =
+      let (some, at) = start_at table name (Ok first) start in
+      (hash_number name % bucket_count_of table, omega arith, ((e, name, global, refl), (first, at, r)))
 
   pub held_reached : (i : ℕ) (e : E) (name : List ℕ) → IsGlobal symbols i e name → IsHeldBelow table symbols (bucket_count_of table) i → IsReached table symbols.items name i
   held_reached i e name global (k, below, (belongs, (first, at, r))) =

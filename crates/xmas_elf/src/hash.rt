@@ -27,7 +27,7 @@ pub struct HashTable<'a> {
 
 impl<'a> HashTable<'a> {
     ghost use Rattle.xmas_elf.specs.Chain.{Comes, Halts, LooksFrom, StandsAt, chains_of};
-    ghost use Rattle.xmas_elf.specs.HashTable.{HasBucket, HasChain, bucket_count_of, bucket_of, chain_count_of, chain_of, hash_bytes, hash_data, hash_order, hash_word, word_of};
+    ghost use Rattle.xmas_elf.specs.HashTable.{HasBucket, HasChain, bucket_count_of, bucket_of, chain_count_of, chain_of, hash_bytes, hash_data, hash_order, hash_word, start_of, word_of};
 
     /// The hash table that these bytes are; `ShortData` below 12 bytes.
     pub fn read(bytes: &'a [u8], order: Order) -> Result<HashTable<'a>, ElfError>
@@ -92,6 +92,19 @@ impl<'a> HashTable<'a> {
             return Err(ElfError::ChainSum);
         }
         self.word(2 + place)
+    }
+
+    // The word of the bucket of a name, if there are buckets.
+    #[tactic(auto, unfolding(crate::specs::HashTable::start_of))]
+    #[inline(always)]
+    fn start(&self, name: &str) -> Option<Result<u32, ElfError>>
+        ensures { result ≡ start_of self.now name.now }
+    {
+        let bucket_count = self.bucket_count();
+        if bucket_count == 0 {
+            return None;
+        }
+        Some(self.get_bucket(hash(name) % bucket_count))
     }
 
     // The symbol that a walk meets at an index, which isn't the end, behind so many others; or why it goes

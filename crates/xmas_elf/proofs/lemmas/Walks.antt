@@ -16,11 +16,11 @@ rows_no_cycle ((false, error) ∷ rows) v (other, others) e = rows_no_cycle rows
 
 bucket_no_cycle : (table : HashTable) (i : ℕ) → bucket_of table i ≡ Err HashCycle → ⊥
 unfolding bucket_of
-bucket_no_cycle table i e = rows_no_cycle _ _ ((λ h. cc), (λ h. cc), tt) e
+bucket_no_cycle table i e = rows_no_cycle ((_, BucketIndex) ∷ (_, HashData) ∷ []) _ ((λ h. cc), ((λ h. cc), tt)) e
 
 chain_no_cycle : (table : HashTable) (i : ℕ) → chain_of table i ≡ Err HashCycle → ⊥
 unfolding chain_of
-chain_no_cycle table i e = rows_no_cycle _ _ ((λ h. cc), (λ h. cc), (λ h. cc), tt) e
+chain_no_cycle table i e = rows_no_cycle ((_, ChainIndex) ∷ (_, ChainSum) ∷ (_, HashData) ∷ []) _ ((λ h. cc), ((λ h. cc), ((λ h. cc), tt))) e
 
 start_if : (b : Bool) (table : HashTable) (k : ℕ) → (if b then None else Some (bucket_of table k)) ≡ Some (Err HashCycle) → ⊥
 start_if true table k e = cc

@@ -378,22 +378,17 @@ impl<'a> HashTable<'a> {
     }
 
     // Whether, where all chains end, an index is on the chain of a name.
-    #[tactic(auto, unfolding(crate::specs::HashTable::start_of))]
     fn reaches<E: Record>(&self, name: &str, index: usize, symbols: &Table<'_, E>) -> bool
         requires ends { EndsBelow self.now (table_items symbols.now) (bucket_count_of self.now) }
         requires symbol { 0 < index }
         ensures { IsTrue result ↔ IsReached self.now (table_items symbols.now) name.now index }
     {
-        let bucket_count = self.bucket_count();
-        if bucket_count == 0 {
-            return false;
-        }
-        match self.get_bucket(hash(name) % bucket_count) {
-            Ok(first) => match self.follow(first, index, 1, symbols) {
+        match self.start(name) {
+            Some(Ok(first)) => match self.follow(first, index, 1, symbols) {
                 Ok(last) => last as usize == index,
                 Err(_) => false,
             },
-            Err(_) => false,
+            Some(Err(_)) | None => false,
         }
     }
 }
