@@ -1,38 +1,39 @@
 -- What passes the check of a hash table, and what doesn't.
-use Rattle.std.proofs.Common.{◌≡◌, ◌≢◌, ◌<◌, ◌/◌, ◌%◌, ◌↔◌, ℕ, ◌⊎◌, inl, inr, List, Some, None, Result, Ok, Err, slice_get, refl, sym, ◌∙◌, ap, subst, arith}
+use Rattle.std.proofs.Common.{◌≡◌, ◌<◌, ◌%◌, ◌↔◌, ℕ, ◌⊎◌, inl, inr, List, Some, Result, Ok, Err, slice_get, refl, sym, ap, subst, arith}
 use Rattle.std.proofs.lemmas.Bool.{cases_order}
 use Rattle.std.specs.Prelude.{IsOk}
 use Rattle.elf_records.specs.HashNumber.{hash_number}
-use Rattle.xmas_elf.specs.Prelude.{ElfError, HashTable}
-use Rattle.xmas_elf.specs.Good.{Ends, IsAtFault, IsReached, IsGood, IsCheck, good, faulty, missing}
-use Rattle.xmas_elf.specs.Chain.{LooksFrom, Reaches, chains_of}
+use Rattle.xmas_elf.specs.Prelude.{ElfError, HashMissing, HashTable}
+use Rattle.xmas_elf.specs.Good.{EndsBelow, IsAtFault, IsReached, IsGood, IsCheck, good, faulty, missing}
+use Rattle.xmas_elf.specs.Chain.{LooksFrom, Reaches, bad_bucket, chains_of}
 use Rattle.xmas_elf.specs.HashTable.{bucket_count_of, bucket_of, start_of}
 use Rattle.xmas_elf.specs.Symbols.{IsGlobal, Symbols}
 use Rattle.xmas_elf.proofs.ChainFinds.{not_at_fault}
 use Rattle.xmas_elf.proofs.ChainOnce.{looks_once}
 use Rattle.xmas_elf.proofs.ChainPaths.{end_reaches}
-use Rattle.xmas_elf.proofs.ChainStarts.{start_some}
+use Rattle.xmas_elf.proofs.ChainStarts.{start_at}
 
 module _ {E : Type 0} (table : HashTable) (symbols : List E) where
   -- whether a walk from the bucket of a name stops at an index, which it does there or at the end, tells
   -- whether the index is on the chain of the name
-  pub found_reached : (name : List ℕ) (i first last : ℕ) → 0 < i → (bucket_count_of table ≡ 0 → ⊥) → bucket_of table (hash_number name % bucket_count_of table) ≡ Ok first → Reaches (chains_of table symbols) first last → (last ≡ i) ⊎ (last < 1) → (Reaches (chains_of table symbols) first i → Reaches (chains_of table symbols) last i) → (last ≡ i) ↔ IsReached table symbols name i
-  found_reached name i first last above some at along stop ahead = (
+  pub found_reached : (name : List ℕ) (i first last : ℕ) → 0 < i → start_of table name ≡ Some (Ok first) → Reaches (chains_of table symbols) first last → (last ≡ i) ⊎ (last < 1) → (Reaches (chains_of table symbols) first i → Reaches (chains_of table symbols) last i) → (last ≡ i) ↔ IsReached table symbols name i
+  found_reached name i first last above start along stop ahead = (
     λ same. (first, start, subst (λ x. Reaches (chains_of table symbols) first x) same along),
-    λ (other, start', r). met stop (ahead (subst (λ x. Reaches (chains_of table symbols) x i) (let both : Some (Ok other) ≡ Some (Ok first) = sym start' ∙ start in cc) r)),
+    λ (other, start', r). (let one : other ≡ first = cc in met stop (ahead (subst (λ x. Reaches (chains_of table symbols) x i) one r))),
   )
     where
-      start : start_of table name ≡ Some (Ok first)
-      start = start_some table name some ∙ ap (λ b. Some b) at
-
       met : (last ≡ i) ⊎ (last < 1) → Reaches (chains_of table symbols) last i → last ≡ i
       met (inl same) r = same
-      met (inr end) r = absurd (let none : i ≡ 0 = end_reaches (chains_of table symbols) last i (omega arith) r in omega arith)
+      met (inr end) r = absurd (let none : i ≡ 0 = end_reaches (chains_of table symbols) last r.0 i (omega arith) r.1 in omega arith)
 
-  -- a walk along a chain that ends is not refused
-  pub unrefused : (k first n : ℕ) (error : ElfError) → Ends table symbols k → bucket_of table k ≡ Ok first → LooksFrom (λ (e : E). ⊥) (chains_of table symbols) (Some (Ok first)) (Err error) n → ⊥
-  unrefused k first n error ends at looks =
-      not_at_fault table symbols k error ends (n, subst (λ b. LooksFrom (λ (e : E). ⊥) (chains_of table symbols) (Some b) (Err error) n) (sym at) looks)
+  -- where all chains end, a walk along that of a name is not refused
+  pub unrefused : (name : List ℕ) (first n : ℕ) (error : ElfError) → EndsBelow table symbols (bucket_count_of table) → start_of table name ≡ Some (Ok first) → LooksFrom (λ (e : E). ⊥) (chains_of table symbols) (Some (Ok first)) (Err error) n → ⊥
+  unrefused name first n error ends start looks =
+      let (some, at) = start_at table name (Ok first) start in
+      not_at_fault table symbols _ error (ends (hash_number name % bucket_count_of table) (omega arith)) (n, rw at looks)
+
+  pub bad_at_fault : (k : ℕ) (error : ElfError) → bucket_of table k ≡ Err error → IsAtFault table symbols k error
+  bad_at_fault k error at = (0, rw at (bad_bucket error))
 
 module _ {E : Type 0} (table : HashTable) (symbols : Symbols E) where
   -- the symbol at i is held, if there is one that must be
@@ -42,51 +43,46 @@ module _ {E : Type 0} (table : HashTable) (symbols : Symbols E) where
   pub held_first : (i : ℕ) → i < 1 → Held i
   held_first i below e name global = absurd (let above : 0 < i = global.not_first in omega arith)
 
-  pub held_absent : (i : ℕ) → slice_get symbols.items i ≡ None → Held i
-  held_absent i absent e name global = let there : slice_get symbols.items i ≡ Some e = global.stands in cc
+  -- a symbol has one name
+  pub named_once : (i : ℕ) (d e : E) (name other : List ℕ) → IsGlobal symbols i d name → IsGlobal symbols i e other → name ≡ other
+  named_once i d e name other a b =
+      let there : slice_get symbols.items i ≡ Some d = a.stands in
+      let there' : slice_get symbols.items i ≡ Some e = b.stands in
+      let named : symbols.text d ≡ Some name = a.named in
+      let named' : symbols.text e ≡ Some other = b.named in
+      let same : d ≡ e = cc in
+      cc
 
-  pub held_entry : (i : ℕ) (d : E) → slice_get symbols.items i ≡ Some d → ((name : List ℕ) → (symbols.fields d).info / 16 ≢ 0 → symbols.text d ≡ Some name → IsReached table symbols.items name i) → Held i
-  held_entry i d at reached e name global =
-      let there : slice_get symbols.items i ≡ Some e = global.stands in
-      let same : e ≡ d = cc in
-      reached name (subst (λ x. (symbols.fields x).info / 16 ≢ 0) same global.binding) (subst (λ x. symbols.text x ≡ Some name) same global.named)
+  pub held_named : (i : ℕ) (d : E) (name : List ℕ) → IsGlobal symbols i d name → IsReached table symbols.items name i → Held i
+  held_named i d name global reached e other global' = subst (λ n. IsReached table symbols.items n i) (named_once i d e name other global global') reached
+
+  good_is : (r : Result (Unit {0}) ElfError) → IsCheck table symbols r → IsGood table symbols → Ok tt ≡ r
+  good_is _ (good h) sound = refl
+  good_is _ (faulty k error below before fault) sound = absurd (not_at_fault table symbols.items k error (sound.ends k below) fault)
+  good_is _ (missing i d name all global lost) sound = absurd (lost (sound.holds i d name global))
 
   -- the check answers Ok exactly on a good table
-  pub ok_is_good : (r : Result (Unit {0}) ElfError) → IsCheck table symbols r → IsOk r → IsGood table symbols
-  ok_is_good _ (good h) ok = h
-  ok_is_good _ (faulty k error below before fault) ok = absurd (cc)
-  ok_is_good _ (missing i d name all global lost) ok = absurd (cc)
-
-  pub good_is_ok : (r : Result (Unit {0}) ElfError) → IsCheck table symbols r → IsGood table symbols → IsOk r
-  good_is_ok _ (good h) sound = refl
-  good_is_ok _ (faulty k error below before fault) sound = absurd (not_at_fault table symbols.items k error (sound.ends k below) fault)
-  good_is_ok _ (missing i d name all global lost) sound = absurd (lost (sound.holds i d name global))
+  pub ok_is_good : (r : Result (Unit {0}) ElfError) → IsCheck table symbols r → IsOk r ↔ IsGood table symbols
+  ok_is_good _ (good h) = (λ _. h, λ _. refl)
+  ok_is_good _ (faulty k error below before fault) = (λ ok. absurd (cc), λ h. absurd (let same = good_is _ (faulty k error below before fault) h in cc))
+  ok_is_good _ (missing i d name all global lost) = (λ ok. absurd (cc), λ h. absurd (let same = good_is _ (missing i d name all global lost) h in cc))
 
   -- a bucket has one fault
-  fault_once : (k k' : ℕ) (error error' : ElfError) → k ≡ k' → IsAtFault table symbols.items k error → IsAtFault table symbols.items k' error' → error ≡ error'
-  fault_once k k' error error' same (n, looks) (m, looks') =
-      let chains = chains_of table symbols.items in
-      let P : E → Type 0 = λ _. ⊥ in
-      let one : LooksFrom P chains (Some (bucket_of table k')) (Err error) n = subst (λ x. LooksFrom P chains (Some (bucket_of table x)) (Err error) n) same looks in
-      let both : Err error ≡ Err error' = (looks_once P chains (Some (bucket_of table k')) (Err error) (Err error') n m one looks').0 in
-      cc
+  fault_once : (k : ℕ) (error error' : ElfError) → IsAtFault table symbols.items k error → IsAtFault table symbols.items k error' → error ≡ error'
+  fault_once k error error' (n, looks) (m, looks') =
+      let both : Err error ≡ Err error' = (looks_once _ (chains_of table symbols.items) _ (Err error) (Err error') n m looks looks').0 in cc
 
   -- the check has one answer
   pub check_once : (a b : Result (Unit {0}) ElfError) → IsCheck table symbols a → IsCheck table symbols b → a ≡ b
-  check_once _ b (good h) other = once b other (good_is_ok b other h)
-    where
-      once : (b : Result (Unit {0}) ElfError) → IsCheck table symbols b → IsOk b → Ok tt ≡ b
-      once _ (good h) ok = refl
-      once _ (faulty k error below before fault) ok = absurd (cc)
-      once _ (missing i d name all global lost) ok = absurd (cc)
-  check_once _ _ (faulty k error below before fault) (good h) = absurd (not_at_fault table symbols.items k error (h.ends k below) fault)
+  check_once _ b (good h) other = good_is b other h
+  check_once _ _ (faulty k error below before fault) (good h) = sym (good_is (Err error) (faulty k error below before fault) h)
   check_once _ _ (faulty k error below before fault) (missing i d name all global lost) = absurd (not_at_fault table symbols.items k error (all k below) fault)
   check_once _ _ (faulty k error below before fault) (faulty k' error' below' before' fault') = ap (λ x. Err x) (least (cases_order k k'))
     where
       least : (k ≡ k') ⊎ ((k < k') ⊎ (k' < k)) → error ≡ error'
-      least (inl same) = fault_once k k' error error' same fault fault'
+      least (inl same) = fault_once k' error error' (subst (λ x. IsAtFault table symbols.items x error) same fault) fault'
       least (inr (inl earlier)) = absurd (not_at_fault table symbols.items k error (before' k earlier) fault)
       least (inr (inr later)) = absurd (not_at_fault table symbols.items k' error' (before k' later) fault')
-  check_once _ _ (missing i d name all global lost) (good h) = absurd (lost (h.holds i d name global))
+  check_once _ _ (missing i d name all global lost) (good h) = sym (good_is (Err HashMissing) (missing i d name all global lost) h)
   check_once _ _ (missing i d name all global lost) (faulty k error below before fault) = absurd (not_at_fault table symbols.items k error (all k below) fault)
   check_once _ _ (missing i d name all global lost) (missing i' d' name' all' global' lost') = refl

@@ -1,28 +1,27 @@
 -- Walks along the chains of a hash table: they go one way, from one index at most one stop is reached,
 -- and a walk that reaches one passes no index twice.
-use Rattle.std.proofs.Common.{◌≡◌, ◌<◌, ◌≤◌, ℕ, zero, suc, ◌+◌, List, [], ◌∷◌, Option, Some, Result, Ok, Err, Bool, true, false, length, refl, sym, ◌∙◌, subst, arith, slice_get, ◌||◌, ◌⊎◌, inl, inr, Contains, below_more}
-use Rattle.std.proofs.Math.Dec.{eqb}
-use Rattle.std.proofs.lemmas.Bool.{cases_order, ne_eqb}
-use Rattle.std.proofs.lemmas.Bool.Decides.{eqb_tells}
+use Rattle.std.proofs.Common.{◌≡◌, ◌<◌, ◌≤◌, ◌↔◌, ℕ, zero, suc, ◌+◌, Option, Some, None, Result, Ok, Err, Bool, IsTrue, true, false, length, refl, sym, subst, arith, slice_get, ◌⊎◌, inl, inr, Contains, below_more}
+use Rattle.std.proofs.lemmas.Bool.{cases_order}
 use Rattle.std.proofs.lemmas.Option.{slice_get_within, get_or_from_slice_get}
-use Rattle.std.proofs.lemmas.Map.Keys.{IsDistinct-cons}
 use Rattle.std.proofs.lemmas.Map.Steps.{length-le_from_distinct_below}
-use Rattle.std.specs.List.{AllByRecursion, IsDistinct, list_any}
+use Rattle.std.specs.Int.{from_bool}
 use Rattle.xmas_elf.specs.Prelude.{ChainIndex, ElfError, SymbolIndex}
 use Rattle.xmas_elf.specs.Chain.{Chains, StandsAt, Stops, at_end, past_chains, past_symbols, found, refused, Links, Comes, starts, goes, NoneBefore, LooksFrom, Reaches, reaches, endless, Halts, no_chain, no_symbol, too_many}
+use Rattle.xmas_elf.specs.Counted.{IsCount}
+use Rattle.xmas_elf.proofs.SymbolCounts.{count_more, count_none, count_same}
 
-below_at : (n x q : ℕ) (b : Bool) → x < n → (b ≡ true → q < n) → ((eqb q x ≡ true) × (q ≡ x)) ⊎ ((eqb q x ≡ false) × (q ≡ x → ⊥)) → (eqb q x || b) ≡ true → q < n
-below_at n x q b h go (inl (t, same)) e = omega arith
-below_at n x q b h go (inr (f, other)) e = go (rw f at e)
+-- one number more, if it has the property
+pub count_next : (Q R : ℕ → Type 0) (n x more : ℕ) (b : Bool) → more ≡ from_bool b → IsTrue b ↔ R x → (Q x → ⊥) → ((i : ℕ) → Q i → R i) → ((i : ℕ) → R i → (i ≡ x) ⊎ Q i) → IsCount Q n → IsCount R (n + more)
+count_next Q R n x more true is said new to from count = rw is (count_more Q R n x new (said.0 refl) to from count)
+count_next Q R n x more false is said new to from count =
+    let same : n ≡ n + more = omega (arith, is) in
+    subst (IsCount R) same (count_same Q R n to (λ i r. elim (from i r) [ inl here ↦ absurd (let yes = said.1 (subst R here r) in cc) | inr q ↦ q ]) count)
 
--- each number of the list that holds it is below n
-below_all : (n : ℕ) (xs : List ℕ) → AllByRecursion (λ m. m < n) xs → (q : ℕ) → list_any (eqb q) xs ≡ true → q < n
-below_all n [] all q e = cc
-below_all n (x ∷ xs) (h, rest) q e = below_at n x q (list_any (eqb q) xs) h (below_all n xs rest q) (eqb_tells q x) e
-
--- an element that is read is one of the list
-pub contains_read : {X : Type 0} (xs : List X) (i : ℕ) (x : X) → slice_get xs i ≡ Some x → Contains xs x
-contains_read xs i x e = (i, slice_get_within xs i x e, get_or_from_slice_get xs i x x e)
+-- as many numbers as have a property are below a bound that is above each
+count_bound : (Q : ℕ → Type 0) (n bound : ℕ) → ((i : ℕ) → Q i → i < bound) → IsCount Q n → n ≤ bound
+count_bound Q n bound below count =
+    let few : length count.list ≤ bound = length-le_from_distinct_below count.list bound count.once (λ q h. below q ((count.each q).0 h)) in
+    omega (arith, count.many)
 
 module _ {E : Type 0} (chains : Chains E) where
   link_once : (i j k : ℕ) → Links chains i j → Links chains i k → j ≡ k
@@ -31,6 +30,11 @@ module _ {E : Type 0} (chains : Chains E) where
   -- one entry stands at an index
   pub stand_once : (i : ℕ) (d e : E) → StandsAt chains i d → StandsAt chains i e → d ≡ e
   stand_once i d e a b = cc
+
+  -- an entry that stands at an index is one of the symbols
+  pub contains_at : (i : ℕ) (e : E) → StandsAt chains i e → Contains chains.symbols e
+  contains_at i e stands =
+      (i, slice_get_within chains.symbols i e stands.symbol, get_or_from_slice_get chains.symbols i e e stands.symbol)
 
   -- the end links to nothing
   pub end_links : (i j : ℕ) → i ≡ 0 → Links chains i j → ⊥
@@ -45,6 +49,13 @@ module _ {E : Type 0} (chains : Chains E) where
   pub comes_in : (first n m i : ℕ) → n ≡ m → Comes chains first n i → Comes chains first m i
   comes_in first n m i same c = subst (λ k. Comes chains first k i) same c
 
+  pub comes_next : (first n i j : ℕ) → Comes chains first n i → Links chains i j → Comes chains first (n + 1) j
+  comes_next first n i j c l = comes_in first (suc n) (n + 1) j (omega arith) (goes n i j c l)
+
+  -- at the same step it is at the same index
+  pub comes_same : (first n m i j : ℕ) → n ≡ m → Comes chains first n i → Comes chains first m j → i ≡ j
+  comes_same first n m i j same c c' = comes_once first m i j (comes_in first n m i same c) c'
+
   -- the three cases of two numbers
   pub by_order : (R : Type 0) (n m : ℕ) → (n ≡ m → R) → (n < m → R) → (m < n → R) → R
   by_order R n m same below above = elim (cases_order n m) [ inl e ↦ same e | inr h ↦ elim h [ inl l ↦ below l | inr g ↦ above g ] ]
@@ -54,7 +65,7 @@ module _ {E : Type 0} (chains : Chains E) where
   goes_on first _ _ n i starts below at = absurd (omega arith)
   goes_on first _ _ n i (goes m k j c l) below at =
       by_order ((x : ℕ) × Links chains i x) n m
-      (λ same. (j, subst (λ x. Links chains x j) (comes_once first m k i c (comes_in first n m i same at)) l))
+      (λ same. (j, subst (λ x. Links chains x j) (sym (comes_same first n m i k same at c)) l))
       (λ earlier. goes_on first m k n i c earlier at)
       (λ later. absurd (omega arith))
 
@@ -62,11 +73,10 @@ module _ {E : Type 0} (chains : Chains E) where
   pub goes_ahead : (first m last n x : ℕ) → Comes chains first m last → n ≤ m → Comes chains first n x → (t : ℕ) × (n + t ≡ m) × Comes chains x t last
   goes_ahead first _ _ n x starts below at =
       let none : n ≡ 0 = omega arith in
-      let here : first ≡ x = comes_once first zero first x starts (comes_in first n zero x none at) in
-      (0, omega arith, subst (λ z. Comes chains z zero first) here starts)
+      (0, omega arith, subst (λ z. Comes chains z zero first) (sym (comes_same first n zero x first none at starts)) starts)
   goes_ahead first _ _ n x (goes m k j c l) below at =
       by_order ((t : ℕ) × (n + t ≡ suc m) × Comes chains x t j) n (suc m)
-      (λ same. (0, omega arith, subst (λ z. Comes chains z zero j) (comes_once first (suc m) j x (goes m k j c l) (comes_in first n (suc m) x same at)) starts))
+      (λ same. (0, omega arith, subst (λ z. Comes chains z zero j) (sym (comes_same first n (suc m) x j same at (goes m k j c l))) starts))
       (λ earlier. (let (t, sum, ahead) = goes_ahead first m k n x c (omega arith) at in (suc t, omega (arith, sum), goes t k j ahead l)))
       (λ later. absurd (omega arith))
 
@@ -79,18 +89,15 @@ module _ {E : Type 0} (chains : Chains E) where
   reaches_along i j k (n, at) (m, on) = (n + m, goes_along i n j m k at on)
 
   -- the end reaches nothing else
-  pub end_reaches : (i j : ℕ) → i ≡ 0 → Reaches chains i j → j ≡ 0
-  end_reaches i j end (n, at) =
-      by_order (j ≡ 0) zero n
-      (λ same. comes_once i zero j i (comes_in i n zero j (sym same) at) starts ∙ end)
-      (λ earlier. absurd (let (k, l) = goes_on i n j zero i at earlier starts in end_links i k end l))
-      (λ later. absurd (omega arith))
+  pub end_reaches : (i n j : ℕ) → i ≡ 0 → Comes chains i n j → j ≡ 0
+  end_reaches i _ _ end starts = end
+  end_reaches i _ _ end (goes n k j c l) = absurd (end_links k j (end_reaches i n k end c) l)
 
   -- what an index reaches, the next one reaches, but for the index itself
   pub reached_next : (i j target : ℕ) → Links chains i j → (i ≡ target → ⊥) → Reaches chains i target → Reaches chains j target
   reached_next i j target link other (n, at) =
       by_order (Reaches chains j target) zero n
-      (λ same. absurd (other (comes_once i zero i target starts (comes_in i n zero target (sym same) at))))
+      (λ same. absurd (other (comes_same i zero n i target same starts at)))
       (λ earlier. (let (t, sum, on) = goes_ahead i n target (suc zero) j at (omega arith) (goes zero i j starts link) in (t, on)))
       (λ later. absurd (omega arith))
 
@@ -99,37 +106,12 @@ module _ {E : Type 0} (chains : Chains E) where
 
   -- where the chains of all indices below a bound end, so does one that comes below it
   pub ends_along : (first last bound : ℕ) → 0 < bound → ((i : ℕ) → i < bound → Reaches chains i 0) → (last ≡ 0) ⊎ (last < bound) → Reaches chains first last → Reaches chains first 0
-  ends_along first last bound some each stop along = reaches_along first last 0 along (each last (below stop))
-    where
-      below : (last ≡ 0) ⊎ (last < bound) → last < bound
-      below (inl end) = omega arith
-      below (inr h) = h
-
-  -- the indices that a walk has passed, the last first
-  abbrev pub passed : (first n i : ℕ) → Comes chains first n i → List ℕ
-  passed first _ _ starts = []
-  passed first _ _ (goes n i j c l) = i ∷ passed first n i c
-
-  passed_length : (first n i : ℕ) (c : Comes chains first n i) → length (passed first n i c) ≡ n
-  passed_length first _ _ starts = refl
-  passed_length first _ _ (goes n i j c l) = omega (arith, passed_length first n i c)
-
-  all_passed : (Q : ℕ → Type 0) (first n i : ℕ) (c : Comes chains first n i) → ((m x : ℕ) → m < n → Comes chains first m x → Q x) → AllByRecursion Q (passed first n i c)
-  all_passed Q first _ _ starts f = tt
-  all_passed Q first _ _ (goes n i j c l) f =
-      (f n i (omega arith) c, all_passed Q first n i c (λ m x h at. f m x (omega arith) at))
+  ends_along first last bound some each stop along =
+      reaches_along first last 0 along (each last (elim stop [ inl end ↦ omega arith | inr below ↦ below ]))
 
   -- no index before step n is met twice
   abbrev pub Apart : ℕ → ℕ → Type 0
   Apart first n = (a b x : ℕ) → a < b → b < n → Comes chains first a x → Comes chains first b x → ⊥
-
-  distinct_passed : (first n i : ℕ) (c : Comes chains first n i) → Apart first n → IsDistinct eqb (passed first n i c)
-  unfolding IsDistinct
-  distinct_passed first _ _ starts apart = tt
-  distinct_passed first _ _ (goes n i j c l) apart = (
-    all_passed (λ x. eqb i x ≡ false) first n i c (λ m x h at. ne_eqb i x (λ same. apart m n i h (omega arith) (subst (λ z. Comes chains first m z) (sym same) at) c)),
-    distinct_passed first n i c (λ a b x h k. apart a b x h (omega arith)),
-  )
 
   -- where a walk comes to an index that it hasn't met before, it has met none twice
   pub apart_before : (first m last n : ℕ) → Comes chains first m last → ((k : ℕ) → k < m → Comes chains first k last → ⊥) → n ≤ m + 1 → Apart first n
@@ -141,9 +123,37 @@ module _ {E : Type 0} (chains : Chains E) where
   pub end_once : (first n m i j : ℕ) → Comes chains first n i → ((x : ℕ) → Links chains i x → ⊥) → Comes chains first m j → ((x : ℕ) → Links chains j x → ⊥) → i ≡ j
   end_once first n m i j c stop c' stop' =
       by_order (i ≡ j) n m
-      (λ same. comes_once first m i j (comes_in first n m i same c) c')
+      (λ same. comes_same first n m i j same c c')
       (λ earlier. absurd (let (x, l) = goes_on first m j n i c' earlier c in stop x l))
       (λ later. absurd (let (x, l) = goes_on first n i m j c later c' in stop' x l))
+
+module _ {E : Type 0} (chains : Chains E) (Q : ℕ → Type 0) where
+  -- index x has Q, and a walk passes it in n steps
+  abbrev pub Passes : ℕ → ℕ → ℕ → Type 0
+  Passes first n x = Q x × ((m : ℕ) × (m < n) × Comes chains first m x)
+
+  -- a walk passes so many in n steps, if it meets none twice
+  abbrev pub Picked : ℕ → ℕ → ℕ → Type 0
+  Picked first n many = Apart chains first n → IsCount (Passes first n) many
+
+  pub picked_first : (first : ℕ) → Picked first 0 0
+  picked_first first = λ _. count_none (Passes first 0) (λ x (q, (m, below, at)). omega arith)
+
+  pub picked_next : (first n i many more : ℕ) (b : Bool) → more ≡ from_bool b → IsTrue b ↔ Q i → Comes chains first n i → Picked first n many → Picked first (n + 1) (many + more)
+  picked_next first n i many more b is said c p = λ apart.
+      count_next (Passes first n) (Passes first (n + 1)) many i more b is
+      (λ yes. (said.0 yes, (n, omega arith, c)), λ r. said.1 r.0)
+      (λ (q, (m, below, at)). apart m n i below (omega arith) at c)
+      (λ x (q, (m, below, at)). (q, (m, omega arith, at)))
+      (λ x (q, (m, below, at)). by_order chains ((x ≡ i) ⊎ Passes first n x) m n (λ same. inl (comes_same chains first m n x i same at c)) (λ earlier. inr (q, (m, earlier, at))) (λ later. absurd (omega arith)))
+      (p (λ a b x before below. apart a b x before (omega arith)))
+
+-- a walk passes as many as it takes steps
+passes_all : {E : Type 0} (chains : Chains E) (first n i : ℕ) → Comes chains first n i → Picked chains (λ _. IsTrue true) first n n
+passes_all chains first _ _ starts = picked_first chains (λ _. IsTrue true) first
+passes_all chains first _ _ (goes n i j c l) =
+    let one : n + 1 ≡ suc n = omega arith in
+    subst (λ k. Picked chains (λ _. IsTrue true) first k k) one (picked_next chains (λ _. IsTrue true) first n i n 1 true refl (λ h. h, λ h. h) c (passes_all chains first n i c))
 
 module _ {E : Type 0} (P : E → Type 0) (chains : Chains E) where
   -- an index that stops links to none
@@ -153,12 +163,6 @@ module _ {E : Type 0} (P : E → Type 0) (chains : Chains E) where
   stop_or_link _ j _ _ (past_symbols i above within absent) l none = let h : slice_get chains.symbols i ≡ Some l.entry = l.stands.symbol in cc
   stop_or_link _ j _ _ (found i e stands holds) l none = none e stands holds
   stop_or_link _ j _ _ (refused i e error stands misses refuses) l none = let h : chains.chain i ≡ Ok j = l.next in cc
-
-  -- a stop is not met before
-  pub stop_new : (first n m i p : ℕ) (a : Result (Option (ℕ × E)) ElfError) → Comes chains first m i → Stops P chains i a p → NoneBefore P chains first n → n ≤ m → (k : ℕ) → k < n → Comes chains first k i → ⊥
-  stop_new first n m i p a c s none within k below at =
-      let (j, l) = goes_on chains first m i k i c (omega arith) at in
-      stop_or_link i j p a s l (λ e stands. none k below i e at stands)
 
   -- a walk that has passed as many entries as there are, and stands at one more, reaches no stop
   pub too_long : (bound first n i : ℕ) (e : E) (last m p : ℕ) (a : Result (Option (ℕ × E)) ElfError) → ((q : ℕ) (d : E) → StandsAt chains q d → q < bound) → Comes chains first n i → NoneBefore P chains first n → StandsAt chains i e → bound ≤ n → Comes chains first m last → NoneBefore P chains first m → Stops P chains last a p → ⊥
@@ -170,12 +174,12 @@ module _ {E : Type 0} (P : E → Type 0) (chains : Chains E) where
     where
       ends : n ≤ m → ⊥
       ends reached =
-          let apart : Apart chains first (n + 1) = apart_before chains first m last (n + 1) c' (stop_new first m m last p a c' s none' (omega arith)) (omega arith) in
-          let one : AllByRecursion (λ x. eqb i x ≡ false) (passed chains first n i c) = all_passed chains (λ x. eqb i x ≡ false) first n i c (λ k x below at. ne_eqb i x (λ same. apart k n i below (omega arith) (subst (λ z. Comes chains first k z) (sym same) at) c)) in
-          let others : IsDistinct eqb (passed chains first n i c) = distinct_passed chains first n i c (λ x y z h k. apart x y z h (omega arith)) in
-          let below : AllByRecursion (λ x. x < bound) (passed chains first n i c) = all_passed chains (λ x. x < bound) first n i c (λ k x below at. (let (j, l) = goes_on chains first n i k x c below at in within x l.entry l.stands)) in
-          let bounded : length (i ∷ passed chains first n i c) ≤ bound = length-le_from_distinct_below (i ∷ passed chains first n i c) bound (IsDistinct-cons eqb i (passed chains first n i c) one others) (below_all bound (i ∷ passed chains first n i c) (within i e stands, below)) in
-          let many : length (passed chains first n i c) ≡ n = passed_length chains first n i c in
+          let new : (k : ℕ) → k < m → Comes chains first k last → ⊥ = λ k below at. (let (j, l) = goes_on chains first m last k last c' below at in stop_or_link last j p a s l (λ d stands. none' k below last d at stands)) in
+          let count = picked_next chains (λ _. IsTrue true) first n i n 1 true refl (λ h. h, λ h. h) c (passes_all chains first n i c) (apart_before chains first m last (n + 1) c' new (omega arith)) in
+          let few : n + 1 ≤ bound = count_bound (Passes chains (λ _. IsTrue true) first (n + 1)) (n + 1) bound (λ x (_, (k, below, at)). by_order chains (x < bound) k n
+          (λ same. subst (λ z. z < bound) (comes_same chains first n k i x (sym same) c at) (within i e stands))
+          (λ earlier. (let (j, l) = goes_on chains first n i k x c earlier at in within x l.entry l.stands))
+          (λ later. absurd (omega arith))) count in
           omega arith
 
   -- a walk has come to an index in so many steps, and passed no entry with P
@@ -186,21 +190,20 @@ module _ {E : Type 0} (P : E → Type 0) (chains : Chains E) where
   pub walked_first : (first : ℕ) → Walked first first 0
   walked_first first = record { comes = starts; none = λ m below. absurd (omega arith) }
 
-  -- none up to step n, if none before it and none there
-  pub none_more : (first n i : ℕ) → NoneBefore P chains first n → Comes chains first n i → ((e : E) → StandsAt chains i e → P e → ⊥) → NoneBefore P chains first (n + 1)
-  none_more first n i none c misses =
-      below_more (λ m. (x : ℕ) (e : E) → Comes chains first m x → StandsAt chains x e → P e → ⊥) n none
-      (λ x e at stands. misses e (subst (λ z. StandsAt chains z e) (comes_once chains first n x i at c) stands))
-
-  pub walked_next : (first i j n : ℕ) → Walked first i n → Links chains i j → ((e : E) → StandsAt chains i e → P e → ⊥) → Walked first j (n + 1)
+  pub walked_next : (first i j n : ℕ) → Walked first i n → (l : Links chains i j) → (P l.entry → ⊥) → Walked first j (n + 1)
   walked_next first i j n h l misses = record {
-    comes = comes_in chains first (suc n) (n + 1) j (omega arith) (goes n i j h.comes l);
-    none = none_more first n i h.none h.comes misses;
+    comes = comes_next chains first n i j h.comes l;
+    none = below_more (λ m. (x : ℕ) (e : E) → Comes chains first m x → StandsAt chains x e → P e → ⊥) n h.none (λ x e at stands holds.
+        (let here : StandsAt chains i e = subst (λ z. StandsAt chains z e) (comes_once chains first n x i at h.comes) stands in
+        misses (subst P (stand_once chains i e l.entry here l.stands) holds)));
   }
 
   -- the walk stops
   pub looks : (first i n m k : ℕ) (a : Result (Option (ℕ × E)) ElfError) → Walked first i n → Stops P chains i a m → n + m ≡ k → LooksFrom P chains (Some (Ok first)) a k
   looks first i n m k a h s sum = subst (λ c. LooksFrom P chains (Some (Ok first)) a c) sum (reaches first i n m a h.comes h.none s)
+
+  pub looks_end : (first i n : ℕ) → Walked first i n → i ≡ 0 → LooksFrom P chains (Some (Ok first)) (Ok None) n
+  looks_end first i n h end = looks first i n 0 n (Ok None) h (subst (λ x. Stops P chains x (Ok None) 0) (sym end) at_end) (omega arith)
 
   pub looks_halted : (first i n : ℕ) (error : ElfError) → Walked first i n → 0 < i → Halts chains n i error → LooksFrom P chains (Some (Ok first)) (Err error) n
   looks_halted first i n _ h above (no_chain past) = looks first i n 0 n (Err ChainIndex) h (past_chains i above past) (omega arith)

@@ -1,6 +1,6 @@
 //! Hash tables of symbols (gABI, "Hash Table").
 
-ghost use Rattle.std.specs.Prelude.{◌≡◌, ◌↔◌, ◌+◌, ◌^◌, ◌<◌, ◌≤◌, length, IfOk, IsOk, MatchResult};
+ghost use Rattle.std.specs.Prelude.{◌≡◌, ◌↔◌, ◌+◌, ◌^◌, ◌<◌, ◌≤◌, ℕ, Err, Ok, Some, length, IfOk, IsOk, MatchResult};
 ghost use Rattle.elf_base.specs.Table.{table_items};
 
 mod check;
@@ -26,8 +26,8 @@ pub struct HashTable<'a> {
 }
 
 impl<'a> HashTable<'a> {
-    ghost use Rattle.xmas_elf.specs.Chain.{Halts, StandsAt, chains_of};
-    ghost use Rattle.xmas_elf.specs.HashTable.{HasBucket, HasChain, bucket_count_of, bucket_of, chain_count_of, chain_of, hash_bytes, hash_data, hash_order, hash_word, word_of};
+    ghost use Rattle.xmas_elf.specs.Chain.{Comes, Halts, LooksFrom, StandsAt, chains_of};
+    ghost use Rattle.xmas_elf.specs.HashTable.{HasBucket, HasChain, bucket_count_of, bucket_of, chain_count_of, chain_of, hash_bytes, hash_data, hash_order, hash_word, start_of, word_of};
 
     /// The hash table that these bytes are; `ShortData` below 12 bytes.
     pub fn read(bytes: &'a [u8], order: Order) -> Result<HashTable<'a>, ElfError>
@@ -94,6 +94,19 @@ impl<'a> HashTable<'a> {
         self.word(2 + place)
     }
 
+    // The word of the bucket of a name, if there are buckets.
+    #[tactic(auto, unfolding(crate::specs::HashTable::start_of))]
+    #[inline(always)]
+    fn start(&self, name: &str) -> Option<Result<u32, ElfError>>
+        ensures { result ≡ start_of self.now name.now }
+    {
+        let bucket_count = self.bucket_count();
+        if bucket_count == 0 {
+            return None;
+        }
+        Some(self.get_bucket(hash(name) % bucket_count))
+    }
+
     // The symbol that a walk meets at an index, which isn't the end, behind so many others; or why it goes
     // no further. Behind as many as there are chains or symbols it has met one twice.
     #[inline(always)]
@@ -121,6 +134,31 @@ impl<'a> HashTable<'a> {
             return Err(ElfError::HashCycle);
         }
         Ok(entry)
+    }
+
+    // That symbol, and the index that the walk goes on to; or why one that looks for nothing is refused.
+    #[inline(always)]
+    fn step<E: Record>(
+        &self,
+        index: u32,
+        passed: u32,
+        symbols: &Table<'_, E>,
+    ) -> Result<(E, u32), ElfError>
+        requires { 0 < index }
+        ensures { let chains = chains_of self.now (table_items symbols.now) in MatchResult result
+            (λ (entry, next). StandsAt chains index entry × (chains.chain index ≡ Ok next)
+            × (passed < chains.count) × (passed + 1 < 2 ^ 32))
+            (λ error. (first : ℕ) → Comes chains first passed index
+            → (n : ℕ) × LooksFrom (λ (e : E). ⊥) chains (Some (Ok first)) (Err error) n) }
+    {
+        let entry = match self.symbol_at(index, passed, symbols) {
+            Ok(entry) => entry,
+            Err(halt) => return Err(halt),
+        };
+        match self.get_chain(index) {
+            Ok(next) => Ok((entry, next)),
+            Err(error) => Err(error),
+        }
     }
 
     // The word at this place, in words.

@@ -1,29 +1,24 @@
 -- A look-up answers HashCycle exactly where its walk reaches no stop: no refusal of a bucket or a chain is
 -- HashCycle.
 use Rattle.std.proofs.Common.{◌≡◌, ℕ, Bool, true, false, List, [], ◌∷◌, Option, Some, None, Result, Err, if◌then◌else◌, refl, sym, subst}
+use Rattle.std.specs.List.{AllByRecursion}
 use Rattle.elf_base.specs.Refusal.{unless}
 use Rattle.xmas_elf.specs.Prelude.{BucketIndex, ChainIndex, ChainSum, ElfError, HashCycle, HashData, HashTable}
 use Rattle.xmas_elf.specs.Chain.{Stops, at_end, past_chains, past_symbols, found, refused, IsEndless, LooksFrom, no_bucket, bad_bucket, reaches, endless, chains_of}
 use Rattle.xmas_elf.specs.HashTable.{bucket_of, chain_of, start_of}
 
-two_rows : (a b : Bool) (v : ℕ) → unless ((a, BucketIndex) ∷ (b, HashData) ∷ []) v ≡ Err HashCycle → ⊥
-two_rows true b v e = cc
-two_rows false true v e = cc
-two_rows false false v e = cc
-
-three_rows : (a b c : Bool) (v : ℕ) → unless ((a, ChainIndex) ∷ (b, ChainSum) ∷ (c, HashData) ∷ []) v ≡ Err HashCycle → ⊥
-three_rows true b c v e = cc
-three_rows false true c v e = cc
-three_rows false false true v e = cc
-three_rows false false false v e = cc
+rows_no_cycle : (rows : List (Bool × ElfError)) (v : ℕ) → AllByRecursion (λ row. row.1 ≡ HashCycle → ⊥) rows → unless rows v ≡ Err HashCycle → ⊥
+rows_no_cycle [] v others e = cc
+rows_no_cycle ((true, error) ∷ rows) v (other, others) e = other (cc)
+rows_no_cycle ((false, error) ∷ rows) v (other, others) e = rows_no_cycle rows v others e
 
 bucket_no_cycle : (table : HashTable) (i : ℕ) → bucket_of table i ≡ Err HashCycle → ⊥
 unfolding bucket_of
-bucket_no_cycle table i e = two_rows _ _ _ e
+bucket_no_cycle table i e = rows_no_cycle ((_, BucketIndex) ∷ (_, HashData) ∷ []) _ ((λ h. cc), ((λ h. cc), tt)) e
 
 chain_no_cycle : (table : HashTable) (i : ℕ) → chain_of table i ≡ Err HashCycle → ⊥
 unfolding chain_of
-chain_no_cycle table i e = three_rows _ _ _ _ e
+chain_no_cycle table i e = rows_no_cycle ((_, ChainIndex) ∷ (_, ChainSum) ∷ (_, HashData) ∷ []) _ ((λ h. cc), ((λ h. cc), ((λ h. cc), tt))) e
 
 start_if : (b : Bool) (table : HashTable) (k : ℕ) → (if b then None else Some (bucket_of table k)) ≡ Some (Err HashCycle) → ⊥
 start_if true table k e = cc

@@ -27,6 +27,25 @@ fn global_name<'a, E: Entry>(entry: &E, strings: Strings<'a>, file: &ElfFile<'a>
     entry.name_in(strings, file).ok()
 }
 
+// The name of the symbol at an index, if it must be held.
+#[inline(always)]
+fn name_at<'a, E: Entry + Record>(
+    index: usize,
+    symbols: &Table<'_, E>,
+    strings: Strings<'a>,
+    file: &ElfFile<'a>,
+) -> Option<&'a str>
+    requires names { IfSome strings (HoldsNames E.fields (λ e. E.text_in e file.now)) }
+    requires symbol { 0 < index }
+    ensures { let all = symbols_of E.fields E.text_in symbols.now file.now in MatchOption result
+        (¬ MustBeHeld all index) (λ name. (e : E) × IsGlobal all index e name.now) }
+{
+    match symbols.get(index) {
+        Some(entry) => global_name(&entry, strings, file),
+        None => None,
+    }
+}
+
 // Whether the symbol at an index must be held.
 #[inline(always)]
 fn must_be_held<E: Entry + Record>(
@@ -40,10 +59,7 @@ fn must_be_held<E: Entry + Record>(
     ensures { IsTrue result
         ↔ MustBeHeld (symbols_of E.fields E.text_in symbols.now file.now) index }
 {
-    match symbols.get(index) {
-        Some(entry) => global_name(&entry, strings, file).is_some(),
-        None => false,
-    }
+    name_at(index, symbols, strings, file).is_some()
 }
 
 // How many symbols must be held.
@@ -57,9 +73,7 @@ fn global_count<E: Entry + Record>(
 {
     let mut count = 0;
     for index in 1..symbols.len() {
-        if must_be_held(index, symbols, strings, file) {
-            count += 1;
-        }
+        count += usize::from(must_be_held(index, symbols, strings, file));
     }
     count
 }
@@ -99,6 +113,17 @@ impl<'a> HashTable<'a> {
             → IsCheck self.now (symbols_of E.fields E.text_in symbols.now file.now) other
             → other ≡ result }
     {
+        self.verdict(symbols, file)
+    }
+
+    // The answer of the check.
+    fn verdict<E: Entry + Record>(
+        &self,
+        symbols: &Table<'_, E>,
+        file: &ElfFile<'_>,
+    ) -> Result<(), ElfError>
+        ensures { IsCheck self.now (symbols_of E.fields E.text_in symbols.now file.now) result }
+    {
         let strings = E::string_table(file);
         match self.held_by_all(symbols, strings, file) {
             Ok(Some(held)) => {
@@ -126,8 +151,7 @@ impl<'a> HashTable<'a> {
         ensures { let all = symbols_of E.fields E.text_in symbols.now file.now in MatchResult result
             (λ found. IfSome found (λ held. EndsBelow self.now all.items (bucket_count_of self.now)
             × IsCount (IsHeldBelow self.now all (bucket_count_of self.now)) held))
-            (λ error. (k : ℕ) × (k < bucket_count_of self.now) × EndsBelow self.now all.items k
-            × IsAtFault self.now all.items k error) }
+            (λ error. IsCheck self.now all (Err error)) }
     {
         let most = u64::from(self.chain_count());
         let mut steps: u64 = 0;
@@ -163,45 +187,21 @@ impl<'a> HashTable<'a> {
             × IsCount (IsHeldBy self.now all bucket) held)
             (λ error. IsAtFault self.now all.items bucket error) }
     {
-        match self.get_bucket(bucket) {
-            Ok(first) => self.held_from(first, bucket, symbols, strings, file),
-            Err(error) => Err(error),
-        }
-    }
-
-    // The walk from an index on, along the whole chain.
-    fn held_from<E: Entry + Record>(
-        &self,
-        first: u32,
-        bucket: u32,
-        symbols: &Table<'_, E>,
-        strings: Strings<'_>,
-        file: &ElfFile<'_>,
-    ) -> Result<(u32, u32), ElfError>
-        requires names { IfSome strings (HoldsNames E.fields (λ e. E.text_in e file.now)) }
-        requires below { bucket < bucket_count_of self.now }
-        ensures { let all = symbols_of E.fields E.text_in symbols.now file.now in
-            let chains = chains_of self.now all.items in MatchResult result
-            (λ (held, passed). Comes chains first passed 0
-            × IsCount (λ i. Belongs self.now all bucket i × Reaches chains first i) held)
-            (λ error. (n : ℕ) × LooksFrom (λ (e : E). ⊥) chains (Some (Ok first)) (Err error) n) }
-    {
+        let first = match self.get_bucket(bucket) {
+            Ok(first) => first,
+            Err(error) => return Err(error),
+        };
         let mut index = first;
         let mut count: u32 = 0;
         let mut held: u32 = 0;
         while index != 0 {
-            let entry = match self.symbol_at(index, count, symbols) {
-                Ok(entry) => entry,
-                Err(halt) => return Err(halt),
-            };
-            count += 1;
-            if self.belongs(&entry, bucket, strings, file) {
-                held += 1;
-            }
-            index = match self.get_chain(index) {
-                Ok(next) => next,
+            let (entry, next) = match self.step(index, count, symbols) {
+                Ok(both) => both,
                 Err(error) => return Err(error),
             };
+            count += 1;
+            held += u32::from(self.belongs(&entry, bucket, strings, file));
+            index = next;
         }
         Ok((held, count))
     }
@@ -320,15 +320,11 @@ impl<'a> HashTable<'a> {
         let mut index = first;
         let mut count: u32 = 0;
         while index >= bound && index as usize != target {
-            match self.symbol_at(index, count, symbols) {
-                Ok(_) => {}
-                Err(halt) => return Err(halt),
-            }
-            count += 1;
-            index = match self.get_chain(index) {
-                Ok(next) => next,
+            index = match self.step(index, count, symbols) {
+                Ok((_, next)) => next,
                 Err(error) => return Err(error),
             };
+            count += 1;
         }
         Ok(index)
     }
@@ -350,10 +346,8 @@ impl<'a> HashTable<'a> {
             × ¬ IsReached self.now all.items name i }
     {
         for index in 1..symbols.len() {
-            if let Some(entry) = symbols.get(index) {
-                if !self.holds(index, &entry, symbols, strings, file) {
-                    return false;
-                }
+            if !self.holds(index, symbols, strings, file) {
+                return false;
             }
         }
         true
@@ -363,7 +357,6 @@ impl<'a> HashTable<'a> {
     fn holds<E: Entry + Record>(
         &self,
         index: usize,
-        entry: &E,
         symbols: &Table<'_, E>,
         strings: Strings<'_>,
         file: &ElfFile<'_>,
@@ -371,36 +364,31 @@ impl<'a> HashTable<'a> {
         requires names { IfSome strings (HoldsNames E.fields (λ e. E.text_in e file.now)) }
         requires ends { EndsBelow self.now (table_items symbols.now) (bucket_count_of self.now) }
         requires symbol { 0 < index }
-        ensures yes { IsTrue result → (name : List ℕ) → (E.fields entry.now).info / 16 ≢ 0
-            → E.text_in entry.now file.now ≡ Some name
-            → IsReached self.now (table_items symbols.now) name index }
-        ensures no { result ≡ false → (name : List ℕ) × ((E.fields entry.now).info / 16 ≢ 0)
-            × (E.text_in entry.now file.now ≡ Some name)
-            × ¬ IsReached self.now (table_items symbols.now) name index }
+        ensures yes { let all = symbols_of E.fields E.text_in symbols.now file.now in
+            IsTrue result → (e : E) (name : List ℕ) → IsGlobal all index e name
+            → IsReached self.now all.items name index }
+        ensures no { let all = symbols_of E.fields E.text_in symbols.now file.now in
+            result ≡ false → (e : E) × (name : List ℕ) × IsGlobal all index e name
+            × ¬ IsReached self.now all.items name index }
     {
-        match global_name(entry, strings, file) {
+        match name_at(index, symbols, strings, file) {
             Some(name) => self.reaches(name, index, symbols),
             None => true,
         }
     }
 
     // Whether, where all chains end, an index is on the chain of a name.
-    #[tactic(auto, unfolding(crate::specs::HashTable::start_of))]
     fn reaches<E: Record>(&self, name: &str, index: usize, symbols: &Table<'_, E>) -> bool
         requires ends { EndsBelow self.now (table_items symbols.now) (bucket_count_of self.now) }
         requires symbol { 0 < index }
         ensures { IsTrue result ↔ IsReached self.now (table_items symbols.now) name.now index }
     {
-        let bucket_count = self.bucket_count();
-        if bucket_count == 0 {
-            return false;
-        }
-        match self.get_bucket(hash(name) % bucket_count) {
-            Ok(first) => match self.follow(first, index, 1, symbols) {
+        match self.start(name) {
+            Some(Ok(first)) => match self.follow(first, index, 1, symbols) {
                 Ok(last) => last as usize == index,
                 Err(_) => false,
             },
-            Err(_) => false,
+            Some(Err(_)) | None => false,
         }
     }
 }

@@ -8,7 +8,7 @@ ghost use Rattle.xmas_elf.specs.SymbolName.{HoldsNames};
 ghost use Rattle.xmas_elf.specs.Symbols.{Decides, IsMatch, symbols_of};
 
 use crate::bytes::{Record, Table};
-use crate::hash::{HashTable, Strings, hash};
+use crate::hash::{HashTable, Strings};
 use crate::symbol_table::Entry;
 use crate::{ElfError, ElfFile};
 use elf_base::bytes::stands_at;
@@ -209,14 +209,11 @@ impl<'a> HashTable<'a> {
             → Decides all F.Fn f.now
             → Looks (IsMatch all F.Fn f.now name.now) self.now all.items name.now result.0 result.1 }
     {
-        let bucket_count = self.bucket_count();
-        if bucket_count == 0 {
-            return (Ok(None), 0);
-        }
-        let first = match self.get_bucket(hash(name) % bucket_count) {
-            Ok(0) => return (Ok(None), 0),
-            Ok(first) => first,
-            Err(error) => return (Err(error), 0),
+        let first = match self.start(name) {
+            None => return (Ok(None), 0),
+            Some(Ok(0)) => return (Ok(None), 0),
+            Some(Ok(first)) => first,
+            Some(Err(error)) => return (Err(error), 0),
         };
         self.walk(
             first,

@@ -1,6 +1,7 @@
-use Rattle.std.proofs.Common.{Some, Err, sym, ◌∙◌, subst}
+use Rattle.std.proofs.Common.{sym, ◌∙◌}
 use Rattle.elf_base.specs.Table.{table_items}
-use Rattle.xmas_elf.specs.Chain.{LooksFrom, bad_bucket, chains_of}
+use Rattle.xmas_elf.specs.Chain.{chains_of}
+use Rattle.xmas_elf.proofs.ChainChecks.{bad_at_fault}
 use Rattle.xmas_elf.proofs.ChainPaths.{ends_along}
 use Rattle.xmas_elf.proofs.hash.HashTable.ends.Goals as goal
 
@@ -13,8 +14,4 @@ returns-in-Ok-follow g c =
     )
 
 pub returns-in-Err : goal.returns-in-Err
-returns-in-Err g c = (
-  0,
-  subst (λ b. LooksFrom (λ _. ⊥) (chains_of c.args.self.now (table_items c.args.symbols.now)) (Some b) (Err c.in-Err.error) 0)
-      (sym c.in-Err.is ∙ c.get_bucket.ensures.exact) (bad_bucket c.in-Err.error),
-)
+returns-in-Err g c = bad_at_fault c.args.self.now _ c.args.bucket c.in-Err.error (sym c.get_bucket.ensures.exact ∙ c.in-Err.is)

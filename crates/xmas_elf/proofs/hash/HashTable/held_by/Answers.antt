@@ -1,18 +1,40 @@
-use Rattle.std.proofs.Common.{Some, Err, sym, ◌∙◌, subst}
+use Rattle.std.proofs.Common.{arith, ◌≡◌, Ok, sym, ◌∙◌, subst}
 use Rattle.elf_base.specs.Table.{table_items}
-use Rattle.xmas_elf.specs.Chain.{LooksFrom, bad_bucket, chains_of}
+use Rattle.xmas_elf.specs.Chain.{Comes, chains_of, starts}
+use Rattle.xmas_elf.specs.HashTable.{bucket_of}
 use Rattle.xmas_elf.specs.Symbols.{symbols_of}
-use Rattle.xmas_elf.proofs.ChainCounts.{held_by_bucket}
+use Rattle.xmas_elf.proofs.ChainChecks.{bad_at_fault}
+use Rattle.xmas_elf.proofs.ChainCounts.{belongs_by, picked_held}
+use Rattle.xmas_elf.proofs.ChainPaths.{comes_next, picked_first, picked_next}
 use Rattle.xmas_elf.proofs.hash.HashTable.held_by.Goals as goal
 
-pub returns-in-Ok : goal.returns-in-Ok
-returns-in-Ok g c =
-    held_by_bucket c.args.self.now (symbols_of g.E.Entry.fields g.E.Entry.text_in c.args.symbols.now c.args.file.now) c.args.bucket c.in-Ok.first c.held_from.result
-    (sym c.get_bucket.ensures.exact ∙ c.in-Ok.is) c.held_from.ensures
-
 pub returns-in-Err : goal.returns-in-Err
-returns-in-Err g c = (
-  0,
-  subst (λ b. LooksFrom (λ _. ⊥) (chains_of c.args.self.now (table_items c.args.symbols.now)) (Some b) (Err c.in-Err.error) 0)
-      (sym c.in-Err.is ∙ c.get_bucket.ensures.exact) (bad_bucket c.in-Err.error),
-)
+returns-in-Err g c = bad_at_fault c.args.self.now _ c.args.bucket c.in-Err.error (sym c.get_bucket.ensures.exact ∙ c.in-Err.is)
+
+pub returns-in-Err-step : goal.returns-in-Err-step
+returns-in-Err-step g c =
+    let at : bucket_of c.args.self.now c.args.bucket ≡ Ok c.in-Ok.first = cc in
+    rw at (c.in-Err-step.ensures c.in-Ok.first c.loop-index.invariant.comes)
+
+pub loop-index-init : goal.loop-index-init
+loop-index-init g c = record { few = omega arith; comes = starts; picked = picked_first _ _ _ }
+
+pub loop-index-preserved : goal.loop-index-preserved
+loop-index-preserved g c =
+    let all = symbols_of g.E.Entry.fields g.E.Entry.text_in c.args.symbols.now c.args.file.now in
+    let (stands, next, within, fits) = c.in-Ok-step.ensures in
+    let belongs = belongs_by c.args.self.now all c.args.bucket c.loop-index.index c.in-Ok-step.both.0 c.belongs.result stands.symbol (omega arith) c.belongs.ensures in
+    record {
+      few = grind arith;
+      comes = comes_next _ c.in-Ok.first c.loop-index.count _ _ c.loop-index.invariant.comes (record { entry = c.in-Ok-step.both.0; stands = stands; next = next });
+      picked = picked_next _ _ c.in-Ok.first c.loop-index.count c.loop-index.index c.loop-index.held _ c.belongs.result c.from-held.ensures belongs c.loop-index.invariant.comes c.loop-index.invariant.picked;
+    }
+
+pub returns : goal.returns
+returns g c =
+    let all = symbols_of g.E.Entry.fields g.E.Entry.text_in c.args.symbols.now c.args.file.now in
+    let at : bucket_of c.args.self.now c.args.bucket ≡ Ok c.in-Ok.first = cc in
+    let comes = c.loop-index.invariant.comes in (
+      (c.in-Ok.first, at, subst (λ i. Comes (chains_of c.args.self.now (table_items c.args.symbols.now)) c.in-Ok.first c.loop-index.count i) c.loop-index-test.false comes),
+      picked_held c.args.self.now all c.args.bucket c.in-Ok.first c.loop-index.count c.loop-index.index c.loop-index.held at c.loop-index-test.false comes c.loop-index.invariant.picked,
+    )

@@ -1,7 +1,7 @@
 use Rattle.std.proofs.Common.{arith, below_more, ◌+◌, subst, sym}
 use Rattle.elf_base.specs.Table.{table_items}
 use Rattle.xmas_elf.specs.Counted.{IsCount}
-use Rattle.xmas_elf.specs.Good.{Ends, IsHeldBelow}
+use Rattle.xmas_elf.specs.Good.{Ends, IsHeldBelow, faulty}
 use Rattle.xmas_elf.specs.Symbols.{symbols_of}
 use Rattle.xmas_elf.proofs.ChainCounts.{held_more, held_none}
 use Rattle.xmas_elf.proofs.hash.HashTable.held_by_all.Goals as goal
@@ -15,7 +15,7 @@ loop-bucket-init g c = record {
 }
 
 pub returns-in-Err : goal.returns-in-Err
-returns-in-Err g c = (c.loop-bucket.bucket, omega arith, c.loop-bucket.invariant.ends, c.in-Err.ensures)
+returns-in-Err g c = faulty c.loop-bucket.bucket c.in-Err.error (omega arith) c.loop-bucket.invariant.ends c.in-Err.ensures
 
 pub loop-bucket-preserved : goal.loop-bucket-preserved
 loop-bucket-preserved g c =
