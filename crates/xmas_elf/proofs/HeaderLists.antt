@@ -4,8 +4,7 @@ use Rattle.std.specs.List.{HoldsAt}
 use Rattle.elf_base.specs.declared.error.ElfError.{ElfError}
 use Rattle.std.proofs.Math.Seq.{drop-cons}
 use Rattle.std.proofs.lemmas.Option.{get_or_from_slice_get, slice_get-get_or, slice_get_within}
-use Rattle.xmas_elf.specs.HeaderTable.{IsLongest, entry_place, header_list, headers_from}
-use Rattle.xmas_elf.specs.Laid.{IsLaid}
+use Rattle.xmas_elf.specs.HeaderTable.{IsLaid, IsLongest, entry_place, header_list, headers_from}
 
 -- the list that is computed is the longest one: each item is the header at its index, and the list
 -- stops only at a header that is refused

@@ -24,6 +24,11 @@ pub record IsLongest {H : Type 0} (header_at : ℕ → Result H ElfError) (limit
   pub each : (i : ℕ) → i < length items → HoldsAt (λ h. header_at i ≡ Ok h) items i
   pub longest : (h : H) → length items < limit → header_at (length items) ≢ Ok h
 
+-- each header at an index below `count` ends within `len` bytes, and is the one that stands at its place
+abbrev pub IsLaid : {H : Type 0} → (ℕ → Result H ElfError) → (ℕ → H) → ℕ → ℕ → ℕ → ℕ → ℕ → Type 0
+IsLaid header_at at_place offset entry_size size count len = (i : ℕ) → i < count
+    → (entry_place offset entry_size i + size ≤ len) × (header_at i ≡ Ok (at_place (entry_place offset entry_size i)))
+
 -- each header that can be read at an index below `high` has the property
 abbrev pub EachBelow : {H : Type 0} → (ℕ → Result H ElfError) → (H → Type 0) → ℕ → Type 0
 EachBelow {H} header_at P high = (i : ℕ) (h : H) → i < high → header_at i ≡ Ok h → P h

@@ -47,7 +47,6 @@ pub mod HeaderTable
 pub mod SectionHeader
 pub mod Counts
 pub mod SectionList
-pub mod Laid
 pub mod SectionTable
 pub mod Range
 pub mod SectionData

@@ -76,8 +76,8 @@ impl<'a> HashTable<'a> {
     /// never refused where `check` is Ok with the same symbols and file, and then finds something
     /// wherever a symbol that isn't local bears the name and passes: of several the chain's first.
     ///
-    /// Where the bucket isn't empty it looks the string table of the symbols up once, as
-    /// `Entry::string_table` does, and compares the names there in place.
+    /// Where the bucket isn't empty it looks the string table of the symbols up once, by
+    /// `Entry::string_table`, and compares the names there in place.
     ///
     /// What is promised of the answer holds for a test with one answer for each symbol. A closure
     /// says its answer by a clause, as `|_| -> bool ensures { result ≡ true } { true }`.
