@@ -1,9 +1,9 @@
 -- Lists of headers, as they are computed and as they are meant, and the tables that they are read from.
 use Rattle.std.proofs.Common.{◌≡◌, ℕ, zero, suc, ◌+◌, ◌-◌, ◌*◌, ◌≤◌, ◌<◌, List, [], ◌∷◌, length, drop, slice_get, Some, Result, Ok, ap, ◌∙◌, arith, add-zero}
 use Rattle.std.specs.List.{HoldsAt}
-use Rattle.elf_base.specs.declared.error.ElfError.{ElfError}
 use Rattle.std.proofs.Math.Seq.{drop-cons}
 use Rattle.std.proofs.lemmas.Option.{get_or_from_slice_get, slice_get-get_or, slice_get_within}
+use Rattle.xmas_elf.specs.Prelude.{ElfError}
 use Rattle.xmas_elf.specs.HeaderTable.{IsLaid, IsLongest, entry_place, header_list, headers_from}
 
 -- the list that is computed is the longest one: each item is the header at its index, and the list

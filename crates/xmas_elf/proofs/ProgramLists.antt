@@ -3,11 +3,11 @@ use Rattle.std.proofs.Common.{◌≡◌, ◌≢◌, ◌*◌, ◌≤◌, length, 
 use Rattle.std.proofs.lemmas.Bool.Decides.{nat_tests}
 use Rattle.elf_base.specs.FileHeader.{file_class, file_order}
 use Rattle.elf_base.specs.HeaderLayout.{header_fields}
+use Rattle.xmas_elf.specs.Prelude.{ElfFile}
 use Rattle.xmas_elf.specs.Checks.{part_class}
 use Rattle.xmas_elf.specs.Counts.{program_count_of}
 use Rattle.xmas_elf.specs.ProgramHeader.{HasProgram, program_at_place, program_entry, program_header_size, program_of, program_place}
 use Rattle.xmas_elf.specs.ProgramList.{program_list}
-use Rattle.xmas_elf.specs.declared.ElfFile.{ElfFile}
 use Rattle.xmas_elf.proofs.HeaderLists.{IsTable, length-table, table-fits}
 
 pub programs : (file : ElfFile) → IsTable (program_of file) (HasProgram file) (λ place. program_at_place (file_class file.header) (file_order file.header) place file.input.now) (header_fields file.header.pt2).ph_offset (header_fields file.header.pt2).ph_entry_size (program_header_size (file_class file.header)) (length file.input.now)

@@ -3,7 +3,7 @@
 use Rattle.std.specs.Prelude.{◌≡◌, ◌≢◌, ℕ, zero, suc, ◌+◌, ◌-◌, ◌*◌, ◌<◌, ◌≤◌, ◌==◌, ◌||◌, ◌⊎◌, Bool, List, [], ◌∷◌, length, MatchOption, Option, Result, Ok, Err}
 use Rattle.std.specs.Iterator.{YieldsFirst}
 use Rattle.std.specs.List.{HoldsAt}
-use Rattle.elf_base.specs.declared.error.ElfError.{ElfError}
+use Rattle.xmas_elf.specs.Prelude.{ElfError}
 
 -- where entry `index` of a table begins; entry `index` ends where the next begins
 abbrev pub entry_place : ℕ → ℕ → ℕ → ℕ

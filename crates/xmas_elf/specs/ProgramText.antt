@@ -2,7 +2,7 @@
 use Rattle.std.specs.Prelude.{ℕ, List, [], ◌∷◌, ◌++◌, codes}
 use Rattle.elf_base.specs.Printed.{field_line, hex_text, joined, result_text}
 use Rattle.elf_records.specs.ProgramNumbers.{flags_text, ph_type_number, ph_type_of, ph_type_text}
-use Rattle.xmas_elf.specs.declared.program.program_header.ProgramHeader64.{ProgramHeader64}
+use Rattle.xmas_elf.specs.Prelude.{ProgramHeader64}
 
 -- the type of a segment, as `Ok(Load)` or `Err("Invalid type")`
 abbrev pub segment_type_text : ℕ → List ℕ

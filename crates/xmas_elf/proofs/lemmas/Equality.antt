@@ -2,7 +2,7 @@
 use denote.Enum.Bare.{sameb, same_true, true_same}
 use Rattle.std.proofs.Common.{◌≡◌, true}
 use Rattle.elf_base.specs.contracts.error.ElfError.{the_type}
-use Rattle.elf_base.specs.declared.error.ElfError.{ElfError}
+use Rattle.xmas_elf.specs.Prelude.{ElfError}
 
 -- `sameb the_type` is the test that `==` of two refusals computes
 pub same_error : (one other : ElfError) → sameb the_type one other ≡ true → one ≡ other

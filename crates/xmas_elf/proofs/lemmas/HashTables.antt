@@ -2,7 +2,7 @@
 use Rattle.std.proofs.Common.{◌≡◌, ℕ, List, Option, None, Result, Ok, Bool, true, refl, subst}
 use Rattle.std.specs.Borrow.{Bor}
 use Rattle.std.specs.Fn.{Shared, FnReturnsAt}
-use Rattle.elf_base.specs.declared.error.ElfError.{ElfError}
+use Rattle.xmas_elf.specs.Prelude.{ElfError}
 use Rattle.xmas_elf.specs.Good.{FindsAll}
 use Rattle.xmas_elf.specs.Symbols.{IsGlobal, IsMatch, Symbols}
 
