@@ -9,28 +9,32 @@ mod printed;
 
 use crate::bytes::{Order, Record};
 
-/// A symbol of class 32, with its name in `.strtab` (gABI, "Symbol Table", Elf32_Sym).
+/// A symbol of class 32 (gABI, "Symbol Table", Elf32_Sym). Its name stands in `.strtab`: `get_name` has
+/// the answer of `ElfFile::get_string`.
 #[derive(Clone, Copy, Debug)]
 pub struct Entry32 {
     bytes: [u8; 16],
     order: Order,
 }
 
-/// A symbol of class 64, with its name in `.strtab` (gABI, "Symbol Table", Elf64_Sym).
+/// A symbol of class 64 (gABI, "Symbol Table", Elf64_Sym). Its name stands in `.strtab`: `get_name` has
+/// the answer of `ElfFile::get_string`.
 #[derive(Clone, Copy, Debug)]
 pub struct Entry64 {
     bytes: [u8; 24],
     order: Order,
 }
 
-/// A symbol of the dynamic linker in class 32, with its name in `.dynstr` (gABI, "Symbol Table").
+/// A symbol of the dynamic linker in class 32 (gABI, "Symbol Table"). Its name stands in `.dynstr`:
+/// `get_name` has the answer of `ElfFile::get_dyn_string`.
 #[derive(Clone, Copy, Debug)]
 pub struct DynEntry32 {
     bytes: [u8; 16],
     order: Order,
 }
 
-/// A symbol of the dynamic linker in class 64, with its name in `.dynstr` (gABI, "Symbol Table").
+/// A symbol of the dynamic linker in class 64 (gABI, "Symbol Table"). Its name stands in `.dynstr`:
+/// `get_name` has the answer of `ElfFile::get_dyn_string`.
 #[derive(Clone, Copy, Debug)]
 pub struct DynEntry64 {
     bytes: [u8; 24],
