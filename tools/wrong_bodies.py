@@ -410,10 +410,10 @@ class Trial:
         names = {it.crate.name for it in self.tasks if it.state in ("unproved", "checked now")}
         ready = [it for it in unproved if not names & set(it.below)]
         proved = [it for it in self.tasks if it.state == "proved" and it.batches]
-        if self.idle and ready:
-            # A check takes what the batches leave, and half where there are many.
-            waiting = sum(len(it.batches) for it in proved)
-            jobs = max(1, self.idle // 2, self.idle - waiting)
+        checks_one = any(it.state == "checked now" for it in self.tasks)
+        if self.idle and ready and not checks_one:
+            # One at a time, since a check locks the crates below. Others wait for it: one worker is for batches.
+            jobs = min(self.idle, max(1, self.jobs // 2, self.idle - bool(proved)))
             ready[0].state = "checked now"
             return (lambda: self.prove(ready[0], jobs)), jobs
         if self.idle and proved:
