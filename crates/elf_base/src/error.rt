@@ -6,8 +6,8 @@ ghost use Rattle.elf_base.specs.Message.{message_of};
 use std::error::Error;
 use std::fmt;
 
-/// Why an input, or a part of it, is refused. Each refusal has one text; which calls of `xmas_elf` answer
-/// it stands in `docs/API.md`.
+/// Why an input, or a part of it, is refused. Each refusal has one text; which calls of `xmas_elf`
+/// answer it stands in `docs/API.md`.
 #[derive(Clone, Copy, Debug, PartialEq, Eq)]
 pub enum ElfError {
     /// The input has fewer than 16 bytes.

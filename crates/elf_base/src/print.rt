@@ -7,8 +7,8 @@ use crate::ElfError;
 use std::fmt;
 use std::fmt::Display;
 
-/// A line of a printed header: four spaces, the label with its colon, spaces up to the value's place,
-/// the value.
+/// A line of a printed header: four spaces, the label with its colon,
+/// spaces up to the value's place, the value.
 #[derive(Clone, Copy, Debug)]
 pub struct Field<'a, T>(pub &'a str, pub T);
 

@@ -12,7 +12,8 @@ use elf_linking::LinkError;
 use elf_linking::view::segment_at;
 use xmas_elf::ElfFile;
 
-// Where the bytes at so many addresses from one on stand. Those of an empty segment are the empty range at 0.
+// Where the bytes at so many addresses from one on stand.
+// Those of an empty segment are the empty range at 0.
 #[tactic(auto, unfolding(xmas_elf::specs::SegmentData::segment_data_of, elf_linking::specs::Loaded::holder_of))]
 fn range_at(file: &ElfFile<'_>, address: u64, count: u64) -> Result<Range, Refusal>
     ensures { result ≡ range_at_address file.now address count }
@@ -28,8 +29,8 @@ fn range_at(file: &ElfFile<'_>, address: u64, count: u64) -> Result<Range, Refus
     })
 }
 
-/// Where in the input the bytes stand that the file has for `count` addresses from `address` on: those that
-/// `elf_linking::view::bytes_at` lends, and refused as that is.
+/// Where in the input the bytes stand that the file has for `count` addresses from `address` on:
+/// those that `elf_linking::view::bytes_at` lends, and refused as that is.
 #[unsafe(no_mangle)]
 pub extern "C" fn xmas_elf_bytes_at(
     input: &[u8],

@@ -30,8 +30,8 @@ pub(crate) trait Records: Copy {
         ensures { found_in (record_of self.now) (items self.now) index ≡ Ok result };
 }
 
-// Puts the records of the items from an index on to the front of `out`, and says how many. It owns what it
-// reads them from, so that nothing of that is read again after a record is written.
+// Puts the records of the items from an index on to the front of `out`, and says how many. It owns
+// what it reads them from, so that nothing of that is read again after a record is written.
 pub(crate) fn fill<R: Records>(
     records: R,
     first: u64,

@@ -50,11 +50,12 @@ fn build_id_of(file: &ElfFile<'_>) -> Result<Range, Refusal>
     }
 }
 
-/// Where in the input the build id stands, in a file of either class: the description of the first note of
-/// section `.note.gnu.build-id`, if it is of type 3 and named `GNU`.
+/// Where in the input the build id stands, in a file of either class: the description of the first
+/// note of section `.note.gnu.build-id`, if it is of type 3 and named `GNU`.
 ///
-/// Refused with `NotFound` where there is no such section, as `SectionHeader::raw_data` is, as `xmas_elf_note` is
-/// where the section begins with no whole note, and with `NotFound` where its first note is another.
+/// Refused with `NotFound` where there is no such section, as `SectionHeader::raw_data` is, as
+/// `xmas_elf_note` is where the section begins with no whole note, and with `NotFound` where its
+/// first note is another.
 #[unsafe(no_mangle)]
 pub extern "C" fn xmas_elf_build_id(input: &[u8], header: &Parsed, out: &mut Range) -> u32
     ensures { GivesHere (build_id_of (file_of input.entry header.now)) out.old result out.new }

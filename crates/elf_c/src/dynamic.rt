@@ -91,8 +91,8 @@ fn entry_of(file: &ElfFile<'_>, section: u64, index: u64) -> Result<DynamicEntry
 
 /// The dynamic entry at an index of the section at an index, whatever its tag.
 ///
-/// Refused as `ElfFile::section_header_at` and `SectionHeader::get_data`, with `OtherData` where the
-/// section holds no dynamic entries, and with `NoRecord` where it has none with this index.
+/// Refused as `ElfFile::section_header_at` and `SectionHeader::get_data`, with `OtherData` where
+/// the section holds no dynamic entries, and with `NoRecord` where it has none with this index.
 #[unsafe(no_mangle)]
 pub extern "C" fn xmas_elf_dynamic(
     input: &[u8],

@@ -20,7 +20,8 @@ use xmas_elf::ElfFile;
 
 /// The ELF header of a file, in numbers (gABI, "ELF Header").
 ///
-/// `xmas_elf_open` fills it, and the calls for parts of the file take it: so the header is read once.
+/// `xmas_elf_open` fills it, and the calls for parts of the file take it:
+/// so the header is read once.
 #[repr(C)]
 #[derive(Clone, Copy, Debug)]
 pub struct Parsed {

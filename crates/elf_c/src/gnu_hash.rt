@@ -143,13 +143,15 @@ fn look_up_by(file: &ElfFile<'_>, section: u64, name: &[u8]) -> Result<LookUp, R
     }
 }
 
-/// The symbol with a name, by GNU's hash table that is the section at an index, among the symbols that this
-/// section is linked to (sh_link): the answer of `GnuHashTable::lookup_counted` with a test that passes all.
+/// The symbol with a name, by GNU's hash table that is the section at an index, among the symbols
+/// that this section is linked to (sh_link): the answer of `GnuHashTable::lookup_counted` with a
+/// test that passes all.
 ///
-/// Refused with `TextUtf8` where the name isn't UTF-8; as `ElfFile::section_header_at` of the section, with
-/// `OtherData` where it is of another type than 0x6ffffff6, and as `SectionHeader::raw_data` and
-/// `GnuHashTable::read`; as `section_header_at` and `get_data` of the linked section, with `OtherData` where that
-/// holds no symbols; and as the look-up is, which is never so where `xmas_elf_check_gnu_hash` is OK.
+/// Refused with `TextUtf8` where the name isn't UTF-8; as `ElfFile::section_header_at` of the
+/// section, with `OtherData` where it is of another type than 0x6ffffff6, and as
+/// `SectionHeader::raw_data` and `GnuHashTable::read`; as `section_header_at` and `get_data` of the
+/// linked section, with `OtherData` where that holds no symbols; and as the look-up is, which is
+/// never so where `xmas_elf_check_gnu_hash` is OK.
 #[unsafe(no_mangle)]
 pub extern "C" fn xmas_elf_gnu_look_up(
     input: &[u8],
@@ -242,9 +244,10 @@ fn look_ups_in(file: &ElfFile<'_>, section: u64, names: &[u8], ranges: &[Range],
     }
 }
 
-/// Many look-ups by GNU's hash table that is the section at an index, each for the name that is a range of `names`:
-/// as many as there are ranges, and as `out` has room for. Each answer is that of `xmas_elf_gnu_look_up`
-/// for the name, with its status; `DataRange` where the range passes the end of `names`.
+/// Many look-ups by GNU's hash table that is the section at an index, each for the name that is
+/// a range of `names`: as many as there are ranges, and as `out` has room for. Each answer is
+/// that of `xmas_elf_gnu_look_up` for the name, with its status; `DataRange` where the range
+/// passes the end of `names`.
 ///
 /// The table, its symbols and their string table are found once for all of them.
 #[unsafe(no_mangle)]
@@ -298,8 +301,9 @@ fn check_in(file: &ElfFile<'_>, section: u64) -> Result<(), Refusal>
     check_with(&table, found.link(), file)
 }
 
-/// Whether look-ups by GNU's hash table that is the section at an index find each symbol that they should: the
-/// answer of `GnuHashTable::check`, in one pass over the table and one over the symbols and their names.
+/// Whether look-ups by GNU's hash table that is the section at an index find each symbol that they
+/// should: the answer of `GnuHashTable::check`, in one pass over the table and one over the
+/// symbols and their names.
 ///
 /// Refused as `xmas_elf_gnu_look_up` for want of a table or symbols, and as the check is.
 #[unsafe(no_mangle)]

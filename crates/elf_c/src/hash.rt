@@ -166,13 +166,14 @@ fn look_up_by(file: &ElfFile<'_>, section: u64, name: &[u8]) -> Result<LookUp, R
     }
 }
 
-/// The symbol with a name, by the hash table that is the section at an index, among the symbols that this
-/// section is linked to (sh_link): the answer of `HashTable::lookup_counted` with a test that passes all.
+/// The symbol with a name, by the hash table that is the section at an index, among the symbols
+/// that this section is linked to (sh_link): the answer of `HashTable::lookup_counted` with a
+/// test that passes all.
 ///
 /// Refused with `TextUtf8` where the name isn't UTF-8; as `ElfFile::section_header_at` and
-/// `SectionHeader::get_data` of the section, with `OtherData` where it holds no hash table; in the same way of the
-/// linked section, which is to hold symbols; and as the look-up is, which is never so where
-/// `xmas_elf_check_hash` is OK.
+/// `SectionHeader::get_data` of the section, with `OtherData` where it holds no hash table; in the
+/// same way of the linked section, which is to hold symbols; and as the look-up is, which is never
+/// so where `xmas_elf_check_hash` is OK.
 #[unsafe(no_mangle)]
 pub extern "C" fn xmas_elf_look_up(
     input: &[u8],
@@ -271,9 +272,10 @@ fn look_ups_in(file: &ElfFile<'_>, section: u64, names: &[u8], ranges: &[Range],
     }
 }
 
-/// Many look-ups by the hash table that is the section at an index, each for the name that is a range of `names`:
-/// as many as there are ranges, and as `out` has room for. Each answer is that of `xmas_elf_look_up`
-/// for the name, with its status; `DataRange` where the range passes the end of `names`.
+/// Many look-ups by the hash table that is the section at an index, each for the name that is
+/// a range of `names`: as many as there are ranges, and as `out` has room for. Each answer is
+/// that of `xmas_elf_look_up` for the name, with its status; `DataRange` where the range
+/// passes the end of `names`.
 ///
 /// The table, its symbols and their string table are found once for all of them.
 #[unsafe(no_mangle)]
@@ -329,8 +331,8 @@ fn check_in(file: &ElfFile<'_>, section: u64) -> Result<(), Refusal>
     }
 }
 
-/// Whether look-ups by the hash table that is the section at an index find each symbol that they should: the
-/// answer of `HashTable::check`, whose cost is said there.
+/// Whether look-ups by the hash table that is the section at an index find each symbol that they
+/// should: the answer of `HashTable::check`, whose cost is said there.
 ///
 /// Refused as `xmas_elf_look_up` for want of a table or symbols, and as the check is.
 #[unsafe(no_mangle)]

@@ -152,8 +152,9 @@ fn put(text: &str, out: &mut [u8]) -> usize
     text.len()
 }
 
-/// Writes the text of a status to the front of `out`, as much as fits, and answers how many bytes the text
-/// has. It is ASCII, with no zero byte behind it. A status that is no refusal's, as 0, has a text of no bytes.
+/// Writes the text of a status to the front of `out`, as much as fits, and answers how many bytes
+/// the text has. It is ASCII, with no zero byte behind it. A status that is no refusal's, as 0,
+/// has a text of no bytes.
 #[unsafe(no_mangle)]
 pub extern "C" fn xmas_elf_message(status: u32, out: &mut [u8]) -> usize
     ensures size { result ≡ length (text_with status) }

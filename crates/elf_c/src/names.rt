@@ -85,10 +85,11 @@ pub(crate) fn text_in(input: &[u8], part: &Range, index: u64) -> Result<Range, E
     })
 }
 
-/// Where in the input the text at an index of a range stands, in bytes from the start of the range: up to
-/// the next zero byte of the range.
+/// Where in the input the text at an index of a range stands, in bytes from the start of the range:
+/// up to the next zero byte of the range.
 ///
-/// Refused with `DataRange` where the range passes the end of the input, and as `bytes::text_at` is.
+/// Refused with `DataRange` where the range passes the end of the input,
+/// and as `bytes::text_at` is.
 #[unsafe(no_mangle)]
 pub extern "C" fn xmas_elf_text(input: &[u8], part: &Range, index: u64, out: &mut Range) -> u32
     ensures { Gives (text_range input.now part.now index) out.old result out.new }
@@ -114,7 +115,8 @@ fn names_in(file: &ElfFile<'_>) -> Result<Range, ElfError>
     })
 }
 
-/// Where the name table stands, in which the names of sections are: to be taken once for many names.
+/// Where the name table stands, in which the names of sections are:
+/// to be taken once for many names.
 ///
 /// It goes on to the end of the input. Refused as `ElfFile::get_shstr` is for want of a table.
 #[unsafe(no_mangle)]
@@ -195,11 +197,13 @@ impl Records for SectionNames<'_, '_> {
     }
 }
 
-/// Where the names of the sections from index `first` on stand, each as by `xmas_elf_section_name` and with a
-/// status of its own: as many as `out` has room for, or all that follow. Their number goes to `count`; what of
-/// `out` is behind them stays. They are those of the sections that `xmas_elf_sections` gives.
+/// Where the names of the sections from index `first` on stand, each as by `xmas_elf_section_name`
+/// and with a status of its own: as many as `out` has room for, or all that follow. Their number
+/// goes to `count`; what of `out` is behind them stays. They are those of the sections that
+/// `xmas_elf_sections` gives.
 ///
-/// Refused with `NoRecord` where there is no section at `first`; `out` and `count` then stay as they were.
+/// Refused with `NoRecord` where there is no section at `first`;
+/// `out` and `count` then stay as they were.
 #[unsafe(no_mangle)]
 pub extern "C" fn xmas_elf_section_names(
     input: &[u8],

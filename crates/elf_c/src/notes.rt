@@ -95,11 +95,11 @@ fn note_in(input: &[u8], header: &Parsed, part: &Range, align: u64) -> Result<No
     first_note(bytes, part.offset, order, align)
 }
 
-/// The note that a range begins with, and the range of what follows it: as `elf_linking::notes::Notes`
-/// gives its next item, by the alignment of the section or segment.
+/// The note that a range begins with, and the range of what follows it: as
+/// `elf_linking::notes::Notes` gives its next item, by the alignment of the section or segment.
 ///
-/// Refused with `DataRange` where the range passes the end of the input, with `NoRecord` where it is
-/// empty, and with `ShortNote` where it holds no whole note.
+/// Refused with `DataRange` where the range passes the end of the input, with `NoRecord` where it
+/// is empty, and with `ShortNote` where it holds no whole note.
 #[unsafe(no_mangle)]
 pub extern "C" fn xmas_elf_note(
     input: &[u8],

@@ -94,10 +94,11 @@ fn relocation_of(file: &ElfFile<'_>, section: u64, index: u64) -> Result<Relocat
     }
 }
 
-/// The relocation at an index of the section at an index. An addend of class 32 is a number of 32 bits.
+/// The relocation at an index of the section at an index.
+/// An addend of class 32 is a number of 32 bits.
 ///
-/// Refused as `ElfFile::section_header_at` and `SectionHeader::get_data`, with `OtherData` where the
-/// section holds no relocations, and with `NoRecord` where it has none with this index.
+/// Refused as `ElfFile::section_header_at` and `SectionHeader::get_data`, with `OtherData` where
+/// the section holds no relocations, and with `NoRecord` where it has none with this index.
 #[unsafe(no_mangle)]
 pub extern "C" fn xmas_elf_relocation(
     input: &[u8],

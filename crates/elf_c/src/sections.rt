@@ -112,11 +112,12 @@ impl Records for SectionTable<'_, '_> {
     }
 }
 
-/// The section headers from index `first` on, each as by `xmas_elf_section`: as many as `out` has room for, or all
-/// that follow, up to the count of sections or the first that is refused. Their number goes to `count`; what of
-/// `out` is behind them stays.
+/// The section headers from index `first` on, each as by `xmas_elf_section`: as many as `out` has
+/// room for, or all that follow, up to the count of sections or the first that is refused. Their
+/// number goes to `count`; what of `out` is behind them stays.
 ///
-/// Refused with `NoRecord` where there is none at `first`; `out` and `count` then stay as they were.
+/// Refused with `NoRecord` where there is none at `first`;
+/// `out` and `count` then stay as they were.
 #[unsafe(no_mangle)]
 pub extern "C" fn xmas_elf_sections(
     input: &[u8],
@@ -176,8 +177,8 @@ fn section_with_name(file: &ElfFile<'_>, name: &[u8]) -> Result<Section, Refusal
     }
 }
 
-/// The first section with a name, as by `ElfFile::find_section_by_name`. Refused with `NotFound` where none
-/// has it, as where it isn't UTF-8.
+/// The first section with a name, as by `ElfFile::find_section_by_name`. Refused with `NotFound`
+/// where none has it, as where it isn't UTF-8.
 #[unsafe(no_mangle)]
 pub extern "C" fn xmas_elf_find_section(
     input: &[u8],

@@ -84,11 +84,11 @@ fn symbol_of_section(file: &ElfFile<'_>, section: u64, index: u64) -> Result<Sym
     }
 }
 
-/// The symbol at an index of the section at an index. Its name is a text, by `xmas_elf_text`, of the data of
-/// the section that this one is linked to (sh_link).
+/// The symbol at an index of the section at an index. Its name is a text, by `xmas_elf_text`, of
+/// the data of the section that this one is linked to (sh_link).
 ///
-/// Refused as `ElfFile::section_header_at` and `SectionHeader::get_data`, with `OtherData` where the
-/// section holds no symbols, and with `NoRecord` where it has none with this index.
+/// Refused as `ElfFile::section_header_at` and `SectionHeader::get_data`, with `OtherData` where
+/// the section holds no symbols, and with `NoRecord` where it has none with this index.
 #[unsafe(no_mangle)]
 pub extern "C" fn xmas_elf_symbol(
     input: &[u8],
@@ -146,8 +146,9 @@ fn fill_from_section(
     }
 }
 
-/// The symbols from index `first` on of the section at an index, each as by `xmas_elf_symbol`: as many as `out`
-/// has room for, or all that follow. Their number goes to `count`; what of `out` is behind them stays.
+/// The symbols from index `first` on of the section at an index, each as by `xmas_elf_symbol`:
+/// as many as `out` has room for, or all that follow. Their number goes to `count`; what of
+/// `out` is behind them stays.
 ///
 /// Refused as `xmas_elf_symbol` is at `first`; `out` and `count` then stay as they were.
 #[unsafe(no_mangle)]
@@ -216,7 +217,8 @@ fn name_at<E: Entry>(
     text_in(input, &strings?, u64::from(entry.name()))
 }
 
-// Puts the names of the symbols of a table from an index on to the front of `out`, and says how many.
+// Puts the names of the symbols of a table from an index on to the front
+// of `out`, and says how many.
 #[inline(always)]
 fn names<E: Entry + Record>(
     table: &Table<'_, E>,
@@ -256,13 +258,13 @@ fn fill_names(
     }
 }
 
-/// Where the names of the symbols from index `first` on of the section at an index stand, each with a status of
-/// its own: as many as `out` has room for, or all that follow. Their number goes to `count`; what of `out` is
-/// behind them stays.
+/// Where the names of the symbols from index `first` on of the section at an index stand, each with
+/// a status of its own: as many as `out` has room for, or all that follow. Their number goes to
+/// `count`; what of `out` is behind them stays.
 ///
-/// Each is the text, by `xmas_elf_text`, at the symbol's `name` in the data of the section that this one is linked
-/// to (sh_link), or refused as that data is by `xmas_elf_section_data`. The call is refused as `xmas_elf_symbol` is
-/// at `first`; `out` and `count` then stay as they were.
+/// Each is the text, by `xmas_elf_text`, at the symbol's `name` in the data of the section that
+/// this one is linked to (sh_link), or refused as that data is by `xmas_elf_section_data`. The call
+/// is refused as `xmas_elf_symbol` is at `first`; `out` and `count` then stay as they were.
 #[unsafe(no_mangle)]
 pub extern "C" fn xmas_elf_symbol_names(
     input: &[u8],

@@ -1,5 +1,5 @@
-//! Callers of `xmas_elf` in another crate, proved by its public contracts, and where their `using` or their
-//! answers name one by a lemma of `xmas_elf/proofs/lemmas`.
+//! Callers of `xmas_elf` in another crate, proved by its public contracts, and where their `using`
+//! or their answers name one by a lemma of `xmas_elf/proofs/lemmas`.
 
 ghost use Rattle.std.specs.Prelude.{◌≡◌, ◌≢◌, ◌+◌, ◌↔◌, ◌≤◌, ◌<◌, ◌==◌, Err, IfErr, IfOk, IsOk, IsOkAnd, IsTrue, List, MatchOption, MatchResult, None, Ok, Some, count_by, length, ℕ};
 ghost use Rattle.std.specs.List.{AllWithin, HoldsAt};
@@ -70,8 +70,8 @@ pub fn class_byte(input: &[u8]) -> Result<u8, ElfError>
     Ok(file.header.pt1.class.raw())
 }
 
-/// The size of a section of class 64: the number of eight bytes that stands 32 behind its place; or why
-/// its header can't be read.
+/// The size of a section of class 64: the number of eight bytes that stands 32 behind its place; or
+/// why its header can't be read.
 pub fn size_64(file: &ElfFile<'_>, index: u16) -> Result<u64, ElfError>
     requires { file_class file.now.header ≡ 2 }
     ensures readable { IsOk result ↔ HasSectionHeader file.now.input.now file.now.header index }
@@ -185,8 +185,8 @@ pub fn segment_data_len(file: &ElfFile<'_>, index: u16) -> Result<usize, ElfErro
     Ok(range.len())
 }
 
-/// How many sections a file has, where its header makes sense and its entries are at least as large as
-/// the record: their count. Refused as the check is.
+/// How many sections a file has, where its header makes sense and its entries are at least as large
+/// as the record: their count. Refused as the check is.
 pub fn checked_section_count(file: &ElfFile<'_>) -> Result<usize, ElfError>
     ensures readable { IfOk result (λ count. count ≡ length (section_list file.now)) }
     ensures checked { MatchResult result (λ _. IsOk (header_check file.now))
@@ -199,7 +199,8 @@ pub fn checked_section_count(file: &ElfFile<'_>) -> Result<usize, ElfError>
     Ok(readable_sections(file))
 }
 
-/// The first section with this name: some section header below the count, before which none bears it.
+/// The first section with this name: some section header below the count,
+/// before which none bears it.
 pub fn named_section(file: &ElfFile<'_>, name: &str) -> Option<SectionHeader>
     ensures { MatchOption result
         ((i : ℕ) (section : SectionHeader) → i < length (section_list file.now)
@@ -218,8 +219,8 @@ pub fn name_of<'a>(file: &ElfFile<'a>, section: SectionHeader) -> Result<&'a str
     section.get_name(file)
 }
 
-/// A name, which outlives the `ElfFile` that it was read by; or the very refusal, of the bytes or of the
-/// name.
+/// A name, which outlives the `ElfFile` that it was read by; or the very refusal,
+/// of the bytes or of the name.
 pub fn name_in<'a>(input: &'a [u8], index: u32) -> Result<&'a str, ElfError>
     ensures name { IfOk result (λ name. IsOkAnd (header_of input.now) (λ header.
         let file : ElfFile = record { input = input.entry; header = header } in shstr_of file index
@@ -232,8 +233,8 @@ pub fn name_in<'a>(input: &'a [u8], index: u32) -> Result<&'a str, ElfError>
     file.get_shstr(index)
 }
 
-/// How many bytes the string tables of a file have together, or the greatest number if that is less.
-/// Refused as the bytes are, and as the data of the first string table that isn't all there.
+/// How many bytes the string tables of a file have together, or the greatest number if that is
+/// less. Refused as the bytes are, and as the data of the first string table that isn't all there.
 pub fn string_bytes(input: &[u8]) -> Result<u64, ElfError>
     ensures sum { IfOk result (λ total. IsOkAnd (header_of input.now) (λ header.
         let file : ElfFile = record { input = input.entry; header = header } in IsStringTotal file total)) }

@@ -9,8 +9,8 @@ use xmas_elf::bytes::{Order, Record};
 use xmas_elf::symbol_table::{Entry, Visibility_};
 use xmas_elf::{ElfError, ElfFile};
 
-/// A symbol of four bytes, which are its number. Number 1 is named `ab`, number 2 `zz`, and the others
-/// have no name; its value is the number.
+/// A symbol of four bytes, which are its number. Number 1 is named `ab`, number 2 `zz`, and the
+/// others have no name; its value is the number.
 #[derive(Clone, Copy, Debug, PartialEq, Eq)]
 pub struct Numbered {
     /// Which symbol it is.

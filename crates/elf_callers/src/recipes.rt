@@ -1,5 +1,6 @@
-//! Recipes: what the page for new users quotes. Each is proved not to panic. Those for the segment of an
-//! address and for the instructions say in a contract what they answer; the others carry no claim.
+//! Recipes: what the page for new users quotes. Each is proved not to panic. Those for the
+//! segment of an address and for the instructions say in a contract what they answer; the
+//! others carry no claim.
 
 ghost use Rattle.std.specs.Prelude.{◌↔◌, IfNone, IfSome, IsTrue, codes, ℕ};
 ghost use Rattle.elf_callers.specs.LoadedAt.{IsLoadedAt};
@@ -130,7 +131,8 @@ pub fn text_of<'a>(file: &ElfFile<'a>) -> Option<&'a [u8]>
     file.find_section_by_name(".text")?.raw_data(file).ok()
 }
 
-/// The text at an index of the string table at an address: a name of a file without section headers.
+/// The text at an index of the string table at an address:
+/// a name of a file without section headers.
 pub fn text_at_address<'a>(file: &ElfFile<'a>, address: u64, index: u64) -> Option<&'a str> {
     let program = segment_of_address(file, address)?;
     let place = address

@@ -8,8 +8,8 @@ use xmas_elf::bytes::{Order, Record};
 use xmas_elf::symbol_table::{Entry, Visibility_};
 use xmas_elf::{ElfError, ElfFile};
 
-/// A symbol of one byte, which is its number. Number 1 is named `ab`, number 2 `zz`, and the others have no
-/// name; its value and its section are the number, so that 0 is defined nowhere.
+/// A symbol of one byte, which is its number. Number 1 is named `ab`, number 2 `zz`, and the others
+/// have no name; its value and its section are the number, so that 0 is defined nowhere.
 #[derive(Clone, Copy, Debug, PartialEq, Eq)]
 pub struct Tiny {
     /// Which symbol it is.

@@ -30,8 +30,8 @@ pub enum LinkError {
     /// The chain word of a symbol does not lie whole in the data. Answered by
     /// `GnuHashTable::get_chain`, `lookup`, `lookup_counted`, `check` and `symbol_count`.
     ChainData,
-    /// The index of a symbol is not below the number of symbols, or does not fit in 32 bits. Answered
-    /// by `GnuHashTable::lookup`, `lookup_counted`, `check` and `symbol_count`.
+    /// The index of a symbol is not below the number of symbols, or does not fit in 32 bits.
+    /// Answered by `GnuHashTable::lookup`, `lookup_counted`, `check` and `symbol_count`.
     SymbolIndex,
     /// A symbol is not where its name leads to. Answered by `GnuHashTable::check`.
     Missing,

@@ -1,5 +1,5 @@
-//! GNU's hash tables of symbols (the convention of GNU binutils and glibc: sections of type 0x6ffffff6,
-//! `.gnu.hash`, and the dynamic entry `DT_GNU_HASH`).
+//! GNU's hash tables of symbols (the convention of GNU binutils and glibc: sections of type
+//! 0x6ffffff6, `.gnu.hash`, and the dynamic entry `DT_GNU_HASH`).
 
 ghost use Rattle.std.specs.Prelude.{◌≡◌, ◌↔◌, ◌+◌, ◌*◌, ◌/◌, ◌^◌, ◌==◌, ◌<◌, ◌≤◌, length, IfOk, IsOk, IsTrue, MatchResult};
 ghost use Rattle.elf_linking.specs.GnuHashNumber.{gnu_hash_number};
@@ -69,10 +69,12 @@ fn shifted(hash: u32, shift: u32) -> u32
     hash.checked_shr(shift).unwrap_or(0)
 }
 
-/// The hash table of the symbols that a file exports: four words, the Bloom words, which tell of most
-/// other names that they aren't there, the buckets, and a chain word for each symbol from the first on.
+/// The hash table of the symbols that a file exports: four words, the Bloom words, which
+/// tell of most other names that they aren't there, the buckets, and a chain word for each
+/// symbol from the first on.
 ///
-/// It is a view: it keeps the data of its section, the class of the file, and the order of its numbers.
+/// It is a view: it keeps the data of its section, the class of the file,
+/// and the order of its numbers.
 #[derive(Clone, Copy, Debug)]
 pub struct GnuHashTable<'a> {
     bytes: &'a [u8],
@@ -87,9 +89,9 @@ impl<'a> GnuHashTable<'a> {
 
     /// The hash table that these bytes are, up to the end of their section.
     ///
-    /// Refused with `UnknownClass`; with `ShortTable` below 16 bytes; with `BloomCount` where the number
-    /// of Bloom words is not a power of two; and with `ShortTable` where they and the buckets pass the
-    /// end of the bytes.
+    /// Refused with `UnknownClass`; with `ShortTable` below 16 bytes; with `BloomCount` where the
+    /// number of Bloom words is not a power of two; and with `ShortTable` where they and the
+    /// buckets pass the end of the bytes.
     #[tactic(auto, unfolding(crate::specs::GnuLayout::gnu_table_of))]
     pub fn read(bytes: &'a [u8], class: Class, order: Order) -> Result<GnuHashTable<'a>, LinkError>
         ensures accepts { IsOk result ↔ IsGnuTable class order bytes.now }
@@ -205,11 +207,11 @@ impl<'a> GnuHashTable<'a> {
         read_u32(self.bytes, buckets + 4 * index as usize, self.order)
     }
 
-    /// The chain word of a symbol: the hash number of its name, but for the lowest bit, which is set
-    /// where a run ends.
+    /// The chain word of a symbol: the hash number of its name, but for the lowest bit, which is
+    /// set where a run ends.
     ///
-    /// Refused with `ChainIndex` below `first_symbol`, and with `ChainData` where the word doesn't lie
-    /// whole in the data.
+    /// Refused with `ChainIndex` below `first_symbol`, and with `ChainData` where the word doesn't
+    /// lie whole in the data.
     #[tactic(auto, unfolding(crate::specs::GnuHash::chain_of, crate::specs::GnuHash::chain_word, crate::specs::GnuHash::chain_place))]
     #[inline(always)]
     pub fn get_chain(&self, index: u32) -> Result<u32, LinkError>

@@ -69,8 +69,8 @@ impl<'a> Note<'a> {
 
 /// The notes of a section or a segment, in order.
 ///
-/// The padding behind the last may be missing. Where what is left holds no whole note, the last item is
-/// `ShortNote`; after it, as at the end, only `None` follows.
+/// The padding behind the last may be missing. Where what is left holds no whole note, the last
+/// item is `ShortNote`; after it, as at the end, only `None` follows.
 #[derive(Clone, Debug, Drop)]
 pub struct Notes<'a> {
     rest: &'a [u8],
@@ -79,8 +79,8 @@ pub struct Notes<'a> {
 }
 
 impl<'a> Notes<'a> {
-    /// The notes of these bytes, with the alignment of their section or segment: where it is 8, names
-    /// and descriptions are filled up to multiples of 8 bytes, and else of 4.
+    /// The notes of these bytes, with the alignment of their section or segment: where it is 8,
+    /// names and descriptions are filled up to multiples of 8 bytes, and else of 4.
     #[tactic(auto, using(crate::proofs::NoteItems::notes_are, crate::proofs::NoteItems::notes_fit))]
     pub fn new(bytes: &'a [u8], order: Order, align: u64) -> Notes<'a>
         ensures items { AreNotes align order bytes.now (notes_left result) }
@@ -165,8 +165,8 @@ impl<'a> Iterator for Notes<'a> {
     }
 }
 
-/// The notes of a section, by the order of the file and the alignment of the section. The section's type
-/// isn't asked.
+/// The notes of a section, by the order of the file and the alignment of the section.
+/// The section's type isn't asked.
 ///
 /// Refused as `SectionHeader::raw_data` is.
 pub fn section_notes<'a>(
@@ -189,8 +189,8 @@ pub fn section_notes<'a>(
     Ok(Notes::new(bytes, order, section.align()))
 }
 
-/// The notes of a segment, by the order of the file and the alignment of the segment. The segment's type
-/// isn't asked.
+/// The notes of a segment, by the order of the file and the alignment of the segment.
+/// The segment's type isn't asked.
 ///
 /// Refused as `ProgramHeader::raw_data` is.
 pub fn segment_notes<'a>(

@@ -11,8 +11,8 @@ use elf_base::header::Class;
 /// The addresses that RELR data names, in order: those of the words to which a dynamic linker adds
 /// the address that the file is loaded at.
 ///
-/// A word of the data has the width of the file's class. An even one is an address; an odd one marks
-/// some of the words behind. Addresses and places are modulo 2 to the width.
+/// A word of the data has the width of the file's class. An even one is an address; an odd one
+/// marks some of the words behind. Addresses and places are modulo 2 to the width.
 #[derive(Clone, Debug, Drop)]
 pub struct Relr<'a> {
     words: Words<'a>,

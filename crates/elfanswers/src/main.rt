@@ -1,6 +1,7 @@
 //! Prints each answer of the library over files: `elfanswers PATH..`, a line for each call.
 //!
-//! `oracle/answers` prints the same lines of the Rust crate, and `tools/compare_rust.py` compares them.
+//! `oracle/answers` prints the same lines of the Rust crate,
+//! and `tools/compare_rust.py` compares them.
 #![tactic(auto)]
 
 mod answers;

@@ -1,7 +1,7 @@
 //! Looks each dynamic symbol of an ELF file up by its name in GNU's hash table: `elfgnu PATH`.
 //!
-//! First comes what the check of the table says; then, for each symbol that has a name, a line with its
-//! index, the index that the look-up finds, or `-`, and the name.
+//! First comes what the check of the table says; then, for each symbol that has a name, a line with
+//! its index, the index that the look-up finds, or `-`, and the name.
 #![tactic(auto)]
 
 use anyhow::Context;

@@ -33,10 +33,11 @@ enum Fault<'a> {
     Write,
 }
 
-/// Writes the report of the file to `out`, or says on `err` why it can't, and answers the exit status.
+/// Writes the report of the file to `out`, or says on `err` why it can't,
+/// and answers the exit status.
 ///
-/// `file` is `None` where there is a path that does not open. The status is 0 once the whole report is
-/// written and flushed, and 1 otherwise; the contract says nothing of `err`.
+/// `file` is `None` where there is a path that does not open. The status is 0 once the whole report
+/// is written and flushed, and 1 otherwise; the contract says nothing of `err`.
 pub fn run<R: Read + Drop, W: Write, E: Write>(
     alloc: Global,
     path: Option<&str>,

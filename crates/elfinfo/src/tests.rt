@@ -264,7 +264,8 @@ fn ends_where_nothing_can_be_said(rt: HostRuntime) {
     assert_eq!(rt; status, 1);
 }
 
-// Run also with `rt try --test --fail-alloc N`, for N from 1 up: the only requests are those of `run`.
+// Run also with `rt try --test --fail-alloc N`, for N from 1 up:
+// the only requests are those of `run`.
 #[test]
 fn keeps_its_word_with_little_memory(rt: HostRuntime) {
     let file = strtab_file();

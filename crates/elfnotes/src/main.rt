@@ -1,7 +1,7 @@
 //! Prints the notes and the packed relative relocations of ELF files: `elfnotes PATH..`.
 //!
-//! For each file there is a line with its path; for each section of type Note or RELR a line with its
-//! type and its name; and for each note or address in it a line.
+//! For each file there is a line with its path; for each section of type Note or RELR a line with
+//! its type and its name; and for each note or address in it a line.
 #![tactic(auto)]
 
 use elf_base::ElfError;

@@ -1,9 +1,9 @@
-//! Looks symbols of an ELF file up by their names, as a dynamic linker does: by the dynamic segment, with
-//! no section header.
+//! Looks symbols of an ELF file up by their names, as a dynamic linker does: by the dynamic
+//! segment, with no section header.
 //!
-//! `elfsym PATH NAME..` writes a line for each name, with the value and the size of the defined symbol
-//! that bears it: `ab 0x1016 0xb`, or `ab: none`. `elfsym --needed PATH` writes the names of the
-//! libraries that the file needs, a line for each.
+//! `elfsym PATH NAME..` writes a line for each name, with the value and the size of the defined
+//! symbol that bears it: `ab 0x1016 0xb`, or `ab: none`. `elfsym --needed PATH` writes the names of
+//! the libraries that the file needs, a line for each.
 #![tactic(auto)]
 
 ghost use Rattle.std.specs.Prelude.{◌≡◌, ◌≤◌};
@@ -72,10 +72,11 @@ pub enum Question<'a, S> {
     Names(&'a [S]),
 }
 
-/// Writes what is asked of the file to `out`, or says on `err` why it can't, and answers the exit status.
+/// Writes what is asked of the file to `out`, or says on `err` why it can't,
+/// and answers the exit status.
 ///
-/// `file` is `None` where the path does not open. The status is 0 once all is written and flushed, and 1
-/// otherwise; the contract says nothing of what is written.
+/// `file` is `None` where the path does not open. The status is 0 once all is written and flushed,
+/// and 1 otherwise; the contract says nothing of what is written.
 pub fn run<S: AsStr, R: Read + Drop, W: Write, E: Write>(
     alloc: Global,
     path: &str,

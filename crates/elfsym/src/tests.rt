@@ -7,8 +7,9 @@ use std::io::{Read, Write};
 use std::process::Abort;
 use std::test::Fail;
 
-// A shared object that needs a library, without section headers: that of `linking_tests::linked`, where
-// its source and its command stand. The values and sizes are those that `readelf --dyn-syms -W` shows.
+// A shared object that needs a library, without section headers: that of `linking_tests::linked`,
+// where its source and its command stand. The values and sizes are those that
+// `readelf --dyn-syms -W` shows.
 const SMALL: &[u8; 912] = b"\
     \x7fELF\x02\x01\x01\0\0\0\0\0\0\0\0\0\x03\0>\0\x01\0\0\0\0\0\0\0\0\0\0\0@\0\0\0\0\0\0\0\0\0\0\
     \0\0\0\0\0\0\0\0\0@\0\x38\0\x04\0@\0\0\0\0\0\x01\0\0\0\x05\0\0\0\0\0\0\0\0\0\0\0\0\0\0\0\0\0\0\
@@ -200,8 +201,8 @@ fn says_that_it_cannot_read(rt: HostRuntime) {
     }
 }
 
-// Each call of `write` failed in turn, until a run needs no more calls than pass. Nothing is written after
-// a fault, not even where the writer works again.
+// Each call of `write` failed in turn, until a run needs no more calls than pass. Nothing is
+// written after a fault, not even where the writer works again.
 #[test]
 fn says_that_it_cannot_write(rt: HostRuntime) {
     for recovers in [false, true] {

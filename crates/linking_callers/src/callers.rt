@@ -26,8 +26,9 @@ use xmas_elf::hash::HashTable;
 use xmas_elf::symbol_table::Entry;
 use xmas_elf::{ElfError, ElfFile};
 
-/// Whether look-ups by a table find each symbol that they should: all runs come to an end, and each
-/// symbol from the table's first on that is defined and not local and has a name is on its name's run.
+/// Whether look-ups by a table find each symbol that they should: all runs come to an end,
+/// and each symbol from the table's first on that is defined and not local and has a name
+/// is on its name's run.
 pub fn finds_all<E: Entry + Record>(
     table: &GnuHashTable<'_>,
     symbols: &Table<'_, E>,
@@ -38,9 +39,9 @@ pub fn finds_all<E: Entry + Record>(
     table.check(symbols, file).is_ok()
 }
 
-/// The symbol with this name that passes a test, by a table that passes the check. The look-up is never
-/// refused, what it finds bears the name and passes, and where it finds none, no defined symbol from
-/// the first on that isn't local bears the name and passes.
+/// The symbol with this name that passes a test, by a table that passes the check. The look-up is
+/// never refused, what it finds bears the name and passes, and where it finds none, no defined
+/// symbol from the first on that isn't local bears the name and passes.
 pub fn symbol_that<E: Entry + Record, F: Fn(&E) -> bool>(
     table: &GnuHashTable<'_>,
     name: &str,
@@ -63,8 +64,8 @@ pub fn symbol_that<E: Entry + Record, F: Fn(&E) -> bool>(
     }
 }
 
-/// The symbol with this name, by a table that passes the check: a symbol that bears it, or none where
-/// the table is to hold none that does.
+/// The symbol with this name, by a table that passes the check: a symbol that bears it, or none
+/// where the table is to hold none that does.
 pub fn symbol_with_name<E: Entry + Record>(
     table: &GnuHashTable<'_>,
     name: &str,
@@ -90,8 +91,8 @@ pub fn symbol_with_name<E: Entry + Record>(
     }
 }
 
-/// Two symbols by their names, by a table that passes the check. The string table of the symbols is taken
-/// once for both look-ups.
+/// Two symbols by their names, by a table that passes the check. The string table of the symbols is
+/// taken once for both look-ups.
 pub fn two_symbols<E: Entry + Record>(
     table: &GnuHashTable<'_>,
     one: &str,
@@ -116,7 +117,8 @@ pub fn two_symbols<E: Entry + Record>(
     )
 }
 
-/// The symbol with this name, by a table that passes the check and by the string table of its symbols.
+/// The symbol with this name, by a table that passes the check
+/// and by the string table of its symbols.
 pub fn named_symbol<E: Entry + Record>(
     table: &GnuHashTable<'_>,
     name: &str,
@@ -146,8 +148,9 @@ pub fn named_symbol<E: Entry + Record>(
     }
 }
 
-/// The number that `lookup_counted` answers: that of the chain words which the definition of a look-up
-/// passes, and never more than there are symbols. It says nothing of the work that was done.
+/// The number that `lookup_counted` answers: that of the chain words which the
+/// definition of a look-up passes, and never more than there are symbols. It says
+/// nothing of the work that was done.
 pub fn words_looked_at<E: Entry + Record, F: Fn(&E) -> bool>(
     table: &GnuHashTable<'_>,
     name: &str,
@@ -174,8 +177,8 @@ pub enum AnyTable<'a> {
     Gnu(GnuHashTable<'a>),
 }
 
-/// The value of the symbol with this name, by whichever table there is, once its check has passed. None
-/// where the table is to hold no such symbol, and a refusal where the check finds a fault.
+/// The value of the symbol with this name, by whichever table there is, once its check has passed.
+/// None where the table is to hold no such symbol, and a refusal where the check finds a fault.
 pub fn value_by_name<E: Entry + Record>(
     table: &AnyTable<'_>,
     name: &str,

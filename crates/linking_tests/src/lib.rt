@@ -1,4 +1,5 @@
-//! Tests of `elf_linking`: worked tables with their answers, and small shared objects that a linker made.
+//! Tests of `elf_linking`: worked tables with their answers,
+//! and small shared objects that a linker made.
 #![tactic(auto)]
 
 #[cfg(test)]

@@ -1,4 +1,5 @@
-//! Expected values are worked out by hand from the format, and never taken from the program's output.
+//! Expected values are worked out by hand from the format,
+//! and never taken from the program's output.
 
 mod object_symbols;
 mod symbol_sections;

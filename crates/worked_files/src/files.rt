@@ -89,8 +89,8 @@ pub fn dynstr_file(order: Order) -> [u8; 144] {
     file
 }
 
-/// Class 32, in either order: section 1, `.strtab`, holds the names, and section 2, `.symtab_shndx`,
-/// the words 0 and 1, from 195 on.
+/// Class 32, in either order: section 1, `.strtab`, holds the names, and section 2,
+/// `.symtab_shndx`, the words 0 and 1, from 195 on.
 pub fn shndx_file(order: Order) -> [u8; 203] {
     let mut file = [0; 203];
     put(
@@ -196,8 +196,8 @@ pub fn segment_file() -> [u8; 84] {
     file
 }
 
-/// Class 32, with 70,000 sections, whose number stands in section header 0: section 1 holds the names,
-/// section 2 is `.symtab_shndx`, and the last is of type ProgBits and has an empty name.
+/// Class 32, with 70,000 sections, whose number stands in section header 0: section 1 holds the
+/// names, section 2 is `.symtab_shndx`, and the last is of type ProgBits and has an empty name.
 pub fn many_sections_file(alloc: Global) -> Result<Vec<u8>, AllocError> {
     let mut bytes = Vec::new(alloc);
     bytes.resize(2_800_083, 0u8)?;
@@ -223,7 +223,8 @@ pub fn many_sections_file(alloc: Global) -> Result<Vec<u8>, AllocError> {
     Ok(bytes)
 }
 
-/// Class 32: section 2 is a hash table, whose link is section 3, its two symbols; one is called `ab`.
+/// Class 32: section 2 is a hash table, whose link is section 3,
+/// its two symbols; one is called `ab`.
 pub fn hash_file() -> [u8; 276] {
     let mut file = [0; 276];
     put(&mut file, 0, &[0x7f, b'E', b'L', b'F', 1, 1, 1]);

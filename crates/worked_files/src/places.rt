@@ -211,7 +211,8 @@ pub mod symbol_64 {
     pub const SIZE: Place = Place(16, 8);
 }
 
-/// Writes a number into the field of the header that begins at `start`, as far as it lies in the file.
+/// Writes a number into the field of the header that begins at `start`,
+/// as far as it lies in the file.
 pub fn set(file: &mut [u8], start: usize, place: Place, number: u64, order: Order) {
     let mut rest = number;
     for k in 0..place.1 {

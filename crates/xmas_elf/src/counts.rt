@@ -1,4 +1,5 @@
-//! How many sections and segments a file has, and which section holds the names (gABI, "ELF Header").
+//! How many sections and segments a file has, and which section holds the names
+//! (gABI, "ELF Header").
 
 ghost use Rattle.std.specs.Prelude.{◌≡◌, ◌==◌, [], ◌∷◌, None, if◌then◌else◌, length, nat_lt, not};
 ghost use Rattle.std.specs.Result.{result_ok};
@@ -35,8 +36,8 @@ impl ElfFile<'_> {
         }
     }
 
-    /// How many segments the file has: the count of the ELF header, or for 0xffff the info of section
-    /// header 0; 0xffff where that can't be read (gABI, "ELF Header", e_phnum).
+    /// How many segments the file has: the count of the ELF header, or for 0xffff the info of
+    /// section header 0; 0xffff where that can't be read (gABI, "ELF Header", e_phnum).
     #[tactic(auto, unfolding(crate::specs::Counts::program_count_of))]
     #[inline(always)]
     pub fn program_count(&self) -> u32
@@ -51,11 +52,11 @@ impl ElfFile<'_> {
         }
     }
 
-    /// The index of the section that holds the names of the sections: that of the ELF header, or for
-    /// 0xffff the link of section header 0 (gABI, "ELF Header", e_shstrndx).
+    /// The index of the section that holds the names of the sections: that of the ELF header, or
+    /// for 0xffff the link of section header 0 (gABI, "ELF Header", e_shstrndx).
     ///
-    /// Refused with `ReservedIndex` for 0xff00 to 0xfffe, and for 0xffff where section header 0 can't
-    /// be read.
+    /// Refused with `ReservedIndex` for 0xff00 to 0xfffe,
+    /// and for 0xffff where section header 0 can't be read.
     #[tactic(auto, unfolding(crate::specs::Counts::shstr_index_of))]
     #[inline(always)]
     pub fn shstr_index(&self) -> Result<u32, ElfError>

@@ -21,9 +21,9 @@ pub use elf_base::header::{
 /// Whether the ELF header of a file makes sense over its input.
 ///
 /// Refused with the first that holds of `BadMagic`; `HeaderSize` where the header says another size
-/// than that of its two parts; `NoClass` for class 0; `ClassMismatch` where the class is not that of
-/// part 2; `NoVersion` and `NoDataFormat` for a 0 there; `PhTableRange` and `ShTableRange` where a
-/// header table passes the end of the input.
+/// than that of its two parts; `NoClass` for class 0; `ClassMismatch` where the class is not that
+/// of part 2; `NoVersion` and `NoDataFormat` for a 0 there; `PhTableRange` and `ShTableRange` where
+/// a header table passes the end of the input.
 pub fn sanity_check(file: &ElfFile<'_>) -> Result<(), ElfError>
     ensures exact { result ≡ header_check file.now }
 

@@ -1,16 +1,17 @@
 //! A reader of ELF files that lie in a byte slice.
 //!
-//! Field values are those of the file, and every slice and text that is handed out is a part of the
-//! input, but for the empty slice of an empty segment. No call takes memory, and each returns on every
-//! input.
+//! Field values are those of the file, and every slice and text that is handed out is a part of
+//! the input, but for the empty slice of an empty segment. No call takes memory, and each
+//! returns on every input.
 //!
 //! `ElfFile` is a file. Its calls stand beside their subject:
 //!
 //! - `counts`: how many sections and segments there are, and which section holds the names.
-//! - `sections`, `program`: a header by its index, and all of them in order; what each says, its data,
-//!   and what they are taken for; the checks.
+//! - `sections`, `program`: a header by its index, and all of them in order; what each says, its
+//!   data, and what they are taken for; the checks.
 //! - `names`: the names of sections, and the section with a name.
-//! - `string_tables`, `symbol_table`, `hash`: the names of symbols, the symbols, and look-ups of them.
+//! - `string_tables`, `symbol_table`, `hash`: the names of symbols, the symbols,
+//!   and look-ups of them.
 //! - `extensions`, with `notes`: build ids and links to debug information.
 //! - `header`: the ELF header and its check. `dynamic`: the entries of the dynamic section.
 //! - `report`: what `elfinfo` prints. `bytes`: numbers, records and texts in bytes. `ranges`: where

@@ -1,4 +1,5 @@
-//! The names of sections, and the section with a name (gABI, "String Table" and "Sections", sh_name).
+//! The names of sections, and the section with a name
+//! (gABI, "String Table" and "Sections", sh_name).
 
 ghost use Rattle.std.specs.Prelude.{◌≡◌, ◌↔◌, ◌+◌, ◌≤◌, Err, IfNone, IfOk, IfSome, IsOkAnd, IsTrue, List, Ok, Some, length, ℕ};
 ghost use Rattle.std.specs.Result.{ForErr, ForOk};
@@ -17,8 +18,8 @@ use crate::sections::{SectionHeader, section_entry};
 use crate::{ElfError, ElfFile};
 
 impl<'a> ElfFile<'a> {
-    /// The text at an index of the name table, in bytes: up to the next zero byte of the input, also
-    /// where the section ends before it. It lives as long as the input.
+    /// The text at an index of the name table, in bytes: up to the next zero byte of the input,
+    /// also where the section ends before it. It lives as long as the input.
     ///
     /// Refused as `shstr_index` and then as `section_header_at` of that index is, with
     /// `ShortSectionOffset` where that section begins past the end of the input, and as

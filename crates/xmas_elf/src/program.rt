@@ -86,8 +86,8 @@ pub struct ProgramIter<'b, 'a> {
 }
 
 impl ProgramIter<'_, '_> {
-    /// The program header at the next index, and on to the index after it. At the end it is `None` and
-    /// the index stays, so that only `None` follows.
+    /// The program header at the next index, and on to the index after it. At the end it is `None`
+    /// and the index stays, so that only `None` follows.
     ///
     /// This is the call of `Iterator`, with what becomes of the index.
     #[inline(always)]
@@ -118,10 +118,10 @@ impl Iterator for ProgramIter<'_, '_> {
 
 /// Whether a program header makes sense over a file.
 ///
-/// Refused with the first that holds of `PhSizeMismatch` where the table's entries have another size
-/// than the record; `EntryPointRange` where the segment does not end before the end of the input
-/// (also where it ends right there, as in the Rust crate); `InvalidPhType`; `ShLibUsed` for type
-/// ShLib; and `BadAlign` where address and offset differ modulo an alignment above 1.
+/// Refused with the first that holds of `PhSizeMismatch` where the table's entries have another
+/// size than the record; `EntryPointRange` where the segment does not end before the end of the
+/// input (also where it ends right there, as in the Rust crate); `InvalidPhType`; `ShLibUsed` for
+/// type ShLib; and `BadAlign` where address and offset differ modulo an alignment above 1.
 #[tactic(auto, unfolding(crate::specs::Checks::program_check))]
 #[inline(always)]
 pub fn sanity_check(program: ProgramHeader, file: &ElfFile<'_>) -> Result<(), ElfError>

@@ -79,7 +79,8 @@ impl<'a> ElfFile<'a> {
     }
 }
 
-/// The section headers of a file in order, up to the count of sections or the first that is refused.
+/// The section headers of a file in order, up to the count of sections
+/// or the first that is refused.
 #[derive(Clone, Debug, Drop)]
 pub struct SectionIter<'b, 'a> {
     /// The file whose sections they are.
@@ -89,8 +90,8 @@ pub struct SectionIter<'b, 'a> {
 }
 
 impl SectionIter<'_, '_> {
-    /// The section header at the next index, and on to the index after it. At the end it is `None` and
-    /// the index stays, so that only `None` follows.
+    /// The section header at the next index, and on to the index after it. At the end it is `None`
+    /// and the index stays, so that only `None` follows.
     ///
     /// This is the call of `Iterator`, with what becomes of the index.
     #[inline(always)]

@@ -13,8 +13,8 @@ impl<'a> ElfFile<'a> {
     /// lives as long as the input.
     ///
     /// Refused with `NoStrtab` where no section bears that name, with `StrtabType` where the first
-    /// that does has another type than StrTab, with `DataRange` where its data passes the end of the
-    /// input, and as `bytes::text_at` is.
+    /// that does has another type than StrTab, with `DataRange` where its data passes the end of
+    /// the input, and as `bytes::text_at` is.
     ///
     /// Each call looks for the section by its name, in one pass over the section headers. For many
     /// texts, take `raw_data` of the section once, and then `bytes::text_at` of it.
@@ -29,8 +29,9 @@ impl<'a> ElfFile<'a> {
 
     /// The text at an index of `.dynstr`, in bytes, like that of `.strtab` by `get_string`.
     ///
-    /// Refused with `NoDynstr` where no section bears that name, with `DataRange` where the data of the
-    /// first that does, whatever its type, passes the end of the input, and as `bytes::text_at` is.
+    /// Refused with `NoDynstr` where no section bears that name, with `DataRange` where the data
+    /// of the first that does, whatever its type, passes the end of the input, and as
+    /// `bytes::text_at` is.
     #[tactic(auto, unfolding(crate::specs::StringTable::dyn_string_of))]
     pub fn get_dyn_string(&self, index: u32) -> Result<&'a str, ElfError>
         ensures text { Lends (IsDynString self.now index) result }

@@ -16,8 +16,8 @@ const LITTLE: Order = Order::Little;
 // The names of the sections and of the symbols.
 const NAMES: &[u8; 23] = b"\0.strtab\0.symtab\0ab\0cd\0";
 
-// Symbols by name, info, value and size: an object and a function at the same place, a function that
-// begins within that one, and a function without a name.
+// Symbols by name, info, value and size: an object and a function at the same place, a function
+// that begins within that one, and a function without a name.
 const SYMBOLS: &[(u64, u64, u64, u64)] = &[
     (20, 0x11, 0x100, 0x10),
     (17, 0x12, 0x100, 0x10),
@@ -75,7 +75,8 @@ fn put_symbols_64(file: &mut [u8], place: usize) {
     }
 }
 
-// The same file in class 64: the section headers begin at 64, the names at 256 and the symbols at 279.
+// The same file in class 64: the section headers begin at 64,
+// the names at 256 and the symbols at 279.
 fn symtab_file_64() -> [u8; 375] {
     let mut file = [0; 375];
     put(&mut file, 0, &[0x7f, b'E', b'L', b'F', 2, 1, 1]);

@@ -16,7 +16,8 @@ const NOTE: usize = 84;
 
 const LAST: usize = 116;
 
-// Class 32: two segments of type Load, with one of type Note between them, and ten bytes from 148 on.
+// Class 32: two segments of type Load, with one of type Note between them,
+// and ten bytes from 148 on.
 fn load_file() -> [u8; 158] {
     let mut file = [0; 158];
     put(&mut file, 0, &[0x7f, b'E', b'L', b'F', 1, 1, 1]);

@@ -14,8 +14,8 @@ use xmas_elf::sections::ShType;
 
 const LITTLE: Order = Order::Little;
 
-// What is wanted of a name of `debug_link_file`, from one byte up to a zero byte, in a prefix of so many
-// bytes.
+// What is wanted of a name of `debug_link_file`, from one byte up to a zero byte,
+// in a prefix of so many bytes.
 fn link_name(
     len: usize,
     start: usize,

@@ -58,7 +58,8 @@ pub struct WantedFile<'a> {
     pub report: [&'static str; 3],
 }
 
-/// Wants these answers over the file that these bytes are, or this refusal of them, and a report of no other.
+/// Wants these answers over the file that these bytes are, or this refusal of them,
+/// and a report of no other.
 pub fn check_all_calls(
     rt: &impl Abort,
     alloc: Global,

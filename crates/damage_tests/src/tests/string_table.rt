@@ -27,7 +27,8 @@ fn string(len: usize, text: &'static str) -> Result<&'static str, ElfError> {
     }
 }
 
-// What is wanted of a name of `strtab_file`, from one byte up to a zero byte, in a prefix of so many bytes.
+// What is wanted of a name of `strtab_file`, from one byte up to a zero byte,
+// in a prefix of so many bytes.
 fn strtab_name(
     len: usize,
     start: usize,

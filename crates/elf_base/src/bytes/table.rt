@@ -35,7 +35,8 @@ impl<T: Record> Copy for Table<'_, T> {}
 impl<'a, T: Record> Table<'a, T> {
     ghost use Rattle.elf_base.specs.Table.{record_at, table_bytes, table_data, table_items, table_order, table_rest};
 
-    /// The table of the records in `bytes`; `NotMultiple` where their length is no multiple of `SIZE`.
+    /// The table of the records in `bytes`; `NotMultiple`
+    /// where their length is no multiple of `SIZE`.
     #[inline(always)]
     pub fn new(bytes: &'a [u8], order: Order) -> Result<Self, ElfError>
         ensures { MatchResult result

@@ -13,8 +13,8 @@ use memchr::memchr;
 
 /// The text from `start`, which is in bytes, up to the first zero byte.
 ///
-/// Refused with `TextStart` for a start past the end of the data, `TextEnd` if no zero byte follows,
-/// and `TextUtf8` if what stands before it is not UTF-8.
+/// Refused with `TextStart` for a start past the end of the data, `TextEnd` if no zero byte
+/// follows, and `TextUtf8` if what stands before it is not UTF-8.
 #[inline(always)]
 pub fn text_at(data: &[u8], start: usize) -> Result<&str, ElfError>
     ensures text { Lends (IsText «data».now start) result }
@@ -78,8 +78,8 @@ pub fn text_is(data: &[u8], start: usize, text: &str) -> (bool, usize)
 }
 
 /// Whether the text from `start`, which is in bytes, up to the first zero byte is this one: as by
-/// `text_is`, without the number. The zero byte behind the text is looked for first, as it tells most
-/// texts of other lengths apart, and one within `text` only where all else agrees.
+/// `text_is`, without the number. The zero byte behind the text is looked for first, as it tells
+/// most texts of other lengths apart, and one within `text` only where all else agrees.
 #[inline(always)]
 pub fn stands_at(data: &[u8], start: usize, text: &str) -> bool
     ensures { IsTrue result ↔ IsText «data».now start text.now }

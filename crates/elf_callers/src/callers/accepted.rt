@@ -22,8 +22,8 @@ pub fn refusal(input: &[u8]) -> Option<ElfError>
     ElfFile::new(input).err()
 }
 
-/// Whether a section header is refused since the input ends before it does, which is exactly where its
-/// entry passes the end.
+/// Whether a section header is refused since the input ends before it does, which is exactly where
+/// its entry passes the end.
 #[tactic(auto, unfolding(xmas_elf::specs::SectionHeader::section_by_u16, xmas_elf::specs::SectionHeader::section_entry))]
 pub fn is_cut(file: &ElfFile<'_>, index: u16) -> bool
     requires { index < 0xff00 }

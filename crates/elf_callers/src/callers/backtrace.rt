@@ -1,7 +1,7 @@
 //! What a backtrace says of an address: the name of the function that it lies in.
 //!
-//! An address is what the values of the symbols are: one of memory in a program, and an offset in some
-//! section in an object file.
+//! An address is what the values of the symbols are: one of memory in a program, and an offset in
+//! some section in an object file.
 
 ghost use Rattle.std.specs.Prelude.{◌≡◌, ◌↔◌, ◌<◌, ℕ, None, IfErr, IfOk, IsOkAnd, IsTrue, MatchOption, MatchResult, length};
 ghost use Rattle.std.specs.List.{HoldsAt};
@@ -54,8 +54,8 @@ pub fn function_at<E: Entry + Record>(symbols: &Table<'_, E>, address: u64) -> O
     }
 }
 
-/// The name of that function, or none where the address lies in none; refused as `Entry::get_name` is,
-/// where the function has no name.
+/// The name of that function, or none where the address lies in none; refused as `Entry::get_name`
+/// is, where the function has no name.
 pub fn function_name_at<'a, E: Entry + Record>(
     file: &ElfFile<'a>,
     symbols: &Table<'_, E>,

@@ -11,8 +11,8 @@ use xmas_elf::ElfFile;
 use xmas_elf::program::ProgramHeader;
 use xmas_elf::sections::SectionHeader;
 
-/// The data of a section is read as a shape exactly where its type, the class of the file and its size
-/// say so, and its bytes are there.
+/// The data of a section is read as a shape exactly where its type, the class of the file and its
+/// size say so, and its bytes are there.
 pub fn data_is_shaped(file: &ElfFile<'_>, section: SectionHeader)
     ensures { (wanted : Shape)
         → IsOkAnd (section_content_of file.now section) (λ content. shape content ≡ wanted)

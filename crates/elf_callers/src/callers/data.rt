@@ -16,8 +16,8 @@ use xmas_elf::program::{ProgramHeader, SegmentData, Type};
 use xmas_elf::sections::{SectionData, SectionHeader, ShType};
 use xmas_elf::{ElfError, ElfFile};
 
-/// How many symbols a section of class 64 has: as many as 24 goes into its size. None where it holds
-/// none of these.
+/// How many symbols a section of class 64 has: as many as 24 goes into its size. None where it
+/// holds none of these.
 pub fn symbol_count(file: &ElfFile<'_>, section: SectionHeader) -> Option<usize>
     ensures { let found = symbols_64_in (section_content_of file.now section) in MatchOption result
         (found ≡ None) (λ count. IsSome found × (count * 24 ≡ (section_fields section).size)) }
@@ -28,8 +28,9 @@ pub fn symbol_count(file: &ElfFile<'_>, section: SectionHeader) -> Option<usize>
     }
 }
 
-/// The place that the second relocation with an addend of class 64 changes: the number of eight bytes
-/// that stands 24 behind the section's offset. None where it holds none of these, or fewer than two.
+/// The place that the second relocation with an addend of class 64 changes: the number of
+/// eight bytes that stands 24 behind the section's offset. None where it holds none of
+/// these, or fewer than two.
 pub fn second_relocation(file: &ElfFile<'_>, section: SectionHeader) -> Option<u64>
     ensures { let found = rela_64_in (section_content_of file.now section) in MatchOption result
         ((found ≡ None) ⊎ ((section_fields section).size ≤ 24))
@@ -43,8 +44,8 @@ pub fn second_relocation(file: &ElfFile<'_>, section: SectionHeader) -> Option<u
     }
 }
 
-/// The number of buckets of a hash table, which stands at the front of its section. None where it holds
-/// no such table.
+/// The number of buckets of a hash table, which stands at the front of its section. None where it
+/// holds no such table.
 pub fn bucket_count(file: &ElfFile<'_>, section: SectionHeader) -> Option<u32>
     ensures { let found = hash_table_in (section_content_of file.now section) in MatchOption result
         (found ≡ None) (λ count. IsSome found × (count ≡ number (file_order file.now.header) 4 0
@@ -87,8 +88,8 @@ pub fn note_32(file: &ElfFile<'_>, segment: ProgramHeader) -> Option<ElfError>
     segment.get_data(file).err()
 }
 
-/// How many bytes the dynamic section has: as many as its segment. None where the segment is of another
-/// type, or its data is refused.
+/// How many bytes the dynamic section has: as many as its segment. None where the segment is of
+/// another type, or its data is refused.
 pub fn dynamic_bytes(file: &ElfFile<'_>, segment: ProgramHeader) -> Option<usize>
     ensures { let found = dynamic_in (segment_content_of file.now (program_fields segment)) in MatchOption result
         (found ≡ None) (λ count. IsSome found × (count ≡ (program_fields segment).file_size)) }
@@ -138,8 +139,8 @@ pub fn text_in<'a>(file: &ElfFile<'a>, section: SectionHeader, index: usize) -> 
     }
 }
 
-/// How many items the texts of a string table come to, with a fault as the last. None where it is other
-/// data.
+/// How many items the texts of a string table come to, with a fault as the last.
+/// None where it is other data.
 pub fn text_count(part: &SectionData<'_>) -> Option<usize>
     ensures { MatchOption result (string_data (content part.now) ≡ None)
         (λ count. IsSomeAnd (string_data (content part.now)) (λ bytes. count ≡ length (strings_of bytes))) }

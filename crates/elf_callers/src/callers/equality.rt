@@ -1,5 +1,5 @@
-//! `==` of each public type that has it is equality; those of refusals, orders, classes, flags and the
-//! one-number type of classes are in `callers::values`.
+//! `==` of each public type that has it is equality; those of refusals, orders, classes, flags and
+//! the one-number type of classes are in `callers::values`.
 
 ghost use Rattle.std.specs.Prelude.{◌≡◌, ◌↔◌, IsTrue};
 

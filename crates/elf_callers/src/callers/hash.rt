@@ -20,8 +20,8 @@ use xmas_elf::sections::{SectionData, SectionHeader};
 use xmas_elf::symbol_table::{DynEntry64, Entry};
 use xmas_elf::{ElfError, ElfFile};
 
-/// Whether look-ups in a hash table find each symbol that they should: all chains come to an end, and
-/// each symbol that isn't local and has a name is on the chain of that name.
+/// Whether look-ups in a hash table find each symbol that they should: all chains come to an end,
+/// and each symbol that isn't local and has a name is on the chain of that name.
 pub fn finds_all<E: Entry + Record>(
     table: &HashTable<'_>,
     symbols: &Table<'_, E>,
@@ -32,8 +32,8 @@ pub fn finds_all<E: Entry + Record>(
     table.check(symbols, file).is_ok()
 }
 
-/// The symbol with this name, by a table that passes the check: a symbol that bears it, which isn't the
-/// one at index 0, or none where no symbol does but local ones.
+/// The symbol with this name, by a table that passes the check: a symbol that bears it, which isn't
+/// the one at index 0, or none where no symbol does but local ones.
 pub fn symbol_with_name<E: Entry + Record>(
     table: &HashTable<'_>,
     name: &str,
@@ -60,8 +60,9 @@ pub fn symbol_with_name<E: Entry + Record>(
     }
 }
 
-/// The number that `lookup_counted` answers: that of the entries which the definition of a look-up
-/// passes, and never more than there are chains or symbols. It says nothing of the work that was done.
+/// The number that `lookup_counted` answers: that of the entries which the definition of
+/// a look-up passes, and never more than there are chains or symbols. It says nothing of
+/// the work that was done.
 pub fn comparisons<E: Entry + Record, F: Fn(&E) -> bool>(
     table: &HashTable<'_>,
     name: &str,
@@ -103,7 +104,8 @@ fn symbols_at<'a>(file: &ElfFile<'a>, index: u32) -> Option<Table<'a, DynEntry64
     }
 }
 
-/// The hash table of a file of class 64 for the dynamic linker, and the symbols that it is linked to.
+/// The hash table of a file of class 64 for the dynamic linker,
+/// and the symbols that it is linked to.
 pub fn linked_tables<'a>(file: &ElfFile<'a>) -> Option<(HashTable<'a>, Table<'a, DynEntry64>)>
     ensures { MatchOption result (NotLinked file.now) (λ tables.
         AreLinked file.now tables.0 (table_order tables.1) (table_data tables.1)) }
@@ -114,9 +116,9 @@ pub fn linked_tables<'a>(file: &ElfFile<'a>) -> Option<(HashTable<'a>, Table<'a,
     Some((table, symbols))
 }
 
-/// The value of the symbol with this name in some file, as a dynamic linker finds it: by the hash table
-/// and the symbols that it is linked to, once the check has passed. None where there is no such symbol,
-/// and a refusal where the file has no such tables or they don't pass.
+/// The value of the symbol with this name in some file, as a dynamic linker finds it: by the hash
+/// table and the symbols that it is linked to, once the check has passed. None where there is no
+/// such symbol, and a refusal where the file has no such tables or they don't pass.
 pub fn value_of_name(file: &ElfFile<'_>, name: &str) -> Result<Option<u64>, ElfError>
     ensures value { IfOk result (IsFileValueOf file.now name.now) }
     ensures refused { IfErr result (IsLinkRefused file.now) }

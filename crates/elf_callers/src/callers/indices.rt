@@ -1,4 +1,5 @@
-//! Callers that want the index of a header with the header: each index is that of `program_header_at`.
+//! Callers that want the index of a header with the header:
+//! each index is that of `program_header_at`.
 
 ghost use Rattle.std.specs.Prelude.{◌≡◌, ◌<◌, IsOkAnd, MatchOption, Ok, length};
 ghost use Rattle.std.specs.List.{AllWithin, HoldsAt};

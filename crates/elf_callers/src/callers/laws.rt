@@ -24,8 +24,8 @@ pub fn one_segment_number(one: u32, other: u32)
     let _numbers = (one, other);
 }
 
-/// An entry of the dynamic section has both a value and a pointer exactly where its tag is one of the
-/// operating system or of the processor: by `get_val` and `get_ptr`.
+/// An entry of the dynamic section has both a value and a pointer exactly where its tag is one of
+/// the operating system or of the processor: by `get_val` and `get_ptr`.
 pub fn value_and_pointer(tag: u64, value: u64)
     ensures { (IsOk (value_of tag value) × IsOk (pointer_of tag value)) ↔ ((n : ℕ)
         × ((tag_of tag ≡ Ok (Tag.OsSpecific n)) ⊎ (tag_of tag ≡ Ok (Tag.ProcessorSpecific n)))) }

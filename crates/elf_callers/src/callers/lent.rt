@@ -30,8 +30,8 @@ pub struct Overlay<'a> {
     pub place: u64,
 }
 
-/// The data of a section that begins in a segment, and its place there: both parts are the memory of the
-/// input, so what stands behind the place in the one is the other.
+/// The data of a section that begins in a segment, and its place there: both parts are the memory
+/// of the input, so what stands behind the place in the one is the other.
 #[tactic(auto, using(xmas_elf::proofs::lemmas::Lent::lies_between))]
 pub fn section_in_segment<'a>(
     file: &ElfFile<'a>,
@@ -73,7 +73,8 @@ pub fn symbol_bytes<'a>(file: &ElfFile<'a>, section: &SectionHeader) -> Option<&
     }
 }
 
-/// The data of a section by its index, each part of which outlives the `ElfFile` that it was read by.
+/// The data of a section by its index, each part of which outlives the `ElfFile`
+/// that it was read by.
 pub fn section_data_in(input: &[u8], index: u16) -> Result<SectionData<'_>, ElfError>
     ensures found { IfOk result (λ part. IsOkAnd (header_of input.now) (λ header.
         let file : ElfFile = record { input = input.entry; header = header } in

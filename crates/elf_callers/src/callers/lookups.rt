@@ -16,8 +16,8 @@ use xmas_elf::hash::HashTable;
 use xmas_elf::symbol_table::Entry;
 use xmas_elf::{ElfError, ElfFile};
 
-/// A symbol with this name that passes the test, by a table that passed the check; none where a search of
-/// all symbols that aren't local would find none.
+/// A symbol with this name that passes the test, by a table that passed the check; none where a
+/// search of all symbols that aren't local would find none.
 pub fn find_checked<E: Entry + Record, F: Fn(&E) -> bool>(
     table: &HashTable<'_>,
     name: &str,
@@ -39,8 +39,8 @@ pub fn find_checked<E: Entry + Record, F: Fn(&E) -> bool>(
     }
 }
 
-/// The same with the number that `lookup_counted` answers, which is never above that of the chains, nor
-/// that of the symbols.
+/// The same with the number that `lookup_counted` answers, which is never above that of the chains,
+/// nor that of the symbols.
 pub fn find_counted<E: Entry + Record, F: Fn(&E) -> bool>(
     table: &HashTable<'_>,
     name: &str,
@@ -62,8 +62,8 @@ pub fn find_counted<E: Entry + Record, F: Fn(&E) -> bool>(
     table.lookup_counted(name, symbols, file, f)
 }
 
-/// A symbol with this name that some section defines, by a table that passed the check; none where no
-/// symbol that isn't local and bears the name is defined.
+/// A symbol with this name that some section defines, by a table that passed the check; none where
+/// no symbol that isn't local and bears the name is defined.
 pub fn defined_symbol<E: Entry + Record>(
     table: &HashTable<'_>,
     name: &str,
@@ -90,8 +90,8 @@ pub fn defined_symbol<E: Entry + Record>(
     }
 }
 
-/// Two symbols by their names, by a table that passed the check. The string table of the symbols is taken
-/// once for both look-ups.
+/// Two symbols by their names, by a table that passed the check. The string table of the symbols is
+/// taken once for both look-ups.
 pub fn two_symbols<E: Entry + Record>(
     table: &HashTable<'_>,
     one: &str,
@@ -116,7 +116,8 @@ pub fn two_symbols<E: Entry + Record>(
     )
 }
 
-/// A symbol with this name, by a table that passed the check and by the string table of its symbols.
+/// A symbol with this name, by a table that passed the check
+/// and by the string table of its symbols.
 pub fn named_symbol<E: Entry + Record>(
     table: &HashTable<'_>,
     name: &str,
@@ -166,8 +167,8 @@ pub fn defined_number(
     }
 }
 
-/// A look-up by a table that nobody checked before: it is Ok exactly for a table that look-ups can rely on,
-/// and else refused as the check is.
+/// A look-up by a table that nobody checked before: it is Ok exactly for a table that look-ups can
+/// rely on, and else refused as the check is.
 pub fn checked_lookup<E: Entry + Record, F: Fn(&E) -> bool>(
     table: &HashTable<'_>,
     name: &str,
@@ -190,8 +191,8 @@ pub fn checked_lookup<E: Entry + Record, F: Fn(&E) -> bool>(
     }
 }
 
-/// The answer of a look-up in any table: that of the first stop which its walk reaches, and `HashCycle`
-/// exactly where it reaches none.
+/// The answer of a look-up in any table: that of the first stop which its walk reaches, and
+/// `HashCycle` exactly where it reaches none.
 pub fn lookup_anywhere<E: Entry + Record, F: Fn(&E) -> bool>(
     table: &HashTable<'_>,
     name: &str,

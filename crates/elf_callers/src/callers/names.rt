@@ -8,8 +8,8 @@ ghost use Rattle.xmas_elf.specs.TextCompared.{TextCompared};
 use xmas_elf::ElfFile;
 use xmas_elf::bytes::stands_at;
 
-/// How many bytes a comparison with a name looks at: as many as `text_is` says of the name table, so none
-/// where its index is past the end of that.
+/// How many bytes a comparison with a name looks at: as many as `text_is` says of the name table,
+/// so none where its index is past the end of that.
 pub fn compared_bytes(file: &ElfFile<'_>, index: u32, name: &str) -> usize
     ensures counted { (table : List ℕ) → IsNameTable file.now table
         → (answer : Bool) × TextCompared table index name.now answer result }

@@ -15,8 +15,8 @@ ghost use Rattle.xmas_elf.specs.Types.{ElfFile};
 use xmas_elf::sections::NoteHeader;
 use xmas_elf::{ElfError, ElfFile, Extensions};
 
-/// Why a note has no name, if it has none: `NoteName` exactly where there is a text whose length and one
-/// more isn't the size of the name.
+/// Why a note has no name, if it has none: `NoteName` exactly where there is a text whose length
+/// and one more isn't the size of the name.
 pub fn name_refusal(header: &NoteHeader, body: &[u8]) -> Option<ElfError>
     ensures exact { MatchOption result
         ((text : List ℕ) × IsNoteName body.now (note_name_size header.now) text)
@@ -88,8 +88,8 @@ pub fn have_one_build_id(file: &ElfFile<'_>)
     file.get_gnu_buildid();
 }
 
-/// A build id, which outlives the `ElfFile` that it was read by. None where the bytes are refused, or
-/// have none.
+/// A build id, which outlives the `ElfFile` that it was read by.
+/// None where the bytes are refused, or have none.
 pub fn build_id_in<'a>(input: &'a [u8]) -> Option<&'a [u8]>
     ensures found { IfSome result (λ id. IsOkAnd (header_of input.now) (λ header.
         let file : ElfFile = record { input = input.entry; header = header } in
@@ -117,8 +117,8 @@ pub fn link_checksum(file: &ElfFile<'_>) -> Option<u32>
     }
 }
 
-/// The name of the file with the debug information, which outlives the `ElfFile`. None where the bytes
-/// are refused, or have no link.
+/// The name of the file with the debug information, which outlives the `ElfFile`. None where the
+/// bytes are refused, or have no link.
 pub fn debug_file_in<'a>(input: &'a [u8]) -> Option<&'a str>
     ensures found { IfSome result (λ name. IsOkAnd (header_of input.now) (λ header.
         let file : ElfFile = record { input = input.entry; header = header } in

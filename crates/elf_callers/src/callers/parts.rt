@@ -7,7 +7,8 @@ use xmas_elf::hash::HashTable;
 use xmas_elf::program::SegmentData;
 use xmas_elf::sections::SectionData;
 
-/// The bytes that the data of a section lends, whatever it is; none of a hash table, which lends no bytes.
+/// The bytes that the data of a section lends, whatever it is; none of a hash table,
+/// which lends no bytes.
 pub fn section_bytes<'a>(part: &SectionData<'a>) -> Option<&'a [u8]>
     ensures { result ≡ lent_by_section part.now }
 {

@@ -24,8 +24,8 @@ pub fn refused_without_end(bytes: &[u8], start: usize) -> Option<ElfError>
     text_at(bytes, start).err()
 }
 
-/// Why there is no text at a place, if there is none: bytes before the first zero byte that aren't UTF-8
-/// are refused for that.
+/// Why there is no text at a place, if there is none: bytes before the first zero byte that aren't
+/// UTF-8 are refused for that.
 pub fn refused_as_no_text(bytes: &[u8], start: usize) -> Option<ElfError>
     ensures exact { MatchOption result ((text : List ℕ) × IsText bytes.now start text)
         (TextRefused bytes.now start) }

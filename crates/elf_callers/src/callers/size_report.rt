@@ -27,8 +27,8 @@ pub enum SizeKind {
 
 /// How many bytes a file has of each kind.
 ///
-/// The `text` of `size` is `code` and `constants` together, its `data` is `initialised`, and its `bss`
-/// is `zero_initialised`.
+/// The `text` of `size` is `code` and `constants` together, its `data` is `initialised`, and its
+/// `bss` is `zero_initialised`.
 #[derive(Clone, Copy, Debug, Default, PartialEq, Eq)]
 pub struct SizeReport {
     /// Bytes of instructions.
@@ -70,8 +70,8 @@ impl SizeReport {
     }
 }
 
-/// How many bytes a section has: as many as its header says, and none where its type is Null. The size
-/// in section 0 may be the count of sections.
+/// How many bytes a section has: as many as its header says, and none where its type is Null. The
+/// size in section 0 may be the count of sections.
 pub fn section_size(section: &SectionHeader) -> u64
     ensures { result ≡ size_of section.now }
 {
@@ -114,8 +114,8 @@ pub fn size_report(file: &ElfFile<'_>) -> SizeReport
     report
 }
 
-/// The same of a file whose sections can all be read, as many as `section_count` says. Else the answer
-/// is why the first of the others can't be.
+/// The same of a file whose sections can all be read, as many as `section_count` says. Else the
+/// answer is why the first of the others can't be.
 pub fn whole_size_report(file: &ElfFile<'_>) -> Result<SizeReport, ElfError>
     ensures whole { IsOk result ↔ ((index : ℕ) → index < section_count_of file.now
         → IsOk (section_of file.now index)) }

@@ -11,8 +11,8 @@ use xmas_elf::ElfFile;
 use xmas_elf::program::{ProgramHeader, ProgramIter};
 use xmas_elf::sections::{SectionHeader, SectionIter};
 
-/// The next section: the header at the iterator's index exactly where that is below the count and can be
-/// read, whoever wrote the index; then the index goes on by one, and else it stays.
+/// The next section: the header at the iterator's index exactly where that is below the count and
+/// can be read, whoever wrote the index; then the index goes on by one, and else it stays.
 pub fn next_section(sections: &mut SectionIter<'_, '_>) -> Option<SectionHeader>
     ensures there { (section : SectionHeader)
         → sections.old.next_index < section_count_of sections.old.file.now

@@ -73,8 +73,8 @@ pub fn section_of_any<E: Entry>(
     symbol.get_section_header(file, place)
 }
 
-/// The value of a symbol of class 64: the number of eight bytes that stands 8 behind its place. None
-/// where that is at the end of the table or past it.
+/// The value of a symbol of class 64: the number of eight bytes that stands 8 behind its place.
+/// None where that is at the end of the table or past it.
 #[tactic(auto, unfolding(xmas_elf::specs::Symbol::entry_64_fields))]
 pub fn value_at(table: &Table<'_, Entry64>, index: usize) -> Option<u64>
     ensures { MatchOption result (length (table_data table.now) ≤ index * 24)
@@ -84,7 +84,8 @@ pub fn value_at(table: &Table<'_, Entry64>, index: usize) -> Option<u64>
     Some(table.get(index)?.value())
 }
 
-/// The name of a symbol by the bytes of a string table: in each file that has it, what `get_name` answers.
+/// The name of a symbol by the bytes of a string table: in each file that has it,
+/// what `get_name` answers.
 #[tactic(auto, unfolding(xmas_elf::specs::StringTable::string_of))]
 pub fn name_in<'a>(strings: &'a [u8], symbol: &Entry64) -> Result<&'a str, ElfError>
     ensures exact { Answers (text_of strings.now (entry_64_fields symbol.now).name) result }
@@ -113,8 +114,8 @@ pub fn name_of_any<'a, E: Entry>(symbol: &E, file: &ElfFile<'a>) -> Result<&'a s
     symbol.name_in(strings, file)
 }
 
-/// How many bytes the names of all symbols have together, or the greatest number if that is less. Refused
-/// as the name of the first symbol that bears none.
+/// How many bytes the names of all symbols have together, or the greatest number if that is less.
+/// Refused as the name of the first symbol that bears none.
 pub fn name_bytes<E: Entry + Record>(
     file: &ElfFile<'_>,
     symbols: Table<'_, E>,
@@ -131,9 +132,9 @@ pub fn name_bytes<E: Entry + Record>(
     Ok(total)
 }
 
-/// The name of the first symbol in some bytes, which outlives the symbol and the `ElfFile`. Refused as the
-/// bytes of the file are, with `NotMultiple` where those of the symbols are no whole number of them, with
-/// `SymbolIndex` where there are none, and as the name is.
+/// The name of the first symbol in some bytes, which outlives the symbol and the `ElfFile`. Refused
+/// as the bytes of the file are, with `NotMultiple` where those of the symbols are no whole number
+/// of them, with `SymbolIndex` where there are none, and as the name is.
 pub fn first_name<'a>(input: &'a [u8], symbols: &[u8], order: Order) -> Result<&'a str, ElfError>
     ensures { Answers (first_name_of input.entry order symbols.now) result }
 {

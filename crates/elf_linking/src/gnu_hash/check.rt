@@ -17,18 +17,18 @@ impl<'a> GnuHashTable<'a> {
     ghost use Rattle.elf_linking.specs.GoodGnu.{AreGoodBelow, Ends, IsAtFault, IsBucketGood, IsCheck, IsCut, IsExported, IsGood, IsHeld};
     ghost use Rattle.elf_linking.specs.Run.{ComeFrom, EndsRun, IsThere};
 
-    /// Whether the runs of all buckets end, and each symbol that the table is to hold is where a look-up
-    /// for its name comes by, so that `lookup` finds it. It is to hold those from `first_symbol` on that
-    /// are defined and not local and have a name. A binding that has no meaning isn't local, and a
-    /// symbol whose name is refused needs no place.
+    /// Whether the runs of all buckets end, and each symbol that the table is to hold is where a
+    /// look-up for its name comes by, so that `lookup` finds it. It is to hold those from
+    /// `first_symbol` on that are defined and not local and have a name. A binding that has no
+    /// meaning isn't local, and a symbol whose name is refused needs no place.
     ///
-    /// Refused as `lookup` is on the run of the least bucket at fault, and with `Missing` where there is
-    /// none and a symbol is missing.
+    /// Refused as `lookup` is on the run of the least bucket at fault, and with `Missing` where
+    /// there is none and a symbol is missing.
     ///
-    /// It takes no memory, and marks nothing. It costs one pass over the buckets, one over the chain
-    /// words and one over the symbols, whatever the bytes are. It looks the string table of the symbols
-    /// up once, as `Entry::string_table` does, and reads the name of each symbol there at most once;
-    /// symbols may share a long one.
+    /// It takes no memory, and marks nothing. It costs one pass over the buckets, one over the
+    /// chain words and one over the symbols, whatever the bytes are. It looks the string table of
+    /// the symbols up once, as `Entry::string_table` does, and reads the name of each symbol there
+    /// at most once; symbols may share a long one.
     pub fn check<E: Entry + Record>(
         &self,
         symbols: &Table<'_, E>,
@@ -48,8 +48,9 @@ impl<'a> GnuHashTable<'a> {
         }
     }
 
-    // Whether the runs of all buckets end, or why that of the least bucket at fault doesn't: one pass
-    // over the chain words tells up to which index runs end, and one over the buckets then asks.
+    // Whether the runs of all buckets end, or why that of the least bucket at fault
+    // doesn't: one pass over the chain words tells up to which index runs end, and one over
+    // the buckets then asks.
     fn check_buckets<E: Record>(&self, symbols: &Table<'_, E>) -> Result<(), LinkError>
         ensures { let items = table_items symbols.now in MatchResult result
             (λ _. AreGoodBelow self.now items (bucket_count_of self.now))
@@ -95,8 +96,8 @@ impl<'a> GnuHashTable<'a> {
         Err(self.reason(from, symbols))
     }
 
-    // The index behind the last chain word that ends a run, of those that are there with their symbols;
-    // 0 where none does.
+    // The index behind the last chain word that ends a run, of those that are there with their
+    // symbols; 0 where none does.
     fn runs_end<E: Record>(&self, symbols: &Table<'_, E>) -> u64
         ensures ends { (from : ℕ) → first_symbol_of self.now ≤ from → from < result
             → Ends self.now (table_items symbols.now) from }
@@ -117,7 +118,8 @@ impl<'a> GnuHashTable<'a> {
         end
     }
 
-    // Why a run on which no word is the last doesn't end: symbols or chain words come to their end first.
+    // Why a run on which no word is the last doesn't end:
+    // symbols or chain words come to their end first.
     fn reason<E: Record>(&self, from: u32, symbols: &Table<'_, E>) -> LinkError
         requires begins { first_symbol_of self.now ≤ from }
         requires endless { (i : ℕ) → from ≤ i → IsThere self.now (table_items symbols.now) i
@@ -134,8 +136,8 @@ impl<'a> GnuHashTable<'a> {
         }
     }
 
-    // Whether each symbol is held that must be: one pass over the symbols, which knows at each from which
-    // index on runs come to it.
+    // Whether each symbol is held that must be: one pass over the symbols, which knows at each from
+    // which index on runs come to it.
     fn holds_all<E: Entry + Record>(&self, symbols: &Table<'_, E>, file: &ElfFile<'_>) -> bool
         ensures yes { let all = symbols_of E.fields E.text_in symbols.now file.now in
             IsTrue result → (i : ℕ) (e : E) (name : List ℕ) → IsExported self.now all i e name
@@ -158,7 +160,8 @@ impl<'a> GnuHashTable<'a> {
         true
     }
 
-    // The index from which on runs come to the next symbol, where those from `from` on come to this one.
+    // The index from which on runs come to the next symbol,
+    // where those from `from` on come to this one.
     fn next_from<E: Record>(&self, index: usize, from: usize, symbols: &Table<'_, E>) -> usize
         requires room { index + 1 < 2 ^ 64 }
         requires below { index < length (table_items symbols.now) }
@@ -184,8 +187,8 @@ impl<'a> GnuHashTable<'a> {
         }
     }
 
-    // Whether the symbol at an index is held, if it must be, where the runs from `from` on come to it: it
-    // is asked for its binding and section first, then for its name.
+    // Whether the symbol at an index is held, if it must be, where the runs from `from` on come to
+    // it: it is asked for its binding and section first, then for its name.
     fn holds<E: Entry + Record>(
         &self,
         index: usize,

@@ -7,14 +7,15 @@ use crate::LinkError;
 use crate::gnu_hash::GnuHashTable;
 
 impl GnuHashTable<'_> {
-    /// How many symbols the table is for, with those before its first: the greatest index that the run of
-    /// a bucket reaches, and one more; `first_symbol` where no bucket has a run.
+    /// How many symbols the table is for, with those before its first: the greatest index that the
+    /// run of a bucket reaches, and one more; `first_symbol` where no bucket has a run.
     ///
-    /// Refused where the run that begins last leaves the table: as `get_chain` is of the index where it
-    /// does, with `ChainIndex` or `ChainData`; and with `SymbolIndex` where its end has no index of 32
-    /// bits.
+    /// Refused where the run that begins last leaves the table: as `get_chain` is of the index
+    /// where it does, with `ChainIndex` or `ChainData`; and with `SymbolIndex` where its end has
+    /// no index of 32 bits.
     ///
-    /// It costs one pass over the buckets, and one over the chain words of the run that begins last.
+    /// It costs one pass over the buckets, and one over the chain words
+    /// of the run that begins last.
     pub fn symbol_count(&self) -> Result<u64, LinkError>
         ensures exact { IsCount self.now result }
         ensures only { (other : Result ℕ LinkError) → IsCount self.now other → other ≡ result }

@@ -98,20 +98,21 @@ impl<'a> GnuHashTable<'a> {
     ghost use Rattle.elf_linking.specs.GoodGnu.{FindsAll, IsGood};
     ghost use Rattle.elf_linking.specs.Run.{Looks, LooksFrom};
 
-    /// The first symbol on the run of a name that has the name's hash number, bears the name and passes
-    /// the test, with its index; `None` where the run ends before one, the bucket has no run, the Bloom
-    /// words say that the name isn't there, or there are no buckets.
+    /// The first symbol on the run of a name that has the name's hash number, bears the name and
+    /// passes the test, with its index; `None` where the run ends before one, the bucket has no
+    /// run, the Bloom words say that the name isn't there, or there are no buckets.
     ///
-    /// Refused with `ChainIndex` where the run begins before `first_symbol`; and with `SymbolIndex` or
-    /// `ChainData` where it comes to an index that has no symbol, or whose chain word doesn't lie whole
-    /// in the data. It is never refused, and misses no symbol, where `check` is Ok with the same symbols
-    /// and file.
+    /// Refused with `ChainIndex` where the run begins before `first_symbol`; and with `SymbolIndex`
+    /// or `ChainData` where it comes to an index that has no symbol, or whose chain word doesn't
+    /// lie whole in the data. It is never refused, and misses no symbol, where `check` is Ok with
+    /// the same symbols and file.
     ///
-    /// It looks at no more chain words than there are symbols. Where there is a run it looks the string
-    /// table of the symbols up once, as `Entry::string_table` does, and compares the names there in place.
+    /// It looks at no more chain words than there are symbols. Where there is a run it looks the
+    /// string table of the symbols up once, as `Entry::string_table` does, and compares the
+    /// names there in place.
     ///
-    /// What is promised of the answer holds for a test with one answer for each symbol. A closure says
-    /// its answer by a clause, as `|_| -> bool ensures { result ≡ true } { true }`.
+    /// What is promised of the answer holds for a test with one answer for each symbol. A closure
+    /// says its answer by a clause, as `|_| -> bool ensures { result ≡ true } { true }`.
     pub fn lookup<E: Entry + Record, F: Fn(&E) -> bool>(
         &self,
         name: &str,
@@ -134,8 +135,8 @@ impl<'a> GnuHashTable<'a> {
         self.lookup_counted(name, symbols, file, f).0
     }
 
-    /// The answer of `lookup`, and how many chain words it looked at, which are never more than there
-    /// are symbols.
+    /// The answer of `lookup`, and how many chain words it looked at,
+    /// which are never more than there are symbols.
     pub fn lookup_counted<E: Entry + Record, F: Fn(&E) -> bool>(
         &self,
         name: &str,
@@ -159,11 +160,12 @@ impl<'a> GnuHashTable<'a> {
         self.search(name, None, symbols, file, &f)
     }
 
-    /// The answer of `lookup`, by what `Entry::string_table` answers for that file: to be taken once for
-    /// many look-ups, since it is looked up by its section's name. `None` reads each name by `get_name`.
+    /// The answer of `lookup`, by what `Entry::string_table` answers for that file: to be
+    /// taken once for many look-ups, since it is looked up by its section's name. `None` reads
+    /// each name by `get_name`.
     ///
-    /// Of the answer it promises what `lookup` does, wherever the names of such symbols stand in the table
-    /// that is handed in.
+    /// Of the answer it promises what `lookup` does, wherever the names of such symbols stand in
+    /// the table that is handed in.
     pub fn lookup_in<E: Entry + Record, F: Fn(&E) -> bool>(
         &self,
         name: &str,
@@ -218,8 +220,8 @@ impl<'a> GnuHashTable<'a> {
         self.search(name, Some(strings), symbols, file, &f)
     }
 
-    // The look-up by a test that is lent: the walk from the bucket of the name on. Where the string table
-    // isn't handed in, it is looked up once there is a run.
+    // The look-up by a test that is lent: the walk from the bucket of the name on. Where the string
+    // table isn't handed in, it is looked up once there is a run.
     fn search<E: Entry + Record, F: Fn(&E) -> bool>(
         &self,
         name: &str,

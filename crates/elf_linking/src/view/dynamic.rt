@@ -53,11 +53,11 @@ fn dynamic_segment(file: &ElfFile<'_>) -> Option<ProgramHeader>
 impl<'a> DynamicView<'a> {
     ghost use Rattle.elf_linking.specs.DynamicView.{IsTextWith, dynamic_entries_of, needed_left, needed_of, strings_by, view_entries, view_strings};
 
-    /// What the first segment of type Dynamic says. Its entries end before the first whose tag is Null,
-    /// or at the end of the segment.
+    /// What the first segment of type Dynamic says. Its entries end before the first whose tag is
+    /// Null, or at the end of the segment.
     ///
-    /// Refused with `NoDynamic` where there is no such segment, and as its `ProgramHeader::get_data` is:
-    /// with `Elf` of `DataRange`, `UnknownClass` or `NotMultiple`.
+    /// Refused with `NoDynamic` where there is no such segment, and as its
+    /// `ProgramHeader::get_data` is: with `Elf` of `DataRange`, `UnknownClass` or `NotMultiple`.
     #[tactic(auto, unfolding(crate::specs::DynamicView::dynamic_entries_of))]
     pub fn read(file: &ElfFile<'a>) -> Result<DynamicView<'a>, LinkError>
         ensures exact { MatchResult result
@@ -159,8 +159,8 @@ fn strings_by<'a>(
 
 /// The string table of the dynamic segment: the bytes at its entries StrTab and StrSize.
 ///
-/// Refused as `DynamicView::read` is; with `NoEntry` where one of the two entries is missing; and as
-/// `bytes_at` is.
+/// Refused as `DynamicView::read` is; with `NoEntry` where one of the two entries is missing;
+/// and as `bytes_at` is.
 #[tactic(auto, unfolding(crate::specs::DynamicView::strings_of))]
 pub fn strings<'a>(file: &ElfFile<'a>) -> Result<&'a [u8], LinkError>
     ensures { lent result ≡ strings_of file.now }

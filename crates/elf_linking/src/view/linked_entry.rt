@@ -14,8 +14,8 @@ use elf_base::bytes::{Order, Record, text_at};
 use xmas_elf::ElfFile;
 use xmas_elf::symbol_table::{DynEntry32, DynEntry64, Entry, Visibility_};
 
-/// A symbol of the layout of another, whose name stands in the string table of the dynamic segment, so
-/// that it has one without section headers.
+/// A symbol of the layout of another, whose name stands in the string table of the dynamic segment,
+/// so that it has one without section headers.
 #[derive(Clone, Copy, Debug)]
 pub struct Linked<E>(E);
 

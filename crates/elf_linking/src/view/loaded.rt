@@ -44,11 +44,12 @@ fn first_holder(file: &ElfFile<'_>, address: u64, count: u64) -> Option<ProgramH
     None
 }
 
-/// The bytes of the file at so many addresses from one on, which live as long as the input: those of
-/// the first loaded segment that has them all.
+/// The bytes of the file at so many addresses from one on, which live as long as the input: those
+/// of the first loaded segment that has them all.
 ///
-/// Refused with `Address` where no loaded segment has all of them in the file, and as
-/// `ProgramHeader::raw_data` is where the segment that should have them passes the end of the input.
+/// Refused with `Address` where no loaded segment has all of them in the file, and
+/// as `ProgramHeader::raw_data` is where the segment that should have them passes
+/// the end of the input.
 #[tactic(auto, unfolding(crate::specs::Loaded::bytes_at_of))]
 pub fn bytes_at<'a>(file: &ElfFile<'a>, address: u64, count: u64) -> Result<&'a [u8], LinkError>
     ensures found { IfOk result (λ part. IsAt file.now address count part.now) }

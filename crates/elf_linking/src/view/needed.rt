@@ -1,4 +1,5 @@
-//! The texts that entries of a dynamic segment name (gABI, "Dynamic Section": DT_NEEDED and the like).
+//! The texts that entries of a dynamic segment name
+//! (gABI, "Dynamic Section": DT_NEEDED and the like).
 
 ghost use Rattle.std.specs.Prelude.{◌≡◌};
 ghost use Rattle.elf_linking.specs.DynamicEntries.{entries_left};

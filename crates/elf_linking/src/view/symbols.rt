@@ -22,11 +22,12 @@ const SYMBOL_TABLE: u64 = 6;
 impl<'a> DynamicView<'a> {
     ghost use Rattle.elf_linking.specs.DynamicView.{view_entries};
 
-    /// How many symbols the dynamic segment has, which no entry says: as many as the hash table of the
-    /// ELF standard has chains, if there is one, and else `GnuHashTable::symbol_count` of GNU's.
+    /// How many symbols the dynamic segment has, which no entry says: as many as the hash
+    /// table of the ELF standard has chains, if there is one, and else
+    /// `GnuHashTable::symbol_count` of GNU's.
     ///
-    /// Refused as `hash_table` is where there is an entry Hash; and else as `gnu_hash_table` is, and as
-    /// `GnuHashTable::symbol_count` is.
+    /// Refused as `hash_table` is where there is an entry Hash; and else as `gnu_hash_table` is,
+    /// and as `GnuHashTable::symbol_count` is.
     pub fn symbol_count(&self, file: &ElfFile<'a>) -> Result<u64, LinkError>
         ensures exact { IsSymbolCount file.now (view_entries self.now) result }
         ensures bound { IfOk result (λ count. count ≤ 2 ^ 32) }
@@ -45,7 +46,8 @@ impl<'a> DynamicView<'a> {
 
     /// The symbols of a file of class 32: `symbol_count` of them from the entry SymTab on.
     ///
-    /// Refused as `symbol_count` is; with `NoEntry` where there is no entry SymTab; and as `bytes_at` is.
+    /// Refused as `symbol_count` is; with `NoEntry` where there is no entry SymTab;
+    /// and as `bytes_at` is.
     pub fn symbols_32(&self, file: &ElfFile<'a>) -> Result<Table<'a, LinkedEntry32>, LinkError>
         ensures { let are = AreSymbols file.now (view_entries self.now) 16 in MatchResult result
             (λ symbols. are (Ok (table_data symbols))

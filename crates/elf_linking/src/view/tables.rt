@@ -1,5 +1,5 @@
-//! The hash tables that a dynamic segment names (gABI, "Dynamic Section": DT_HASH; DT_GNU_HASH of GNU
-//! binutils and glibc).
+//! The hash tables that a dynamic segment names (gABI, "Dynamic Section": DT_HASH; DT_GNU_HASH of
+//! GNU binutils and glibc).
 
 ghost use Rattle.std.specs.Prelude.{◌≡◌, Ok, Err, MatchResult};
 ghost use Rattle.elf_base.specs.FileHeader.{file_class, file_order};
@@ -26,11 +26,11 @@ impl<'a> DynamicView<'a> {
     ghost use Rattle.elf_linking.specs.GnuHash.{gnu_class, gnu_data, gnu_order};
     ghost use Rattle.xmas_elf.specs.HashTable.{hash_data, hash_order};
 
-    /// The hash table of the ELF standard: the bytes from the entry Hash on, up to the end of what the
-    /// segment has in the file.
+    /// The hash table of the ELF standard: the bytes from the entry Hash on, up to the end of what
+    /// the segment has in the file.
     ///
-    /// Refused with `NoEntry` where there is no such entry, as `bytes_from` is, and as `HashTable::read`
-    /// is.
+    /// Refused with `NoEntry` where there is no such entry, as `bytes_from` is, and as
+    /// `HashTable::read` is.
     pub fn hash_table(&self, file: &ElfFile<'a>) -> Result<HashTable<'a>, LinkError>
         ensures { let answer = hash_table_of file.now (view_entries self.now) in MatchResult result
             (λ table. (answer ≡ Ok (hash_data table)) × (hash_order table ≡ file_order file.now.header))
@@ -43,8 +43,8 @@ impl<'a> DynamicView<'a> {
         }
     }
 
-    /// GNU's hash table: the bytes from the entry GnuHash on, up to the end of what the segment has in
-    /// the file.
+    /// GNU's hash table: the bytes from the entry GnuHash on,
+    /// up to the end of what the segment has in the file.
     ///
     /// Refused with `NoEntry` where there is no such entry, as `bytes_from` is, and as
     /// `GnuHashTable::read` is.

@@ -67,8 +67,9 @@ impl NoteHeader {
 }
 
 impl NoteHeader {
-    /// The name of the note, without its zero byte: `TextEnd` where no zero byte follows, `TextUtf8`, and
-    /// `NoteName` where the text with its zero byte has not the size that the header says.
+    /// The name of the note, without its zero byte: `TextEnd` where no zero byte
+    /// follows, `TextUtf8`, and `NoteName` where the text with its zero byte has not the
+    /// size that the header says.
     #[tactic(auto, unfolding(crate::specs::Note::note_name_of))]
     #[inline(always)]
     pub fn name<'a>(&self, body: &'a [u8]) -> Result<&'a str, ElfError>

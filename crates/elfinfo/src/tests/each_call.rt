@@ -153,8 +153,8 @@ impl Read for SlowReader<'_> {
     }
 }
 
-// Runs over a file whose read fails after so many calls, into writers that fail after so many. Answers
-// the status.
+// Runs over a file whose read fails after so many calls,
+// into writers that fail after so many. Answers the status.
 fn status(
     alloc: Global,
     file: &[u8],

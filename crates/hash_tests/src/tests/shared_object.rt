@@ -1,5 +1,5 @@
-//! Shared objects as a compiler and a linker make them: their hash tables are good, and a look-up finds
-//! each exported name where `readelf` says that it is.
+//! Shared objects as a compiler and a linker make them: their hash tables are good, and a look-up
+//! finds each exported name where `readelf` says that it is.
 //!
 //! Both were made by gcc 12.2 and GNU ld 2.40 from this source, and are kept here byte for byte:
 //!
@@ -108,8 +108,8 @@ fn numbers<E: Entry + Record>(found: Option<(u32, E)>) -> Option<(usize, u64)> {
     found.map(|(index, symbol)| (index as usize, symbol.value()))
 }
 
-// Wants each exported name at its index with its value, and no other name; also by a string table that is
-// taken once.
+// Wants each exported name at its index with its value, and no other name;
+// also by a string table that is taken once.
 fn check_look_ups<E: Entry + Record>(
     rt: &impl Abort,
     table: &HashTable<'_>,

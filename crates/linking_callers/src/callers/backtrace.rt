@@ -1,5 +1,5 @@
-//! What a backtrace says of an address in a file without section headers: the name of the function that it
-//! lies in, by the symbols that the dynamic segment names.
+//! What a backtrace says of an address in a file without section headers: the name of the function
+//! that it lies in, by the symbols that the dynamic segment names.
 
 ghost use Rattle.elf_linking.specs.DynamicView.{view_entries};
 ghost use Rattle.linking_callers.specs.LinkedFunction.{IsLinkedFunction, IsNameAmong, IsNameByClass};
@@ -48,8 +48,8 @@ fn name_by_class<'a>(
     }
 }
 
-/// The name of the function that an address lies in, by the dynamic segment alone, which names exported
-/// functions and no others; none where the address lies in none of these.
+/// The name of the function that an address lies in, by the dynamic segment alone, which names
+/// exported functions and no others; none where the address lies in none of these.
 ///
 /// Refused as `DynamicView::read` and `symbols_64` are, and where the function has no name.
 pub fn function_name<'a>(file: &ElfFile<'a>, address: u64) -> Result<Option<&'a str>, LinkError>

@@ -149,9 +149,9 @@ fn value_by_class<'a>(
     }
 }
 
-/// The value of the defined symbol with this name in a file, by the dynamic segment: by GNU's table if
-/// there is one, and else by that of the ELF standard, once the check has passed. None where no symbol
-/// that the table is to hold bears the name and is defined.
+/// The value of the defined symbol with this name in a file, by the dynamic segment: by GNU's table
+/// if there is one, and else by that of the ELF standard, once the check has passed. None where no
+/// symbol that the table is to hold bears the name and is defined.
 pub fn value_in_file(file: &ElfFile<'_>, name: &str) -> Result<Option<u64>, LinkError>
     ensures { IsFileAnswer file.now name.now result }
 {

@@ -79,8 +79,8 @@ pub fn build_id_of_section<'a>(file: &ElfFile<'a>) -> Result<Option<&'a [u8]>, L
     }
 }
 
-/// The build id of a file of either class, by its program headers: that of the first segment of notes
-/// that has one. Files without section headers have it too.
+/// The build id of a file of either class, by its program headers: that of the first segment of
+/// notes that has one. Files without section headers have it too.
 ///
 /// Refused as `segment_notes` is, and where the notes are cut off before it.
 #[tactic(auto, using(crate::proofs::BuildIdSearch::segments_end, crate::proofs::BuildIdSearch::segments_fault, crate::proofs::BuildIdSearch::segments_found, crate::proofs::BuildIdSearch::segments_none, crate::proofs::BuildIdSearch::segments_other))]

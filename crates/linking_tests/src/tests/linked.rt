@@ -1,5 +1,6 @@
-//! Names by the dynamic segment alone, in files without section headers: how many symbols there are, what
-//! they are called, and their values, as `readelf -dW` and `readelf --dyn-syms -W` show them.
+//! Names by the dynamic segment alone, in files without section headers: how many symbols
+//! there are, what they are called, and their values, as `readelf -dW` and
+//! `readelf --dyn-syms -W` show them.
 
 use crate::tests::shared_object::{NAMES, NARROW, NARROW_VALUES, WIDE, WIDE_VALUES};
 use crate::tests::want::{open, want, want_at};
@@ -26,11 +27,11 @@ const LITTLE: Order = Order::Little;
 //     const char cd[3] = "cd";
 //     __attribute__((weak)) int ef(void) { return 5; }
 //
-// by `gcc -Os -fPIC -fcf-protection=none -fno-asynchronous-unwind-tables -fno-ident -shared -nostdlib -s
-// -Wl,--hash-style=sysv,--build-id=none,-z,norelro,-z,noseparate-code
-// -Wl,-z,max-page-size=16,-z,common-page-size=16 -Wl,-soname=libsmall.so,-rpath=/opt/lib` beside a library
-// that calls itself libneed.so and has `outer`. What lies behind the segments is cut off, and e_shoff,
-// e_shnum and e_shstrndx are 0.
+// by `gcc -Os -fPIC -fcf-protection=none -fno-asynchronous-unwind-tables -fno-ident -shared
+// -nostdlib -s -Wl,--hash-style=sysv,--build-id=none,-z,norelro,-z,noseparate-code
+// -Wl,-z,max-page-size=16,-z,common-page-size=16 -Wl,-soname=libsmall.so,-rpath=/opt/lib` beside a
+// library that calls itself libneed.so and has `outer`. What lies behind the segments is cut off,
+// and e_shoff, e_shnum and e_shstrndx are 0.
 const SMALL: &[u8; 912] = b"\
     \x7fELF\x02\x01\x01\0\0\0\0\0\0\0\0\0\x03\0>\0\x01\0\0\0\0\0\0\0\0\0\0\0@\0\0\0\0\0\0\0\0\0\0\
     \0\0\0\0\0\0\0\0\0@\0\x38\0\x04\0@\0\0\0\0\0\x01\0\0\0\x05\0\0\0\0\0\0\0\0\0\0\0\0\0\0\0\0\0\0\
@@ -70,8 +71,8 @@ fn wide_stripped() -> [u8; 1928] {
     bytes
 }
 
-// Whether a symbol has this name, by itself and by the string table that is looked up for many, and this
-// value.
+// Whether a symbol has this name, by itself and by the string table that is looked up
+// for many, and this value.
 fn is_symbol<E: Entry>(symbol: &E, file: &ElfFile<'_>, name: &str, value: u64) -> bool {
     let strings = E::string_table(file);
     symbol.value() == value
@@ -224,8 +225,8 @@ const REFUSALS: &[(usize, u8, LinkError)] = &[
     (0x128, 5, LinkError::Elf(ElfError::ChainIndex)),
 ];
 
-// Each refusal: the place of a byte in the file of class 64 with a table of the standard, what is put
-// there, and what is answered then.
+// Each refusal: the place of a byte in the file of class 64 with a table of the standard, what is
+// put there, and what is answered then.
 #[test]
 fn tells_why_no_value_is_found(rt: HostRuntime) {
     for &(place, byte, error) in REFUSALS {
@@ -247,8 +248,8 @@ const RUNS: &[(u64, u64, [u64; 5], Result<u64, LinkError>)] = &[
     (2, 7, [6, 7, 9, 9, 9], Ok(8)),
 ];
 
-// The words of a table of class 32 with one Bloom word: its buckets, its first symbol, and all words
-// behind the Bloom word, with the count that they give.
+// The words of a table of class 32 with one Bloom word: its buckets, its first symbol, and all
+// words behind the Bloom word, with the count that they give.
 #[test]
 fn counts_symbols_by_runs(rt: HostRuntime) -> Result<(), Fail> {
     for (number, (buckets, first, words, count)) in RUNS.iter().enumerate() {

@@ -16,7 +16,8 @@ const LITTLE: Order = Order::Little;
 // What a note says: its type, its name's bytes and its description.
 type Said<'a> = (u32, &'a [u8], &'a [u8]);
 
-// Wants these notes, then this fault if there is one, and then the end, also when it is asked for again.
+// Wants these notes, then this fault if there is one, and then the end,
+// also when it is asked for again.
 fn check(
     rt: &impl Abort,
     row: usize,
@@ -47,8 +48,8 @@ const BUILD_ID: &[u8] = b"\x04\0\0\0\x08\0\0\0\x03\0\0\0GNU\0\x01\x23\x45\x67\x8
 const PROPERTY: &[u8] =
     b"\x04\0\0\0\x10\0\0\0\x05\0\0\0GNU\0\x02\x80\0\xc0\x04\0\0\0\x02\0\0\0\0\0\0\0";
 
-// A name of five bytes and a description of one, in steps of four and of eight, each without padding
-// behind it.
+// A name of five bytes and a description of one, in steps of four and of eight,
+// each without padding behind it.
 const FOUR: &[u8] = b"\x05\0\0\0\x01\0\0\0\x07\0\0\0Name\0\0\0\0d";
 
 const EIGHT: &[u8] = b"\x05\0\0\0\x01\0\0\0\x07\0\0\0Name\0\0\0\0\0\0\0\0d";
@@ -146,8 +147,8 @@ const NOTE_SECTION: usize = 164;
 
 const NAMES: &[u8] = b"\0.note.gnu.build-id\0";
 
-// Class 32: a segment of type Note over the build id at 224, and a section of it, after the section of
-// the names at 204.
+// Class 32: a segment of type Note over the build id at 224, and a section of it, after the section
+// of the names at 204.
 fn note_file() -> [u8; 248] {
     let mut file = [0; 248];
     put(&mut file, 0, &[0x7f, b'E', b'L', b'F', 1, 1, 1]);

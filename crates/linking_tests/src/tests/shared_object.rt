@@ -1,5 +1,5 @@
-//! Shared objects as a compiler and a linker make them: their GNU hash tables are good, and a look-up
-//! finds each exported name where `readelf` says that it is.
+//! Shared objects as a compiler and a linker make them: their GNU hash tables are good, and a
+//! look-up finds each exported name where `readelf` says that it is.
 //!
 //! Both were made by gcc 12.2 and GNU ld 2.40 from this source, and are kept here byte for byte:
 //!
@@ -34,7 +34,8 @@ use xmas_elf::ElfFile;
 use xmas_elf::sections::SectionData;
 use xmas_elf::symbol_table::Entry;
 
-/// The exported names, in the order of the symbols from index 2 on; symbol 1, `outer`, is undefined.
+/// The exported names, in the order of the symbols from index 2 on; symbol 1,
+/// `outer`, is undefined.
 pub const NAMES: [&str; 7] = [
     "third", "fifth", "fourth", "sixth", "first", "second", "seventh",
 ];
@@ -151,8 +152,8 @@ fn finds_each<E: Entry + Record>(
     true
 }
 
-// Wants each exported name and no other of the table, and of the table with any one byte changed each
-// exported name or a refusal.
+// Wants each exported name and no other of the table, and of the table with any one byte changed
+// each exported name or a refusal.
 fn check_table<E: Entry + Record>(
     rt: &impl Abort,
     bytes: &[u8],

@@ -1,4 +1,5 @@
-//! What derived `Debug` prints of each public type: as in Rust, the names of the type and its fields.
+//! What derived `Debug` prints of each public type: as in Rust,
+//! the names of the type and its fields.
 
 use crate::tests::want::{open, want};
 use std::alloc::{AllocError, Global};

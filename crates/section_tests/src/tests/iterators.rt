@@ -1,4 +1,5 @@
-//! What a call of `Iterator` makes of the public index, which the contract of that trait doesn't say.
+//! What a call of `Iterator` makes of the public index,
+//! which the contract of that trait doesn't say.
 
 use crate::tests::want::{open, want};
 use std::iter::Iterator;

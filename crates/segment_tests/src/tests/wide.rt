@@ -19,7 +19,8 @@ const LITTLE: Order = Order::Little;
 
 const BOTH_ORDERS: &[Order] = &[Order::Little, Order::Big];
 
-// Where the fields that these tests change lie in the files of one class, and the sizes of its records.
+// Where the fields that these tests change lie in the files of one class,
+// and the sizes of its records.
 #[derive(Clone, Copy)]
 struct Fields {
     ph_offset: Place,
@@ -104,8 +105,8 @@ fn check_names(rt: &impl Abort, file: &ElfFile<'_>, fields: Fields) {
 
 const SECTION_RANGE: Result<(), ElfError> = Err(ElfError::ShTableRange);
 
-// The count of the ELF header and the size of section header 0; how many sections there are then, how
-// many of them can be read, and what the check says.
+// The count of the ELF header and the size of section header 0; how many sections there are then,
+// how many of them can be read, and what the check says.
 const SECTION_COUNTS: &[(u64, u64, (u64, usize, Result<(), ElfError>))] = &[
     (0, 0, (0, 0, Ok(()))),
     (0, 1, (1, 1, Ok(()))),
@@ -161,8 +162,8 @@ fn section_0_has_a_count_of_64_bits(rt: HostRuntime) {
 
 const SHORT: Result<&str, ElfError> = Err(ElfError::ShortSectionHeader);
 
-// The index of the ELF header and the link of section header 0; which index it is then, and the name
-// at 1.
+// The index of the ELF header and the link of section header 0;
+// which index it is then, and the name at 1.
 const STRING_INDICES: [(u64, u64, Result<u32, ElfError>, Result<&str, ElfError>); 12] = [
     (1, 0, Ok(1), Ok(".strtab")),
     (0xffff, 1, Ok(1), Ok(".strtab")),
@@ -225,8 +226,8 @@ fn section_0_has_the_index_of_the_names(rt: HostRuntime) {
 
 const PROGRAM_RANGE: Result<(), ElfError> = Err(ElfError::PhTableRange);
 
-// The count of the ELF header and the info of section header 0; how many segments there are then, how
-// many of them can be read, and what the check says.
+// The count of the ELF header and the info of section header 0; how many segments there are then,
+// how many of them can be read, and what the check says.
 const PROGRAM_COUNTS: &[(u64, u64, (u32, usize, Result<(), ElfError>))] = &[
     (0xffff, 0, (0, 0, Ok(()))),
     (0xffff, 1, (1, 1, Ok(()))),
@@ -338,8 +339,8 @@ fn check_without_section_0(rt: &impl Abort, file: &ElfFile<'_>) {
     check_no_names(rt, file);
 }
 
-// The ELF header points to section header 0, which has a count of 2 sections, index 1 and a count of 3
-// segments.
+// The ELF header points to section header 0, which has a count of 2 sections,
+// index 1 and a count of 3 segments.
 fn point_to_section_0(bytes: &mut [u8], fields: Fields, order: Order) {
     set(bytes, 0, fields.ph_count, 0xffff, order);
     set(bytes, 0, fields.sh_count, 0, order);
@@ -500,8 +501,8 @@ program headers
 hash: none
 ";
 
-// 21 lines of the ELF header, the check, the two headings, the empty line, a line for each section but
-// the first, and that of the hash table.
+// 21 lines of the ELF header, the check, the two headings, the empty line, a line for each section
+// but the first, and that of the hash table.
 #[test]
 fn reports_many_sections(rt: HostRuntime) -> Result<(), Fail> {
     let bytes = many_sections_file(rt.alloc())?;

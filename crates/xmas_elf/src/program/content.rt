@@ -34,13 +34,14 @@ pub enum SegmentData<'a> {
 impl ProgramHeader {
     ghost use Rattle.xmas_elf.specs.SegmentContent.{segment_content, segment_content_of};
 
-    /// The data of the segment by its type, which lives as long as the input. The class and the order
-    /// of its numbers are those of the file.
+    /// The data of the segment by its type, which lives as long as the input. The class and the
+    /// order of its numbers are those of the file.
     ///
-    /// It is `Empty` for type Null. Refused with `InvalidPhType`, and with `DataRange` where it passes the
-    /// end of the input and isn't empty; then the dynamic section with `UnknownClass` where the class is
-    /// neither 1 nor 2, and with `NotMultiple` where it isn't a whole number of entries; notes with
-    /// `Note32` in class 1, with `UnknownClass`, and below 12 bytes with `ShortData`.
+    /// It is `Empty` for type Null. Refused with `InvalidPhType`, and with `DataRange` where it
+    /// passes the end of the input and isn't empty; then the dynamic section with
+    /// `UnknownClass` where the class is neither 1 nor 2, and with `NotMultiple` where it isn't
+    /// a whole number of entries; notes with `Note32` in class 1, with `UnknownClass`, and
+    /// below 12 bytes with `ShortData`.
     pub fn get_data<'a>(&self, file: &ElfFile<'a>) -> Result<SegmentData<'a>, ElfError>
         ensures exact { MatchResult result
             (λ d. segment_content_of file.now (program_fields self.now) ≡ Ok (segment_content d))

@@ -364,10 +364,10 @@ impl ProgramHeader {
 
 /// The program header at this index of the program header table.
 ///
-/// Refused with `NoProgramHeaders` where the index is not below the count, or the offset or the entry
-/// size of the table is 0; `UnknownClass` where the class is neither 1 nor 2; `ShortProgramHeader`
-/// where the entry passes the end of the input; and `SmallEntry` where the entries are smaller than
-/// the record of the class.
+/// Refused with `NoProgramHeaders` where the index is not below the count, or the offset or the
+/// entry size of the table is 0; `UnknownClass` where the class is neither 1 nor 2;
+/// `ShortProgramHeader` where the entry passes the end of the input; and `SmallEntry` where the
+/// entries are smaller than the record of the class.
 #[inline(always)]
 pub fn parse_program_header(
     input: &[u8],

@@ -17,8 +17,8 @@ use crate::ranges::entries_within;
 use elf_base::bytes::Order;
 use elf_base::header::byte_order;
 
-/// The program headers of a file, for many calls: where they lie, their width and their order are asked
-/// once.
+/// The program headers of a file, for many calls: where they lie,
+/// their width and their order are asked once.
 ///
 /// It is a view: it holds no headers, and each call decodes what it gives.
 #[derive(Clone, Copy, Debug)]

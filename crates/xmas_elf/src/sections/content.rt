@@ -72,15 +72,16 @@ impl SectionHeader {
     ghost use Rattle.xmas_elf.specs.Place.{PartLies, section_part};
     ghost use Rattle.xmas_elf.specs.SectionContent.{content, section_content_of};
 
-    /// The data of the section by its type, which lives as long as the input. The class and the order
-    /// of its numbers are those of the file.
+    /// The data of the section by its type, which lives as long as the input. The class and the
+    /// order of its numbers are those of the file.
     ///
     /// It is `Empty` for types Null and NoBits, wherever their bytes would lie. Refused with
-    /// `InvalidShType`, and with `DataRange` where it passes the end of the input. Tables are refused
-    /// with `UnknownClass` where their records differ by class and the class is neither 1 nor 2, and
-    /// with `NotMultiple` where they aren't a whole number of records; groups below 4 bytes with
-    /// `ShortData`, and then with `NotMultiple`; notes with `Note32` in class 1, with `UnknownClass`,
-    /// and below 12 bytes with `ShortData`; hash tables below 12 bytes with `ShortData`.
+    /// `InvalidShType`, and with `DataRange` where it passes the end of the input. Tables are
+    /// refused with `UnknownClass` where their records differ by class and the class is neither
+    /// 1 nor 2, and with `NotMultiple` where they aren't a whole number of records; groups
+    /// below 4 bytes with `ShortData`, and then with `NotMultiple`; notes with `Note32` in
+    /// class 1, with `UnknownClass`, and below 12 bytes with `ShortData`; hash tables below 12
+    /// bytes with `ShortData`.
     #[tactic(auto, using(crate::proofs::Places::section_lies), unfolding(crate::specs::SectionContent::section_content_of))]
     #[inline(always)]
     pub fn get_data<'a>(&self, file: &ElfFile<'a>) -> Result<SectionData<'a>, ElfError>

@@ -286,8 +286,8 @@ impl SectionHeader {
         }
     }
 
-    /// The data of the section as it stands in the input, where it lives as long. For type NoBits these
-    /// bytes belong to other sections, or to none: such a section has no bytes in the file.
+    /// The data of the section as it stands in the input, where it lives as long. For type NoBits
+    /// these bytes belong to other sections, or to none: such a section has no bytes in the file.
     ///
     /// Refused with `InvalidShType`, with `NullData` for type Null, and with `DataRange` where it
     /// passes the end of the input, also for type NoBits and for an empty section. Where the type
@@ -335,9 +335,10 @@ impl SectionHeader {
 
 /// The section header at this index of the section header table.
 ///
-/// The index is not compared with the count of sections. Refused with `ReservedIndex` from 0xff00 on,
-/// `ShortSectionHeader` where the entry passes the end of the input, `UnknownClass` where the class
-/// is neither 1 nor 2, and `SmallEntry` where the entries are smaller than the record of the class.
+/// The index is not compared with the count of sections. Refused with `ReservedIndex` from
+/// 0xff00 on, `ShortSectionHeader` where the entry passes the end of the input, `UnknownClass`
+/// where the class is neither 1 nor 2, and `SmallEntry` where the entries are smaller than the
+/// record of the class.
 #[tactic(auto, unfolding(crate::specs::SectionHeader::section_by_u16))]
 #[inline(always)]
 pub fn parse_section_header(

@@ -50,7 +50,8 @@ impl<'a> Iterator for SectionStrings<'a> {
 
     ghost remaining = { item_count strings_left };
 
-    /// The next text; for bytes that begin with none `TextEnd` or `TextUtf8`, and then nothing more.
+    /// The next text; for bytes that begin with none `TextEnd` or `TextUtf8`,
+    /// and then nothing more.
     #[tactic(auto, using(crate::proofs::StringItems::strings_none, crate::proofs::StringItems::strings_bare, crate::proofs::StringItems::strings_last, crate::proofs::StringItems::strings_of_next, crate::proofs::StringItems::text_within))]
     fn next(&mut self) -> Option<Result<&'a str, ElfError>> {
         if self.rest.is_empty() {

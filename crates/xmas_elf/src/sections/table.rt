@@ -1,4 +1,5 @@
-//! The section header table, prepared once for many calls (gABI, "Sections": the section header table).
+//! The section header table, prepared once for many calls
+//! (gABI, "Sections": the section header table).
 
 ghost use Rattle.std.specs.Prelude.{◌≡◌, ◌+◌, ◌^◌, ◌<◌, ◌≤◌, ◌∷◌, [], drop, length, slice_get};
 ghost use Rattle.std.specs.Prelude.{Err, MatchOption, Ok, ℕ};
@@ -24,8 +25,8 @@ use crate::{ElfError, ElfFile};
 use elf_base::bytes::Order;
 use elf_base::header::byte_order;
 
-/// The section headers of a file, for many calls: where they lie, their width and their order are asked
-/// once, and so is the name table.
+/// The section headers of a file, for many calls: where they lie, their width and their order are
+/// asked once, and so is the name table.
 ///
 /// It is a view: it holds no headers, and each call decodes what it gives.
 #[derive(Clone, Copy, Debug)]

@@ -1,4 +1,5 @@
-//! The entries of symbol tables, kept as their bytes (gABI, "Symbol Table": Elf32_Sym and Elf64_Sym).
+//! The entries of symbol tables, kept as their bytes
+//! (gABI, "Symbol Table": Elf32_Sym and Elf64_Sym).
 
 ghost use Rattle.std.specs.Prelude.{◌≡◌};
 ghost use Rattle.std.proofs.Common.{lit<};
@@ -9,16 +10,16 @@ mod printed;
 
 use crate::bytes::{Order, Record};
 
-/// A symbol of class 32 (gABI, "Symbol Table", Elf32_Sym). Its name stands in `.strtab`: `get_name` has
-/// the answer of `ElfFile::get_string`.
+/// A symbol of class 32 (gABI, "Symbol Table", Elf32_Sym). Its name stands in `.strtab`: `get_name`
+/// has the answer of `ElfFile::get_string`.
 #[derive(Clone, Copy, Debug)]
 pub struct Entry32 {
     bytes: [u8; 16],
     order: Order,
 }
 
-/// A symbol of class 64 (gABI, "Symbol Table", Elf64_Sym). Its name stands in `.strtab`: `get_name` has
-/// the answer of `ElfFile::get_string`.
+/// A symbol of class 64 (gABI, "Symbol Table", Elf64_Sym). Its name stands in `.strtab`: `get_name`
+/// has the answer of `ElfFile::get_string`.
 #[derive(Clone, Copy, Debug)]
 pub struct Entry64 {
     bytes: [u8; 24],

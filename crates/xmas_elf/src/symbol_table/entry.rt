@@ -55,16 +55,17 @@ pub trait Entry {
     /// The text that the symbol bears in a file. It lives as long as the input, and an
     /// implementation says why there is none.
     ///
-    /// The four types of this crate look for their string table by its name at each call, in one
-    /// pass over the section headers. For many symbols, take `string_table` once, and then `name_in`.
+    /// The four types of this crate look for their string table by its name at each
+    /// call, in one pass over the section headers. For many symbols, take `string_table`
+    /// once, and then `name_in`.
     fn get_name<'a>(&self, file: &ElfFile<'a>) -> Result<&'a str, ElfError>
         ensures { MatchResult result
             (λ text. text_in self.now file.now ≡ Some text.now)
             (λ _. text_in self.now file.now ≡ None) };
 
-    /// The string table of a file in which the names of such symbols stand at `name`, to be taken once
-    /// for many of them; or why there is none. `None`, as by default, where names are not texts of one
-    /// table: `name_in` then answers as `get_name`.
+    /// The string table of a file in which the names of such symbols stand at `name`, to be taken
+    /// once for many of them; or why there is none. `None`, as by default, where names are not
+    /// texts of one table: `name_in` then answers as `get_name`.
     fn string_table<'a>(file: &ElfFile<'a>) -> Option<Result<&'a [u8], ElfError>>
         ensures { IfSome result (HoldsNames fields (λ entry. text_in entry file.now)) }
     {
@@ -123,8 +124,8 @@ pub trait Entry {
     /// `ElfFile::section_header` of `shndx` is. For `SHN_XINDEX` it is that at the index in word
     /// `self_index` of `.symtab_shndx`: refused with `NoShIndex` where no section bears that name,
     /// with `ExpectedShIndex` where the first that does has another type than SymTabShIndex, with
-    /// `DataRange` where its data passes the end of the input, with `NotMultiple` where that isn't a
-    /// whole number of words, with `SymbolIndex` where it has no such word, with
+    /// `DataRange` where its data passes the end of the input, with `NotMultiple` where that isn't
+    /// a whole number of words, with `SymbolIndex` where it has no such word, with
     /// `ReservedSymbolIndex` for 0, and as `ElfFile::section_header_at` is.
     #[tactic(auto, unfolding(crate::specs::SymbolSection::symbol_section_of))]
     fn get_section_header(

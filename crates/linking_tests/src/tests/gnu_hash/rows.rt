@@ -13,7 +13,8 @@ use worked_files::places::{set, symbol_32};
 use xmas_elf::ElfFile;
 use xmas_elf::symbol_table::Entry32;
 
-// Symbols of class 32: by their names, and all in section `shndx`; symbol 0 has no name and no section.
+// Symbols of class 32: by their names, and all in section `shndx`;
+// symbol 0 has no name and no section.
 fn symbol_bytes(names: &[u64], shndx: u64) -> ([u8; 64], usize) {
     let mut bytes = [0; 64];
     let mut len: usize = 0;

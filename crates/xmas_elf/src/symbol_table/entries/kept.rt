@@ -1,5 +1,5 @@
-//! What a symbol says, read from the bytes that its type keeps, and where its name stands, for all four
-//! types at once (gABI, "Symbol Table": Elf32_Sym and Elf64_Sym).
+//! What a symbol says, read from the bytes that its type keeps, and where its name stands, for all
+//! four types at once (gABI, "Symbol Table": Elf32_Sym and Elf64_Sym).
 
 ghost use Rattle.std.specs.Prelude.{◌≡◌, Bool, false, true, IfSome, IsSomeAnd};
 ghost use Rattle.std.specs.Result.{result_ok};
@@ -86,8 +86,8 @@ impl<K: Kept> Entry for K {
         }
     }
 
-    /// The text at the symbol's name in `.strtab`, with the answer of `ElfFile::get_string`; for a symbol
-    /// of the dynamic linker in `.dynstr`, with the answer of `ElfFile::get_dyn_string`.
+    /// The text at the symbol's name in `.strtab`, with the answer of `ElfFile::get_string`; for a
+    /// symbol of the dynamic linker in `.dynstr`, with the answer of `ElfFile::get_dyn_string`.
     fn get_name<'a>(&self, file: &ElfFile<'a>) -> Result<&'a str, ElfError>
         ensures text { Lends (IsSymbolString K.DYNAMIC file.now (K.fields self.now).name) result }
         ensures only { LendsOnly (IsSymbolString K.DYNAMIC file.now (K.fields self.now).name) result }
@@ -104,8 +104,9 @@ impl<K: Kept> Entry for K {
     /// `StrtabType` where the first that does isn't a string table, and with `DataRange` where it
     /// passes the end of the input.
     ///
-    /// For symbols of the dynamic linker the data of `.dynstr`. Refused with `NoDynstr` where no section
-    /// bears that name, and with `DataRange` where the first that does passes the end of the input.
+    /// For symbols of the dynamic linker the data of `.dynstr`. Refused with `NoDynstr`
+    /// where no section bears that name, and with `DataRange` where the first that does
+    /// passes the end of the input.
     #[tactic(auto, using(crate::proofs::SymbolNames::holds_found))]
     fn string_table<'a>(file: &ElfFile<'a>) -> Option<Result<&'a [u8], ElfError>>
         ensures table { IsSomeAnd result (Answers (symbol_strings_of K.DYNAMIC file.now)) }
