@@ -298,7 +298,10 @@ pub fn parse_header(input: &[u8]) -> Result<Header, ElfError>
 fn read_pt2(input: &[u8], class: Class_, order: Order) -> Result<HeaderPt2, ElfError>
     ensures { result ≡ unless (
         (not (class_number class == 1 || class_number class == 2), ElfError.InvalidClass)
-        ∷ (nat_lt (length input.now) (if class_number class == 1 then 52 else 64), ElfError.ShortHeaders)
+        ∷ (
+          nat_lt (length input.now) (if class_number class == 1 then 52 else 64),
+          ElfError.ShortHeaders,
+        )
         ∷ []) (pt2_record (class_number class) order input.now) }
 {
     match class.as_class() {

@@ -37,7 +37,8 @@ pub(crate) fn fill<R: Records>(
     first: u64,
     out: &mut [R::Record],
 ) -> Result<u64, Refusal>
-    ensures { Fills (found_in (R.record_of records) (R.items records)) first out.old result out.new }
+    ensures { Fills (found_in (R.record_of records) (R.items records))
+        first out.old result out.new }
 {
     let (size, first) = (records.count(), first as usize);
     if first >= size {

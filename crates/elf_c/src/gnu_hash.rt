@@ -70,7 +70,8 @@ fn look_up<E: Entry + Record>(
     symbols: &Table<'_, E>,
     file: &ElfFile<'_>,
 ) -> Result<LookUp, Refusal>
-    ensures { IsLookUp table.now name.now (symbols_of E.fields E.text_in symbols.now file.now) result }
+    ensures { IsLookUp table.now name.now
+        (symbols_of E.fields E.text_in symbols.now file.now) result }
 {
     let (found, looked_at) = table.lookup_counted(
         name,
@@ -92,7 +93,8 @@ fn look_up_by_strings<E: Entry + Record>(
     file: &ElfFile<'_>,
 ) -> Result<LookUp, Refusal>
     requires { IfSome strings (HoldsNames E.fields (λ e. E.text_in e file.now)) }
-    ensures { IsLookUp table.now name.now (symbols_of E.fields E.text_in symbols.now file.now) result }
+    ensures { IsLookUp table.now name.now
+        (symbols_of E.fields E.text_in symbols.now file.now) result }
 {
     let (found, looked_at) = table.lookup_counted_in(
         name,
@@ -196,7 +198,8 @@ fn look_ups<E: Entry + Record>(
     out: &mut [Answer],
 )
     ensures { let all = symbols_of E.fields E.text_in symbols.now file.now in
-        AreAnswered (IfUtf8 (λ name. IsLookUp table.now name all)) names.now ranges.now out.old out.new }
+        AreAnswered (IfUtf8 (λ name. IsLookUp table.now name all))
+        names.now ranges.now out.old out.new }
 {
     let strings = E::string_table(file);
     let count = ranges.len().min(out.len());
@@ -214,7 +217,8 @@ fn look_ups_among(
     file: &ElfFile<'_>,
     out: &mut [Answer],
 )
-    ensures { AreAnswered (IfUtf8 (λ name. LooksAmong file.now name table.now (content_at file.now section)))
+    ensures { AreAnswered
+        (IfUtf8 (λ name. LooksAmong file.now name table.now (content_at file.now section)))
         names.now ranges.now out.old out.new }
 {
     let held = match data_at(file, section) {
@@ -309,7 +313,8 @@ fn check_in(file: &ElfFile<'_>, section: u64) -> Result<(), Refusal>
 #[unsafe(no_mangle)]
 pub extern "C" fn xmas_elf_check_gnu_hash(input: &[u8], header: &Parsed, section: u64) -> u32
     ensures { (answer : Result (Unit {0}) Refusal)
-        × WithTable (file_of input.entry header.now) section (ChecksWith (file_of input.entry header.now)) answer
+        × WithTable (file_of input.entry header.now) section
+        (ChecksWith (file_of input.entry header.now)) answer
         × GivesHere answer tt result tt }
 {
     give(check_in(&header.file(input), section), &mut ())

@@ -69,7 +69,8 @@ fn refuse(names: &[u8], range: &Range, refusal: Refusal) -> Result<LookUp, Refus
 
 // Refuses each of the look-ups.
 pub(crate) fn refuse_all(names: &[u8], ranges: &[Range], refusal: Refusal, out: &mut [Answer])
-    ensures { AreAnswered (IfUtf8 (λ _ answer. answer ≡ Err refusal)) names.now ranges.now out.old out.new }
+    ensures { AreAnswered (IfUtf8 (λ _ answer. answer ≡ Err refusal))
+        names.now ranges.now out.old out.new }
 {
     let count = ranges.len().min(out.len());
     for place in 0..count {

@@ -160,7 +160,8 @@ pub extern "C" fn xmas_elf_message(status: u32, out: &mut [u8]) -> usize
     ensures size { result ≡ length (text_with status) }
     ensures text { out.new ≡ written (text_with status) out.old }
     ensures means { (refusal : Refusal) → refusal_number refusal ≡ status
-        → (result ≡ length (refusal_message refusal)) × (out.new ≡ written (refusal_message refusal) out.old) }
+        → (result ≡ length (refusal_message refusal))
+        × (out.new ≡ written (refusal_message refusal) out.old) }
 {
     put(text_with(status), out)
 }

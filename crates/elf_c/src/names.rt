@@ -213,7 +213,8 @@ pub extern "C" fn xmas_elf_section_names(
     count: &mut u64,
 ) -> u32
     ensures { (answer : Result ℕ Refusal)
-        × Fills (found_in (λ section. name_answer (name_range (file_of input.entry header.now) section))
+        × Fills (found_in
+        (λ section. name_answer (name_range (file_of input.entry header.now) section))
         (section_list (file_of input.entry header.now))) first out.old answer out.new
         × GivesHere answer count.old result count.new }
 {

@@ -70,7 +70,8 @@ impl Section {
 // The numbers of the section header at an index.
 #[inline(always)]
 fn section_at(file: &ElfFile<'_>, index: u64) -> Result<Section, ElfError>
-    ensures { result ≡ and_then (section_of file.now index) (λ section. Ok (section_record section)) }
+    ensures { result
+        ≡ and_then (section_of file.now index) (λ section. Ok (section_record section)) }
 {
     Ok(Section::of(&file.section_header_at(index)?))
 }
@@ -186,7 +187,8 @@ pub extern "C" fn xmas_elf_find_section(
     name: &[u8],
     out: &mut Section,
 ) -> u32
-    ensures { GivesHere (found_section (file_of input.entry header.now) name.now) out.old result out.new }
+    ensures { GivesHere (found_section (file_of input.entry header.now) name.now)
+        out.old result out.new }
 {
     give(section_with_name(&header.file(input), name), out)
 }

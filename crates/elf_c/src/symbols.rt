@@ -227,7 +227,8 @@ fn names<E: Entry + Record>(
     first: u64,
     out: &mut [Name],
 ) -> Result<u64, Refusal>
-    ensures { Fills (found_in (λ e. symbol_name input.now strings (E.fields e)) (table_items table.now))
+    ensures { Fills
+        (found_in (λ e. symbol_name input.now strings (E.fields e)) (table_items table.now))
         first out.old result out.new }
 {
     let names = SymbolNames {
@@ -275,7 +276,8 @@ pub extern "C" fn xmas_elf_symbol_names(
     count: &mut u64,
 ) -> u32
     ensures { (answer : Result ℕ Refusal)
-        × Fills (symbol_name_at (file_of input.entry header.now) section) first out.old answer out.new
+        × Fills (symbol_name_at (file_of input.entry header.now) section)
+        first out.old answer out.new
         × GivesHere answer count.old result count.new }
 {
     give(fill_names(&header.file(input), section, first, out), count)

@@ -76,7 +76,8 @@ pub fn size_64(file: &ElfFile<'_>, index: u16) -> Result<u64, ElfError>
     requires { file_class file.now.header ≡ 2 }
     ensures readable { IsOk result ↔ HasSectionHeader file.now.input.now file.now.header index }
     ensures value { IfOk result (λ size. size
-        ≡ number (file_order file.now.header) 8 (section_place file.now.header index + 32) file.now.input.now) }
+        ≡ number (file_order file.now.header) 8
+        (section_place file.now.header index + 32) file.now.input.now) }
     ensures refused { IfErr result (λ error.
         section_by_u16 file.now.input.now file.now.header index ≡ Err error) }
 {
@@ -87,7 +88,8 @@ pub fn size_64(file: &ElfFile<'_>, index: u16) -> Result<u64, ElfError>
 /// How many sections of a file can be read, by its iterator.
 pub fn readable_sections(file: &ElfFile<'_>) -> usize
     ensures counted { result ≡ length (section_list file.now) }
-    ensures longest { IsLongest (section_of file.now) (section_count_of file.now) (section_list file.now) }
+    ensures longest { IsLongest (section_of file.now)
+        (section_count_of file.now) (section_list file.now) }
 {
     file.section_iter().count()
 }
@@ -101,7 +103,8 @@ pub fn readable_segments(file: &ElfFile<'_>) -> usize
 
 /// How many sections are empty, by a chain.
 pub fn empty_sections(file: &ElfFile<'_>) -> usize
-    ensures { result ≡ count_by (λ section. (section_fields section).size == 0) (section_list file.now) }
+    ensures { result
+        ≡ count_by (λ section. (section_fields section).size == 0) (section_list file.now) }
 {
     file.section_iter()
         .filter(|section| section.size() == 0)
@@ -111,7 +114,8 @@ pub fn empty_sections(file: &ElfFile<'_>) -> usize
 /// The place in the list of the first section at this offset.
 pub fn section_at(file: &ElfFile<'_>, offset: u64) -> Option<usize>
     ensures { let sections = section_list file.now in MatchOption result
-        (AllWithin (λ section. (section_fields section).offset ≢ offset) sections 0 (length sections))
+        (AllWithin
+        (λ section. (section_fields section).offset ≢ offset) sections 0 (length sections))
         (λ i. (i < length sections) × HoldsAt
         (λ section. (section_fields section).offset ≡ offset) sections i
         × AllWithin (λ section. (section_fields section).offset ≢ offset) sections 0 i) }
@@ -134,7 +138,8 @@ pub fn counted_sections(file: &ElfFile<'_>) -> u64
 /// The first section at this address, by `find`.
 pub fn section_with_address(file: &ElfFile<'_>, address: u64) -> Option<SectionHeader>
     ensures { let sections = section_list file.now in MatchOption result
-        (AllWithin (λ section. (section_fields section).address ≢ address) sections 0 (length sections))
+        (AllWithin
+        (λ section. (section_fields section).address ≢ address) sections 0 (length sections))
         (λ section. (section_fields section).address ≡ address
         × ((i : ℕ) × (i < length sections) × HoldsAt (λ item. item ≡ section) sections i
         × AllWithin (λ before. (section_fields before).address ≢ address) sections 0 i)) }
@@ -157,7 +162,8 @@ pub fn data_len(file: &ElfFile<'_>, section: SectionHeader) -> Result<usize, Elf
 pub fn is_whole(file: &ElfFile<'_>, section: SectionHeader) -> bool
     requires { section_type section ≡ Ok ShType.ProgBits }
     ensures { IsTrue result
-        ↔ ((section_fields section).offset + (section_fields section).size ≤ length file.now.input.now) }
+        ↔ ((section_fields section).offset + (section_fields section).size
+        ≤ length file.now.input.now) }
 {
     section.raw_data(file).is_ok()
 }
@@ -173,7 +179,8 @@ pub fn null_has_data(file: &ElfFile<'_>, section: SectionHeader) -> bool
 /// How many bytes the data of a segment has: as many as its header says; or why its header can't be
 /// read, or it has no data.
 pub fn segment_data_len(file: &ElfFile<'_>, index: u16) -> Result<usize, ElfError>
-    ensures value { IfOk result (λ len. IsOkAnd (program_by_u16 file.now.input.now file.now.header index)
+    ensures value { IfOk result (λ len.
+        IsOkAnd (program_by_u16 file.now.input.now file.now.header index)
         (λ program. HasSegmentData file.now (program_fields program)
         × (len ≡ (program_fields program).file_size))) }
     ensures refused { IfErr result (λ error.
@@ -192,7 +199,8 @@ pub fn checked_section_count(file: &ElfFile<'_>) -> Result<usize, ElfError>
     ensures checked { MatchResult result (λ _. IsOk (header_check file.now))
         (λ error. header_check file.now ≡ Err error) }
     ensures count { IfOk result (λ count.
-        section_header_size (file_class file.now.header) ≤ (header_fields file.now.header.pt2).sh_entry_size
+        section_header_size (file_class file.now.header)
+        ≤ (header_fields file.now.header.pt2).sh_entry_size
         → count ≡ section_count_of file.now) }
 {
     header::sanity_check(file)?;
@@ -237,9 +245,11 @@ pub fn name_in<'a>(input: &'a [u8], index: u32) -> Result<&'a str, ElfError>
 /// less. Refused as the bytes are, and as the data of the first string table that isn't all there.
 pub fn string_bytes(input: &[u8]) -> Result<u64, ElfError>
     ensures sum { IfOk result (λ total. IsOkAnd (header_of input.now) (λ header.
-        let file : ElfFile = record { input = input.entry; header = header } in IsStringTotal file total)) }
+        let file : ElfFile = record { input = input.entry; header = header } in
+        IsStringTotal file total)) }
     ensures refused { IfErr result (λ error. MatchResult (header_of input.now) (λ header.
-        let file : ElfFile = record { input = input.entry; header = header } in IsStringRefused file error)
+        let file : ElfFile = record { input = input.entry; header = header } in
+        IsStringRefused file error)
         (λ why. why ≡ error)) }
 {
     let file = ElfFile::new(input)?;
@@ -260,7 +270,8 @@ fn string_bytes_of(file: &ElfFile<'_>) -> Result<u64, ElfError>
 
 // How many bytes a section adds: those of a string table, and none of another.
 fn string_len(file: &ElfFile<'_>, section: &SectionHeader) -> Result<u64, ElfError>
-    ensures len { IfOk result (λ len. LiesThere file.now section.now × (len ≡ string_size section.now)) }
+    ensures len { IfOk result (λ len. LiesThere file.now section.now
+        × (len ≡ string_size section.now)) }
     ensures refused { IfErr result (λ error. ¬ LiesThere file.now section.now
         × (section_data_of file.now section.now ≡ Err error)) }
 {

@@ -124,7 +124,8 @@ pub fn segment_of_address(file: &ElfFile<'_>, address: u64) -> Option<ProgramHea
 /// The instructions of a file: the data of `.text`, which borrow its bytes.
 pub fn text_of<'a>(file: &ElfFile<'a>) -> Option<&'a [u8]>
     ensures found { IfSome result (λ bytes. (index : ℕ) × (section : SectionHeader)
-        × IsFirstNamed file.now (codes ".text") index section × IsSectionData file.now section bytes.now) }
+        × IsFirstNamed file.now (codes ".text") index section
+        × IsSectionData file.now section bytes.now) }
     ensures missing { IfNone result (IfSome (section_named file.now (codes ".text"))
         (λ section. ¬ HasSectionData file.now section)) }
 {

@@ -199,7 +199,8 @@ pub fn segment_notes<'a>(
 ) -> Result<Notes<'a>, LinkError>
     ensures bytes { MatchResult result
         (λ notes. segment_data_of file.now (program_fields program.now) ≡ Ok (notes_bytes notes))
-        (λ error. (why : ElfError) × (segment_data_of file.now (program_fields program.now) ≡ Err why)
+        (λ error. (why : ElfError)
+        × (segment_data_of file.now (program_fields program.now) ≡ Err why)
         × (error ≡ LinkError.Elf why)) }
     ensures read { IfOk result (λ notes. (notes_order notes ≡ file_order file.now.header)
         × (notes_align notes ≡ (program_fields program.now).align)) }

@@ -34,7 +34,8 @@ pub fn finds_all<E: Entry + Record>(
     symbols: &Table<'_, E>,
     file: &ElfFile<'_>,
 ) -> bool
-    ensures { IsTrue result ↔ IsGood table.now (symbols_of E.fields E.text_in symbols.now file.now) }
+    ensures { IsTrue result
+        ↔ IsGood table.now (symbols_of E.fields E.text_in symbols.now file.now) }
 {
     table.check(symbols, file).is_ok()
 }
@@ -75,7 +76,8 @@ pub fn symbol_with_name<E: Entry + Record>(
     requires good { IsGood table.now (symbols_of E.fields E.text_in symbols.now file.now) }
     ensures { let all = symbols_of E.fields E.text_in symbols.now file.now in MatchOption result
         ((i : ℕ) (e : E) → ¬ IsExported table.now all i e name.now)
-        (λ found. (slice_get all.items found.0 ≡ Some found.1) × (all.text found.1 ≡ Some name.now)) }
+        (λ found. (slice_get all.items found.0 ≡ Some found.1)
+        × (all.text found.1 ≡ Some name.now)) }
 {
     match table.lookup(
         name,
@@ -101,11 +103,13 @@ pub fn two_symbols<E: Entry + Record>(
     file: &ElfFile<'_>,
 ) -> (Option<(u32, E)>, Option<(u32, E)>)
     requires good { IsGood table.now (symbols_of E.fields E.text_in symbols.now file.now) }
-    ensures first { let all = symbols_of E.fields E.text_in symbols.now file.now in MatchOption result.0
+    ensures first { let all = symbols_of E.fields E.text_in symbols.now file.now in
+        MatchOption result.0
         ((i : ℕ) (e : E) → ¬ IsExported table.now all i e one.now)
         (λ found. (slice_get all.items found.0 ≡ Some found.1)
         × (all.text found.1 ≡ Some one.now)) }
-    ensures second { let all = symbols_of E.fields E.text_in symbols.now file.now in MatchOption result.1
+    ensures second { let all = symbols_of E.fields E.text_in symbols.now file.now in
+        MatchOption result.1
         ((i : ℕ) (e : E) → ¬ IsExported table.now all i e other.now)
         (λ found. (slice_get all.items found.0 ≡ Some found.1)
         × (all.text found.1 ≡ Some other.now)) }

@@ -100,7 +100,8 @@ fn first_at(
         (nat_lt (length input.now) (entry_place offset entry_size 1), ElfError.ShortSectionHeader)
         ∷ (not (is_known_class (class_number class)), ElfError.UnknownClass)
         ∷ (nat_lt entry_size (section_header_size (class_number class)), ElfError.SmallEntry)
-        ∷ []) (section_at_place (class_number class) order (entry_place offset entry_size 0) input.now))) }
+        ∷ []) (section_at_place (class_number class) order
+        (entry_place offset entry_size 0) input.now))) }
 {
     if offset == 0 {
         return None;

@@ -23,7 +23,12 @@ impl Record for Colour {
 
     const SIZE: usize = 3;
 
-    ghost value = { λ _ bytes. record { red = slice_index bytes 0; green = slice_index bytes 1; blue = slice_index bytes 2 } };
+    ghost value = { λ _ bytes.
+        record {
+          red = slice_index bytes 0;
+          green = slice_index bytes 1;
+          blue = slice_index bytes 2;
+        } };
 
     ghost size_above_zero = { lit< tt };
 

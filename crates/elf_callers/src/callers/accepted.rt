@@ -27,7 +27,8 @@ pub fn refusal(input: &[u8]) -> Option<ElfError>
 #[tactic(auto, unfolding(xmas_elf::specs::SectionHeader::section_by_u16, xmas_elf::specs::SectionHeader::section_entry))]
 pub fn is_cut(file: &ElfFile<'_>, index: u16) -> bool
     requires { index < 0xff00 }
-    ensures { IsTrue result ↔ (length file.now.input.now < section_place file.now.header (index + 1)) }
+    ensures { IsTrue result
+        ↔ (length file.now.input.now < section_place file.now.header (index + 1)) }
 {
     matches!(
         file.section_header(index),

@@ -61,7 +61,8 @@ pub fn function_name_at<'a, E: Entry + Record>(
     symbols: &Table<'_, E>,
     address: u64,
 ) -> Result<Option<&'a str>, ElfError>
-    ensures found { IfOk result (IsFunctionName (symbols_of E.fields E.text_in symbols.now file.now) address) }
+    ensures found { IfOk result
+        (IsFunctionName (symbols_of E.fields E.text_in symbols.now file.now) address) }
     ensures nameless { IfErr result (λ _.
         HasNoName (symbols_of E.fields E.text_in symbols.now file.now) address) }
 {

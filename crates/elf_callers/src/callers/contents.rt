@@ -31,7 +31,8 @@ pub fn has_data(file: &ElfFile<'_>, section: SectionHeader) -> bool
 /// The same of a segment: its data is read as a shape exactly where the words say so.
 pub fn segment_data_is_shaped(file: &ElfFile<'_>, segment: ProgramHeader)
     ensures { (wanted : Shape) → IsOkAnd (segment_content_of file.now (program_fields segment))
-        (λ content. shape content ≡ wanted) ↔ HasSegmentShape file.now (program_fields segment) wanted }
+        (λ content. shape content ≡ wanted)
+        ↔ HasSegmentShape file.now (program_fields segment) wanted }
 {
     let _part = (file.program_count(), segment.offset());
 }

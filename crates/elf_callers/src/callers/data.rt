@@ -36,7 +36,8 @@ pub fn second_relocation(file: &ElfFile<'_>, section: SectionHeader) -> Option<u
         ((found ≡ None) ⊎ ((section_fields section).size ≤ 24))
         (λ place. IsSome found × (24 < (section_fields section).size) × (place
         ≡ number (file_order file.now.header) 8 0
-        (take 24 (drop 24 (take (section_fields section).size (drop (section_fields section).offset file.now.input.now)))))) }
+        (take 24 (drop 24 (take (section_fields section).size
+        (drop (section_fields section).offset file.now.input.now)))))) }
 {
     match section.get_data(file) {
         Ok(SectionData::Rela64(table)) => Some(table.get(1)?.get_offset()),
@@ -49,7 +50,8 @@ pub fn second_relocation(file: &ElfFile<'_>, section: SectionHeader) -> Option<u
 pub fn bucket_count(file: &ElfFile<'_>, section: SectionHeader) -> Option<u32>
     ensures { let found = hash_table_in (section_content_of file.now section) in MatchOption result
         (found ≡ None) (λ count. IsSome found × (count ≡ number (file_order file.now.header) 4 0
-        (take (section_fields section).size (drop (section_fields section).offset file.now.input.now)))) }
+        (take (section_fields section).size
+        (drop (section_fields section).offset file.now.input.now)))) }
 {
     match section.get_data(file) {
         Ok(SectionData::HashTable(table)) => Some(table.bucket_count()),
@@ -62,7 +64,8 @@ pub fn bucket_count(file: &ElfFile<'_>, section: SectionHeader) -> Option<u32>
 pub fn unknown_symbols(file: &ElfFile<'_>, section: SectionHeader) -> Option<ElfError>
     requires typed { section_type section ≡ Ok ShType.SymTab }
     requires class { file_class file.now.header ≡ 7 }
-    requires there { (section_fields section).offset + (section_fields section).size ≤ length file.now.input.now }
+    requires there { (section_fields section).offset + (section_fields section).size
+        ≤ length file.now.input.now }
     ensures { result ≡ Some ElfError.UnknownClass }
 {
     section.get_data(file).err()
@@ -91,7 +94,8 @@ pub fn note_32(file: &ElfFile<'_>, segment: ProgramHeader) -> Option<ElfError>
 /// How many bytes the dynamic section has: as many as its segment. None where the segment is of
 /// another type, or its data is refused.
 pub fn dynamic_bytes(file: &ElfFile<'_>, segment: ProgramHeader) -> Option<usize>
-    ensures { let found = dynamic_in (segment_content_of file.now (program_fields segment)) in MatchOption result
+    ensures { let found = dynamic_in (segment_content_of file.now (program_fields segment)) in
+        MatchOption result
         (found ≡ None) (λ count. IsSome found × (count ≡ (program_fields segment).file_size)) }
 {
     match segment.get_data(file) {
@@ -125,7 +129,8 @@ pub fn uses_of_symbol(
 /// The text at an index of a string table, which lives as long as the input. None where the section
 /// holds no texts, or there is no text at the index.
 pub fn text_in<'a>(file: &ElfFile<'a>, section: SectionHeader, index: usize) -> Option<&'a str>
-    ensures found { IfSome result (λ text. IsSomeAnd (strings_in (section_content_of file.now section))
+    ensures found { IfSome result (λ text.
+        IsSomeAnd (strings_in (section_content_of file.now section))
         (λ bytes. IsText bytes index text.now)) }
     ensures exact { let found = text_found (section_content_of file.now section) index in
         MatchOption result (found ≡ None) (λ text. found ≡ Some text.now) }
@@ -143,7 +148,8 @@ pub fn text_in<'a>(file: &ElfFile<'a>, section: SectionHeader, index: usize) -> 
 /// None where it is other data.
 pub fn text_count(part: &SectionData<'_>) -> Option<usize>
     ensures { MatchOption result (string_data (content part.now) ≡ None)
-        (λ count. IsSomeAnd (string_data (content part.now)) (λ bytes. count ≡ length (strings_of bytes))) }
+        (λ count. IsSomeAnd (string_data (content part.now))
+        (λ bytes. count ≡ length (strings_of bytes))) }
 {
     let texts = part.strings().ok()?;
     Some(texts.count())

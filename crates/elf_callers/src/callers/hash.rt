@@ -27,7 +27,8 @@ pub fn finds_all<E: Entry + Record>(
     symbols: &Table<'_, E>,
     file: &ElfFile<'_>,
 ) -> bool
-    ensures { IsTrue result ↔ IsGood table.now (symbols_of E.fields E.text_in symbols.now file.now) }
+    ensures { IsTrue result
+        ↔ IsGood table.now (symbols_of E.fields E.text_in symbols.now file.now) }
 {
     table.check(symbols, file).is_ok()
 }

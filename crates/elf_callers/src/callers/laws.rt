@@ -11,7 +11,8 @@ use xmas_elf::dynamic::Tag;
 
 /// No two numbers are those of one type of section.
 pub fn one_section_number(one: u32, other: u32)
-    ensures { (kind : ShType) → sh_type_of one ≡ Ok kind → sh_type_of other ≡ Ok kind → one ≡ other }
+    ensures { (kind : ShType)
+        → sh_type_of one ≡ Ok kind → sh_type_of other ≡ Ok kind → one ≡ other }
 {
     let _numbers = (one, other);
 }

@@ -44,7 +44,8 @@ pub fn section_in_segment<'a>(
     requires behind { (program_fields segment.now).offset ≤ (section_fields section.now).offset }
     ensures outer { IsSegmentData file.now (program_fields segment.now) result.outer.now }
     ensures inner { IsSectionData file.now section.now result.inner.now }
-    ensures place { result.place ≡ (section_fields section.now).offset - (program_fields segment.now).offset }
+    ensures place { result.place
+        ≡ (section_fields section.now).offset - (program_fields segment.now).offset }
     ensures lies { LiesAt result.outer result.place result.inner }
 {
     let Ok(outer) = segment.raw_data(file) else {
@@ -63,7 +64,8 @@ pub fn section_in_segment<'a>(
 
 /// The bytes of the symbols of a section of class 64, which are the section's own in the input.
 pub fn symbol_bytes<'a>(file: &ElfFile<'a>, section: &SectionHeader) -> Option<&'a [u8]>
-    ensures { let found = symbols_64_in (section_content_of file.now section.now) in MatchOption result
+    ensures { let found = symbols_64_in (section_content_of file.now section.now) in
+        MatchOption result
         (found ≡ None)
         (λ part. (found ≡ Some part.now) × LiesAsSection file.now section.now part) }
 {
@@ -83,7 +85,9 @@ pub fn section_data_in(input: &[u8], index: u16) -> Result<SectionData<'_>, ElfE
     ensures refused { IfErr result (λ error. MatchResult (header_of input.now) (λ header.
         let file : ElfFile = record { input = input.entry; header = header } in
         MatchResult (section_by_u16 input.now header index)
-        (λ section. section_content_of file section ≡ Err error) (λ why. why ≡ error)) (λ why. why ≡ error)) }
+        (λ section. section_content_of file section ≡ Err error)
+        (λ why. why ≡ error))
+        (λ why. why ≡ error)) }
 {
     let file = ElfFile::new(input)?;
     let section = file.section_header(index)?;
@@ -95,11 +99,14 @@ pub fn segment_data_in(input: &[u8], index: u16) -> Result<SegmentData<'_>, ElfE
     ensures found { IfOk result (λ part. IsOkAnd (header_of input.now) (λ header.
         let file : ElfFile = record { input = input.entry; header = header } in
         IsOkAnd (program_by_u16 input.now header index)
-        (λ segment. segment_content_of file (program_fields segment) ≡ Ok (segment_content part)))) }
+        (λ segment. segment_content_of file (program_fields segment)
+        ≡ Ok (segment_content part)))) }
     ensures refused { IfErr result (λ error. MatchResult (header_of input.now) (λ header.
         let file : ElfFile = record { input = input.entry; header = header } in
         MatchResult (program_by_u16 input.now header index)
-        (λ segment. segment_content_of file (program_fields segment) ≡ Err error) (λ why. why ≡ error)) (λ why. why ≡ error)) }
+        (λ segment. segment_content_of file (program_fields segment) ≡ Err error)
+        (λ why. why ≡ error))
+        (λ why. why ≡ error)) }
 {
     let file = ElfFile::new(input)?;
     let segment = file.program_header(index)?;

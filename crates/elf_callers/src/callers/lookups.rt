@@ -100,11 +100,13 @@ pub fn two_symbols<E: Entry + Record>(
     file: &ElfFile<'_>,
 ) -> (Option<(u32, E)>, Option<(u32, E)>)
     requires good { IsGood table.now (symbols_of E.fields E.text_in symbols.now file.now) }
-    ensures first { let all = symbols_of E.fields E.text_in symbols.now file.now in MatchOption result.0
+    ensures first { let all = symbols_of E.fields E.text_in symbols.now file.now in
+        MatchOption result.0
         ((i : ℕ) (e : E) → ¬ IsGlobal all i e one.now)
         (λ found. (0 < found.0) × (slice_get all.items found.0 ≡ Some found.1)
         × (all.text found.1 ≡ Some one.now)) }
-    ensures second { let all = symbols_of E.fields E.text_in symbols.now file.now in MatchOption result.1
+    ensures second { let all = symbols_of E.fields E.text_in symbols.now file.now in
+        MatchOption result.1
         ((i : ℕ) (e : E) → ¬ IsGlobal all i e other.now)
         (λ found. (0 < found.0) × (slice_get all.items found.0 ≡ Some found.1)
         × (all.text found.1 ≡ Some other.now)) }

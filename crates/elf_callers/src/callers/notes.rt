@@ -46,7 +46,8 @@ pub fn has_build_id(file: &ElfFile<'_>) -> bool
 
 /// Whether a file has a link to debug information.
 pub fn has_debug_link(file: &ElfFile<'_>) -> bool
-    ensures { IsTrue result ↔ ((text : List ℕ) × (checksum : ℕ) × IsDebugLink file.now text checksum) }
+    ensures { IsTrue result
+        ↔ ((text : List ℕ) × (checksum : ℕ) × IsDebugLink file.now text checksum) }
 {
     file.get_gnu_debuglink().is_some()
 }
@@ -138,7 +139,8 @@ pub fn debug_file_in<'a>(input: &'a [u8]) -> Option<&'a str>
 
 /// What follows the name in an alternate link. None where there is no link.
 pub fn shared_build_id<'a>(file: &ElfFile<'a>) -> Option<&'a [u8]>
-    ensures found { IfSome result (λ rest. (text : List ℕ) × IsAlternateLink file.now text rest.now) }
+    ensures found { IfSome result (λ rest.
+        (text : List ℕ) × IsAlternateLink file.now text rest.now) }
     ensures missing { IfNone result ((text rest : List ℕ) → ¬ IsAlternateLink file.now text rest) }
 {
     match file.get_gnu_debugaltlink() {
@@ -156,7 +158,8 @@ pub fn is_identified<'a, E: Extensions<'a>>(file: &E) -> bool
 
 /// Whether there is a link to debug information, of any implementation.
 pub fn is_linked<'a, E: Extensions<'a>>(file: &E) -> bool
-    ensures { IsTrue result ↔ ((text : List ℕ) × (checksum : ℕ) × E.DebugLink file.now text checksum) }
+    ensures { IsTrue result
+        ↔ ((text : List ℕ) × (checksum : ℕ) × E.DebugLink file.now text checksum) }
 {
     file.get_gnu_debuglink().is_some()
 }

@@ -46,10 +46,12 @@ pub struct SizeReport {
 impl SizeReport {
     // The report with one more section.
     fn with(self, section: &SectionHeader) -> SizeReport
-        requires { self.code + self.constants + self.initialised + self.zero_initialised + self.other
+        requires { self.code + self.constants + self.initialised
+            + self.zero_initialised + self.other
             < 2 ^ 127 }
         ensures code { result.code ≡ self.code + size_as SizeKind.Code section.now }
-        ensures constants { result.constants ≡ self.constants + size_as SizeKind.Constants section.now }
+        ensures constants { result.constants
+            ≡ self.constants + size_as SizeKind.Constants section.now }
         ensures initialised { result.initialised
             ≡ self.initialised + size_as SizeKind.Initialised section.now }
         ensures zero_initialised { result.zero_initialised
@@ -119,7 +121,8 @@ pub fn size_report(file: &ElfFile<'_>) -> SizeReport
 pub fn whole_size_report(file: &ElfFile<'_>) -> Result<SizeReport, ElfError>
     ensures whole { IsOk result ↔ ((index : ℕ) → index < section_count_of file.now
         → IsOk (section_of file.now index)) }
-    ensures all { IfOk result (λ report. length (section_list file.now) ≡ section_count_of file.now) }
+    ensures all { IfOk result (λ report.
+        length (section_list file.now) ≡ section_count_of file.now) }
     ensures sums { IfOk result (IsSizeReport file.now) }
     ensures refused { IfErr result (λ error.
         section_of file.now (length (section_list file.now)) ≡ Err error) }

@@ -16,7 +16,8 @@ use xmas_elf::sections::{SectionHeader, SectionIter};
 pub fn next_section(sections: &mut SectionIter<'_, '_>) -> Option<SectionHeader>
     ensures there { (section : SectionHeader)
         → sections.old.next_index < section_count_of sections.old.file.now
-        → section_of sections.old.file.now sections.old.next_index ≡ Ok section → result ≡ Some section }
+        → section_of sections.old.file.now sections.old.next_index ≡ Ok section
+        → result ≡ Some section }
     ensures given { IfSome result (λ section.
         (sections.old.next_index < section_count_of sections.old.file.now)
         × (section_of sections.old.file.now sections.old.next_index ≡ Ok section)
@@ -30,7 +31,8 @@ pub fn next_section(sections: &mut SectionIter<'_, '_>) -> Option<SectionHeader>
 pub fn next_segment(segments: &mut ProgramIter<'_, '_>) -> Option<ProgramHeader>
     ensures there { (segment : ProgramHeader)
         → segments.old.next_index < program_count_of segments.old.file.now
-        → program_of segments.old.file.now segments.old.next_index ≡ Ok segment → result ≡ Some segment }
+        → program_of segments.old.file.now segments.old.next_index ≡ Ok segment
+        → result ≡ Some segment }
     ensures given { IfSome result (λ segment.
         (segments.old.next_index < program_count_of segments.old.file.now)
         × (program_of segments.old.file.now segments.old.next_index ≡ Ok segment)

@@ -79,7 +79,8 @@ pub fn section_of_any<E: Entry>(
 pub fn value_at(table: &Table<'_, Entry64>, index: usize) -> Option<u64>
     ensures { MatchOption result (length (table_data table.now) ≤ index * 24)
         (λ value. (index * 24 < length (table_data table.now)) × (value
-        ≡ number (table_order table.now) 8 8 (take 24 (drop (index * 24) (table_data table.now))))) }
+        ≡ number (table_order table.now) 8 8
+        (take 24 (drop (index * 24) (table_data table.now))))) }
 {
     Some(table.get(index)?.value())
 }

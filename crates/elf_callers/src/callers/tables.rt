@@ -11,7 +11,8 @@ use xmas_elf::symbol_table::Entry;
 pub fn first_with_value<E: Entry + Record>(symbols: &Table<'_, E>, value: u64) -> Option<usize>
     ensures { let all = table_items symbols.now in MatchOption result
         (AllWithin (λ symbol. (E.fields symbol).value ≢ value) all 0 (length all))
-        (λ index. (index < length all) × HoldsAt (λ symbol. (E.fields symbol).value ≡ value) all index
+        (λ index. (index < length all)
+        × HoldsAt (λ symbol. (E.fields symbol).value ≡ value) all index
         × AllWithin (λ symbol. (E.fields symbol).value ≢ value) all 0 index) }
 {
     symbols.iter().position(|symbol| symbol.value() == value)

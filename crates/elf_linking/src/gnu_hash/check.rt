@@ -36,7 +36,8 @@ impl<'a> GnuHashTable<'a> {
     ) -> Result<(), LinkError>
         ensures accepts { IsOk result
             ↔ IsGood self.now (symbols_of E.fields E.text_in symbols.now file.now) }
-        ensures exact { IsCheck self.now (symbols_of E.fields E.text_in symbols.now file.now) result }
+        ensures exact { IsCheck self.now
+            (symbols_of E.fields E.text_in symbols.now file.now) result }
         ensures only { (other : Result (Unit {0}) LinkError)
             → IsCheck self.now (symbols_of E.fields E.text_in symbols.now file.now) other
             → other ≡ result }

@@ -59,7 +59,8 @@ fn passes<E: Entry, F: Fn(&E) -> bool>(
     ensures no { IfSome strings.entry (HoldsNames E.fields (λ e. E.text_in e file.now))
         → result ≡ false
         → (FnReturnsAt F.Fn f.now entry.now true → FnReturnsAt F.Fn f.now entry.now false → ⊥)
-        → (E.text_in entry.now file.now ≡ Some name.now) × FnReturnsAt F.Fn f.now entry.now true → ⊥ }
+        → (E.text_in entry.now file.now ≡ Some name.now)
+        × FnReturnsAt F.Fn f.now entry.now true → ⊥ }
 {
     bears(entry, name, strings, file) && f(entry)
 }
@@ -236,7 +237,8 @@ impl<'a> GnuHashTable<'a> {
             IfSome prepared.entry (λ strings.
             IfSome strings (HoldsNames E.fields (λ e. E.text_in e file.now)))
             → Decides all F.Fn f.now
-            → Looks (IsMatch all F.Fn f.now name.now) self.now all.items name.now result.0 result.1 }
+            → Looks (IsMatch all F.Fn f.now name.now)
+            self.now all.items name.now result.0 result.1 }
     {
         let hash = gnu_hash(name);
         let Some(from) = self.start(hash) else {

@@ -22,8 +22,10 @@ pub(crate) enum Pairs<'a> {
 impl<'a> Pairs<'a> {
     // The records of these bytes in a file, refused as by `DynamicView::read`.
     pub(crate) fn new(bytes: &'a [u8], file: &ElfFile<'_>) -> Result<Pairs<'a>, LinkError>
-        ensures { let answer = all_entries (file_class file.now.header) (file_order file.now.header) bytes.now in
-            MatchResult result (λ pairs. answer ≡ Ok (pairs_of pairs)) (λ error. answer ≡ Err error) }
+        ensures { let answer = all_entries
+            (file_class file.now.header) (file_order file.now.header) bytes.now in
+            MatchResult result (λ pairs. answer ≡ Ok (pairs_of pairs))
+            (λ error. answer ≡ Err error) }
     {
         let order = byte_order(file.header.pt1.encoding);
         match file.header.pt1.class() {

@@ -25,7 +25,8 @@ fn is_holder(program: &ProgramHeader, address: u64, count: u64) -> bool
 /// The first loaded segment whose bytes in the file are those at so many addresses from one on.
 pub fn segment_at(file: &ElfFile<'_>, address: u64, count: u64) -> Option<ProgramHeader>
     ensures found { IfSome result (IsFirstHolder file.now address count) }
-    ensures missing { IfNone result (NoneHolds file.now address count (length (program_list file.now))) }
+    ensures missing { IfNone result
+        (NoneHolds file.now address count (length (program_list file.now))) }
     ensures exact { result ≡ holder_of file.now address count }
 {
     first_holder(file, address, count)

@@ -33,7 +33,8 @@ impl<'a> DynamicView<'a> {
     /// `HashTable::read` is.
     pub fn hash_table(&self, file: &ElfFile<'a>) -> Result<HashTable<'a>, LinkError>
         ensures { let answer = hash_table_of file.now (view_entries self.now) in MatchResult result
-            (λ table. (answer ≡ Ok (hash_data table)) × (hash_order table ≡ file_order file.now.header))
+            (λ table. (answer ≡ Ok (hash_data table))
+            × (hash_order table ≡ file_order file.now.header))
             (λ error. answer ≡ Err error) }
     {
         let bytes = self.bytes_with(HASH, file)?;
@@ -50,7 +51,8 @@ impl<'a> DynamicView<'a> {
     /// `GnuHashTable::read` is.
     #[tactic(auto, using(crate::proofs::ViewTables::gnu_accepted))]
     pub fn gnu_hash_table(&self, file: &ElfFile<'a>) -> Result<GnuHashTable<'a>, LinkError>
-        ensures { let answer = gnu_hash_table_of file.now (view_entries self.now) in MatchResult result
+        ensures { let answer = gnu_hash_table_of file.now (view_entries self.now) in
+            MatchResult result
             (λ table. (answer ≡ Ok (gnu_data table))
             × (gnu_class table ≡ class_of (file_class file.now.header))
             × (gnu_order table ≡ file_order file.now.header))

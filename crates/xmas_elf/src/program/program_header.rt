@@ -318,7 +318,8 @@ impl ProgramHeader {
         ensures count { IfOk result (λ range. range.1 ≡ (program_fields self.now).file_size) }
         ensures start { IfOk result (λ range. (program_fields self.now).file_size ≢ 0
             → range.0 ≡ (program_fields self.now).offset) }
-        ensures empty { IfOk result (λ range. (program_fields self.now).file_size ≡ 0 → range.0 ≡ 0) }
+        ensures empty { IfOk result (λ range. (program_fields self.now).file_size ≡ 0
+            → range.0 ≡ 0) }
         ensures exact { MatchResult result
             (λ range. segment_data_of file.now (program_fields self.now)
             ≡ Ok (take range.1 (drop range.0 file.now.input.now)))

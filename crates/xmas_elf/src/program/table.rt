@@ -121,7 +121,8 @@ impl<'b, 'a> ProgramTable<'b, 'a> {
     #[inline(always)]
     fn step(&self, index: usize) -> Option<(ProgramHeader, usize)>
         ensures { MatchOption result (drop index (table_programs self.now) ≡ [])
-            (λ step. drop index (table_programs self.now) ≡ step.0 ∷ drop step.1 (table_programs self.now)) }
+            (λ step. drop index (table_programs self.now)
+            ≡ step.0 ∷ drop step.1 (table_programs self.now)) }
     {
         let Some(program) = self.get(index) else {
             return None;

@@ -90,7 +90,8 @@ impl SectionHeader {
             (λ e. section_content_of file.now self.now ≡ Err e) }
         ensures holds { IfOk result (λ d. Holds (IsSectionData file.now self.now)
             (file_order file.now.header) (content d)) }
-        ensures place { IfOk result (λ d. PartLies file.now.input (section_fields self.now).offset (section_part d)) }
+        ensures place { IfOk result (λ d.
+            PartLies file.now.input (section_fields self.now).offset (section_part d)) }
     {
         match self.get_type()? {
             ShType::Null | ShType::NoBits => Ok(SectionData::Empty),

@@ -120,7 +120,8 @@ impl<'b, 'a> SectionTable<'b, 'a> {
         ensures item { result ≡ slice_get (table_sections self.now) index }
         ensures value { MatchOption result (length (table_sections self.now) ≤ index)
             (λ section. (index < length (table_sections self.now)) × (section
-            ≡ section_at_index (table_file self.now).input.now (table_file self.now).header index)) }
+            ≡ section_at_index
+            (table_file self.now).input.now (table_file self.now).header index)) }
     {
         if index >= self.len {
             return None;
@@ -198,7 +199,8 @@ impl<'b, 'a> SectionTable<'b, 'a> {
     #[inline(always)]
     fn step(&self, index: usize) -> Option<(SectionHeader, usize)>
         ensures { MatchOption result (drop index (table_sections self.now) ≡ [])
-            (λ step. drop index (table_sections self.now) ≡ step.0 ∷ drop step.1 (table_sections self.now)) }
+            (λ step. drop index (table_sections self.now)
+            ≡ step.0 ∷ drop step.1 (table_sections self.now)) }
     {
         let Some(section) = self.get(index) else {
             return None;

@@ -155,5 +155,6 @@ pub trait Entry {
 
     /// An entry bears at most one text in a file.
     ghost one_text: { (entry : Self) (file : ElfFile) (one other : List ℕ)
-        → text_in entry file ≡ Some one → text_in entry file ≡ Some other → one ≡ other } = { λ entry file one other a b. Prim.search rules };
+        → text_in entry file ≡ Some one → text_in entry file ≡ Some other
+        → one ≡ other } = { λ entry file one other a b. Prim.search rules };
 }

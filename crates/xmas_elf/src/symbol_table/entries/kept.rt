@@ -36,7 +36,8 @@ pub(crate) trait Kept {
 impl<K: Kept> Entry for K {
     ghost fields = { K.fields };
 
-    ghost text_in = { λ entry file. result_ok (symbol_string_of K.DYNAMIC file (K.fields entry).name) };
+    ghost text_in = { λ entry file.
+        result_ok (symbol_string_of K.DYNAMIC file (K.fields entry).name) };
 
     #[inline(always)]
     fn name(&self) -> u32 {
@@ -90,8 +91,10 @@ impl<K: Kept> Entry for K {
     /// symbol of the dynamic linker in `.dynstr`, with the answer of `ElfFile::get_dyn_string`.
     fn get_name<'a>(&self, file: &ElfFile<'a>) -> Result<&'a str, ElfError>
         ensures text { Lends (IsSymbolString K.DYNAMIC file.now (K.fields self.now).name) result }
-        ensures only { LendsOnly (IsSymbolString K.DYNAMIC file.now (K.fields self.now).name) result }
-        ensures exact { Answers (symbol_string_of K.DYNAMIC file.now (K.fields self.now).name) result }
+        ensures only { LendsOnly
+            (IsSymbolString K.DYNAMIC file.now (K.fields self.now).name) result }
+        ensures exact { Answers
+            (symbol_string_of K.DYNAMIC file.now (K.fields self.now).name) result }
     {
         if K::DYNAMIC {
             file.get_dyn_string(self.name())
