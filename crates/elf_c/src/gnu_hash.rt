@@ -1,7 +1,8 @@
 //! Look-ups by GNU's hash tables, and their check (the convention of GNU binutils and glibc).
 
 ghost use Rattle.std.specs.Prelude.{◌≡◌, IfSome, MatchResult, Result, true};
-ghost use Rattle.elf_c.specs.GnuLookup.{ChecksWith, IsChecked, IsLookUp, IsLookUpBy, IsTableIn, LooksAmong, NoTableIn, WithTable};
+ghost use Rattle.elf_c.specs.GnuLookup.{ChecksWith, IsChecked, IsLookUp, IsLookUpBy, IsTableIn};
+ghost use Rattle.elf_c.specs.GnuLookup.{LooksAmong, NoTableIn, WithTable};
 ghost use Rattle.elf_c.specs.Lookup.{look_up_answer};
 ghost use Rattle.elf_c.specs.LookUps.{AreAnswered, IfUtf8, IsForRange};
 ghost use Rattle.elf_c.specs.Parsed.{file_of};

@@ -1,7 +1,8 @@
 //! Look-ups by the gABI's hash tables, and their check (gABI, "Hash Table").
 
 ghost use Rattle.std.specs.Prelude.{◌≡◌, Err, IfSome, MatchResult, Ok, Result, true};
-ghost use Rattle.elf_c.specs.Lookup.{ChecksWith, IsChecked, IsLookUp, IsLookUpBy, LooksAmong, WithTable, look_up_answer, looked_up};
+ghost use Rattle.elf_c.specs.Lookup.{ChecksWith, IsChecked, IsLookUp, IsLookUpBy, LooksAmong};
+ghost use Rattle.elf_c.specs.Lookup.{WithTable, look_up_answer, looked_up};
 ghost use Rattle.elf_c.specs.LookUps.{AreAnswered, IfUtf8, IsForRange};
 ghost use Rattle.elf_c.specs.Parsed.{file_of};
 ghost use Rattle.elf_c.specs.Status.{GivesHere};

@@ -2,7 +2,8 @@
 
 ghost use Rattle.std.specs.Prelude.{◌≡◌, length};
 ghost use Rattle.elf_c.specs.Status.{refusal_number};
-ghost use Rattle.elf_c.specs.Texts.{elf_error_with, link_error_with, refusal_message, refusal_with, text_with, written};
+ghost use Rattle.elf_c.specs.Texts.{elf_error_with, link_error_with, refusal_message};
+ghost use Rattle.elf_c.specs.Texts.{refusal_with, text_with, written};
 ghost use Rattle.elf_c.specs.declared.status.Refusal.{Refusal};
 
 use crate::status::Refusal;

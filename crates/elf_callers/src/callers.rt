@@ -1,25 +1,31 @@
 //! Callers of `xmas_elf` in another crate, proved by its public contracts, and where their `using`
 //! or their answers name one by a lemma of `xmas_elf/proofs/lemmas`.
 
-ghost use Rattle.std.specs.Prelude.{◌≡◌, ◌≢◌, ◌+◌, ◌↔◌, ◌≤◌, ◌<◌, ◌==◌, Err, IfErr, IfOk, IsOk, IsOkAnd, IsTrue, List, MatchOption, MatchResult, None, Ok, Some, count_by, length, ℕ};
+ghost use Rattle.std.specs.Prelude.{◌≡◌, ◌≢◌, ◌+◌, ◌↔◌, ◌≤◌, ◌<◌, ◌==◌};
+ghost use Rattle.std.specs.Prelude.{Err, IfErr, IfOk, IsOk, IsOkAnd, IsTrue, List, MatchOption};
+ghost use Rattle.std.specs.Prelude.{MatchResult, None, Ok, Some, count_by, length, ℕ};
 ghost use Rattle.std.specs.List.{AllWithin, HoldsAt};
 ghost use Rattle.std.specs.Borrow.{Bor};
 ghost use Rattle.std.specs.Result.{result_ok};
 ghost use Rattle.elf_callers.specs.Instructions.{instructions_in};
 ghost use Rattle.elf_callers.specs.Names.{name_in_bytes, text_length};
-ghost use Rattle.elf_callers.specs.StringBytes.{IsStringRefused, IsStringTotal, LiesThere, string_size};
+ghost use Rattle.elf_callers.specs.StringBytes.{IsStringRefused, IsStringTotal};
+ghost use Rattle.elf_callers.specs.StringBytes.{LiesThere, string_size};
 ghost use Rattle.xmas_elf.specs.Checks.{header_check};
 ghost use Rattle.xmas_elf.specs.Counts.{section_count_of};
 ghost use Rattle.xmas_elf.specs.FileHeader.{IsAccepted, file_class, file_order, header_of};
 ghost use Rattle.xmas_elf.specs.HeaderLayout.{header_fields};
 ghost use Rattle.xmas_elf.specs.HeaderTable.{IsLongest};
 ghost use Rattle.xmas_elf.specs.Lent.{Answers};
-ghost use Rattle.xmas_elf.specs.NameTable.{Bears, IsFirstNamed, IsNameTable, name_of as section_name_of, shstr_of};
+ghost use Rattle.xmas_elf.specs.NameTable.{Bears, IsFirstNamed, IsNameTable};
+ghost use Rattle.xmas_elf.specs.NameTable.{name_of as section_name_of, shstr_of};
 ghost use Rattle.xmas_elf.specs.Number.{byte_at, number};
 ghost use Rattle.xmas_elf.specs.ProgramHeader.{program_fields, program_by_u16};
 ghost use Rattle.xmas_elf.specs.ProgramList.{program_list};
 ghost use Rattle.xmas_elf.specs.SectionData.{HasSectionData, section_data_of};
-ghost use Rattle.xmas_elf.specs.SectionHeader.{HasSectionHeader, section_fields, section_by_u16, section_header_size, section_of, section_place, section_type};
+ghost use Rattle.xmas_elf.specs.SectionHeader.{HasSectionHeader, section_fields};
+ghost use Rattle.xmas_elf.specs.SectionHeader.{section_by_u16, section_header_size};
+ghost use Rattle.xmas_elf.specs.SectionHeader.{section_of, section_place, section_type};
 ghost use Rattle.xmas_elf.specs.SectionList.{section_list};
 ghost use Rattle.xmas_elf.specs.SegmentData.{HasSegmentData, segment_data_of};
 ghost use Rattle.xmas_elf.specs.Text.{IsText};

@@ -1,9 +1,11 @@
 //! GNU's hash tables of symbols (the convention of GNU binutils and glibc: sections of type
 //! 0x6ffffff6, `.gnu.hash`, and the dynamic entry `DT_GNU_HASH`).
 
-ghost use Rattle.std.specs.Prelude.{◌≡◌, ◌↔◌, ◌+◌, ◌*◌, ◌/◌, ◌^◌, ◌==◌, ◌<◌, ◌≤◌, length, IfOk, IsOk, IsTrue, MatchResult};
+ghost use Rattle.std.specs.Prelude.{◌≡◌, ◌↔◌, ◌+◌, ◌*◌, ◌/◌, ◌^◌, ◌==◌, ◌<◌, ◌≤◌};
+ghost use Rattle.std.specs.Prelude.{length, IfOk, IsOk, IsTrue, MatchResult};
 ghost use Rattle.elf_linking.specs.GnuHashNumber.{gnu_hash_number};
-ghost use Rattle.elf_linking.specs.GnuLayout.{IsGnuTable, bloom_count_in, bloom_size, chains_in, gnu_table_of, is_known};
+ghost use Rattle.elf_linking.specs.GnuLayout.{IsGnuTable, bloom_count_in, bloom_size};
+ghost use Rattle.elf_linking.specs.GnuLayout.{chains_in, gnu_table_of, is_known};
 ghost use Rattle.std.specs.Int.{bit_at};
 
 mod check;
@@ -85,7 +87,11 @@ pub struct GnuHashTable<'a> {
 }
 
 impl<'a> GnuHashTable<'a> {
-    ghost use Rattle.elf_linking.specs.GnuHash.{HasChain, bloom_count_of, bloom_of, bloom_shift_of, bloom_word, bucket_count_of, bucket_of, bucket_word, chain_of, chain_place, chain_word, first_symbol_of, gnu_class, gnu_data, gnu_order, may_hold, start_at};
+    ghost use Rattle.elf_linking.specs.GnuHash.{HasChain, bloom_count_of, bloom_of};
+    ghost use Rattle.elf_linking.specs.GnuHash.{bloom_shift_of, bloom_word, bucket_count_of};
+    ghost use Rattle.elf_linking.specs.GnuHash.{bucket_of, bucket_word, chain_of, chain_place};
+    ghost use Rattle.elf_linking.specs.GnuHash.{chain_word, first_symbol_of, gnu_class, gnu_data};
+    ghost use Rattle.elf_linking.specs.GnuHash.{gnu_order, may_hold, start_at};
 
     /// The hash table that these bytes are, up to the end of their section.
     ///

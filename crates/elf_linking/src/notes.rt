@@ -1,6 +1,7 @@
 //! Notes, one after the other (gABI, "Note Section").
 
-ghost use Rattle.std.specs.Prelude.{◌≡◌, ◌+◌, ◌^◌, ◌<◌, ◌≤◌, IfErr, IfOk, IsErrOf, MatchOption, MatchResult, length, drop, Err, Ok};
+ghost use Rattle.std.specs.Prelude.{◌≡◌, ◌+◌, ◌^◌, ◌<◌, ◌≤◌, IfErr, IfOk, IsErrOf, MatchOption};
+ghost use Rattle.std.specs.Prelude.{MatchResult, length, drop, Err, Ok};
 ghost use Rattle.elf_base.specs.FileHeader.{file_order};
 ghost use Rattle.elf_base.specs.Lent.{Answers, Lends, LendsOnly};
 ghost use Rattle.elf_base.specs.Text.{IsText, TextRefused, text_of};
@@ -9,7 +10,9 @@ ghost use Rattle.xmas_elf.specs.ProgramHeader.{program_fields};
 ghost use Rattle.xmas_elf.specs.SectionData.{section_data_of};
 ghost use Rattle.xmas_elf.specs.SectionHeader.{section_fields};
 ghost use Rattle.xmas_elf.specs.SegmentData.{segment_data_of};
-ghost use Rattle.elf_linking.specs.Notes.{AreNotes, BeginsWithNote, first_note, next_note, next_step, note_item, note_parts, notes_align, notes_bytes, notes_left, notes_order};
+ghost use Rattle.elf_linking.specs.Notes.{AreNotes, BeginsWithNote, first_note, next_note};
+ghost use Rattle.elf_linking.specs.Notes.{next_step, note_item, note_parts, notes_align};
+ghost use Rattle.elf_linking.specs.Notes.{notes_bytes, notes_left, notes_order};
 
 use crate::LinkError;
 use elf_base::ElfError;

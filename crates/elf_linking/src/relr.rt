@@ -2,7 +2,8 @@
 
 ghost use Rattle.std.specs.Prelude.{◌≡◌, ◌<◌, ◌≤◌, ◌*◌, Ok, Err, IfOk, MatchResult, length};
 ghost use Rattle.std.specs.Iterator.{YieldsFirst, item_count};
-ghost use Rattle.elf_linking.specs.Relr.{MarkStep, marks, place_behind, relr_of, relr_rest, word_size, words_left, words_of};
+ghost use Rattle.elf_linking.specs.Relr.{MarkStep, marks, place_behind, relr_of, relr_rest};
+ghost use Rattle.elf_linking.specs.Relr.{word_size, words_left, words_of};
 
 use crate::LinkError;
 use elf_base::bytes::{Order, Table, TableIter};

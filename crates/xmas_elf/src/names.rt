@@ -1,7 +1,8 @@
 //! The names of sections, and the section with a name
 //! (gABI, "String Table" and "Sections", sh_name).
 
-ghost use Rattle.std.specs.Prelude.{◌≡◌, ◌↔◌, ◌+◌, ◌≤◌, Err, IfNone, IfOk, IfSome, IsOkAnd, IsTrue, List, Ok, Some, length, ℕ};
+ghost use Rattle.std.specs.Prelude.{◌≡◌, ◌↔◌, ◌+◌, ◌≤◌, Err, IfNone, IfOk, IfSome, IsOkAnd, IsTrue};
+ghost use Rattle.std.specs.Prelude.{List, Ok, Some, length, ℕ};
 ghost use Rattle.std.specs.Result.{ForErr, ForOk};
 ghost use Rattle.elf_base.specs.Lent.{Answers, Lends, LendsOnly, LiesAt};
 ghost use Rattle.elf_base.specs.TextCompared.{TextCompared};

@@ -33,7 +33,8 @@ impl<T: Record> Clone for Table<'_, T> {
 impl<T: Record> Copy for Table<'_, T> {}
 
 impl<'a, T: Record> Table<'a, T> {
-    ghost use Rattle.elf_base.specs.Table.{record_at, table_bytes, table_data, table_items, table_order, table_rest};
+    ghost use Rattle.elf_base.specs.Table.{record_at, table_bytes, table_data};
+    ghost use Rattle.elf_base.specs.Table.{table_items, table_order, table_rest};
 
     /// The table of the records in `bytes`; `NotMultiple`
     /// where their length is no multiple of `SIZE`.

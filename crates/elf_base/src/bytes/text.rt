@@ -1,6 +1,7 @@
 //! Texts that a zero byte ends (gABI, "String Table").
 
-ghost use Rattle.std.specs.Prelude.{◌≡◌, ◌↔◌, ◌+◌, ◌<◌, ◌≤◌, ℕ, Err, IfErr, IfOk, IsErrOf, IsTrue, List, MatchResult, Ok, drop, length, take};
+ghost use Rattle.std.specs.Prelude.{◌≡◌, ◌↔◌, ◌+◌, ◌<◌, ◌≤◌, ℕ, Err, IfErr, IfOk, IsErrOf, IsTrue};
+ghost use Rattle.std.specs.Prelude.{List, MatchResult, Ok, drop, length, take};
 ghost use Rattle.elf_base.specs.Lent.{Answers, Lends, LendsOnly};
 ghost use Rattle.elf_base.specs.Text.{EndsInZero, IsText, NoZeroFrom, TextRefused, text_of};
 ghost use Rattle.std.specs.Str.{IsUtf8};

@@ -3,9 +3,12 @@
 //! An address is what the values of the symbols are: one of memory in a program, and an offset in
 //! some section in an object file.
 
-ghost use Rattle.std.specs.Prelude.{◌≡◌, ◌↔◌, ◌<◌, ℕ, None, IfErr, IfOk, IsOkAnd, IsTrue, MatchOption, MatchResult, length};
+ghost use Rattle.std.specs.Prelude.{◌≡◌, ◌↔◌, ◌<◌, ℕ, None, IfErr, IfOk, IsOkAnd, IsTrue};
+ghost use Rattle.std.specs.Prelude.{MatchOption, MatchResult, length};
 ghost use Rattle.std.specs.List.{HoldsAt};
-ghost use Rattle.elf_callers.specs.FunctionAt.{HasNoName, HoldsAddress, IsFunctionAt, IsFunctionName, IsFunctionNameOf, IsNameRefused, NoneHolds};
+ghost use Rattle.elf_callers.specs.FunctionAt.{HasNoName, HoldsAddress, IsFunctionAt};
+ghost use Rattle.elf_callers.specs.FunctionAt.{IsFunctionName, IsFunctionNameOf};
+ghost use Rattle.elf_callers.specs.FunctionAt.{IsNameRefused, NoneHolds};
 ghost use Rattle.xmas_elf.specs.FileHeader.{header_of};
 ghost use Rattle.xmas_elf.specs.Symbols.{symbols_of};
 ghost use Rattle.xmas_elf.specs.Table.{table_items};

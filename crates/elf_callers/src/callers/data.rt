@@ -1,7 +1,10 @@
 //! Callers that read the data of sections and segments by their types.
 
-ghost use Rattle.std.specs.Prelude.{◌≡◌, ◌*◌, ◌+◌, ◌<◌, ◌≤◌, ◌⊎◌, Err, IfOk, IfErr, IfNone, IfSome, IsOkAnd, IsSome, IsSomeAnd, IsTrue, List, MatchOption, None, Ok, Some, length, take, drop, ℕ};
-ghost use Rattle.elf_callers.specs.Kinds.{dynamic_in, hash_table_in, rela_64_in, strings_in, symbols_64_in, text_found, uses_in};
+ghost use Rattle.std.specs.Prelude.{◌≡◌, ◌*◌, ◌+◌, ◌<◌, ◌≤◌, ◌⊎◌, Err, IfOk, IfErr, IfNone, IfSome};
+ghost use Rattle.std.specs.Prelude.{IsOkAnd, IsSome, IsSomeAnd, IsTrue, List, MatchOption, None};
+ghost use Rattle.std.specs.Prelude.{Ok, Some, length, take, drop, ℕ};
+ghost use Rattle.elf_callers.specs.Kinds.{dynamic_in, hash_table_in, rela_64_in, strings_in};
+ghost use Rattle.elf_callers.specs.Kinds.{symbols_64_in, text_found, uses_in};
 ghost use Rattle.xmas_elf.specs.FileHeader.{file_class, file_order};
 ghost use Rattle.xmas_elf.specs.Number.{number};
 ghost use Rattle.xmas_elf.specs.ProgramHeader.{program_fields, segment_type};

@@ -1,8 +1,11 @@
 //! Callers that look symbols up by their names, as a model of a dynamic linker would.
 
 ghost use Rattle.std.specs.Borrow.{Bor};
-ghost use Rattle.std.specs.Prelude.{◌≡◌, ◌↔◌, ◌<◌, ◌≤◌, ℕ, Contains, IfErr, IfOk, IsOkAnd, IsTrue, MatchOption, MatchResult, None, Option, Result, Some, length, slice_get, true};
-ghost use Rattle.elf_callers.specs.Linked.{AreLinked, IsFileValueOf, IsLinkRefused, NotLinked, symbols_in, table_in};
+ghost use Rattle.std.specs.Prelude.{◌≡◌, ◌↔◌, ◌<◌, ◌≤◌, ℕ, Contains, IfErr, IfOk, IsOkAnd};
+ghost use Rattle.std.specs.Prelude.{IsTrue, MatchOption, MatchResult, None, Option, Result, Some};
+ghost use Rattle.std.specs.Prelude.{length, slice_get, true};
+ghost use Rattle.elf_callers.specs.Linked.{AreLinked, IsFileValueOf, IsLinkRefused};
+ghost use Rattle.elf_callers.specs.Linked.{NotLinked, symbols_in, table_in};
 ghost use Rattle.xmas_elf.specs.Chain.{Looks};
 ghost use Rattle.xmas_elf.specs.ElfError.{ElfError};
 ghost use Rattle.xmas_elf.specs.FileHeader.{header_of};

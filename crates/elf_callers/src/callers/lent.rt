@@ -1,6 +1,7 @@
 //! Callers that go by where a lent slice lies.
 
-ghost use Rattle.std.specs.Prelude.{◌≡◌, ◌≢◌, ◌≤◌, ◌-◌, ◌%◌, Err, IfErr, IfOk, IsOkAnd, MatchOption, MatchResult, None, Ok, Some, length};
+ghost use Rattle.std.specs.Prelude.{◌≡◌, ◌≢◌, ◌≤◌, ◌-◌, ◌%◌, Err, IfErr, IfOk, IsOkAnd};
+ghost use Rattle.std.specs.Prelude.{MatchOption, MatchResult, None, Ok, Some, length};
 ghost use Rattle.elf_callers.specs.Kinds.{symbols_64_in};
 ghost use Rattle.xmas_elf.specs.FileHeader.{header_of};
 ghost use Rattle.xmas_elf.specs.Lent.{LiesAt};

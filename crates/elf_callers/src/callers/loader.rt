@@ -1,7 +1,8 @@
 //! What a loader asks a file for: which bytes are to be at which address of memory.
 
 ghost use Rattle.std.specs.Prelude.{◌≡◌, ◌↔◌, IfErr, IfOk, IsOk, IsTrue, OnOk, map};
-ghost use Rattle.elf_callers.specs.Loaded.{AreRead, FitMemory, IsLoadable, IsRefused, LieInFile, image, image_of, images, is_load};
+ghost use Rattle.elf_callers.specs.Loaded.{AreRead, FitMemory, IsLoadable, IsRefused, LieInFile};
+ghost use Rattle.elf_callers.specs.Loaded.{image, image_of, images, is_load};
 ghost use Rattle.xmas_elf.specs.ProgramHeader.{program_fields};
 ghost use Rattle.xmas_elf.specs.ProgramList.{program_list};
 ghost use Rattle.xmas_elf.specs.SegmentData.{HasSegmentData};

@@ -1,7 +1,8 @@
 //! Look-ups by a test of one's own, in tables that were checked and in tables that were not.
 
 ghost use Rattle.std.specs.Borrow.{Bor};
-ghost use Rattle.std.specs.Prelude.{◌≡◌, ◌≢◌, ◌↔◌, ◌<◌, ◌≤◌, ℕ, Contains, Err, IfErr, IfSome, IsOk, IsTrue, MatchOption, OnOk, Some, length, slice_get, true};
+ghost use Rattle.std.specs.Prelude.{◌≡◌, ◌≢◌, ◌↔◌, ◌<◌, ◌≤◌, ℕ, Contains, Err, IfErr, IfSome, IsOk};
+ghost use Rattle.std.specs.Prelude.{IsTrue, MatchOption, OnOk, Some, length, slice_get, true};
 ghost use Rattle.elf_callers.specs.Tiny.{tiny_fields, tiny_name};
 ghost use Rattle.xmas_elf.specs.Chain.{IsEndless, Looks, chains_of};
 ghost use Rattle.xmas_elf.specs.Good.{FindsAll, IsCheck, IsGood, MustBeFound};

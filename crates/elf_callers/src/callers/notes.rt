@@ -1,12 +1,15 @@
 //! Callers that read notes, build ids and links to debug information.
 
-ghost use Rattle.std.specs.Prelude.{◌≡◌, ◌≢◌, ◌↔◌, ◌+◌, ◌≤◌, IfNone, IfOk, IfSome, IsOkAnd, IsSomeAnd, IsTrue, List, MatchOption, Ok, Some, ℕ, codes, length};
+ghost use Rattle.std.specs.Prelude.{◌≡◌, ◌≢◌, ◌↔◌, ◌+◌, ◌≤◌};
+ghost use Rattle.std.specs.Prelude.{IfNone, IfOk, IfSome, IsOkAnd, IsSomeAnd, IsTrue, List};
+ghost use Rattle.std.specs.Prelude.{MatchOption, Ok, Some, ℕ, codes, length};
 ghost use Rattle.xmas_elf.specs.BuildId.{IsBuildId};
 ghost use Rattle.xmas_elf.specs.FileHeader.{file_class, file_order, header_of};
 ghost use Rattle.xmas_elf.specs.Header.{Header};
 ghost use Rattle.xmas_elf.specs.Link.{IsAlternateLink, IsDebugLink};
 ghost use Rattle.xmas_elf.specs.NamedData.{IsDataNamed};
-ghost use Rattle.xmas_elf.specs.Note.{IsNoteName, NoteNameRefused, note_desc_size, note_name_size, note_type, rounded_up};
+ghost use Rattle.xmas_elf.specs.Note.{IsNoteName, NoteNameRefused, note_desc_size};
+ghost use Rattle.xmas_elf.specs.Note.{note_name_size, note_type, rounded_up};
 ghost use Rattle.xmas_elf.specs.NoteHeader.{NoteHeader};
 ghost use Rattle.xmas_elf.specs.Number.{number};
 ghost use Rattle.xmas_elf.specs.Text.{IsText};

@@ -1,7 +1,8 @@
 //! Callers that ask what the checks accept, and when data is of a kind, in words.
 
 ghost use Rattle.std.specs.Prelude.{◌↔◌, IsTrue};
-ghost use Rattle.elf_callers.specs.Sound.{HasSymbols, IsSoundHeader, IsSoundSection, IsSoundSegment};
+ghost use Rattle.elf_callers.specs.Sound.{HasSymbols, IsSoundHeader};
+ghost use Rattle.elf_callers.specs.Sound.{IsSoundSection, IsSoundSegment};
 
 use xmas_elf::program::ProgramHeader;
 use xmas_elf::sections::{SectionData, SectionHeader};

@@ -1,6 +1,8 @@
 //! Callers of symbols, of a known type and of any.
 
-ghost use Rattle.std.specs.Prelude.{◌≡◌, ◌↔◌, ◌*◌, ◌<◌, ◌≤◌, IfErr, IfOk, IfSome, IsTrue, MatchOption, MatchResult, None, Ok, Some, codes, drop, length, take, ℕ};
+ghost use Rattle.std.specs.Prelude.{◌≡◌, ◌↔◌, ◌*◌, ◌<◌, ◌≤◌};
+ghost use Rattle.std.specs.Prelude.{IfErr, IfOk, IfSome, IsTrue, MatchOption, MatchResult, None};
+ghost use Rattle.std.specs.Prelude.{Ok, Some, codes, drop, length, take, ℕ};
 ghost use Rattle.elf_callers.specs.Names.{HasText, IsNameTotal, first_name_of};
 ghost use Rattle.elf_callers.specs.Numbered.{numbered_name};
 ghost use Rattle.elf_callers.specs.Totals.{IsFirstWithout};
@@ -8,7 +10,8 @@ ghost use Rattle.xmas_elf.specs.Lent.{Answers, Lends};
 ghost use Rattle.xmas_elf.specs.NameTable.{section_named};
 ghost use Rattle.xmas_elf.specs.Number.{number};
 ghost use Rattle.xmas_elf.specs.SectionHeader.{section_of};
-ghost use Rattle.xmas_elf.specs.StringTable.{IsDynString, IsString, dyn_string_of, string_of, strtab_of};
+ghost use Rattle.xmas_elf.specs.StringTable.{IsDynString, IsString};
+ghost use Rattle.xmas_elf.specs.StringTable.{dyn_string_of, string_of, strtab_of};
 ghost use Rattle.xmas_elf.specs.Symbol.{dyn_entry_32_fields, entry_64_fields};
 ghost use Rattle.xmas_elf.specs.SymbolSection.{IsSectionIndex, symbol_section_of};
 ghost use Rattle.xmas_elf.specs.Symbols.{symbols_of};

@@ -1,6 +1,8 @@
 //! The check of a GNU hash table (this project's own).
 
-ghost use Rattle.std.specs.Prelude.{◌≡◌, ◌≢◌, ◌+◌, ◌^◌, ◌<◌, ◌≤◌, ◌/◌, ◌%◌, ◌↔◌, ℕ, Err, IfSome, IsOk, IsTrue, List, MatchResult, Ok, Result, Some, false, length, slice_get};
+ghost use Rattle.std.specs.Prelude.{◌≡◌, ◌≢◌, ◌+◌, ◌^◌, ◌<◌, ◌≤◌, ◌/◌, ◌%◌, ◌↔◌};
+ghost use Rattle.std.specs.Prelude.{ℕ, Err, IfSome, IsOk, IsTrue, List, MatchResult, Ok, Result};
+ghost use Rattle.std.specs.Prelude.{Some, false, length, slice_get};
 ghost use Rattle.elf_base.specs.Table.{table_items};
 ghost use Rattle.xmas_elf.specs.SymbolName.{HoldsNames};
 ghost use Rattle.xmas_elf.specs.Symbols.{symbols_of};
@@ -13,8 +15,10 @@ use xmas_elf::ElfFile;
 use xmas_elf::symbol_table::Entry;
 
 impl<'a> GnuHashTable<'a> {
-    ghost use Rattle.elf_linking.specs.GnuHash.{HasChain, bucket_count_of, chain_word, first_symbol_of, start_at};
-    ghost use Rattle.elf_linking.specs.GoodGnu.{AreGoodBelow, Ends, IsAtFault, IsBucketGood, IsCheck, IsCut, IsExported, IsGood, IsHeld};
+    ghost use Rattle.elf_linking.specs.GnuHash.{HasChain, bucket_count_of, chain_word};
+    ghost use Rattle.elf_linking.specs.GnuHash.{first_symbol_of, start_at};
+    ghost use Rattle.elf_linking.specs.GoodGnu.{AreGoodBelow, Ends, IsAtFault, IsBucketGood};
+    ghost use Rattle.elf_linking.specs.GoodGnu.{IsCheck, IsCut, IsExported, IsGood, IsHeld};
     ghost use Rattle.elf_linking.specs.Run.{ComeFrom, EndsRun, IsThere};
 
     /// Whether the runs of all buckets end, and each symbol that the table is to hold is where a

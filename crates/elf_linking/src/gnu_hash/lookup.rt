@@ -2,7 +2,9 @@
 
 ghost use Rattle.std.specs.Borrow.{Bor};
 ghost use Rattle.std.specs.Fn.{FnReturnsAt};
-ghost use Rattle.std.specs.Prelude.{◌≡◌, ◌≢◌, ◌≤◌, ◌<◌, ◌+◌, ◌-◌, ◌/◌, ◌↔◌, ℕ, Bool, true, false, Contains, IfSome, IsTrue, List, MatchOption, Option, Result, Ok, Err, Some, length, slice_get};
+ghost use Rattle.std.specs.Prelude.{◌≡◌, ◌≢◌, ◌≤◌, ◌<◌, ◌+◌, ◌-◌, ◌/◌, ◌↔◌};
+ghost use Rattle.std.specs.Prelude.{ℕ, Bool, true, false, Contains, IfSome, IsTrue, List};
+ghost use Rattle.std.specs.Prelude.{MatchOption, Option, Result, Ok, Err, Some, length, slice_get};
 ghost use Rattle.elf_base.specs.Table.{table_items};
 ghost use Rattle.elf_linking.specs.Run.{symbol_end};
 ghost use Rattle.xmas_elf.specs.SymbolName.{HoldsNames};

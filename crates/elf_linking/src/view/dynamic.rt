@@ -2,7 +2,8 @@
 
 ghost use Rattle.std.specs.Prelude.{◌≡◌, Ok, Err, MatchResult};
 ghost use Rattle.elf_linking.specs.DynamicEntries.{entries_left, number_with, pairs_of, until_null};
-ghost use Rattle.elf_linking.specs.DynamicView.{dynamic_segment_of, is_dynamic, strings_of, table_at};
+ghost use Rattle.elf_linking.specs.DynamicView.{dynamic_segment_of, is_dynamic};
+ghost use Rattle.elf_linking.specs.DynamicView.{strings_of, table_at};
 ghost use Rattle.elf_linking.specs.Loaded.{lent};
 
 use crate::LinkError;
@@ -51,7 +52,9 @@ fn dynamic_segment(file: &ElfFile<'_>) -> Option<ProgramHeader>
 }
 
 impl<'a> DynamicView<'a> {
-    ghost use Rattle.elf_linking.specs.DynamicView.{IsTextWith, dynamic_entries_of, needed_left, needed_of, strings_by, view_entries, view_strings};
+    ghost use Rattle.elf_linking.specs.DynamicView.{IsTextWith, dynamic_entries_of};
+    ghost use Rattle.elf_linking.specs.DynamicView.{needed_left, needed_of, strings_by};
+    ghost use Rattle.elf_linking.specs.DynamicView.{view_entries, view_strings};
 
     /// What the first segment of type Dynamic says. Its entries end before the first whose tag is
     /// Null, or at the end of the segment.

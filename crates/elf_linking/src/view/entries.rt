@@ -3,7 +3,8 @@
 ghost use Rattle.std.specs.Prelude.{◌≡◌, Ok, Err, MatchResult};
 ghost use Rattle.std.specs.Iterator.{YieldsFirst, item_count};
 ghost use Rattle.elf_base.specs.FileHeader.{file_class, file_order};
-ghost use Rattle.elf_linking.specs.DynamicEntries.{all_entries, entries_left, pairs_left, pairs_of, until_null};
+ghost use Rattle.elf_linking.specs.DynamicEntries.{all_entries, entries_left};
+ghost use Rattle.elf_linking.specs.DynamicEntries.{pairs_left, pairs_of, until_null};
 
 use crate::LinkError;
 use crate::view::entry::DynamicEntry;

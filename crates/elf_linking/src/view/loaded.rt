@@ -1,7 +1,8 @@
 //! The bytes at addresses of the loaded segments (gABI, "Program Header": PT_LOAD).
 
 ghost use Rattle.std.specs.Prelude.{◌≡◌, ◌≢◌, ◌↔◌, IfNone, IfOk, IfSome, IsErrOf, length};
-ghost use Rattle.elf_linking.specs.Loaded.{IsAt, IsFirstHolder, LiesAsLoaded, NoneHolds, bytes_at_of, bytes_from_of, holder_of, is_holder, lent};
+ghost use Rattle.elf_linking.specs.Loaded.{IsAt, IsFirstHolder, LiesAsLoaded, NoneHolds};
+ghost use Rattle.elf_linking.specs.Loaded.{bytes_at_of, bytes_from_of, holder_of, is_holder, lent};
 ghost use Rattle.elf_linking.specs.declared.error.LinkError.TheVariants.{Address};
 ghost use Rattle.xmas_elf.specs.ProgramList.{program_list};
 

@@ -1,6 +1,7 @@
 //! The symbols that a dynamic segment names (gABI, "Dynamic Section": DT_SYMTAB).
 
-ghost use Rattle.std.specs.Prelude.{◌≡◌, ◌%◌, ◌^◌, ◌<◌, ◌≤◌, Ok, Err, IfOk, MatchResult, Result, length, ℕ};
+ghost use Rattle.std.specs.Prelude.{◌≡◌, ◌%◌, ◌^◌, ◌<◌, ◌≤◌};
+ghost use Rattle.std.specs.Prelude.{Ok, Err, IfOk, MatchResult, Result, length, ℕ};
 ghost use Rattle.elf_base.specs.FileHeader.{file_order};
 ghost use Rattle.elf_base.specs.Table.{table_data, table_order};
 ghost use Rattle.elf_linking.specs.LinkedSymbols.{AreSymbols, IsSymbolCount};

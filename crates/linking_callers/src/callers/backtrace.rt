@@ -2,7 +2,8 @@
 //! that it lies in, by the symbols that the dynamic segment names.
 
 ghost use Rattle.elf_linking.specs.DynamicView.{view_entries};
-ghost use Rattle.linking_callers.specs.LinkedFunction.{IsLinkedFunction, IsNameAmong, IsNameByClass};
+ghost use Rattle.linking_callers.specs.LinkedFunction.{IsLinkedFunction};
+ghost use Rattle.linking_callers.specs.LinkedFunction.{IsNameAmong, IsNameByClass};
 ghost use Rattle.xmas_elf.specs.Symbols.{symbols_of};
 
 use elf_base::bytes::{Record, Table};

@@ -7,7 +7,9 @@ ghost use Rattle.elf_linking.specs.declared.error.LinkError.TheVariants.{Elf};
 ghost use Rattle.elf_linking.specs.GoodGnu.{IsGood};
 ghost use Rattle.linking_callers.specs.Linked.{IsFaultOf};
 ghost use Rattle.linking_callers.specs.declared.callers.AnyTable.TheVariants.{Gnu};
-ghost use Rattle.linking_callers.specs.LinkedValue.{IsByClass, IsChecked, IsDefinedBy, IsFileAnswer, IsGoodBy, IsLinkedTable, IsTableRefused};
+ghost use Rattle.linking_callers.specs.LinkedValue.{IsByClass, IsChecked, IsDefinedBy};
+ghost use Rattle.linking_callers.specs.LinkedValue.{IsFileAnswer, IsGoodBy};
+ghost use Rattle.linking_callers.specs.LinkedValue.{IsLinkedTable, IsTableRefused};
 ghost use Rattle.xmas_elf.specs.Symbols.{symbols_of};
 ghost use Rattle.xmas_elf.specs.declared.ElfFile.{ElfFile};
 

@@ -2,7 +2,9 @@
 
 ghost use Rattle.std.specs.Prelude.{◌≡◌, ◌↔◌, IsTrue};
 ghost use Rattle.elf_linking.specs.Notes.{note_parts, notes_left};
-ghost use Rattle.linking_callers.specs.BuildIds.{AnswersId, IsBuildId, id_among, id_by_sections, id_by_segments, id_of_section, id_of_segment, is_build_id};
+ghost use Rattle.linking_callers.specs.BuildIds.{AnswersId, IsBuildId, id_among};
+ghost use Rattle.linking_callers.specs.BuildIds.{id_by_sections, id_by_segments};
+ghost use Rattle.linking_callers.specs.BuildIds.{id_of_section, id_of_segment, is_build_id};
 
 use elf_linking::LinkError;
 use elf_linking::notes::{Note, Notes, section_notes, segment_notes};

@@ -1,6 +1,7 @@
 //! Callers that read packed relative relocations.
 
-ghost use Rattle.std.specs.Prelude.{◌≡◌, ◌↔◌, ◌<◌, ◌^◌, Contains, Ok, Err, IsTrue, List, MatchResult, length, ℕ};
+ghost use Rattle.std.specs.Prelude.{◌≡◌, ◌↔◌, ◌<◌, ◌^◌};
+ghost use Rattle.std.specs.Prelude.{Contains, Ok, Err, IsTrue, List, MatchResult, length, ℕ};
 ghost use Rattle.elf_linking.specs.Relr.{relr_of, relr_rest};
 
 use elf_base::bytes::Order;

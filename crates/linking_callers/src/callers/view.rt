@@ -1,6 +1,7 @@
 //! Callers that read a file by its program headers alone.
 
-ghost use Rattle.std.specs.Prelude.{◌≡◌, ◌↔◌, ℕ, List, Ok, Err, IfErr, IfOk, IsErrOf, MatchResult, length};
+ghost use Rattle.std.specs.Prelude.{◌≡◌, ◌↔◌};
+ghost use Rattle.std.specs.Prelude.{ℕ, List, Ok, Err, IfErr, IfOk, IsErrOf, MatchResult, length};
 ghost use Rattle.elf_base.specs.FileHeader.{file_order};
 ghost use Rattle.elf_base.specs.Number.{number};
 ghost use Rattle.elf_linking.specs.DynamicView.{dynamic_entries_of};

@@ -1,7 +1,9 @@
 //! Program headers: their records in bytes, of either width, and what they say (gABI, "Program
 //! Header": Elf32_Phdr and Elf64_Phdr).
 
-ghost use Rattle.std.specs.Prelude.{◌≡◌, ◌≢◌, ◌↔◌, ◌+◌, ◌≤◌, ◌<◌, [], ◌∷◌, Err, IfOk, IsOk, MatchResult, Ok, drop, is_none, length, nat_lt, not, take, unwrap_or};
+ghost use Rattle.std.specs.Prelude.{◌≡◌, ◌≢◌, ◌↔◌, ◌+◌, ◌≤◌, ◌<◌, [], ◌∷◌};
+ghost use Rattle.std.specs.Prelude.{Err, IfOk, IsOk, MatchResult, Ok, drop, is_none, length};
+ghost use Rattle.std.specs.Prelude.{nat_lt, not, take, unwrap_or};
 ghost use Rattle.std.specs.Option.{ForSome};
 ghost use Rattle.std.proofs.Common.{lit<};
 ghost use Rattle.elf_base.specs.FileHeader.{file_class};

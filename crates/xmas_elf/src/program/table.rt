@@ -1,6 +1,7 @@
 //! The program header table, prepared once for many calls (gABI, "Program Header").
 
-ghost use Rattle.std.specs.Prelude.{◌≡◌, ◌+◌, ◌^◌, ◌<◌, ◌≤◌, ◌∷◌, [], drop, length, slice_get, MatchOption, ℕ};
+ghost use Rattle.std.specs.Prelude.{◌≡◌, ◌+◌, ◌^◌, ◌<◌, ◌≤◌, ◌∷◌, []};
+ghost use Rattle.std.specs.Prelude.{drop, length, slice_get, MatchOption, ℕ};
 ghost use Rattle.std.specs.Iterator.{YieldsFirst, item_count};
 ghost use Rattle.elf_base.specs.FileHeader.{file_class, file_order};
 ghost use Rattle.elf_base.specs.HeaderLayout.{header_fields};
@@ -91,7 +92,8 @@ fn whole_programs(file: &ElfFile<'_>) -> usize
 }
 
 impl<'b, 'a> ProgramTable<'b, 'a> {
-    ghost use Rattle.xmas_elf.specs.ProgramTable.{program_table_file, table_programs, table_programs_rest};
+    ghost use Rattle.xmas_elf.specs.ProgramTable.{program_table_file, table_programs};
+    ghost use Rattle.xmas_elf.specs.ProgramTable.{table_programs_rest};
 
     /// How many program headers it has.
     #[inline(always)]

@@ -1,7 +1,8 @@
 //! Section headers: their records in bytes, of either width, and what they say (gABI, "Sections":
 //! Elf32_Shdr and Elf64_Shdr).
 
-ghost use Rattle.std.specs.Prelude.{◌≡◌, ◌↔◌, ◌+◌, ◌≤◌, ◌<◌, [], ◌∷◌, Err, IfOk, IsOk, IsTrue, MatchResult, Ok, drop, length, nat_lt, not, take};
+ghost use Rattle.std.specs.Prelude.{◌≡◌, ◌↔◌, ◌+◌, ◌≤◌, ◌<◌, [], ◌∷◌, Err, IfOk, IsOk, IsTrue};
+ghost use Rattle.std.specs.Prelude.{MatchResult, Ok, drop, length, nat_lt, not, take};
 ghost use Rattle.std.proofs.Common.{lit<};
 ghost use Rattle.elf_base.specs.FileHeader.{file_class};
 ghost use Rattle.elf_base.specs.HeaderLayout.{header_fields};
@@ -15,7 +16,8 @@ ghost use Rattle.xmas_elf.specs.SectionData.{HasSectionData, IsSectionData, sect
 ghost use Rattle.xmas_elf.specs.SectionHeader.{HasSectionEntry, HasSectionHeader, record_fields};
 ghost use Rattle.xmas_elf.specs.SectionHeader.{section_at_index, section_at_place, section_by_u16};
 ghost use Rattle.xmas_elf.specs.SectionHeader.{section_entry, section_fields, section_header_32};
-ghost use Rattle.xmas_elf.specs.SectionHeader.{section_header_64, section_header_size, section_type};
+ghost use Rattle.xmas_elf.specs.SectionHeader.{section_header_64};
+ghost use Rattle.xmas_elf.specs.SectionHeader.{section_header_size, section_type};
 ghost use Rattle.xmas_elf.specs.declared.ElfFile.{ElfFile};
 
 use crate::header::Class::{SixtyFour, ThirtyTwo};

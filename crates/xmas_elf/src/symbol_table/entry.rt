@@ -1,11 +1,13 @@
 //! What the entries of all symbol tables have in common (gABI, "Symbol Table").
 
-ghost use Rattle.std.specs.Prelude.{◌≡◌, ℕ, IfOk, IfSome, List, MatchResult, None, Ok, Option, Some};
+ghost use Rattle.std.specs.Prelude.{◌≡◌, ℕ, IfOk, IfSome, List};
+ghost use Rattle.std.specs.Prelude.{MatchResult, None, Ok, Option, Some};
 ghost use Rattle.std.proofs.Common.{rules};
 ghost use Rattle.elf_base.specs.Lent.{Answers};
 ghost use Rattle.elf_records.specs.SymbolNumbers.{visibility_raw};
 ghost use Rattle.xmas_elf.specs.SectionHeader.{section_of};
-ghost use Rattle.xmas_elf.specs.Symbol.{SymbolFields, symbol_binding, symbol_type, symbol_visibility};
+ghost use Rattle.xmas_elf.specs.Symbol.{SymbolFields, symbol_binding};
+ghost use Rattle.xmas_elf.specs.Symbol.{symbol_type, symbol_visibility};
 ghost use Rattle.xmas_elf.specs.SymbolName.{HoldsNames, name_in_table};
 ghost use Rattle.xmas_elf.specs.SymbolSection.{IsSectionIndex, symbol_section_of};
 ghost use Rattle.xmas_elf.specs.declared.ElfFile.{ElfFile};

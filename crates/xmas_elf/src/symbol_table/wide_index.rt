@@ -2,7 +2,8 @@
 
 ghost use Rattle.std.specs.Prelude.{◌≡◌, ℕ, IfOk, Ok};
 ghost use Rattle.elf_base.specs.Lent.{Answers, Lends, LendsOnly};
-ghost use Rattle.xmas_elf.specs.SymbolSection.{IsIndexTable, IsWideIndex, index_table_of, wide_index_of};
+ghost use Rattle.xmas_elf.specs.SymbolSection.{IsIndexTable, IsWideIndex};
+ghost use Rattle.xmas_elf.specs.SymbolSection.{index_table_of, wide_index_of};
 
 use crate::bytes::Table;
 use crate::sections::ShType;

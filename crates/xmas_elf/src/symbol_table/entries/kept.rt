@@ -6,7 +6,8 @@ ghost use Rattle.std.specs.Result.{result_ok};
 ghost use Rattle.elf_base.specs.Lent.{Answers, Lends, LendsOnly};
 ghost use Rattle.xmas_elf.specs.Symbol.{SymbolFields, dyn_entry_32_fields, dyn_entry_64_fields};
 ghost use Rattle.xmas_elf.specs.Symbol.{entry_32_fields, entry_64_fields, symbol_in};
-ghost use Rattle.xmas_elf.specs.SymbolName.{HoldsNames, IsSymbolString, symbol_string_of, symbol_strings_of};
+ghost use Rattle.xmas_elf.specs.SymbolName.{HoldsNames, IsSymbolString};
+ghost use Rattle.xmas_elf.specs.SymbolName.{symbol_string_of, symbol_strings_of};
 
 use crate::bytes::Order;
 use crate::symbol_table::entries::{DynEntry32, DynEntry64, Entry32, Entry64};

@@ -1,7 +1,8 @@
 //! How symbols are printed: a line for each field, by one form for all layouts.
 
 ghost use Rattle.std.specs.Prelude.{◌≡◌, Some};
-ghost use Rattle.xmas_elf.specs.Symbol.{dyn_entry_32_fields, dyn_entry_64_fields, entry_32_fields, entry_64_fields};
+ghost use Rattle.xmas_elf.specs.Symbol.{dyn_entry_32_fields, dyn_entry_64_fields};
+ghost use Rattle.xmas_elf.specs.Symbol.{entry_32_fields, entry_64_fields};
 ghost use Rattle.xmas_elf.specs.SymbolText.{symbol_fields_text, symbol_text};
 
 use crate::symbol_table::Entry;
