@@ -1,6 +1,6 @@
 //! What look-ups and the check answer over small tables, row by row.
 
-use super::{AB, ALL, LITTLE, NARROW, WIDE, Words, table_bytes};
+use super::{AB, LITTLE, NARROW, ONE as TABLE, WIDE, Words, table_bytes};
 use crate::tests::want::{open, want_at};
 use elf_base::bytes::Table;
 use elf_base::header::Class;
@@ -36,7 +36,7 @@ fn symbol_bytes(names: &[u64], shndx: u64) -> ([u8; 64], usize) {
 type Answer = (Result<Option<u32>, LinkError>, u32);
 
 // A table of a class, its symbols, what look-ups answer, and what the check says.
-#[derive(Drop)]
+#[derive(Clone, Copy)]
 struct Row<'a> {
     class: Class,
     words: Words<'a>,
@@ -91,17 +91,208 @@ const MISSING: Result<(), LinkError> = Err(LinkError::Missing);
 
 const PAST: Result<(), LinkError> = Err(LinkError::SymbolIndex);
 
-const START: [u32; 4] = [1, 1, 1, 6];
+const FOUND: (&str, bool, Answer) = ("ab", true, (Ok(Some(1)), 1));
 
-const BOTH: [(&str, bool, Answer); 2] = [
-    ("ab", true, (Ok(Some(1)), 1)),
-    (".strtab", true, (Ok(Some(2)), 2)),
-];
+const NOT_FOUND: (&str, bool, Answer) = ("ab", true, (Ok(None), 0));
+
+const BOTH: [(&str, bool, Answer); 2] = [FOUND, (".strtab", true, (Ok(Some(2)), 2))];
 
 const NONE: [(&str, bool, Answer); 3] = [
-    ("ab", true, (Ok(None), 0)),
+    NOT_FOUND,
     ("", true, (Ok(None), 0)),
     (".strtab", true, (Ok(None), 0)),
+];
+
+// A table of one symbol, `ab`, whose Bloom word lets every name pass. The rows say what else theirs have.
+const PLAIN: Row<'static> = Row {
+    class: WIDE,
+    words: TABLE,
+    names: &ONE,
+    shndx: 1,
+    answers: &[FOUND],
+    check: Ok(()),
+};
+
+const ONE_SYMBOL: [Row<'static>; 11] = [
+    Row {
+        words: Words {
+            bloom: &[0x100_1000_0000],
+            ..TABLE
+        },
+        answers: &[FOUND, ("zz", true, (Ok(None), 0))],
+        ..PLAIN
+    },
+    Row {
+        answers: &[FOUND, ("zz", true, (Ok(None), 1))],
+        ..PLAIN
+    },
+    Row {
+        words: Words {
+            bloom: &[0x1000_0000],
+            ..TABLE
+        },
+        answers: &[NOT_FOUND],
+        check: MISSING,
+        ..PLAIN
+    },
+    Row {
+        words: Words {
+            bloom: &[0x100_0000_0000],
+            ..TABLE
+        },
+        answers: &[NOT_FOUND],
+        check: MISSING,
+        ..PLAIN
+    },
+    Row {
+        words: Words {
+            rest: &[1, AB],
+            ..TABLE
+        },
+        answers: &[FOUND, ("ab", false, (Err(LinkError::SymbolIndex), 1))],
+        check: PAST,
+        ..PLAIN
+    },
+    Row {
+        words: Words {
+            rest: &[1, AB],
+            ..TABLE
+        },
+        names: &TWICE,
+        answers: &[FOUND, ("ab", false, (Err(LinkError::ChainData), 1))],
+        check: Err(LinkError::ChainData),
+        ..PLAIN
+    },
+    Row {
+        words: Words {
+            start: [1, 1, 1, 32],
+            ..TABLE
+        },
+        ..PLAIN
+    },
+    Row {
+        words: Words {
+            start: [1, 1, 1, u32::MAX],
+            ..TABLE
+        },
+        ..PLAIN
+    },
+    // the second bit is bit 0
+    Row {
+        words: Words {
+            start: [1, 1, 1, 32],
+            bloom: &[0x100_0000_0001],
+            ..TABLE
+        },
+        ..PLAIN
+    },
+    Row {
+        words: Words {
+            start: [1, 1, 1, u32::MAX],
+            bloom: &[0x100_0000_0000],
+            ..TABLE
+        },
+        answers: &[NOT_FOUND],
+        check: MISSING,
+        ..PLAIN
+    },
+    Row {
+        class: NARROW,
+        words: Words {
+            start: [1, 1, 1, 5],
+            bloom: &[0x200_0100],
+            ..TABLE
+        },
+        answers: &[FOUND, ("zz", true, (Ok(None), 0))],
+        ..PLAIN
+    },
+];
+
+const TWO_SYMBOLS: [Row<'static>; 8] = [
+    Row {
+        words: Words {
+            rest: &[1, AB, STRTAB],
+            ..TABLE
+        },
+        names: &TWO,
+        answers: &BOTH,
+        ..PLAIN
+    },
+    Row {
+        words: Words {
+            rest: &[2, AB, STRTAB],
+            ..TABLE
+        },
+        names: &TWO,
+        answers: &[("ab", true, (Ok(None), 1))],
+        check: MISSING,
+        ..PLAIN
+    },
+    Row {
+        words: Words {
+            rest: &[0, AB, STRTAB],
+            ..TABLE
+        },
+        names: &TWO,
+        answers: &[NOT_FOUND, (".strtab", true, (Ok(None), 0))],
+        check: MISSING,
+        ..PLAIN
+    },
+    Row {
+        words: Words {
+            start: [1, 2, 1, 6],
+            rest: &[1, STRTAB],
+            ..TABLE
+        },
+        names: &TWO,
+        answers: &[("ab", true, (Err(LinkError::ChainIndex), 0))],
+        check: Err(LinkError::ChainIndex),
+        ..PLAIN
+    },
+    Row {
+        words: Words {
+            start: [1, 2, 1, 6],
+            rest: &[2, STRTAB],
+            ..TABLE
+        },
+        names: &TWO,
+        answers: &[(".strtab", true, (Ok(Some(2)), 1))],
+        ..PLAIN
+    },
+    Row {
+        words: Words {
+            start: [2, 1, 1, 6],
+            rest: &[1, 2, AB + 1, STRTAB],
+            ..TABLE
+        },
+        names: &TWO,
+        answers: &[FOUND, (".strtab", true, (Ok(Some(2)), 1))],
+        ..PLAIN
+    },
+    Row {
+        words: Words {
+            start: [2, 1, 1, 6],
+            rest: &[2, 1, AB + 1, STRTAB],
+            ..TABLE
+        },
+        names: &TWO,
+        answers: &[
+            ("ab", true, (Ok(None), 1)),
+            (".strtab", true, (Ok(None), 1)),
+        ],
+        check: MISSING,
+        ..PLAIN
+    },
+    Row {
+        words: Words {
+            start: [2, 1, 1, 6],
+            rest: &[1, 1, AB, STRTAB],
+            ..TABLE
+        },
+        names: &TWO,
+        answers: &BOTH,
+        ..PLAIN
+    },
 ];
 
 const NOTHING: Words<'static> = Words {
@@ -110,307 +301,49 @@ const NOTHING: Words<'static> = Words {
     rest: &[0],
 };
 
-const ONE_SYMBOL: [Row<'static>; 11] = [
+const NO_SYMBOLS: [Row<'static>; 3] = [
     Row {
-        class: WIDE,
         words: Words {
-            start: START,
-            bloom: &[0x100_1000_0000],
-            rest: &[1, AB + 1],
+            start: [0, 1, 1, 6],
+            rest: &[],
+            ..TABLE
         },
-        names: &ONE,
-        shndx: 1,
-        answers: &[("ab", true, (Ok(Some(1)), 1)), ("zz", true, (Ok(None), 0))],
-        check: Ok(()),
+        names: &[0],
+        answers: &NONE,
+        ..PLAIN
     },
     Row {
-        class: WIDE,
-        words: Words {
-            start: START,
-            bloom: &[ALL],
-            rest: &[1, AB + 1],
-        },
-        names: &ONE,
-        shndx: 1,
-        answers: &[("ab", true, (Ok(Some(1)), 1)), ("zz", true, (Ok(None), 1))],
-        check: Ok(()),
+        words: NOTHING,
+        shndx: 0,
+        answers: &NONE,
+        ..PLAIN
     },
     Row {
-        class: WIDE,
-        words: Words {
-            start: START,
-            bloom: &[0x1000_0000],
-            rest: &[1, AB + 1],
-        },
-        names: &ONE,
-        shndx: 1,
-        answers: &[("ab", true, (Ok(None), 0))],
+        words: NOTHING,
+        answers: &NONE,
         check: MISSING,
-    },
-    Row {
-        class: WIDE,
-        words: Words {
-            start: START,
-            bloom: &[0x100_0000_0000],
-            rest: &[1, AB + 1],
-        },
-        names: &ONE,
-        shndx: 1,
-        answers: &[("ab", true, (Ok(None), 0))],
-        check: MISSING,
-    },
-    Row {
-        class: WIDE,
-        words: Words {
-            start: START,
-            bloom: &[ALL],
-            rest: &[1, AB],
-        },
-        names: &ONE,
-        shndx: 1,
-        answers: &[
-            ("ab", true, (Ok(Some(1)), 1)),
-            ("ab", false, (Err(LinkError::SymbolIndex), 1)),
-        ],
-        check: PAST,
-    },
-    Row {
-        class: WIDE,
-        words: Words {
-            start: START,
-            bloom: &[ALL],
-            rest: &[1, AB],
-        },
-        names: &TWICE,
-        shndx: 1,
-        answers: &[
-            ("ab", true, (Ok(Some(1)), 1)),
-            ("ab", false, (Err(LinkError::ChainData), 1)),
-        ],
-        check: Err(LinkError::ChainData),
-    },
-    Row {
-        class: WIDE,
-        words: Words {
-            start: [1, 1, 1, 32],
-            bloom: &[ALL],
-            rest: &[1, AB + 1],
-        },
-        names: &ONE,
-        shndx: 1,
-        answers: &[("ab", true, (Ok(Some(1)), 1))],
-        check: Ok(()),
-    },
-    Row {
-        class: WIDE,
-        words: Words {
-            start: [1, 1, 1, u32::MAX],
-            bloom: &[ALL],
-            rest: &[1, AB + 1],
-        },
-        names: &ONE,
-        shndx: 1,
-        answers: &[("ab", true, (Ok(Some(1)), 1))],
-        check: Ok(()),
-    },
-    // the second bit is bit 0
-    Row {
-        class: WIDE,
-        words: Words {
-            start: [1, 1, 1, 32],
-            bloom: &[0x100_0000_0001],
-            rest: &[1, AB + 1],
-        },
-        names: &ONE,
-        shndx: 1,
-        answers: &[("ab", true, (Ok(Some(1)), 1))],
-        check: Ok(()),
-    },
-    Row {
-        class: WIDE,
-        words: Words {
-            start: [1, 1, 1, u32::MAX],
-            bloom: &[0x100_0000_0000],
-            rest: &[1, AB + 1],
-        },
-        names: &ONE,
-        shndx: 1,
-        answers: &[("ab", true, (Ok(None), 0))],
-        check: MISSING,
-    },
-    Row {
-        class: NARROW,
-        words: Words {
-            start: [1, 1, 1, 5],
-            bloom: &[0x200_0100],
-            rest: &[1, AB + 1],
-        },
-        names: &ONE,
-        shndx: 1,
-        answers: &[("ab", true, (Ok(Some(1)), 1)), ("zz", true, (Ok(None), 0))],
-        check: Ok(()),
+        ..PLAIN
     },
 ];
+
+fn check_rows(rt: &impl Abort, rows: &[Row<'_>]) -> Result<(), Fail> {
+    for (number, row) in rows.iter().enumerate() {
+        check_row(rt, row, number)?;
+    }
+    Ok(())
+}
 
 #[test]
 fn one_symbol(rt: HostRuntime) -> Result<(), Fail> {
-    for (number, row) in ONE_SYMBOL.iter().enumerate() {
-        check_row(&rt, row, number)?;
-    }
-    Ok(())
+    check_rows(&rt, &ONE_SYMBOL)
 }
-
-const TWO_SYMBOLS: [Row<'static>; 8] = [
-    Row {
-        class: WIDE,
-        words: Words {
-            start: START,
-            bloom: &[ALL],
-            rest: &[1, AB, STRTAB],
-        },
-        names: &TWO,
-        shndx: 1,
-        answers: &BOTH,
-        check: Ok(()),
-    },
-    Row {
-        class: WIDE,
-        words: Words {
-            start: START,
-            bloom: &[ALL],
-            rest: &[2, AB, STRTAB],
-        },
-        names: &TWO,
-        shndx: 1,
-        answers: &[("ab", true, (Ok(None), 1))],
-        check: MISSING,
-    },
-    Row {
-        class: WIDE,
-        words: Words {
-            start: START,
-            bloom: &[ALL],
-            rest: &[0, AB, STRTAB],
-        },
-        names: &TWO,
-        shndx: 1,
-        answers: &[
-            ("ab", true, (Ok(None), 0)),
-            (".strtab", true, (Ok(None), 0)),
-        ],
-        check: MISSING,
-    },
-    Row {
-        class: WIDE,
-        words: Words {
-            start: [1, 2, 1, 6],
-            bloom: &[ALL],
-            rest: &[1, STRTAB],
-        },
-        names: &TWO,
-        shndx: 1,
-        answers: &[("ab", true, (Err(LinkError::ChainIndex), 0))],
-        check: Err(LinkError::ChainIndex),
-    },
-    Row {
-        class: WIDE,
-        words: Words {
-            start: [1, 2, 1, 6],
-            bloom: &[ALL],
-            rest: &[2, STRTAB],
-        },
-        names: &TWO,
-        shndx: 1,
-        answers: &[(".strtab", true, (Ok(Some(2)), 1))],
-        check: Ok(()),
-    },
-    Row {
-        class: WIDE,
-        words: Words {
-            start: [2, 1, 1, 6],
-            bloom: &[ALL],
-            rest: &[1, 2, AB + 1, STRTAB],
-        },
-        names: &TWO,
-        shndx: 1,
-        answers: &[
-            ("ab", true, (Ok(Some(1)), 1)),
-            (".strtab", true, (Ok(Some(2)), 1)),
-        ],
-        check: Ok(()),
-    },
-    Row {
-        class: WIDE,
-        words: Words {
-            start: [2, 1, 1, 6],
-            bloom: &[ALL],
-            rest: &[2, 1, AB + 1, STRTAB],
-        },
-        names: &TWO,
-        shndx: 1,
-        answers: &[
-            ("ab", true, (Ok(None), 1)),
-            (".strtab", true, (Ok(None), 1)),
-        ],
-        check: MISSING,
-    },
-    Row {
-        class: WIDE,
-        words: Words {
-            start: [2, 1, 1, 6],
-            bloom: &[ALL],
-            rest: &[1, 1, AB, STRTAB],
-        },
-        names: &TWO,
-        shndx: 1,
-        answers: &BOTH,
-        check: Ok(()),
-    },
-];
 
 #[test]
 fn two_symbols(rt: HostRuntime) -> Result<(), Fail> {
-    for (number, row) in TWO_SYMBOLS.iter().enumerate() {
-        check_row(&rt, row, number)?;
-    }
-    Ok(())
+    check_rows(&rt, &TWO_SYMBOLS)
 }
-
-const NO_SYMBOLS: [Row<'static>; 3] = [
-    Row {
-        class: WIDE,
-        words: Words {
-            start: [0, 1, 1, 6],
-            bloom: &[ALL],
-            rest: &[],
-        },
-        names: &[0],
-        shndx: 1,
-        answers: &NONE,
-        check: Ok(()),
-    },
-    Row {
-        class: WIDE,
-        words: NOTHING,
-        names: &ONE,
-        shndx: 0,
-        answers: &NONE,
-        check: Ok(()),
-    },
-    Row {
-        class: WIDE,
-        words: NOTHING,
-        names: &ONE,
-        shndx: 1,
-        answers: &NONE,
-        check: Err(LinkError::Missing),
-    },
-];
 
 #[test]
 fn no_symbols(rt: HostRuntime) -> Result<(), Fail> {
-    for (number, row) in NO_SYMBOLS.iter().enumerate() {
-        check_row(&rt, row, number)?;
-    }
-    Ok(())
+    check_rows(&rt, &NO_SYMBOLS)
 }
