@@ -6,9 +6,9 @@ use crate::places::{
     WORD, header_32, header_64, program_32, put, section_32, section_64, set, symbol_32,
 };
 use std::alloc::{AllocError, Global};
-use xmas_elf::ElfFile;
 use xmas_elf::bytes::Order;
 use xmas_elf::header::{Class_, Header};
+use xmas_elf::{ElfError, ElfFile};
 
 const LITTLE: Order = Order::Little;
 
@@ -38,23 +38,47 @@ fn data_byte(order: Order) -> u8 {
     }
 }
 
+/// Writes the ELF header of class 32, with this many section headers from 52 on: section 1 holds their names.
+pub fn put_header_32(file: &mut [u8], count: u64, order: Order) {
+    put(file, 0, &[0x7f, b'E', b'L', b'F', 1, data_byte(order), 1]);
+    set(file, 0, header_32::SH_OFFSET, 52, order);
+    set(file, 0, header_32::HEADER_SIZE, 52, order);
+    set(file, 0, header_32::SH_ENTRY_SIZE, 40, order);
+    set(file, 0, header_32::SH_COUNT, count, order);
+    set(file, 0, header_32::SH_STR_INDEX, 1, order);
+}
+
+/// The same of class 64, from 64 on.
+pub fn put_header_64(file: &mut [u8], count: u64, order: Order) {
+    put(file, 0, &[0x7f, b'E', b'L', b'F', 2, data_byte(order), 1]);
+    set(file, 0, header_64::SH_OFFSET, 64, order);
+    set(file, 0, header_64::HEADER_SIZE, 64, order);
+    set(file, 0, header_64::SH_ENTRY_SIZE, 64, order);
+    set(file, 0, header_64::SH_COUNT, count, order);
+    set(file, 0, header_64::SH_STR_INDEX, 1, order);
+}
+
+/// Writes the name, the type, the offset and the size of a section header of class 32 that begins at a place.
+pub fn put_section_32(file: &mut [u8], start: usize, numbers: [u64; 4], order: Order) {
+    set(file, start, section_32::NAME, numbers[0], order);
+    set(file, start, section_32::TYPE, numbers[1], order);
+    set(file, start, section_32::OFFSET, numbers[2], order);
+    set(file, start, section_32::SIZE, numbers[3], order);
+}
+
+/// The same of class 64.
+pub fn put_section_64(file: &mut [u8], start: usize, numbers: [u64; 4], order: Order) {
+    set(file, start, section_64::NAME, numbers[0], order);
+    set(file, start, section_64::TYPE, numbers[1], order);
+    set(file, start, section_64::OFFSET, numbers[2], order);
+    set(file, start, section_64::SIZE, numbers[3], order);
+}
+
 /// Class 32, in either order: section 1, `.strtab`, names itself and holds `ab`.
 pub fn strtab_file(order: Order) -> [u8; 144] {
     let mut file = [0; 144];
-    put(
-        &mut file,
-        0,
-        &[0x7f, b'E', b'L', b'F', 1, data_byte(order), 1],
-    );
-    set(&mut file, 0, header_32::SH_OFFSET, 52, order);
-    set(&mut file, 0, header_32::HEADER_SIZE, 52, order);
-    set(&mut file, 0, header_32::SH_ENTRY_SIZE, 40, order);
-    set(&mut file, 0, header_32::SH_COUNT, 2, order);
-    set(&mut file, 0, header_32::SH_STR_INDEX, 1, order);
-    set(&mut file, 92, section_32::NAME, 1, order);
-    set(&mut file, 92, section_32::TYPE, 3, order);
-    set(&mut file, 92, section_32::OFFSET, 132, order);
-    set(&mut file, 92, section_32::SIZE, 12, order);
+    put_header_32(&mut file, 2, order);
+    put_section_32(&mut file, 92, [1, 3, 132, 12], order);
     set(&mut file, 92, section_32::ALIGN, 1, order);
     put(&mut file, 132, b"\0.strtab\0ab\0");
     file
@@ -63,20 +87,8 @@ pub fn strtab_file(order: Order) -> [u8; 144] {
 /// `strtab_file` in class 64: the section headers stand at 64 and 128, and the names at 192.
 pub fn wide_strtab_file(order: Order) -> [u8; 204] {
     let mut file = [0; 204];
-    put(
-        &mut file,
-        0,
-        &[0x7f, b'E', b'L', b'F', 2, data_byte(order), 1],
-    );
-    set(&mut file, 0, header_64::SH_OFFSET, 64, order);
-    set(&mut file, 0, header_64::HEADER_SIZE, 64, order);
-    set(&mut file, 0, header_64::SH_ENTRY_SIZE, 64, order);
-    set(&mut file, 0, header_64::SH_COUNT, 2, order);
-    set(&mut file, 0, header_64::SH_STR_INDEX, 1, order);
-    set(&mut file, 128, section_64::NAME, 1, order);
-    set(&mut file, 128, section_64::TYPE, 3, order);
-    set(&mut file, 128, section_64::OFFSET, 192, order);
-    set(&mut file, 128, section_64::SIZE, 12, order);
+    put_header_64(&mut file, 2, order);
+    put_section_64(&mut file, 128, [1, 3, 192, 12], order);
     set(&mut file, 128, section_64::ALIGN, 1, order);
     put(&mut file, 192, b"\0.strtab\0ab\0");
     file
@@ -93,25 +105,10 @@ pub fn dynstr_file(order: Order) -> [u8; 144] {
 /// `.symtab_shndx`, the words 0 and 1, from 195 on.
 pub fn shndx_file(order: Order) -> [u8; 203] {
     let mut file = [0; 203];
-    put(
-        &mut file,
-        0,
-        &[0x7f, b'E', b'L', b'F', 1, data_byte(order), 1],
-    );
-    set(&mut file, 0, header_32::SH_OFFSET, 52, order);
-    set(&mut file, 0, header_32::HEADER_SIZE, 52, order);
-    set(&mut file, 0, header_32::SH_ENTRY_SIZE, 40, order);
-    set(&mut file, 0, header_32::SH_COUNT, 3, order);
-    set(&mut file, 0, header_32::SH_STR_INDEX, 1, order);
-    set(&mut file, 92, section_32::NAME, 1, order);
-    set(&mut file, 92, section_32::TYPE, 3, order);
-    set(&mut file, 92, section_32::OFFSET, 172, order);
-    set(&mut file, 92, section_32::SIZE, 23, order);
+    put_header_32(&mut file, 3, order);
+    put_section_32(&mut file, 92, [1, 3, 172, 23], order);
     set(&mut file, 92, section_32::ALIGN, 1, order);
-    set(&mut file, 132, section_32::NAME, 9, order);
-    set(&mut file, 132, section_32::TYPE, 18, order);
-    set(&mut file, 132, section_32::OFFSET, 195, order);
-    set(&mut file, 132, section_32::SIZE, 8, order);
+    put_section_32(&mut file, 132, [9, 18, 195, 8], order);
     put(&mut file, 172, b"\0.strtab\0.symtab_shndx\0");
     set(&mut file, 195, WORD, 0, order);
     set(&mut file, 199, WORD, 1, order);
@@ -126,25 +123,10 @@ pub fn debug_link_file() -> [u8; 397] {
 /// The same in either order.
 pub fn debug_link_file_in(order: Order) -> [u8; 397] {
     let mut file = [0; 397];
-    put(
-        &mut file,
-        0,
-        &[0x7f, b'E', b'L', b'F', 2, data_byte(order), 1],
-    );
-    set(&mut file, 0, header_64::SH_OFFSET, 64, order);
-    set(&mut file, 0, header_64::HEADER_SIZE, 64, order);
-    set(&mut file, 0, header_64::SH_ENTRY_SIZE, 64, order);
-    set(&mut file, 0, header_64::SH_COUNT, 4, order);
-    set(&mut file, 0, header_64::SH_STR_INDEX, 1, order);
-    let sections = [(1, 3, 320, 45), (11, 1, 365, 12), (26, 7, 377, 20)];
-    let mut start = 128;
-    for (name, kind, offset, size) in sections {
-        set(&mut file, start, section_64::NAME, name, order);
-        set(&mut file, start, section_64::TYPE, kind, order);
-        set(&mut file, start, section_64::OFFSET, offset, order);
-        set(&mut file, start, section_64::SIZE, size, order);
-        start = start.wrapping_add(64);
-    }
+    put_header_64(&mut file, 4, order);
+    put_section_64(&mut file, 128, [1, 3, 320, 45], order);
+    put_section_64(&mut file, 192, [11, 1, 365, 12], order);
+    put_section_64(&mut file, 256, [26, 7, 377, 20], order);
     put(
         &mut file,
         320,
@@ -162,19 +144,9 @@ pub fn debug_link_file_in(order: Order) -> [u8; 397] {
 /// Class 32: the names, and a link to debug information that several files share.
 pub fn alternate_link_file() -> [u8; 197] {
     let mut file = [0; 197];
-    put(&mut file, 0, &[0x7f, b'E', b'L', b'F', 1, 1, 1]);
-    set(&mut file, 0, header_32::SH_OFFSET, 52, LITTLE);
-    set(&mut file, 0, header_32::HEADER_SIZE, 52, LITTLE);
-    set(&mut file, 0, header_32::SH_ENTRY_SIZE, 40, LITTLE);
-    set(&mut file, 0, header_32::SH_COUNT, 3, LITTLE);
-    set(&mut file, 0, header_32::SH_STR_INDEX, 1, LITTLE);
-    set(&mut file, 92, section_32::TYPE, 3, LITTLE);
-    set(&mut file, 92, section_32::OFFSET, 172, LITTLE);
-    set(&mut file, 92, section_32::SIZE, 19, LITTLE);
-    set(&mut file, 132, section_32::NAME, 1, LITTLE);
-    set(&mut file, 132, section_32::TYPE, 1, LITTLE);
-    set(&mut file, 132, section_32::OFFSET, 191, LITTLE);
-    set(&mut file, 132, section_32::SIZE, 6, LITTLE);
+    put_header_32(&mut file, 3, LITTLE);
+    put_section_32(&mut file, 92, [0, 3, 172, 19], LITTLE);
+    put_section_32(&mut file, 132, [1, 1, 191, 6], LITTLE);
     put(&mut file, 172, b"\0.gnu_debugaltlink\0");
     put(&mut file, 191, b"x\0\x01\x02\x03\x04");
     file
@@ -202,21 +174,11 @@ pub fn many_sections_file(alloc: Global) -> Result<Vec<u8>, AllocError> {
     let mut bytes = Vec::new(alloc);
     bytes.resize(2_800_083, 0u8)?;
     let file = bytes.as_mut_slice();
-    put(file, 0, &[0x7f, b'E', b'L', b'F', 1, 1, 1]);
-    set(file, 0, header_32::SH_OFFSET, 52, LITTLE);
-    set(file, 0, header_32::HEADER_SIZE, 52, LITTLE);
-    set(file, 0, header_32::SH_ENTRY_SIZE, 40, LITTLE);
-    set(file, 0, header_32::SH_STR_INDEX, 1, LITTLE);
+    put_header_32(file, 0, LITTLE);
     set(file, 52, section_32::SIZE, 70_000, LITTLE);
-    set(file, 92, section_32::NAME, 1, LITTLE);
-    set(file, 92, section_32::TYPE, 3, LITTLE);
-    set(file, 92, section_32::OFFSET, 2_800_052, LITTLE);
-    set(file, 92, section_32::SIZE, 23, LITTLE);
+    put_section_32(file, 92, [1, 3, 2_800_052, 23], LITTLE);
     set(file, 92, section_32::ALIGN, 1, LITTLE);
-    set(file, 132, section_32::NAME, 9, LITTLE);
-    set(file, 132, section_32::TYPE, 18, LITTLE);
-    set(file, 132, section_32::OFFSET, 2_800_075, LITTLE);
-    set(file, 132, section_32::SIZE, 8, LITTLE);
+    put_section_32(file, 132, [9, 18, 2_800_075, 8], LITTLE);
     set(file, 2_800_012, section_32::TYPE, 1, LITTLE);
     put(file, 2_800_052, b"\0.strtab\0.symtab_shndx\0");
     put(file, 2_800_075, b"\0\0\0\0\x01\0\0\0");
@@ -227,23 +189,13 @@ pub fn many_sections_file(alloc: Global) -> Result<Vec<u8>, AllocError> {
 /// its two symbols; one is called `ab`.
 pub fn hash_file() -> [u8; 276] {
     let mut file = [0; 276];
-    put(&mut file, 0, &[0x7f, b'E', b'L', b'F', 1, 1, 1]);
-    set(&mut file, 0, header_32::SH_OFFSET, 52, LITTLE);
-    set(&mut file, 0, header_32::HEADER_SIZE, 52, LITTLE);
-    set(&mut file, 0, header_32::SH_ENTRY_SIZE, 40, LITTLE);
-    set(&mut file, 0, header_32::SH_COUNT, 4, LITTLE);
-    set(&mut file, 0, header_32::SH_STR_INDEX, 1, LITTLE);
-    let sections = [(1, 3, 212, 12, 0), (9, 5, 224, 20, 3), (9, 2, 244, 32, 1)];
-    let mut start = 92;
-    for (name, kind, offset, size, link) in sections {
-        set(&mut file, start, section_32::NAME, name, LITTLE);
-        set(&mut file, start, section_32::TYPE, kind, LITTLE);
-        set(&mut file, start, section_32::OFFSET, offset, LITTLE);
-        set(&mut file, start, section_32::SIZE, size, LITTLE);
-        set(&mut file, start, section_32::LINK, link, LITTLE);
-        start = start.wrapping_add(40);
-    }
+    put_header_32(&mut file, 4, LITTLE);
+    put_section_32(&mut file, 92, [1, 3, 212, 12], LITTLE);
     set(&mut file, 92, section_32::ALIGN, 1, LITTLE);
+    put_section_32(&mut file, 132, [9, 5, 224, 20], LITTLE);
+    set(&mut file, 132, section_32::LINK, 3, LITTLE);
+    put_section_32(&mut file, 172, [9, 2, 244, 32], LITTLE);
+    set(&mut file, 172, section_32::LINK, 1, LITTLE);
     put(&mut file, 212, b"\0.strtab\0ab\0");
     put_words(&mut file, 224, &[1, 2, 1, 0, 0]);
     put_symbols(&mut file, 244, &[(0, 0), (9, 0x12)]);
@@ -289,7 +241,16 @@ pub fn with_class<'a>(file: &ElfFile<'a>, class: u8) -> ElfFile<'a> {
     }
 }
 
-/// Names at places of the name table of `strtab_file` and `wide_strtab_file`, and how they compare.
+/// What stands at places of the name table of `strtab_file` and `wide_strtab_file`.
+pub const STRTAB_NAMES: &[(u32, Result<&str, ElfError>)] = &[
+    (0, Ok("")),
+    (1, Ok(".strtab")),
+    (9, Ok("ab")),
+    (12, Err(ElfError::TextEnd)),
+    (13, Err(ElfError::TextStart)),
+];
+
+/// Names at places of that table, and how they compare.
 pub const STRTAB_COMPARED: [(u32, &str, (bool, usize)); 10] = [
     (1, ".strtab", (true, 8)),
     (1, ".strtax", (false, 7)),

@@ -3,10 +3,10 @@
 use crate::tests::want::{want, want_at};
 use elf_callers::callers::backtrace::{function_at, function_name_in};
 use std::test::Fail;
-use worked_files::files::strtab_file;
-use worked_files::places::{
-    header_32, header_64, put, section_32, section_64, set, symbol_32, symbol_64,
+use worked_files::files::{
+    put_header_32, put_header_64, put_section_32, put_section_64, strtab_file,
 };
+use worked_files::places::{put, set, symbol_32, symbol_64};
 use xmas_elf::ElfError;
 use xmas_elf::bytes::{Order, Table};
 use xmas_elf::symbol_table::Entry64;
@@ -40,17 +40,9 @@ const ROWS: &[(u64, Result<Option<&'static str>, ElfError>)] = &[
 // Class 32: section 1 is `.strtab`, and section 2 is `.symtab`, from 195 on.
 fn symtab_file_32() -> [u8; 259] {
     let mut file = [0; 259];
-    put(&mut file, 0, &[0x7f, b'E', b'L', b'F', 1, 1, 1]);
-    set(&mut file, 0, header_32::SH_OFFSET, 52, LITTLE);
-    set(&mut file, 0, header_32::SH_ENTRY_SIZE, 40, LITTLE);
-    set(&mut file, 0, header_32::SH_COUNT, 3, LITTLE);
-    set(&mut file, 0, header_32::SH_STR_INDEX, 1, LITTLE);
-    for (start, name, kind, offset, size) in [(92, 1, 3, 172, 23), (132, 9, 2, 195, 64)] {
-        set(&mut file, start, section_32::NAME, name, LITTLE);
-        set(&mut file, start, section_32::TYPE, kind, LITTLE);
-        set(&mut file, start, section_32::OFFSET, offset, LITTLE);
-        set(&mut file, start, section_32::SIZE, size, LITTLE);
-    }
+    put_header_32(&mut file, 3, LITTLE);
+    put_section_32(&mut file, 92, [1, 3, 172, 23], LITTLE);
+    put_section_32(&mut file, 132, [9, 2, 195, 64], LITTLE);
     put(&mut file, 172, NAMES);
     let mut start = 195;
     for &(name, info, value, size) in SYMBOLS {
@@ -79,17 +71,9 @@ fn put_symbols_64(file: &mut [u8], place: usize) {
 // the names at 256 and the symbols at 279.
 fn symtab_file_64() -> [u8; 375] {
     let mut file = [0; 375];
-    put(&mut file, 0, &[0x7f, b'E', b'L', b'F', 2, 1, 1]);
-    set(&mut file, 0, header_64::SH_OFFSET, 64, LITTLE);
-    set(&mut file, 0, header_64::SH_ENTRY_SIZE, 64, LITTLE);
-    set(&mut file, 0, header_64::SH_COUNT, 3, LITTLE);
-    set(&mut file, 0, header_64::SH_STR_INDEX, 1, LITTLE);
-    for (start, name, kind, offset, size) in [(128, 1, 3, 256, 23), (192, 9, 2, 279, 96)] {
-        set(&mut file, start, section_64::NAME, name, LITTLE);
-        set(&mut file, start, section_64::TYPE, kind, LITTLE);
-        set(&mut file, start, section_64::OFFSET, offset, LITTLE);
-        set(&mut file, start, section_64::SIZE, size, LITTLE);
-    }
+    put_header_64(&mut file, 3, LITTLE);
+    put_section_64(&mut file, 128, [1, 3, 256, 23], LITTLE);
+    put_section_64(&mut file, 192, [9, 2, 279, 96], LITTLE);
     put(&mut file, 256, NAMES);
     put_symbols_64(&mut file, 279);
     file

@@ -8,6 +8,7 @@ use elf_linking::notes::{Notes, section_notes, segment_notes};
 use linking_callers::callers::notes::{build_id_of_section, build_id_of_segments};
 use std::process::Abort;
 use std::test::Fail;
+use worked_files::files::put_section_32;
 use worked_files::places::{Place, header_32, program_32, put, section_32, set};
 use xmas_elf::Extensions;
 
@@ -163,14 +164,10 @@ fn note_file() -> [u8; 248] {
     set(&mut file, PROGRAM, program_32::OFFSET, 224, LITTLE);
     set(&mut file, PROGRAM, program_32::FILE_SIZE, 24, LITTLE);
     set(&mut file, PROGRAM, program_32::ALIGN, 4, LITTLE);
-    let sections = [(124, 0, 3, 204, 20), (NOTE_SECTION, 1, 7, 224, 24)];
-    for (start, name, kind, offset, size) in sections {
-        set(&mut file, start, section_32::NAME, name, LITTLE);
-        set(&mut file, start, section_32::TYPE, kind, LITTLE);
-        set(&mut file, start, section_32::OFFSET, offset, LITTLE);
-        set(&mut file, start, section_32::SIZE, size, LITTLE);
-        set(&mut file, start, section_32::ALIGN, 4, LITTLE);
-    }
+    put_section_32(&mut file, 124, [0, 3, 204, 20], LITTLE);
+    set(&mut file, 124, section_32::ALIGN, 4, LITTLE);
+    put_section_32(&mut file, NOTE_SECTION, [1, 7, 224, 24], LITTLE);
+    set(&mut file, NOTE_SECTION, section_32::ALIGN, 4, LITTLE);
     put(&mut file, 204, NAMES);
     put(&mut file, 224, BUILD_ID);
     file

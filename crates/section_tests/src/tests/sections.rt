@@ -6,7 +6,7 @@ use std::process::Abort;
 use std::string::ToString;
 use std::test::Fail;
 use worked_files::files::{
-    debug_link_file, plain_header, plain_header_len, strtab_file, with_class,
+    STRTAB_NAMES, debug_link_file, plain_header, plain_header_len, strtab_file, with_class,
 };
 use worked_files::places::{ENCODING, header_32, header_64, section_64, set};
 use xmas_elf::bytes::{Order, Record};
@@ -43,20 +43,12 @@ fn check_search(rt: &impl Abort, file: &ElfFile<'_>) {
     want(rt, found.expect(rt, "the section").offset(), 132);
 }
 
-const NAMES: &[(u32, Result<&str, ElfError>)] = &[
-    (0, Ok("")),
-    (1, Ok(".strtab")),
-    (9, Ok("ab")),
-    (12, Err(ElfError::TextEnd)),
-    (13, Err(ElfError::TextStart)),
-];
-
 // The answers over `strtab_file`, whatever its order.
 fn check_strtab_file(rt: &impl Abort, input: &[u8]) {
     let file = open(rt, input);
     check_iterator(rt, &file);
     check_search(rt, &file);
-    for &(index, name) in NAMES {
+    for &(index, name) in STRTAB_NAMES {
         want_at(rt, index, file.get_shstr(index), name);
     }
 }
