@@ -3,10 +3,11 @@
 ghost use Rattle.std.specs.Prelude.{◌≤◌};
 
 use crate::tests::every_call::{WantedData, WantedFile, WantedSection, check_all_calls};
-use crate::tests::wanted::{CUT, LINK_HEADER, bytes, check_refused, first, text};
+use crate::tests::wanted::{CUT, LINK_HEADER, bytes, check_refused, first, section, text};
 use std::alloc::Global;
 use std::process::Abort;
 use worked_files::files::debug_link_file;
+use worked_files::header_lines;
 use worked_files::places::{header_64, section_64, set};
 use xmas_elf::ElfError;
 use xmas_elf::bytes::Order;
@@ -29,55 +30,35 @@ fn link_name(
     }
 }
 
-// What is wanted of sections 1 to 3 of `debug_link_file`, in a prefix of it.
-fn names_section(input: &[u8]) -> WantedSection<'_> {
-    let names = bytes(input, 320, 365);
-    WantedSection {
-        numbers: [1, 0, 0, 320, 45, 0, 0, 0, 0],
-        kind: Ok(ShType::StrTab),
-        name: link_name(input.len(), 321, 330, ".shstrtab"),
-        bytes: names,
-        contents: match names {
-            Ok(names) => WantedData::StrArray(names),
-            Err(error) => WantedData::Refused(error),
-        },
-    }
-}
-
-fn link_section(input: &[u8]) -> WantedSection<'_> {
-    let link = bytes(input, 365, 377);
-    WantedSection {
-        numbers: [11, 0, 0, 365, 12, 0, 0, 0, 0],
-        kind: Ok(ShType::ProgBits),
-        name: link_name(input.len(), 331, 345, ".gnu_debuglink"),
-        bytes: link,
-        contents: match link {
-            Ok(link) => WantedData::Undefined(link),
-            Err(error) => WantedData::Refused(error),
-        },
-    }
-}
-
-fn note_section(input: &[u8]) -> WantedSection<'_> {
-    let note = bytes(input, 377, 397);
-    WantedSection {
-        numbers: [26, 0, 0, 377, 20, 0, 0, 0, 0],
-        kind: Ok(ShType::Note),
-        name: link_name(input.len(), 346, 364, ".note.gnu.build-id"),
-        bytes: note,
-        contents: match note {
-            Ok(_) => WantedData::Note(Ok(&BUILD_ID)),
-            Err(error) => WantedData::Refused(error),
-        },
-    }
-}
-
+// What is wanted of the sections of `debug_link_file`, in a prefix of it.
 fn link_sections(input: &[u8]) -> [WantedSection<'_>; 4] {
+    let len = input.len();
+    let names = bytes(input, 320, 365);
+    let link = bytes(input, 365, 377);
+    let note = bytes(input, 377, 397);
     [
         first(),
-        names_section(input),
-        link_section(input),
-        note_section(input),
+        section(
+            ShType::StrTab,
+            [1, 0, 0, 320, 45, 0, 0, 0, 0],
+            link_name(len, 321, 330, ".shstrtab"),
+            names,
+            WantedData::StrArray(names.unwrap_or(b"")),
+        ),
+        section(
+            ShType::ProgBits,
+            [11, 0, 0, 365, 12, 0, 0, 0, 0],
+            link_name(len, 331, 345, ".gnu_debuglink"),
+            link,
+            WantedData::Undefined(link.unwrap_or(b"")),
+        ),
+        section(
+            ShType::Note,
+            [26, 0, 0, 377, 20, 0, 0, 0, 0],
+            link_name(len, 346, 364, ".note.gnu.build-id"),
+            note,
+            WantedData::Note(Ok(&BUILD_ID)),
+        ),
     ]
 }
 
@@ -266,51 +247,27 @@ fn each_prefix_of_a_link_answers_each_call(rt: HostRuntime) {
     }
 }
 
-const SECTIONS_AWAY: &str = "ELF header:
-    magic:            [127, 69, 76, 70]
-    class:            SixtyFour
-    data:             LittleEndian
-    version:          Current
-    os abi:           SystemV
-    abi version:      0
-    padding:          [0, 0, 0, 0, 0, 0, 0]
-    type:             None
-    machine:          None
-    version:          0
-    entry_point:      0
-    ph_offset:        0
-    sh_offset:        18446744073709551615
-    flags:            0
-    header_size:      64
-    ph_entry_size:    0
-    ph_count:         0
-    sh_entry_size:    64
-    sh_count:         4
-    sh_str_index:     1
-";
+const SECTIONS_AWAY: &str = header_lines!(
+    class: "SixtyFour",
+    ph_offset: 0,
+    sh_offset: 18446744073709551615,
+    header_size: 64,
+    ph_entry_size: 0,
+    ph_count: 0,
+    sh_entry_size: 64,
+    sh_count: 4
+);
 
-const SEGMENTS_AWAY: &str = "ELF header:
-    magic:            [127, 69, 76, 70]
-    class:            SixtyFour
-    data:             LittleEndian
-    version:          Current
-    os abi:           SystemV
-    abi version:      0
-    padding:          [0, 0, 0, 0, 0, 0, 0]
-    type:             None
-    machine:          None
-    version:          0
-    entry_point:      0
-    ph_offset:        18446744073709551615
-    sh_offset:        64
-    flags:            0
-    header_size:      64
-    ph_entry_size:    56
-    ph_count:         1
-    sh_entry_size:    64
-    sh_count:         4
-    sh_str_index:     1
-";
+const SEGMENTS_AWAY: &str = header_lines!(
+    class: "SixtyFour",
+    ph_offset: 18446744073709551615,
+    sh_offset: 64,
+    header_size: 64,
+    ph_entry_size: 56,
+    ph_count: 1,
+    sh_entry_size: 64,
+    sh_count: 4
+);
 
 #[test]
 fn header_tables_past_64_bits_answer_each_call(rt: HostRuntime) {

@@ -3,11 +3,12 @@
 ghost use Rattle.std.specs.Prelude.{◌≤◌};
 
 use crate::tests::every_call::{WantedData, WantedFile, WantedSection, check_all_calls};
-use crate::tests::wanted::{CUT, STRTAB_HEADER, bytes, check_refused, first, text};
+use crate::tests::wanted::{CUT, bytes, check_refused, first, section, text};
 use std::alloc::Global;
 use std::process::Abort;
 use worked_files::files::strtab_file;
 use worked_files::places::{put, section_32, set};
+use worked_files::reports::STRTAB_HEADER;
 use xmas_elf::ElfError;
 use xmas_elf::bytes::Order;
 use xmas_elf::sections::ShType;
@@ -42,19 +43,18 @@ fn strtab_name(
     }
 }
 
-// What is wanted of section 1 of `strtab_file`, in a prefix of it.
-fn strtab_section(input: &[u8]) -> WantedSection<'_> {
-    let held = bytes(input, 132, 144);
-    WantedSection {
-        numbers: [1, 0, 0, 132, 12, 0, 0, 1, 0],
-        kind: Ok(ShType::StrTab),
-        name: strtab_name(input.len(), 133, 140, ".strtab"),
-        bytes: held,
-        contents: match held {
-            Ok(held) => WantedData::StrArray(held),
-            Err(error) => WantedData::Refused(error),
-        },
-    }
+// What is wanted of section 1 of `strtab_file`, with these bytes and this name.
+fn table_section<'a>(
+    held: Result<&'a [u8], ElfError>,
+    name: Result<&'static str, ElfError>,
+) -> WantedSection<'a> {
+    section(
+        ShType::StrTab,
+        [1, 0, 0, 132, 12, 0, 0, 1, 0],
+        name,
+        held,
+        WantedData::StrArray(held.unwrap_or(b"")),
+    )
 }
 
 // The names by their index, in a prefix of so many bytes.
@@ -91,7 +91,9 @@ fn strtab_check(len: usize) -> (Result<(), ElfError>, &'static str, &'static str
 // Wants the answers of `strtab_file` over a prefix of it that has all of its ELF header.
 fn check_strtab_prefix(rt: &impl Abort, alloc: Global, input: &[u8]) {
     let len = input.len();
-    let sections = [first(), strtab_section(input)];
+    let held = bytes(input, 132, 144);
+    let name = strtab_name(len, 133, 140, ".strtab");
+    let sections = [first(), table_section(held, name)];
     let count = strtab_count(len);
     let compared = len.saturating_sub(133).min(8);
     let (check, check_line, lines) = strtab_check(len);
@@ -150,23 +152,12 @@ pub const NO_STRTAB: WantedFile<'static> = WantedFile {
     report: [STRTAB_HEADER, " ok", ""],
 };
 
-// What is wanted of section 1 of `strtab_file`, with another name.
-fn table_named<'a>(bytes: &'a [u8], name: Result<&'static str, ElfError>) -> WantedSection<'a> {
-    WantedSection {
-        numbers: [1, 0, 0, 132, 12, 0, 0, 1, 0],
-        kind: Ok(ShType::StrTab),
-        name,
-        bytes: Ok(bytes),
-        contents: WantedData::StrArray(bytes),
-    }
-}
-
 #[test]
 fn names_that_are_the_whole_file_answer_each_call(rt: HostRuntime) {
     let mut file = strtab_file(LITTLE);
     set(&mut file, 92, section_32::OFFSET, 0, LITTLE);
     set(&mut file, 92, section_32::SIZE, 144, LITTLE);
-    let mut table = table_named(&file, Ok("ELF\x01\x01\x01"));
+    let mut table = table_section(Ok(&file[..]), Ok("ELF\x01\x01\x01"));
     table.numbers = [1, 0, 0, 0, 144, 0, 0, 1, 0];
     let sections = [first(), table];
     let wanted = WantedFile {
@@ -191,7 +182,10 @@ fn names_that_are_the_whole_file_answer_each_call(rt: HostRuntime) {
 fn a_name_that_is_no_text_answers_each_call(rt: HostRuntime) {
     let mut file = strtab_file(LITTLE);
     put(&mut file, 133, b"\xff");
-    let sections = [first(), table_named(&file[132..], Err(ElfError::TextUtf8))];
+    let sections = [
+        first(),
+        table_section(Ok(&file[132..]), Err(ElfError::TextUtf8)),
+    ];
     let wanted = WantedFile {
         sections: &sections,
         names: &[
@@ -218,7 +212,7 @@ fn a_name_that_is_no_text_answers_each_call(rt: HostRuntime) {
 fn a_text_without_its_end_answers_each_call(rt: HostRuntime) {
     let mut file = strtab_file(LITTLE);
     put(&mut file, 143, b"A");
-    let sections = [first(), table_named(&file[132..], Ok(".strtab"))];
+    let sections = [first(), table_section(Ok(&file[132..]), Ok(".strtab"))];
     let wanted = WantedFile {
         sections: &sections,
         names: &[

@@ -3,54 +3,20 @@
 use crate::tests::every_call::{WantedData, WantedSection, check_all_calls};
 use std::alloc::Global;
 use std::process::Abort;
+use worked_files::header_lines;
 use xmas_elf::ElfError;
 use xmas_elf::sections::ShType;
 
-pub const STRTAB_HEADER: &str = "ELF header:
-    magic:            [127, 69, 76, 70]
-    class:            ThirtyTwo
-    data:             LittleEndian
-    version:          Current
-    os abi:           SystemV
-    abi version:      0
-    padding:          [0, 0, 0, 0, 0, 0, 0]
-    type:             None
-    machine:          None
-    version:          0
-    entry_point:      0
-    ph_offset:        0
-    sh_offset:        52
-    flags:            0
-    header_size:      52
-    ph_entry_size:    0
-    ph_count:         0
-    sh_entry_size:    40
-    sh_count:         2
-    sh_str_index:     1
-";
-
-pub const LINK_HEADER: &str = "ELF header:
-    magic:            [127, 69, 76, 70]
-    class:            SixtyFour
-    data:             LittleEndian
-    version:          Current
-    os abi:           SystemV
-    abi version:      0
-    padding:          [0, 0, 0, 0, 0, 0, 0]
-    type:             None
-    machine:          None
-    version:          0
-    entry_point:      0
-    ph_offset:        0
-    sh_offset:        64
-    flags:            0
-    header_size:      64
-    ph_entry_size:    0
-    ph_count:         0
-    sh_entry_size:    64
-    sh_count:         4
-    sh_str_index:     1
-";
+pub const LINK_HEADER: &str = header_lines!(
+    class: "SixtyFour",
+    ph_offset: 0,
+    sh_offset: 64,
+    header_size: 64,
+    ph_entry_size: 0,
+    ph_count: 0,
+    sh_entry_size: 64,
+    sh_count: 4
+);
 
 pub const CUT: &str = " ! section header table out of range";
 
@@ -61,6 +27,27 @@ pub fn first<'a>() -> WantedSection<'a> {
         name: Err(ElfError::NullName),
         bytes: Err(ElfError::NullData),
         contents: WantedData::Empty,
+    }
+}
+
+/// What is wanted of a section of this type by its numbers, its name and its bytes, and of its data where it
+/// has its bytes.
+pub fn section<'a>(
+    kind: ShType,
+    numbers: [u64; 9],
+    name: Result<&'static str, ElfError>,
+    bytes: Result<&'a [u8], ElfError>,
+    whole: WantedData<'a>,
+) -> WantedSection<'a> {
+    WantedSection {
+        numbers,
+        kind: Ok(kind),
+        name,
+        bytes,
+        contents: match bytes {
+            Ok(_) => whole,
+            Err(error) => WantedData::Refused(error),
+        },
     }
 }
 

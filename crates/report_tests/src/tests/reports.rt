@@ -7,32 +7,11 @@ use worked_files::files::{debug_link_file, strtab_file};
 use worked_files::places::{
     ABI_VERSION, OS_ABI, PADDING, Place, VERSION, header_32, header_64, put, section_64, set,
 };
-use worked_files::reports::report_ends_with;
+use worked_files::reports::{STRTAB_HEADER, report_ends_with};
 use xmas_elf::bytes::Order;
 use xmas_elf::report::report;
 
-const STRTAB_REPORT: &str = "ELF header:
-    magic:            [127, 69, 76, 70]
-    class:            ThirtyTwo
-    data:             LittleEndian
-    version:          Current
-    os abi:           SystemV
-    abi version:      0
-    padding:          [0, 0, 0, 0, 0, 0, 0]
-    type:             None
-    machine:          None
-    version:          0
-    entry_point:      0
-    ph_offset:        0
-    sh_offset:        52
-    flags:            0
-    header_size:      52
-    ph_entry_size:    0
-    ph_count:         0
-    sh_entry_size:    40
-    sh_count:         2
-    sh_str_index:     1
-check: ok
+const STRTAB_LINES: &str = "check: ok
 sections
 1 Ok(StrTab) = .strtab
 
@@ -50,7 +29,7 @@ program headers
 hash: none
 ";
 
-const WIDE_REPORT: &str = "ELF header:
+const WIDE_HEADER: &str = "ELF header:
     magic:            [127, 69, 76, 70]
     class:            SixtyFour
     data:             Other(3)
@@ -71,14 +50,9 @@ const WIDE_REPORT: &str = "ELF header:
     sh_entry_size:    64
     sh_count:         258
     sh_str_index:     259
-check: ! header_size does not match size of header
-sections
-
-program headers
-hash: none
 ";
 
-const BIG_ENDIAN_REPORT: &str = "ELF header:
+const BIG_ENDIAN_HEADER: &str = "ELF header:
     magic:            [127, 69, 76, 70]
     class:            ThirtyTwo
     data:             BigEndian
@@ -99,23 +73,29 @@ const BIG_ENDIAN_REPORT: &str = "ELF header:
     sh_entry_size:    41
     sh_count:         3
     sh_str_index:     65535
-check: ! header_size does not match size of header
+";
+
+// Behind either header, of which the check is refused.
+const REFUSED_CHECK: &str = "check: ! header_size does not match size of header
 sections
 
 program headers
 hash: none
 ";
 
-// Wants this report of the input.
-fn check_report(rt: &impl Abort, alloc: Global, input: &[u8], wanted: &str) {
+// Wants a report of the input with these lines of its header, and these behind them.
+fn check_report(rt: &impl Abort, alloc: Global, input: &[u8], header: &str, lines: &str) {
     let mut text = Vec::new(alloc);
     want(rt, report(input, &mut text), Ok(()));
-    want(rt, text.as_slice(), wanted.as_bytes());
+    let (text, len) = (text.as_slice(), header.len());
+    want(rt, text.get(..len), Some(header.as_bytes()));
+    want(rt, text.get(len..), Some(lines.as_bytes()));
 }
 
 #[test]
 fn reports_the_strtab_file(rt: HostRuntime) {
-    check_report(&rt, rt.alloc(), &strtab_file(Order::Little), STRTAB_REPORT);
+    let file = strtab_file(Order::Little);
+    check_report(&rt, rt.alloc(), &file, STRTAB_HEADER, STRTAB_LINES);
 }
 
 // Fields of class 64, each with a number of its own.
@@ -146,7 +126,7 @@ fn reports_a_wide_header(rt: HostRuntime) {
     for &(place, number) in WIDE_FIELDS {
         set(&mut file, 0, place, number, Order::Little);
     }
-    check_report(&rt, rt.alloc(), &file, WIDE_REPORT);
+    check_report(&rt, rt.alloc(), &file, WIDE_HEADER, REFUSED_CHECK);
 }
 
 // Fields of class 32, each with a number of its own.
@@ -176,7 +156,7 @@ fn reports_a_big_endian_header(rt: HostRuntime) {
     for &(place, number) in NARROW_FIELDS {
         set(&mut file, 0, place, number, Order::Big);
     }
-    check_report(&rt, rt.alloc(), &file, BIG_ENDIAN_REPORT);
+    check_report(&rt, rt.alloc(), &file, BIG_ENDIAN_HEADER, REFUSED_CHECK);
 }
 
 #[test]
@@ -187,6 +167,14 @@ fn reports_each_section(rt: HostRuntime) {
         true,
     );
 }
+
+const NO_ZERO: &str = "check: ok
+sections
+1 Ok(StrTab) ! Text has no terminating zero
+
+program headers
+hash: none
+";
 
 // How `strtab_file` ends its report where only so many bytes are left of it.
 const NAME_LINES: &[(usize, &str)] = &[
@@ -200,36 +188,9 @@ program headers
 hash: none
 ",
     ),
-    (
-        133,
-        "check: ok
-sections
-1 Ok(StrTab) ! Text has no terminating zero
-
-program headers
-hash: none
-",
-    ),
-    (
-        140,
-        "check: ok
-sections
-1 Ok(StrTab) ! Text has no terminating zero
-
-program headers
-hash: none
-",
-    ),
-    (
-        141,
-        "check: ok
-sections
-1 Ok(StrTab) = .strtab
-
-program headers
-hash: none
-",
-    ),
+    (133, NO_ZERO),
+    (140, NO_ZERO),
+    (141, STRTAB_LINES),
 ];
 
 // A refused name doesn't leave the section out.
