@@ -17,33 +17,17 @@ const ASCENDING: [u8; 48] = [
     26, 27, 28, 29, 30, 31, 32, 33, 34, 35, 36, 37, 38, 39, 40, 41, 42, 43, 44, 45, 46, 47,
 ];
 
-// The fields of part 2 as the layout has them, but for the magic number.
-fn narrow_fields(part: HeaderPt2_<P32>) -> [u64; 13] {
+// The fields of part 2 as the layout has them, but for the magic number. The three whose width is that of the
+// class are given.
+fn fields<P>(part: &HeaderPt2_<P>, by_class: [u64; 3]) -> [u64; 13] {
+    let [entry_point, ph_offset, sh_offset] = by_class;
     [
         u64::from(part.type_.raw()),
         u64::from(part.machine.raw()),
         u64::from(part.version),
-        u64::from(part.entry_point),
-        u64::from(part.ph_offset),
-        u64::from(part.sh_offset),
-        u64::from(part.flags),
-        u64::from(part.header_size),
-        u64::from(part.ph_entry_size),
-        u64::from(part.ph_count),
-        u64::from(part.sh_entry_size),
-        u64::from(part.sh_count),
-        u64::from(part.sh_str_index),
-    ]
-}
-
-fn wide_fields(part: HeaderPt2_<P64>) -> [u64; 13] {
-    [
-        u64::from(part.type_.raw()),
-        u64::from(part.machine.raw()),
-        u64::from(part.version),
-        part.entry_point,
-        part.ph_offset,
-        part.sh_offset,
+        entry_point,
+        ph_offset,
+        sh_offset,
         u64::from(part.flags),
         u64::from(part.header_size),
         u64::from(part.ph_entry_size),
@@ -89,9 +73,15 @@ const WIDE: [u64; 13] = [
 #[test]
 fn decodes_each_field_at_its_place(rt: HostRuntime) {
     let part = HeaderPt2_::<P32>::decode(&ASCENDING[..36], Order::Little);
-    want(&rt, narrow_fields(part), NARROW);
+    let by_class = [
+        u64::from(part.entry_point),
+        u64::from(part.ph_offset),
+        u64::from(part.sh_offset),
+    ];
+    want(&rt, fields(&part, by_class), NARROW);
     let part = HeaderPt2_::<P64>::decode(&ASCENDING[..48], Order::Big);
-    want(&rt, wide_fields(part), WIDE);
+    let by_class = [part.entry_point, part.ph_offset, part.sh_offset];
+    want(&rt, fields(&part, by_class), WIDE);
 }
 
 #[test]
