@@ -1,17 +1,22 @@
 //! Each way in which a run of the program can end.
 
-mod each_call;
-
-use super::run;
-use std::alloc::Global;
-use std::io;
-use std::io::{Read, Write};
-use std::process::Abort;
-use std::test::Fail;
-
-const REPORT: &str = "ELF header:
+// The report on a file whose section headers stand behind its ELF header: by some fields of that, the lines of
+// the sections, and what it says of the hash table.
+macro_rules! report {
+    (
+        class: $class:literal,
+        header_size: $header_size:literal,
+        sh_entry_size: $sh_entry_size:literal,
+        sh_count: $sh_count:literal,
+        sections: $sections:literal,
+        hash: $hash:literal
+    ) => {
+        concat!(
+            "ELF header:
     magic:            [127, 69, 76, 70]
-    class:            ThirtyTwo
+    class:            ",
+            $class,
+            "
     data:             LittleEndian
     version:          Current
     os abi:           SystemV
@@ -22,21 +27,53 @@ const REPORT: &str = "ELF header:
     version:          0
     entry_point:      0
     ph_offset:        0
-    sh_offset:        52
+    sh_offset:        ",
+            $header_size,
+            "
     flags:            0
-    header_size:      52
+    header_size:      ",
+            $header_size,
+            "
     ph_entry_size:    0
     ph_count:         0
-    sh_entry_size:    40
-    sh_count:         2
+    sh_entry_size:    ",
+            $sh_entry_size,
+            "
+    sh_count:         ",
+            $sh_count,
+            "
     sh_str_index:     1
 check: ok
 sections
-1 Ok(StrTab) = .strtab
-
+",
+            $sections,
+            "
 program headers
-hash: none
-";
+hash: ",
+            $hash,
+            "
+"
+        )
+    };
+}
+
+mod each_call;
+
+use super::run;
+use std::alloc::Global;
+use std::io;
+use std::io::{Read, Write};
+use std::process::Abort;
+use std::test::Fail;
+
+const REPORT: &str = report!(
+    class: "ThirtyTwo",
+    header_size: 52,
+    sh_entry_size: 40,
+    sh_count: 2,
+    sections: "1 Ok(StrTab) = .strtab\n",
+    hash: "none"
+);
 
 const USAGE: &str = "usage: elfinfo <binary_path>\n";
 
@@ -140,6 +177,11 @@ impl Write for ShortWriter {
     }
 }
 
+// Runs over a file that is read at once, and answers the status.
+fn run_over(alloc: Global, file: &[u8], out: &mut ShortWriter, err: &mut ShortWriter) -> u8 {
+    run(alloc, Some("a.elf"), Some(file), out, err)
+}
+
 // Runs over a file in memory, and wants this status and these texts.
 fn check_run(
     rt: &impl Abort,
@@ -192,13 +234,7 @@ fn says_that_it_cannot_write(rt: HostRuntime) {
     for passes in 0..8 {
         let mut out = ShortWriter::new(passes);
         let mut err = ShortWriter::new(100);
-        let status = run(
-            rt.alloc(),
-            Some("a.elf"),
-            Some(&file[..]),
-            &mut out,
-            &mut err,
-        );
+        let status = run_over(rt.alloc(), &file, &mut out, &mut err);
         if status == 0 {
             assert_eq!(rt; out.text(), REPORT.as_bytes());
             assert_eq!(rt; err.text(), "".as_bytes());
@@ -220,13 +256,7 @@ fn writes_nothing_after_a_fault(rt: HostRuntime) {
         let mut out = ShortWriter::new(passes);
         out.recovers = true;
         let mut err = ShortWriter::new(100);
-        let status = run(
-            rt.alloc(),
-            Some("a.elf"),
-            Some(&file[..]),
-            &mut out,
-            &mut err,
-        );
+        let status = run_over(rt.alloc(), &file, &mut out, &mut err);
         assert_eq!(rt; status, 1, "after {passes} calls");
         assert_eq!(rt; out.passes, u32::MAX, "after {passes} calls");
         let written = REPORT.as_bytes().get(..out.len).unwrap_or(b"");
@@ -242,13 +272,7 @@ fn says_that_it_cannot_flush(rt: HostRuntime) {
     let mut out = ShortWriter::new(100);
     out.flushes = false;
     let mut err = ShortWriter::new(100);
-    let status = run(
-        rt.alloc(),
-        Some("a.elf"),
-        Some(&file[..]),
-        &mut out,
-        &mut err,
-    );
+    let status = run_over(rt.alloc(), &file, &mut out, &mut err);
     assert_eq!(rt; status, 1);
     assert_eq!(rt; err.text(), CANNOT_WRITE.as_bytes());
 }
@@ -271,13 +295,7 @@ fn keeps_its_word_with_little_memory(rt: HostRuntime) {
     let file = strtab_file();
     let mut out = ShortWriter::new(100);
     let mut err = ShortWriter::new(100);
-    let status = run(
-        rt.alloc(),
-        Some("a.elf"),
-        Some(&file[..]),
-        &mut out,
-        &mut err,
-    );
+    let status = run_over(rt.alloc(), &file, &mut out, &mut err);
     if status == 0 {
         assert_eq!(rt; out.text(), REPORT.as_bytes());
         assert_eq!(rt; err.text(), "".as_bytes());

@@ -7,67 +7,29 @@ use std::io;
 use std::io::Read;
 use std::process::Abort;
 
-const LINK_REPORT: &str = "ELF header:
-    magic:            [127, 69, 76, 70]
-    class:            SixtyFour
-    data:             LittleEndian
-    version:          Current
-    os abi:           SystemV
-    abi version:      0
-    padding:          [0, 0, 0, 0, 0, 0, 0]
-    type:             None
-    machine:          None
-    version:          0
-    entry_point:      0
-    ph_offset:        0
-    sh_offset:        64
-    flags:            0
-    header_size:      64
-    ph_entry_size:    0
-    ph_count:         0
-    sh_entry_size:    64
-    sh_count:         4
-    sh_str_index:     1
-check: ok
-sections
-1 Ok(StrTab) = .shstrtab
+const LINK_REPORT: &str = report!(
+    class: "SixtyFour",
+    header_size: 64,
+    sh_entry_size: 64,
+    sh_count: 4,
+    sections: "1 Ok(StrTab) = .shstrtab
 2 Ok(ProgBits) = .gnu_debuglink
 3 Ok(Note) = .note.gnu.build-id
+",
+    hash: "none"
+);
 
-program headers
-hash: none
-";
-
-const HASH_REPORT: &str = "ELF header:
-    magic:            [127, 69, 76, 70]
-    class:            ThirtyTwo
-    data:             LittleEndian
-    version:          Current
-    os abi:           SystemV
-    abi version:      0
-    padding:          [0, 0, 0, 0, 0, 0, 0]
-    type:             None
-    machine:          None
-    version:          0
-    entry_point:      0
-    ph_offset:        0
-    sh_offset:        52
-    flags:            0
-    header_size:      52
-    ph_entry_size:    0
-    ph_count:         0
-    sh_entry_size:    40
-    sh_count:         4
-    sh_str_index:     1
-check: ok
-sections
-1 Ok(StrTab) = .strtab
+const HASH_REPORT: &str = report!(
+    class: "ThirtyTwo",
+    header_size: 52,
+    sh_entry_size: 40,
+    sh_count: 4,
+    sections: "1 Ok(StrTab) = .strtab
 2 Ok(Hash) = ab
 3 Ok(SymTab) = ab
-
-program headers
-hash: ok
-";
+",
+    hash: "ok"
+);
 
 // A file of class 64 with its names, a link to debug information and a build id.
 fn link_file() -> [u8; 397] {
