@@ -407,7 +407,8 @@ fn prints_wide_headers(rt: HostRuntime) -> Result<(), AllocError> {
     Ok(())
 }
 
-const REPORT_END: &str = "    sh_str_index:     1
+/// How the report of `overlaid_file` ends.
+pub const REPORT_END: &str = "    sh_str_index:     1
 check: ok
 sections
 1 Ok(StrTab) = .strtab

@@ -1,11 +1,12 @@
 //! Counts and indices of more than 16 bits, which stand in section header 0.
 
+use crate::tests::segments::REPORT_END;
 use crate::tests::want::{open, want, want_at};
 use std::process::Abort;
 use std::test::Fail;
 use worked_files::files::{
-    STRTAB_COMPARED, many_sections_file, plain_header, plain_header_len, segment_file, strtab_file,
-    wide_strtab_file, with_class,
+    STRTAB_COMPARED, STRTAB_NAMES, many_sections_file, plain_header, plain_header_len,
+    segment_file, strtab_file, wide_strtab_file, with_class,
 };
 use worked_files::places::{Place, header_32, header_64, section_32, section_64, set};
 use worked_files::reports::report_ends_with;
@@ -80,17 +81,9 @@ const WIDE: Fields = Fields {
     len: 204,
 };
 
-const NAMES: &[(u32, Result<&str, ElfError>)] = &[
-    (0, Ok("")),
-    (1, Ok(".strtab")),
-    (9, Ok("ab")),
-    (12, Err(ElfError::TextEnd)),
-    (13, Err(ElfError::TextStart)),
-];
-
 // Wants the names of `strtab_file` and `wide_strtab_file`, each read, compared and searched for.
 fn check_names(rt: &impl Abort, file: &ElfFile<'_>, fields: Fields) {
-    for &(index, name) in NAMES {
+    for &(index, name) in STRTAB_NAMES {
         want_at(rt, index, file.get_shstr(index), name);
     }
     for (index, name, answer) in STRTAB_COMPARED {
@@ -282,16 +275,6 @@ fn counted_file(order: Order, count: u64) -> [u8; 144] {
     set(&mut bytes, 52, section_32::INFO, count, order);
     bytes
 }
-
-const REPORT_END: &str = "check: ok
-sections
-1 Ok(StrTab) = .strtab
-
-program headers
-0 Ok(Null) ok
-1 Ok(Null) ! Invalid combination of virtual_addr, offset, and align
-hash: none
-";
 
 const SHORT_PROGRAM: Option<ElfError> = Some(ElfError::ShortProgramHeader);
 
