@@ -4,3 +4,4 @@
 mod chains;
 mod hash;
 mod shared_object;
+mod small;

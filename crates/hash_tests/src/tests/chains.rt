@@ -1,39 +1,31 @@
 //! Look-ups and checks along chains that don't end, end early, or lead elsewhere.
 
+use crate::tests::small::{LITTLE, Small};
 use elf_callers::own::Numbered;
 use std::cell::Cell;
 use std::process::Abort;
 use std::test::Fail;
-use worked_files::files::{put_symbols, put_words, strtab_file};
-use xmas_elf::bytes::{Order, Table};
-use xmas_elf::hash::HashTable;
+use worked_files::files::{put_words, strtab_file};
+use xmas_elf::bytes::Table;
 use xmas_elf::symbol_table::{Entry, Entry32};
 use xmas_elf::{ElfError, ElfFile};
-
-const LITTLE: Order = Order::Little;
-
-// A table of these words, which are ten at most.
-fn table_in<'b>(bytes: &'b mut [u8; 40], words: &[u32]) -> Result<HashTable<'b>, ElfError> {
-    put_words(bytes, 0, words);
-    let len = words.len().min(10) * 4;
-    HashTable::read(&bytes[..len], LITTLE)
-}
 
 // A symbol without a name, and four with the same name.
 const SAME_NAME: [(u64, u64); 5] = [(0, 0), (9, 0x12), (9, 0x12), (9, 0x12), (9, 0x12)];
 
-// What both calls answer, with a test that counts its calls and passes all or none of the symbols:
-// the index found, or why there is none; the number; and how often the test was called by each.
+/// What both calls answer, with a test that counts its calls and passes all or none of the symbols:
+/// the index found, or why there is none; the number; and how often the test was called by each.
 #[derive(Clone, Copy, Debug)]
-struct Answers {
-    index: Result<Option<u32>, ElfError>,
-    same: bool,
-    number: u32,
+pub struct Answers {
+    pub index: Result<Option<u32>, ElfError>,
+    pub same: bool,
+    pub number: u32,
     calls_counted: u32,
     calls: u32,
 }
 
-fn look_up(
+/// What look-ups in a table of these words answer, with these symbols and a test that always answers the same.
+pub fn look_up(
     words: &[u32],
     symbols: &[(u64, u64)],
     name: &str,
@@ -41,12 +33,8 @@ fn look_up(
 ) -> Result<Answers, ElfError> {
     let file = strtab_file(LITTLE);
     let file = ElfFile::new(&file)?;
-    let mut bytes = [0; 40];
-    let table = table_in(&mut bytes, words)?;
-    let mut bytes = [0; 80];
-    put_symbols(&mut bytes, 0, symbols);
-    let len = symbols.len().min(5) * 16;
-    let symbols = Table::<Entry32>::new(&bytes[..len], LITTLE)?;
+    let small = Small::new(words, symbols);
+    let (table, symbols) = (small.table()?, small.symbols()?);
     let calls = Cell::new(0u32);
     let test = |_: &Entry32| {
         calls.set(calls.get().wrapping_add(1));
@@ -161,15 +149,12 @@ fn a_name_has_its_bucket(rt: HostRuntime) -> Result<(), Fail> {
     Ok(())
 }
 
-fn check(words: &[u32], symbols: &[(u64, u64)]) -> Result<Result<(), ElfError>, ElfError> {
+/// What the check of a table of these words answers, with these symbols.
+pub fn check(words: &[u32], symbols: &[(u64, u64)]) -> Result<Result<(), ElfError>, ElfError> {
     let file = strtab_file(LITTLE);
     let file = ElfFile::new(&file)?;
-    let mut bytes = [0; 40];
-    let table = table_in(&mut bytes, words)?;
-    let mut bytes = [0; 80];
-    put_symbols(&mut bytes, 0, symbols);
-    let len = symbols.len().min(5) * 16;
-    let symbols = Table::<Entry32>::new(&bytes[..len], LITTLE)?;
+    let small = Small::new(words, symbols);
+    let (table, symbols) = (small.table()?, small.symbols()?);
     Ok(table.check(&symbols, &file))
 }
 
@@ -248,8 +233,8 @@ fn checks_shared_chains_beside_others(rt: HostRuntime) -> Result<(), Fail> {
 fn looks_up_symbols_of_ones_own(rt: HostRuntime) -> Result<(), Fail> {
     let file = strtab_file(LITTLE);
     let file = ElfFile::new(&file)?;
-    let mut bytes = [0; 40];
-    let table = table_in(&mut bytes, &[1, 4, 1, 0, 2, 3, 0])?;
+    let small = Small::new(&[1, 4, 1, 0, 2, 3, 0], &[]);
+    let table = small.table()?;
     let mut bytes = [0; 16];
     put_words(&mut bytes, 0, &[0, 1, 2, 3]);
     let symbols = Table::<Numbered>::new(&bytes, LITTLE)?;

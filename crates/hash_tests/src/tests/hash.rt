@@ -1,14 +1,14 @@
 //! Hash numbers, the words of hash tables, and look-ups in a table of two symbols.
 
+use crate::tests::chains::{check, look_up};
+use crate::tests::small::{LITTLE, Small};
 use std::process::Abort;
 use std::test::Fail;
-use worked_files::files::{put_symbols, put_words, strtab_file};
-use xmas_elf::bytes::{Order, Table};
+use worked_files::files::{put_words, strtab_file};
+use xmas_elf::bytes::Order;
 use xmas_elf::hash::{HashTable, hash};
-use xmas_elf::symbol_table::{Entry, Entry32};
+use xmas_elf::symbol_table::Entry;
 use xmas_elf::{ElfError, ElfFile};
-
-const LITTLE: Order = Order::Little;
 
 const NUMBERS: &[(&str, u32)] = &[
     ("printf", 0x0779_05a6),
@@ -76,28 +76,6 @@ fn words_have_the_order_of_the_table(rt: HostRuntime) -> Result<(), Fail> {
     Ok(())
 }
 
-// What a look-up in a table of these words answers, with this many symbols and a test that always
-// answers the same: the index, or why there is none; and the number of symbols compared.
-fn look_up(
-    words: &[u32],
-    symbol_count: usize,
-    name: &str,
-    passes: bool,
-) -> Result<(Result<Option<u32>, ElfError>, u32), ElfError> {
-    let file = strtab_file(LITTLE);
-    let file = ElfFile::new(&file)?;
-    let mut bytes = [0; 20];
-    put_words(&mut bytes, 0, words);
-    let len = words.len().min(5) * 4;
-    let table = HashTable::read(&bytes[..len], LITTLE)?;
-    let mut bytes = [0; 32];
-    put_symbols(&mut bytes, 0, &[(0, 0), (9, 0x12)]);
-    let len = symbol_count.min(2) * 16;
-    let symbols = Table::<Entry32>::new(&bytes[..len], LITTLE)?;
-    let (answer, count) = table.lookup_counted(name, &symbols, &file, |_| passes);
-    Ok((answer.map(|found| found.map(|symbol| symbol.0)), count))
-}
-
 // The words, the number of symbols, a name, the answer of the test, and what is wanted.
 type Row = (
     &'static [u32],
@@ -136,12 +114,15 @@ const LOOK_UPS: &[Row] = &[
 #[test]
 fn looks_names_up(rt: HostRuntime) -> Result<(), Fail> {
     for &(words, symbol_count, name, passes, wanted) in LOOK_UPS {
-        let found = look_up(words, symbol_count, name, passes)?;
+        let symbols = TWO_SYMBOLS.get(..symbol_count).unwrap_or(&[]);
+        let found = look_up(words, symbols, name, passes)?;
+        assert!(rt; found.same, "{name} by {words:?}");
+        let found = (found.index, found.number);
         assert_eq!(rt; found, wanted, "{name} by {words:?}");
     }
     // the chain of symbol 1 leads to itself
-    let endless = look_up(&[1, 2, 1, 0, 1], 2, "zz", true)?;
-    assert_eq!(rt; endless.0, Err(ElfError::HashCycle));
+    let endless = look_up(&[1, 2, 1, 0, 1], &TWO_SYMBOLS, "zz", true)?;
+    assert_eq!(rt; endless.index, Err(ElfError::HashCycle));
     Ok(())
 }
 
@@ -150,12 +131,8 @@ fn looks_names_up(rt: HostRuntime) -> Result<(), Fail> {
 fn finds_the_symbol(rt: HostRuntime) -> Result<(), Fail> {
     let file = strtab_file(LITTLE);
     let file = ElfFile::new(&file)?;
-    let mut bytes = [0; 20];
-    put_words(&mut bytes, 0, &[1, 2, 1, 0, 0]);
-    let table = HashTable::read(&bytes, LITTLE)?;
-    let mut bytes = [0; 32];
-    put_symbols(&mut bytes, 0, &[(0, 0), (9, 0x12)]);
-    let symbols = Table::<Entry32>::new(&bytes, LITTLE)?;
+    let small = Small::new(&[1, 2, 1, 0, 0], &TWO_SYMBOLS);
+    let (table, symbols) = (small.table()?, small.symbols()?);
     let Some((index, symbol)) = table.lookup("ab", &symbols, &file, |_| true)? else {
         return Err(Fail::from("no symbol"));
     };
@@ -164,21 +141,6 @@ fn finds_the_symbol(rt: HostRuntime) -> Result<(), Fail> {
     assert_eq!(rt; symbol.info(), 0x12);
     assert_eq!(rt; symbol.get_name(&file), Ok("ab"));
     Ok(())
-}
-
-// What the check of a table of these words answers, with these symbols.
-fn check(words: &[u32], symbols: &[(u64, u64)]) -> Result<Result<(), ElfError>, ElfError> {
-    let file = strtab_file(LITTLE);
-    let file = ElfFile::new(&file)?;
-    let mut bytes = [0; 20];
-    put_words(&mut bytes, 0, words);
-    let len = words.len().min(5) * 4;
-    let table = HashTable::read(&bytes[..len], LITTLE)?;
-    let mut bytes = [0; 32];
-    put_symbols(&mut bytes, 0, symbols);
-    let len = symbols.len().min(2) * 16;
-    let symbols = Table::<Entry32>::new(&bytes[..len], LITTLE)?;
-    Ok(table.check(&symbols, &file))
 }
 
 const TWO_SYMBOLS: [(u64, u64); 2] = [(0, 0), (9, 0x12)];
