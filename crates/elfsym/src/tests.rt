@@ -101,7 +101,7 @@ impl Write for ShortWriter {
         let Some(room) = self.held.get_mut(self.len..) else {
             return Ok(0);
         };
-        // At most 300 bytes a call, so that the lines take several.
+        // At most 16 bytes a call, so that the lines take several.
         let count = buf.len().min(room.len()).min(16);
         room[..count].copy_from_slice(&buf[..count]);
         self.len = self.len.saturating_add(count);
@@ -114,6 +114,16 @@ impl Write for ShortWriter {
         }
         Err(io::Error::from(io::ErrorKind::Other))
     }
+}
+
+// Runs over the file above, and answers the status.
+fn run_over_small(
+    alloc: Global,
+    question: Question<'_, &str>,
+    out: &mut ShortWriter,
+    err: &mut ShortWriter,
+) -> u8 {
+    run(alloc, "a.so", question, Some(&SMALL[..]), out, err)
 }
 
 // Runs over a file in memory, and wants this status and these texts.
@@ -211,15 +221,7 @@ fn says_that_it_cannot_write(rt: HostRuntime) {
             let mut out = ShortWriter::new(passes);
             out.recovers = recovers;
             let mut err = ShortWriter::new(100);
-            let names = Question::Names(&NAMES);
-            let status = run(
-                rt.alloc(),
-                "a.so",
-                names,
-                Some(&SMALL[..]),
-                &mut out,
-                &mut err,
-            );
+            let status = run_over_small(rt.alloc(), Question::Names(&NAMES), &mut out, &mut err);
             if status == 0 {
                 assert_eq!(rt; out.text(), LINES.as_bytes());
                 assert_eq!(rt; err.text(), "".as_bytes());
@@ -241,15 +243,7 @@ fn says_that_it_cannot_flush(rt: HostRuntime) {
     let mut out = ShortWriter::new(100);
     out.flushes = false;
     let mut err = ShortWriter::new(0);
-    let needed: Question<'_, &str> = Question::Needed;
-    let status = run(
-        rt.alloc(),
-        "a.so",
-        needed,
-        Some(&SMALL[..]),
-        &mut out,
-        &mut err,
-    );
+    let status = run_over_small(rt.alloc(), Question::Needed, &mut out, &mut err);
     assert_eq!(rt; status, 1);
     assert_eq!(rt; err.text(), "".as_bytes());
 }
@@ -259,15 +253,7 @@ fn says_that_it_cannot_flush(rt: HostRuntime) {
 fn keeps_its_word_with_little_memory(rt: HostRuntime) -> Result<(), Fail> {
     let mut out = ShortWriter::new(100);
     let mut err = ShortWriter::new(100);
-    let names = Question::Names(&NAMES);
-    let status = run(
-        rt.alloc(),
-        "a.so",
-        names,
-        Some(&SMALL[..]),
-        &mut out,
-        &mut err,
-    );
+    let status = run_over_small(rt.alloc(), Question::Names(&NAMES), &mut out, &mut err);
     if status == 0 {
         assert_eq!(rt; out.text(), LINES.as_bytes());
         assert_eq!(rt; err.text(), "".as_bytes());
