@@ -1,36 +1,37 @@
 -- What passes the check of a hash table, and what doesn't.
 use Rattle.std.proofs.Common.{◌≡◌, ◌<◌, ◌%◌, ◌↔◌, ℕ, ◌⊎◌, inl, inr, List, Some, Result, Ok, Err, slice_get, refl, sym, ap, subst, arith}
 use Rattle.std.proofs.lemmas.Bool.{cases_order}
-use Rattle.std.specs.Prelude.{IsOk}
+use Rattle.std.specs.Prelude.{◌≢◌, IsOk, IsTrue, Option, is_some}
 use Rattle.elf_records.specs.HashNumber.{hash_number}
 use Rattle.xmas_elf.specs.Prelude.{ElfError, HashMissing, HashTable}
 use Rattle.xmas_elf.specs.Good.{EndsBelow, IsAtFault, IsReached, IsGood, IsCheck, good, faulty, missing}
-use Rattle.xmas_elf.specs.Chain.{LooksFrom, Reaches, bad_bucket, chains_of}
+use Rattle.xmas_elf.specs.Chain.{Comes, LooksFrom, Reaches, Walks, bad_bucket, chains_of, ends, stops}
 use Rattle.xmas_elf.specs.HashTable.{bucket_count_of, bucket_of, start_of}
 use Rattle.xmas_elf.specs.Symbols.{IsGlobal, Symbols}
-use Rattle.xmas_elf.proofs.ChainFinds.{not_at_fault}
+use Rattle.xmas_elf.proofs.ChainFinds.{goes, not_at_fault}
 use Rattle.xmas_elf.proofs.ChainOnce.{looks_once}
-use Rattle.xmas_elf.proofs.ChainPaths.{end_reaches}
 use Rattle.xmas_elf.proofs.ChainStarts.{start_at}
 
 module _ {E : Type 0} (table : HashTable) (symbols : List E) where
-  -- whether a walk from the bucket of a name stops at an index, which it does there or at the end, tells
-  -- whether the index is on the chain of the name
-  pub found_reached : (name : List ℕ) (i first last : ℕ) → 0 < i → start_of table name ≡ Some (Ok first) → Reaches (chains_of table symbols) first last → (last ≡ i) ⊎ (last < 1) → (Reaches (chains_of table symbols) first i → Reaches (chains_of table symbols) last i) → (last ≡ i) ↔ IsReached table symbols name i
-  found_reached name i first last above start along stop ahead = (
-    λ same. (first, start, subst (λ x. Reaches (chains_of table symbols) first x) same along),
-    λ (other, start', r). (let one : other ≡ first = cc in met stop (ahead (subst (λ x. Reaches (chains_of table symbols) x i) one r))),
+  -- whether a walk from the bucket of a name finds an index tells whether that is on the chain of the name
+  pub walk_reaches : (Stop Over : ℕ × E → Type 0) (name : List ℕ) (i first n : ℕ) (o : Option (ℕ × E)) → Walks Stop Over (chains_of table symbols) first (Ok o) n → ((x : ℕ) (e : E) → Stop (x, e) → x ≡ i) → ((x : ℕ) (e : E) → Over (x, e) → x ≢ i) → 0 < i → start_of table name ≡ Some (Ok first) → IsTrue (is_some o) ↔ IsReached table symbols name i
+  walk_reaches Stop Over name i first _ _ (stops n x e w stands stop) is other above start =
+      (λ _. (first, start, subst (λ z. Reaches (chains_of table symbols) first z) (is x e stop) (n, w.comes)), λ _. refl)
+  walk_reaches Stop Over name i first _ _ (ends n w) is other above start = (
+    λ yes. absurd (cc),
+    λ (first', start', (m, on)). absurd (
+        let chains = chains_of table symbols in
+        let same : first' ≡ first = cc in
+        let at : Comes chains first m i = subst (λ z. Comes chains z m i) same on in
+        let (before, (j, l)) = goes (λ _. ⊥) chains first n m i w.comes at above in
+        other i l.entry (w.over m i l.entry before at l.stands) refl),
   )
-    where
-      met : (last ≡ i) ⊎ (last < 1) → Reaches (chains_of table symbols) last i → last ≡ i
-      met (inl same) r = same
-      met (inr end) r = absurd (let none : i ≡ 0 = end_reaches (chains_of table symbols) last r.0 i (omega arith) r.1 in omega arith)
 
   -- where all chains end, a walk along that of a name is not refused
   pub unrefused : (name : List ℕ) (first n : ℕ) (error : ElfError) → EndsBelow table symbols (bucket_count_of table) → start_of table name ≡ Some (Ok first) → LooksFrom (λ (e : E). ⊥) (chains_of table symbols) (Some (Ok first)) (Err error) n → ⊥
-  unrefused name first n error ends start looks =
+  unrefused name first n error each start looks =
       let (some, at) = start_at table name (Ok first) start in
-      not_at_fault table symbols _ error (ends (hash_number name % bucket_count_of table) (omega arith)) (n, rw at looks)
+      not_at_fault table symbols _ error (each (hash_number name % bucket_count_of table) (omega arith)) (n, rw at looks)
 
   pub bad_at_fault : (k : ℕ) (error : ElfError) → bucket_of table k ≡ Err error → IsAtFault table symbols k error
   bad_at_fault k error at = (0, rw at (bad_bucket error))

@@ -12,7 +12,7 @@ use Rattle.xmas_elf.proofs.ChainStarts.{start_none, start_some}
 
 module _ {E : Type 0} (P : E → Type 0) (chains : Chains E) where
   -- where a walk along the whole chain ends, it comes to each other index before, and goes on from there
-  goes : (first n v i : ℕ) → Comes chains first n 0 → Comes chains first v i → 0 < i → (v < n) × ((j : ℕ) × Links chains i j)
+  pub goes : (first n v i : ℕ) → Comes chains first n 0 → Comes chains first v i → 0 < i → (v < n) × ((j : ℕ) × Links chains i j)
   goes first n v i end at above =
       by_order chains ((v < n) × ((j : ℕ) × Links chains i j)) v n
       (λ same. absurd (let zero_at : i ≡ 0 = comes_once chains first n i 0 (comes_in chains first v n i same at) end in omega arith))

@@ -1,12 +1,13 @@
 -- Walks along the chains of a hash table: they go one way, from one index at most one stop is reached,
 -- and a walk that reaches one passes no index twice.
-use Rattle.std.proofs.Common.{◌≡◌, ◌<◌, ◌≤◌, ◌↔◌, ℕ, zero, suc, ◌+◌, Option, Some, None, Result, Ok, Err, Bool, IsTrue, true, false, length, refl, sym, subst, arith, slice_get, ◌⊎◌, inl, inr, Contains, below_more}
+use Rattle.std.proofs.Common.{◌≡◌, ◌<◌, ◌≤◌, ◌↔◌, ℕ, zero, suc, ◌+◌, Option, Some, None, Result, Ok, Err, Bool, IsTrue, true, false, length, refl, sym, subst, arith, slice_get, ◌⊎◌, inl, inr, Contains}
 use Rattle.std.proofs.lemmas.Bool.{cases_order}
 use Rattle.std.proofs.lemmas.Option.{slice_get_within, get_or_from_slice_get}
 use Rattle.std.proofs.lemmas.Map.Steps.{length-le_from_distinct_below}
 use Rattle.std.specs.Int.{from_bool}
+use Rattle.std.specs.Prelude.{IsOk}
 use Rattle.xmas_elf.specs.Prelude.{ChainIndex, ElfError, SymbolIndex}
-use Rattle.xmas_elf.specs.Chain.{Chains, StandsAt, Stops, at_end, past_chains, past_symbols, found, refused, Links, Comes, starts, goes, NoneBefore, LooksFrom, Reaches, reaches, endless, Halts, no_chain, no_symbol, too_many}
+use Rattle.xmas_elf.specs.Chain.{Chains, StandsAt, Stops, at_end, past_chains, past_symbols, found, refused, Links, Comes, starts, goes, NoneBefore, LooksFrom, Reaches, reaches, endless, Halts, no_chain, no_symbol, too_many, Walked, Walks, ends, stops, halts, breaks}
 use Rattle.xmas_elf.specs.Counted.{IsCount}
 use Rattle.xmas_elf.proofs.SymbolCounts.{count_more, count_none, count_same}
 
@@ -88,26 +89,8 @@ module _ {E : Type 0} (chains : Chains E) where
   pub reaches_along : (i j k : ℕ) → Reaches chains i j → Reaches chains j k → Reaches chains i k
   reaches_along i j k (n, at) (m, on) = (n + m, goes_along i n j m k at on)
 
-  -- the end reaches nothing else
-  pub end_reaches : (i n j : ℕ) → i ≡ 0 → Comes chains i n j → j ≡ 0
-  end_reaches i _ _ end starts = end
-  end_reaches i _ _ end (goes n k j c l) = absurd (end_links k j (end_reaches i n k end c) l)
-
-  -- what an index reaches, the next one reaches, but for the index itself
-  pub reached_next : (i j target : ℕ) → Links chains i j → (i ≡ target → ⊥) → Reaches chains i target → Reaches chains j target
-  reached_next i j target link other (n, at) =
-      by_order (Reaches chains j target) zero n
-      (λ same. absurd (other (comes_same i zero n i target same starts at)))
-      (λ earlier. (let (t, sum, on) = goes_ahead i n target (suc zero) j at (omega arith) (goes zero i j starts link) in (t, on)))
-      (λ later. absurd (omega arith))
-
   pub first_ends : (i : ℕ) → i < 1 → Reaches chains i 0
   first_ends i below = let end : 0 ≡ i = omega arith in subst (λ x. Reaches chains x 0) end (zero, starts)
-
-  -- where the chains of all indices below a bound end, so does one that comes below it
-  pub ends_along : (first last bound : ℕ) → 0 < bound → ((i : ℕ) → i < bound → Reaches chains i 0) → (last ≡ 0) ⊎ (last < bound) → Reaches chains first last → Reaches chains first 0
-  ends_along first last bound some each stop along =
-      reaches_along first last 0 along (each last (elim stop [ inl end ↦ omega arith | inr below ↦ below ]))
 
   -- no index before step n is met twice
   abbrev pub Apart : ℕ → ℕ → Type 0
@@ -182,33 +165,53 @@ module _ {E : Type 0} (P : E → Type 0) (chains : Chains E) where
           (λ later. absurd (omega arith))) count in
           omega arith
 
-  -- a walk has come to an index in so many steps, and passed no entry with P
-  pub record Walked (first i count : ℕ) : Type 0 where
-    pub comes : Comes chains first count i
-    pub none : NoneBefore P chains first count
+  -- the walk stops
+  pub looks : (first i n m k : ℕ) (a : Result (Option (ℕ × E)) ElfError) → Comes chains first n i → NoneBefore P chains first n → Stops P chains i a m → n + m ≡ k → LooksFrom P chains (Some (Ok first)) a k
+  looks first i n m k a c none s sum = subst (λ c. LooksFrom P chains (Some (Ok first)) a c) sum (reaches first i n m a c none s)
 
-  pub walked_first : (first : ℕ) → Walked first first 0
-  walked_first first = record { comes = starts; none = λ m below. absurd (omega arith) }
+  pub looks_halted : (first i n : ℕ) (error : ElfError) → Comes chains first n i → NoneBefore P chains first n → 0 < i → Halts chains n i error → LooksFrom P chains (Some (Ok first)) (Err error) n
+  looks_halted first i n _ c none above (no_chain past) = looks first i n 0 n (Err ChainIndex) c none (past_chains i above past) (omega arith)
+  looks_halted first i n _ c none above (no_symbol within absent) = looks first i n 0 n (Err SymbolIndex) c none (past_symbols i above within absent) (omega arith)
+  looks_halted first i n _ c none above (too_many e stands (inl many)) =
+      endless first n (λ last m p a c' none' s. too_long chains.count first n i e last m p a (λ q d at. at.below) c none stands many c' none' s)
+  looks_halted first i n _ c none above (too_many e stands (inr many)) =
+      endless first n (λ last m p a c' none' s. too_long (length chains.symbols) first n i e last m p a (λ q d at. slice_get_within chains.symbols q d at.symbol) c none stands many c' none' s)
 
-  pub walked_next : (first i j n : ℕ) → Walked first i n → (l : Links chains i j) → (P l.entry → ⊥) → Walked first j (n + 1)
-  walked_next first i j n h l misses = record {
-    comes = comes_next chains first n i j h.comes l;
-    none = below_more (λ m. (x : ℕ) (e : E) → Comes chains first m x → StandsAt chains x e → P e → ⊥) n h.none (λ x e at stands holds.
-        (let here : StandsAt chains i e = subst (λ z. StandsAt chains z e) (comes_once chains first n x i at h.comes) stands in
-        misses (subst P (stand_once chains i e l.entry here l.stands) holds)));
+module _ {E : Type 0} (Over : ℕ × E → Type 0) (chains : Chains E) where
+  pub walked_first : (first : ℕ) → Walked Over chains first 0 first
+  walked_first first = record { comes = starts; over = λ m x e below. absurd (omega arith) }
+
+  pub walked_next : (first n i j : ℕ) → Walked Over chains first n i → (l : Links chains i j) → Over (i, l.entry) → Walked Over chains first (n + 1) j
+  walked_next first n i j w l passed = record {
+    comes = comes_next chains first n i j w.comes l;
+    over = λ m x e below at stands. by_order chains (Over (x, e)) m n
+        (λ same. (
+        let here : x ≡ i = comes_same chains first m n x i same at w.comes in
+        let entry : e ≡ l.entry = stand_once chains i e l.entry (subst (λ z. StandsAt chains z e) here stands) l.stands in
+        let pair : (i, l.entry) ≡ (x, e) = cc in
+        subst Over pair passed))
+        (λ earlier. w.over m x e earlier at stands)
+        (λ later. absurd (omega arith));
   }
 
-  -- the walk stops
-  pub looks : (first i n m k : ℕ) (a : Result (Option (ℕ × E)) ElfError) → Walked first i n → Stops P chains i a m → n + m ≡ k → LooksFrom P chains (Some (Ok first)) a k
-  looks first i n m k a h s sum = subst (λ c. LooksFrom P chains (Some (Ok first)) a c) sum (reaches first i n m a h.comes h.none s)
+module _ {E : Type 0} (Stop Over : ℕ × E → Type 0) (chains : Chains E) (first : ℕ) where
+  none_over : (P : E → Type 0) (n i : ℕ) → ((i : ℕ) (e : E) → StandsAt chains i e → Over (i, e) → P e → ⊥) → Walked Over chains first n i → NoneBefore P chains first n
+  none_over P n i lacks w m below x e at stands = lacks x e stands (w.over m x e below at stands)
 
-  pub looks_end : (first i n : ℕ) → Walked first i n → i ≡ 0 → LooksFrom P chains (Some (Ok first)) (Ok None) n
-  looks_end first i n h end = looks first i n 0 n (Ok None) h (subst (λ x. Stops P chains x (Ok None) 0) (sym end) at_end) (omega arith)
+  -- a walk that stops at symbols with P, and passes over others, answers as a look-up for P
+  pub walk_looks : (P : E → Type 0) (n : ℕ) (a : Result (Option (ℕ × E)) ElfError) → Walks Stop Over chains first a n → ((i : ℕ) (e : E) → a ≡ Ok (Some (i, e)) → Stop (i, e) → P e) → ((i : ℕ) (e : E) → StandsAt chains i e → Over (i, e) → P e → ⊥) → LooksFrom P chains (Some (Ok first)) a n
+  walk_looks P _ _ (ends n w) has lacks = looks P chains first 0 n 0 n (Ok None) w.comes (none_over P n 0 lacks w) at_end (omega arith)
+  walk_looks P _ _ (stops n i e w stands stop) has lacks = looks P chains first i n 1 (n + 1) (Ok (Some (i, e))) w.comes (none_over P n i lacks w) (found i e stands (has i e refl stop)) refl
+  walk_looks P _ _ (halts n i error w above halt) has lacks = looks_halted P chains first i n error w.comes (none_over P n i lacks w) above halt
+  walk_looks P _ _ (breaks n i e error w stands over fails) has lacks = looks P chains first i n 1 (n + 1) (Err error) w.comes (none_over P n i lacks w) (refused i e error stands (lacks i e stands over) fails) refl
 
-  pub looks_halted : (first i n : ℕ) (error : ElfError) → Walked first i n → 0 < i → Halts chains n i error → LooksFrom P chains (Some (Ok first)) (Err error) n
-  looks_halted first i n _ h above (no_chain past) = looks first i n 0 n (Err ChainIndex) h (past_chains i above past) (omega arith)
-  looks_halted first i n _ h above (no_symbol within absent) = looks first i n 0 n (Err SymbolIndex) h (past_symbols i above within absent) (omega arith)
-  looks_halted first i n _ h above (too_many e stands (inl many)) =
-      endless first n (λ last m p a c none s. too_long chains.count first n i e last m p a (λ q d at. at.below) h.comes h.none stands many c none s)
-  looks_halted first i n _ h above (too_many e stands (inr many)) =
-      endless first n (λ last m p a c none s. too_long (length chains.symbols) first n i e last m p a (λ q d at. slice_get_within chains.symbols q d at.symbol) h.comes h.none stands many c none s)
+  -- one that is refused is refused whatever it looks for
+  pub walk_refused : (n : ℕ) (error : ElfError) → Walks Stop Over chains first (Err error) n → LooksFrom (λ _. ⊥) chains (Some (Ok first)) (Err error) n
+  walk_refused n error walk = walk_looks (λ _. ⊥) n (Err error) walk (λ i e is stop. cc) (λ i e stands over none. none)
+
+  -- where it isn't refused and stops only below a bound, and the chains from there end, so does this one
+  pub walk_ends : (bound n : ℕ) (a : Result (Option (ℕ × E)) ElfError) → Walks Stop Over chains first a n → IsOk a → ((i : ℕ) (e : E) → Stop (i, e) → i < bound) → ((i : ℕ) → i < bound → Reaches chains i 0) → Reaches chains first 0
+  walk_ends bound _ _ (ends n w) ok below each = (n, w.comes)
+  walk_ends bound _ _ (stops n i e w stands stop) ok below each = reaches_along chains first i 0 (n, w.comes) (each i (below i e stop))
+  walk_ends bound _ _ (halts n i error w above halt) ok below each = absurd (cc)
+  walk_ends bound _ _ (breaks n i e error w stands over fails) ok below each = absurd (cc)

@@ -74,6 +74,22 @@ pub data Halts {E : Type 0} (chains : Chains E) (passed i : ℕ) : ElfError → 
   too_many : (e : E) → StandsAt chains i e → (chains.count ≤ passed) ⊎ (length chains.symbols ≤ passed)
       → Halts chains passed i HashCycle
 
+-- a walk from the first index has come to index i in n steps, and each symbol that it passed was passed over
+pub record Walked {E : Type 0} (Over : ℕ × E → Type 0) (chains : Chains E) (first n i : ℕ) : Type 0 where
+  pub comes : Comes chains first n i
+  pub over : (m x : ℕ) (e : E) → m < n → Comes chains first m x → StandsAt chains x e → Over (x, e)
+
+-- what a walk that tests each symbol answers, and how many it tests: the first at which it stops, or nothing
+-- at the end, or why it goes no further
+pub data Walks {E : Type 0} (Stop Over : ℕ × E → Type 0) (chains : Chains E) (first : ℕ) : Result (Option (ℕ × E)) ElfError → ℕ → Type 0 where
+  ends : (n : ℕ) → Walked Over chains first n 0 → Walks Stop Over chains first (Ok None) n
+  stops : (n i : ℕ) (e : E) → Walked Over chains first n i → StandsAt chains i e → Stop (i, e)
+      → Walks Stop Over chains first (Ok (Some (i, e))) (n + 1)
+  halts : (n i : ℕ) (error : ElfError) → Walked Over chains first n i → 0 < i → Halts chains n i error
+      → Walks Stop Over chains first (Err error) n
+  breaks : (n i : ℕ) (e : E) (error : ElfError) → Walked Over chains first n i → StandsAt chains i e → Over (i, e)
+      → chains.chain i ≡ Err error → Walks Stop Over chains first (Err error) (n + 1)
+
 -- a walk that looks for P begins at some index, and comes to no stop
 abbrev pub IsEndless : {E : Type 0} → (E → Type 0) → Chains E → Option (Result ℕ ElfError) → Type 0
 IsEndless {E} P chains start = (first : ℕ) × (start ≡ Some (Ok first))

@@ -1,6 +1,9 @@
 //! Hash tables of symbols (gABI, "Hash Table").
 
-ghost use Rattle.std.specs.Prelude.{◌≡◌, ◌↔◌, ◌+◌, ◌^◌, ◌<◌, ◌≤◌, ℕ, Err, Ok, Some, length, IfOk, IsOk, MatchResult};
+ghost use Rattle.std.specs.Borrow.{Bor};
+ghost use Rattle.std.specs.Fn.{FnReturnsAt};
+ghost use Rattle.std.specs.Prelude.{◌≡◌, ◌↔◌, ◌+◌, ◌^◌, ◌<◌, ◌≤◌, ℕ, true, false};
+ghost use Rattle.std.specs.Prelude.{Contains, Err, IfOk, IsOk, MatchResult, Ok, Some, length};
 ghost use Rattle.elf_base.specs.Table.{table_items};
 
 mod check;
@@ -26,8 +29,10 @@ pub struct HashTable<'a> {
 }
 
 impl<'a> HashTable<'a> {
-    ghost use Rattle.xmas_elf.specs.Chain.{Comes, Halts, LooksFrom, StandsAt, chains_of};
-    ghost use Rattle.xmas_elf.specs.HashTable.{HasBucket, HasChain, bucket_count_of, bucket_of, chain_count_of, chain_of, hash_bytes, hash_data, hash_order, hash_word, start_of, word_of};
+    ghost use Rattle.xmas_elf.specs.Chain.{Halts, StandsAt, Walks, chains_of};
+    ghost use Rattle.xmas_elf.specs.HashTable.{HasBucket, HasChain, bucket_count_of, bucket_of};
+    ghost use Rattle.xmas_elf.specs.HashTable.{chain_count_of, chain_of, hash_bytes, hash_data};
+    ghost use Rattle.xmas_elf.specs.HashTable.{hash_order, hash_word, start_of, word_of};
 
     /// The hash table that these bytes are; `ShortData` below 12 bytes.
     pub fn read(bytes: &'a [u8], order: Order) -> Result<HashTable<'a>, ElfError>
@@ -107,8 +112,8 @@ impl<'a> HashTable<'a> {
         Some(self.get_bucket(hash(name) % bucket_count))
     }
 
-    // The symbol that a walk meets at an index, which isn't the end, behind so many others; or why it goes
-    // no further. Behind as many as there are chains or symbols it has met one twice.
+    // The symbol that a walk meets at an index, which isn't the end, behind so many others; or why it
+    // goes no further. Behind as many as there are chains or symbols it has met one twice.
     #[inline(always)]
     fn symbol_at<E: Record>(
         &self,
@@ -136,29 +141,39 @@ impl<'a> HashTable<'a> {
         Ok(entry)
     }
 
-    // That symbol, and the index that the walk goes on to; or why one that looks for nothing is refused.
-    #[inline(always)]
-    fn step<E: Record>(
+    // The walk along a chain from an index on: the first symbol that passes the test, with its index;
+    // `None` where the chain ends before one; or why it goes no further. And how many it has tested.
+    fn walk<E: Record, F: Fn(&(u32, E)) -> bool>(
         &self,
-        index: u32,
-        passed: u32,
+        first: u32,
         symbols: &Table<'_, E>,
-    ) -> Result<(E, u32), ElfError>
-        requires { 0 < index }
-        ensures { let chains = chains_of self.now (table_items symbols.now) in MatchResult result
-            (λ (entry, next). StandsAt chains index entry × (chains.chain index ≡ Ok next)
-            × (passed < chains.count) × (passed + 1 < 2 ^ 32))
-            (λ error. (first : ℕ) → Comes chains first passed index
-            → (n : ℕ) × LooksFrom (λ (e : E). ⊥) chains (Some (Ok first)) (Err error) n) }
+        stops: F,
+    ) -> (Result<Option<(u32, E)>, ElfError>, u32)
+        requires { (at : Bor (ℕ × E)) → Contains (table_items symbols.now) at.now.1 → F.pre stops at }
+        ensures in_chains { result.1 ≤ chain_count_of self.now }
+        ensures in_symbols { result.1 ≤ length (table_items symbols.now) }
+        ensures answer { Walks (λ at. FnReturnsAt F.Fn stops at true)
+            (λ at. FnReturnsAt F.Fn stops at false)
+            (chains_of self.now (table_items symbols.now)) first result.0 result.1 }
     {
-        let entry = match self.symbol_at(index, passed, symbols) {
-            Ok(entry) => entry,
-            Err(halt) => return Err(halt),
-        };
-        match self.get_chain(index) {
-            Ok(next) => Ok((entry, next)),
-            Err(error) => Err(error),
+        let mut index = first;
+        let mut count: u32 = 0;
+        while index != 0 {
+            let entry = match self.symbol_at(index, count, symbols) {
+                Ok(entry) => entry,
+                Err(halt) => return (Err(halt), count),
+            };
+            count += 1;
+            let at = (index, entry);
+            if stops(&at) {
+                return (Ok(Some(at)), count);
+            }
+            index = match self.get_chain(index) {
+                Ok(next) => next,
+                Err(error) => return (Err(error), count),
+            };
         }
+        (Ok(None), count)
     }
 
     // The word at this place, in words.

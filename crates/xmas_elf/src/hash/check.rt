@@ -1,6 +1,6 @@
 //! The check of a hash table (this project's own).
 
-ghost use Rattle.std.specs.Prelude.{◌≡◌, ◌≢◌, ◌≤◌, ◌<◌, ◌/◌, ◌%◌, ◌↔◌, ◌⊎◌, ℕ, Err, IfSome, IsOk, IsTrue, List, MatchOption, MatchResult, None, Ok, Result, Some, false, length};
+ghost use Rattle.std.specs.Prelude.{◌≡◌, ◌≢◌, ◌≤◌, ◌<◌, ◌+◌, ◌^◌, ◌/◌, ◌%◌, ◌↔◌, ◌⊎◌, ℕ, Err, IfSome, IsOk, IsTrue, List, MatchOption, MatchResult, None, Ok, Result, Some, false, length};
 ghost use Rattle.elf_base.specs.Table.{table_items};
 ghost use Rattle.elf_records.specs.HashNumber.{hash_number};
 ghost use Rattle.xmas_elf.specs.Counted.{IsCount};
@@ -79,7 +79,7 @@ fn global_count<E: Entry + Record>(
 }
 
 impl<'a> HashTable<'a> {
-    ghost use Rattle.xmas_elf.specs.Chain.{Comes, LooksFrom, Reaches, chains_of};
+    ghost use Rattle.xmas_elf.specs.Chain.{Comes, LooksFrom, Reaches, StandsAt, chains_of};
     ghost use Rattle.xmas_elf.specs.Good.{Ends, EndsBelow, IsAtFault, IsCheck, IsGood, IsHeldBelow, IsHeldBy, IsReached};
     ghost use Rattle.xmas_elf.specs.HashTable.{bucket_count_of, bucket_of};
 
@@ -206,6 +206,32 @@ impl<'a> HashTable<'a> {
         Ok((held, count))
     }
 
+    // The symbol that a walk meets, and the index that it goes on to; or why one that looks for nothing
+    // is refused.
+    #[inline(always)]
+    fn step<E: Record>(
+        &self,
+        index: u32,
+        passed: u32,
+        symbols: &Table<'_, E>,
+    ) -> Result<(E, u32), ElfError>
+        requires { 0 < index }
+        ensures { let chains = chains_of self.now (table_items symbols.now) in MatchResult result
+            (λ (entry, next). StandsAt chains index entry × (chains.chain index ≡ Ok next)
+            × (passed < chains.count) × (passed + 1 < 2 ^ 32))
+            (λ error. (first : ℕ) → Comes chains first passed index
+            → (n : ℕ) × LooksFrom (λ (e : E). ⊥) chains (Some (Ok first)) (Err error) n) }
+    {
+        let entry = match self.symbol_at(index, passed, symbols) {
+            Ok(entry) => entry,
+            Err(halt) => return Err(halt),
+        };
+        match self.get_chain(index) {
+            Ok(next) => Ok((entry, next)),
+            Err(error) => Err(error),
+        }
+    }
+
     // Whether a symbol must be held, by the chain of this bucket.
     #[inline(always)]
     fn belongs<E: Entry>(
@@ -272,9 +298,8 @@ impl<'a> HashTable<'a> {
     {
         let count = (self.chain_count() as usize).min(symbols.len()) as u32;
         for index in 1..count {
-            match self.follow(index, 0, index, symbols) {
-                Ok(_) => {}
-                Err(_) => return index,
+            if self.walk(index, symbols, |at| at.0 < index).0.is_err() {
+                return index;
             }
         }
         count.max(1)
@@ -294,39 +319,12 @@ impl<'a> HashTable<'a> {
             (λ _. Ends self.now items bucket) (λ error. IsAtFault self.now items bucket error) }
     {
         match self.get_bucket(bucket) {
-            Ok(first) => match self.follow(first, 0, sound, symbols) {
+            Ok(first) => match self.walk(first, symbols, |at| at.0 < sound).0 {
                 Ok(_) => Ok(()),
                 Err(error) => Err(error),
             },
             Err(error) => Err(error),
         }
-    }
-
-    // Where the walk from an index on comes to the target or below the bound; or why it never does,
-    // and the chain doesn't end. It reads words of chains alone.
-    fn follow<E: Record>(
-        &self,
-        first: u32,
-        target: usize,
-        bound: u32,
-        symbols: &Table<'_, E>,
-    ) -> Result<u32, ElfError>
-        requires { 0 < bound }
-        ensures { let chains = chains_of self.now (table_items symbols.now) in MatchResult result
-            (λ last. Reaches chains first last × ((last ≡ target) ⊎ (last < bound))
-            × (Reaches chains first target → Reaches chains last target))
-            (λ error. (n : ℕ) × LooksFrom (λ (e : E). ⊥) chains (Some (Ok first)) (Err error) n) }
-    {
-        let mut index = first;
-        let mut count: u32 = 0;
-        while index >= bound && index as usize != target {
-            index = match self.step(index, count, symbols) {
-                Ok((_, next)) => next,
-                Err(error) => return Err(error),
-            };
-            count += 1;
-        }
-        Ok(index)
     }
 
     // Whether, where all chains end, each symbol is held that must be.
@@ -384,8 +382,8 @@ impl<'a> HashTable<'a> {
         ensures { IsTrue result ↔ IsReached self.now (table_items symbols.now) name.now index }
     {
         match self.start(name) {
-            Some(Ok(first)) => match self.follow(first, index, 1, symbols) {
-                Ok(last) => last as usize == index,
+            Some(Ok(first)) => match self.walk(first, symbols, |at| at.0 as usize == index).0 {
+                Ok(found) => found.is_some(),
                 Err(_) => false,
             },
             Some(Err(_)) | None => false,

@@ -41,29 +41,8 @@ fn bears<E: Entry>(entry: &E, name: &str, strings: Strings<'_>, file: &ElfFile<'
     }
 }
 
-// Whether the symbol bears the name and passes the test, which is put to those that bear it alone.
-#[inline(always)]
-fn passes<E: Entry, F: Fn(&E) -> bool>(
-    entry: &E,
-    name: &str,
-    strings: Strings<'_>,
-    file: &ElfFile<'_>,
-    f: &F,
-) -> bool
-    requires { (e : Bor E) → e.now ≡ entry.now → F.pre f.now e }
-    ensures yes { IfSome strings.entry (HoldsNames E.fields (λ e. E.text_in e file.now))
-        → IsTrue result → (E.text_in entry.now file.now ≡ Some name.now)
-        × FnReturnsAt F.Fn f.now entry.now true }
-    ensures no { IfSome strings.entry (HoldsNames E.fields (λ e. E.text_in e file.now))
-        → result ≡ false
-        → (FnReturnsAt F.Fn f.now entry.now true → FnReturnsAt F.Fn f.now entry.now false → ⊥)
-        → (E.text_in entry.now file.now ≡ Some name.now) × FnReturnsAt F.Fn f.now entry.now true → ⊥ }
-{
-    bears(entry, name, strings, file) && f(entry)
-}
-
 impl<'a> HashTable<'a> {
-    ghost use Rattle.xmas_elf.specs.Chain.{Looks, LooksFrom, chains_of};
+    ghost use Rattle.xmas_elf.specs.Chain.{Looks};
     ghost use Rattle.xmas_elf.specs.Good.{FindsAll, IsGood};
     ghost use Rattle.xmas_elf.specs.HashTable.{chain_count_of, start_of};
 
@@ -192,12 +171,12 @@ impl<'a> HashTable<'a> {
 
     // The look-up by a test that is lent: the walk from the bucket of the name on. Where the string table
     // isn't handed in, it is looked up once there is a chain.
-    fn search<E: Entry + Record, F: Fn(&E) -> bool>(
+    fn search<'f, E: Entry + Record, F: Fn(&E) -> bool>(
         &self,
         name: &str,
-        prepared: Option<Strings<'_>>,
+        prepared: Option<Strings<'f>>,
         symbols: &Table<'_, E>,
-        file: &ElfFile<'_>,
+        file: &ElfFile<'f>,
         f: &F,
     ) -> (Result<Option<(u32, E)>, ElfError>, u32)
         requires { (e : Bor E) → Contains (table_items symbols.now) e.now → F.pre f.now e }
@@ -215,51 +194,23 @@ impl<'a> HashTable<'a> {
             Some(Ok(first)) => first,
             Some(Err(error)) => return (Err(error), 0),
         };
+        let strings = strings_of::<E>(prepared, file);
+        // The test is put to symbols that bear the name alone.
         self.walk(
             first,
-            name,
-            strings_of::<E>(prepared, file),
             symbols,
-            file,
-            f,
+            |at: &(u32, E)| -> bool
+                requires { (e : Bor E) → e.now ≡ at.now.1 → F.pre f.now e }
+                ensures yes { IfSome strings.entry (HoldsNames E.fields (λ e. E.text_in e file.entry.now))
+                    → IsTrue result → (E.text_in at.now.1 file.entry.now ≡ Some name.entry.now)
+                    × FnReturnsAt F.Fn f.entry.now at.now.1 true }
+                ensures no { IfSome strings.entry (HoldsNames E.fields (λ e. E.text_in e file.entry.now))
+                    → result ≡ false
+                    → (FnReturnsAt F.Fn f.entry.now at.now.1 true
+                    → FnReturnsAt F.Fn f.entry.now at.now.1 false → ⊥)
+                    → (E.text_in at.now.1 file.entry.now ≡ Some name.entry.now)
+                    × FnReturnsAt F.Fn f.entry.now at.now.1 true → ⊥ }
+            { bears(&at.1, name, strings, file) && f(&at.1) },
         )
-    }
-
-    // The walk from an index on.
-    fn walk<E: Entry + Record, F: Fn(&E) -> bool>(
-        &self,
-        first: u32,
-        name: &str,
-        strings: Strings<'_>,
-        symbols: &Table<'_, E>,
-        file: &ElfFile<'_>,
-        f: &F,
-    ) -> (Result<Option<(u32, E)>, ElfError>, u32)
-        requires { (e : Bor E) → Contains (table_items symbols.now) e.now → F.pre f.now e }
-        ensures in_chains { result.1 ≤ chain_count_of self.now }
-        ensures in_symbols { result.1 ≤ length (table_items symbols.now) }
-        ensures answer { let all = symbols_of E.fields E.text_in symbols.now file.now in
-            IfSome strings.entry (HoldsNames E.fields (λ e. E.text_in e file.now))
-            → Decides all F.Fn f.now
-            → LooksFrom (IsMatch all F.Fn f.now name.now) (chains_of self.now all.items)
-            (Some (Ok first)) result.0 result.1 }
-    {
-        let mut index = first;
-        let mut count: u32 = 0;
-        while index != 0 {
-            let entry = match self.symbol_at(index, count, symbols) {
-                Ok(entry) => entry,
-                Err(halt) => return (Err(halt), count),
-            };
-            count += 1;
-            if passes(&entry, name, strings, file, f) {
-                return (Ok(Some((index, entry))), count);
-            }
-            index = match self.get_chain(index) {
-                Ok(next) => next,
-                Err(error) => return (Err(error), count),
-            };
-        }
-        (Ok(None), count)
     }
 }

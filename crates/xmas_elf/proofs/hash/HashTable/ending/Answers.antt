@@ -1,7 +1,7 @@
-use Rattle.std.proofs.Common.{arith, below_more}
+use Rattle.std.proofs.Common.{below_more, rules}
 use Rattle.elf_base.specs.Table.{table_items}
 use Rattle.xmas_elf.specs.Chain.{Reaches, chains_of}
-use Rattle.xmas_elf.proofs.ChainPaths.{ends_along, first_ends}
+use Rattle.xmas_elf.proofs.ChainPaths.{first_ends, walk_ends}
 use Rattle.xmas_elf.proofs.hash.HashTable.ending.Goals as goal
 
 pub loop-index-init : goal.loop-index-init
@@ -9,7 +9,5 @@ loop-index-init g c = first_ends (chains_of c.args.self.now (table_items c.args.
 
 pub loop-index-preserved : goal.loop-index-preserved
 loop-index-preserved g c =
-    let chains = chains_of c.args.self.now (table_items c.args.symbols.now) in
-    let (along, stop, ahead) = c.in-Ok.ensures in
-    below_more (λ i. Reaches chains i 0) c.loop-index.index c.loop-index.invariant
-    (ends_along chains c.loop-index.index c.in-Ok.field-0 c.loop-index.index (omega arith) c.loop-index.invariant stop along)
+    below_more (λ i. Reaches (chains_of c.args.self.now (table_items c.args.symbols.now)) i 0) c.loop-index.index-counter c.loop-index.invariant
+    (walk_ends _ _ _ c.loop-index.index-counter c.loop-index.index-counter _ _ c.walk.ensures.answer (search rules) (λ i e stop. search rules) c.loop-index.invariant)

@@ -1,19 +1,19 @@
-use Rattle.std.proofs.Common.{◌≡◌, Ok, Some}
-use Rattle.std.proofs.lemmas.Bool.{eq-eqb, eqb-true}
+use Rattle.std.proofs.Common.{◌≡◌, Ok, Some, rules}
 use Rattle.elf_base.specs.Table.{table_items}
 use Rattle.xmas_elf.specs.HashTable.{start_of}
-use Rattle.xmas_elf.proofs.ChainChecks.{found_reached, unrefused}
+use Rattle.xmas_elf.proofs.ChainChecks.{unrefused, walk_reaches}
+use Rattle.xmas_elf.proofs.ChainPaths.{walk_refused}
 use Rattle.xmas_elf.proofs.hash.HashTable.reaches.Goals as goal
 
 pub returns-in-Ok : goal.returns-in-Ok
 returns-in-Ok g c =
     let start : start_of c.args.self.now c.args.name.now ≡ Some (Ok c.in-Some-Ok.first) = cc in
-    let (along, stop, ahead) = c.in-Ok.ensures in
-    let is = found_reached c.args.self.now (table_items c.args.symbols.now) c.args.name.now c.args.index c.in-Some-Ok.first c.in-Ok.last c.requires.symbol start along stop ahead in
-    (λ yes. is.0 (eqb-true _ _ yes), λ reached. eq-eqb _ _ (is.1 reached))
+    let walk = rw c.in-Ok.is at c.walk.ensures.answer in
+    let is = walk_reaches c.args.self.now (table_items c.args.symbols.now) _ _ c.args.name.now c.args.index c.in-Some-Ok.first _ c.in-Ok.found walk (λ x e stop. search rules) (λ x e over. search rules) c.requires.symbol start in
+    search rules
 
 pub returns-in-Err : goal.returns-in-Err
 returns-in-Err g c =
     let start : start_of c.args.self.now c.args.name.now ≡ Some (Ok c.in-Some-Ok.first) = cc in
-    let (n, looks) = c.in-Err.ensures in
-    absurd (unrefused c.args.self.now (table_items c.args.symbols.now) c.args.name.now c.in-Some-Ok.first n _ c.requires.ends start looks)
+    let walk = rw c.in-Err.is at c.walk.ensures.answer in
+    absurd (unrefused c.args.self.now (table_items c.args.symbols.now) c.args.name.now c.in-Some-Ok.first _ _ c.requires.ends start (walk_refused _ _ _ c.in-Some-Ok.first _ _ walk))
