@@ -15,9 +15,9 @@ use byteorder::{BigEndian, ByteOrder, LittleEndian};
 /// The order of a number's bytes (gABI, "ELF Header", EI_DATA).
 #[derive(Clone, Copy, Debug, PartialEq, Eq)]
 pub enum Order {
-    /// The least significant byte comes first.
+    /// `ELFDATA2LSB`: the least significant byte comes first.
     Little,
-    /// The most significant byte comes first.
+    /// `ELFDATA2MSB`: the most significant byte comes first.
     Big,
 }
 

@@ -20,7 +20,7 @@ pub use crate::header::numbers::{
 };
 use crate::{ElfError, P32, P64};
 
-/// The four bytes that every ELF file begins with.
+/// `ELFMAG`: the four bytes that every ELF file begins with.
 pub const MAGIC: [u8; 4] = [0x7f, b'E', b'L', b'F'];
 
 /// The ELF header of a file, in two parts (gABI, "ELF Header").

@@ -9,88 +9,88 @@ ghost use Rattle.elf_records.specs.Dynamic.{tag_raw, value_in, value_of};
 use elf_base::bytes::{Order, Record, read_u32, read_u64};
 use elf_base::{ElfError, P32, P64};
 
-/// All relocations are made before the program runs.
+/// `DF_1_NOW`: all relocations are made before the program runs.
 pub const FLAG_1_NOW: u64 = 0x1;
 
-/// The symbols of the library are open to all others.
+/// `DF_1_GLOBAL`: the symbols of the library are open to all others.
 pub const FLAG_1_GLOBAL: u64 = 0x2;
 
-/// The library is a member of a group.
+/// `DF_1_GROUP`: the library is a member of a group.
 pub const FLAG_1_GROUP: u64 = 0x4;
 
-/// The library stays loaded.
+/// `DF_1_NODELETE`: the library stays loaded.
 pub const FLAG_1_NODELETE: u64 = 0x8;
 
-/// Filtered libraries are loaded at once.
+/// `DF_1_LOADFLTR`: filtered libraries are loaded at once.
 pub const FLAG_1_LOADFLTR: u64 = 0x10;
 
-/// The library begins before all others.
+/// `DF_1_INITFIRST`: the library begins before all others.
 pub const FLAG_1_INITFIRST: u64 = 0x20;
 
-/// The library cannot be opened while the program runs.
+/// `DF_1_NOOPEN`: the library cannot be opened while the program runs.
 pub const FLAG_1_NOOPEN: u64 = 0x40;
 
-/// Paths may name the place of the library.
+/// `DF_1_ORIGIN`: paths may name the place of the library.
 pub const FLAG_1_ORIGIN: u64 = 0x80;
 
-/// Symbols are bound directly.
+/// `DF_1_DIRECT`: symbols are bound directly.
 pub const FLAG_1_DIRECT: u64 = 0x100;
 
-/// No meaning is known.
+/// `DF_1_TRANS`: no meaning is known.
 pub const FLAG_1_TRANS: u64 = 0x200;
 
-/// The symbols of the library come before those of others.
+/// `DF_1_INTERPOSE`: the symbols of the library come before those of others.
 pub const FLAG_1_INTERPOSE: u64 = 0x400;
 
-/// The default places of libraries are passed over.
+/// `DF_1_NODEFLIB`: the default places of libraries are passed over.
 pub const FLAG_1_NODEFLIB: u64 = 0x800;
 
-/// The library cannot be dumped.
+/// `DF_1_NODUMP`: the library cannot be dumped.
 pub const FLAG_1_NODUMP: u64 = 0x1000;
 
-/// Another configuration is in use.
+/// `DF_1_CONFALT`: another configuration is in use.
 pub const FLAG_1_CONFALT: u64 = 0x2000;
 
-/// The search for filtered libraries ends here.
+/// `DF_1_ENDFILTEE`: the search for filtered libraries ends here.
 pub const FLAG_1_ENDFILTEE: u64 = 0x4000;
 
-/// Relocations by displacement were made when the file was.
+/// `DF_1_DISPRELDNE`: relocations by displacement were made when the file was.
 pub const FLAG_1_DISPRELDNE: u64 = 0x8000;
 
-/// Relocations by displacement are left for the run.
+/// `DF_1_DISPRELPND`: relocations by displacement are left for the run.
 pub const FLAG_1_DISPRELPND: u64 = 0x1_0000;
 
-/// The file has no direct bindings.
+/// `DF_1_NODIRECT`: the file has no direct bindings.
 pub const FLAG_1_NODIRECT: u64 = 0x2_0000;
 
-/// Further definitions of a symbol are passed over.
+/// `DF_1_IGNMULDEF`: further definitions of a symbol are passed over.
 pub const FLAG_1_IGNMULDEF: u64 = 0x4_0000;
 
-/// No meaning is known.
+/// `DF_1_NOKSYMS`: no meaning is known.
 pub const FLAG_1_NOKSYMS: u64 = 0x8_0000;
 
-/// No meaning is known.
+/// `DF_1_NOHDR`: no meaning is known.
 pub const FLAG_1_NOHDR: u64 = 0x10_0000;
 
-/// The file was changed after it was made.
+/// `DF_1_EDITED`: the file was changed after it was made.
 pub const FLAG_1_EDITED: u64 = 0x20_0000;
 
-/// No meaning is known.
+/// `DF_1_NORELOC`: no meaning is known.
 pub const FLAG_1_NORELOC: u64 = 0x40_0000;
 
-/// Single symbols come before those of others.
+/// `DF_1_SYMINTPOSE`: single symbols come before those of others.
 pub const FLAG_1_SYMINTPOSE: u64 = 0x80_0000;
 
-/// All libraries are audited.
+/// `DF_1_GLOBAUDIT`: all libraries are audited.
 pub const FLAG_1_GLOBAUDIT: u64 = 0x100_0000;
 
-/// Symbols of which there is one in a program are used.
+/// `DF_1_SINGLETON`: symbols of which there is one in a program are used.
 pub const FLAG_1_SINGLETON: u64 = 0x200_0000;
 
-/// The file stands for another, which holds the code.
+/// `DF_1_STUB`: the file stands for another, which holds the code.
 pub const FLAG_1_STUB: u64 = 0x400_0000;
 
-/// The program may be loaded at any address.
+/// `DF_1_PIE`: the program may be loaded at any address.
 pub const FLAG_1_PIE: u64 = 0x800_0000;
 
 /// A tag, and a number whose meaning is the tag's (gABI, "Dynamic Section", Elf32_Dyn, Elf64_Dyn).

@@ -11,34 +11,34 @@ use elf_base::ElfError;
 use std::fmt;
 use std::fmt::Display;
 
-/// The first type of the operating system.
+/// `PT_LOOS`: the first type of the operating system.
 pub const TYPE_LOOS: u32 = 0x6000_0000;
 
-/// The last type of the operating system.
+/// `PT_HIOS`: the last type of the operating system.
 pub const TYPE_HIOS: u32 = 0x6fff_ffff;
 
-/// The first type of the processor.
+/// `PT_LOPROC`: the first type of the processor.
 pub const TYPE_LOPROC: u32 = 0x7000_0000;
 
-/// The last type of the processor.
+/// `PT_HIPROC`: the last type of the processor.
 pub const TYPE_HIPROC: u32 = 0x7fff_ffff;
 
-/// What is read-only once relocations are applied (GNU).
+/// `PT_GNU_RELRO`: what is read-only once relocations are applied (GNU).
 pub const TYPE_GNU_RELRO: u32 = 0x6474_e552;
 
-/// The segment can be executed.
+/// `PF_X`: the segment can be executed.
 pub const FLAG_X: u32 = 1;
 
-/// The segment can be written.
+/// `PF_W`: the segment can be written.
 pub const FLAG_W: u32 = 2;
 
-/// The segment can be read.
+/// `PF_R`: the segment can be read.
 pub const FLAG_R: u32 = 4;
 
-/// The flags of the operating system.
+/// `PF_MASKOS`: the flags of the operating system.
 pub const FLAG_MASKOS: u32 = 0x0ff0_0000;
 
-/// The flags of the processor.
+/// `PF_MASKPROC`: the flags of the processor.
 pub const FLAG_MASKPROC: u32 = 0xf000_0000;
 
 /// What a segment is, as a number (gABI, "Program Header", p_type).

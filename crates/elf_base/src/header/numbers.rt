@@ -303,7 +303,8 @@ pub enum Type {
     SharedObject,
     /// `ET_CORE`: a core dump.
     Core,
-    /// Any other number.
+    /// Any other number, `ET_LOOS` to `ET_HIOS` (0xfe00 to 0xfeff) and `ET_LOPROC` to
+    /// `ET_HIPROC` (0xff00 to 0xffff) among them.
     ProcessorSpecific(u16),
 }
 

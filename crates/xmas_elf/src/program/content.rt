@@ -19,15 +19,15 @@ use elf_base::header::byte_order;
 /// The data of a segment by its type, with the class in the names (gABI, "Program Header", p_type).
 #[derive(Debug, Drop)]
 pub enum SegmentData<'a> {
-    /// No bytes: type Null.
+    /// `PT_NULL`: no bytes.
     Empty,
-    /// Bytes that have no meaning here.
+    /// `PT_LOAD` and every other type: bytes that have no meaning here.
     Undefined(&'a [u8]),
-    /// What a dynamic linker needs.
+    /// `PT_DYNAMIC`: what a dynamic linker needs.
     Dynamic32(Table<'a, Dynamic<P32>>),
-    /// What a dynamic linker needs.
+    /// `PT_DYNAMIC`: what a dynamic linker needs.
     Dynamic64(Table<'a, Dynamic<P64>>),
-    /// The header of the first note, and all bytes that follow it.
+    /// `PT_NOTE`: the header of the first note, and all bytes that follow it.
     Note64(NoteHeader, &'a [u8]),
 }
 

@@ -22,48 +22,48 @@ use elf_base::header::byte_order;
 /// The data of a section by its type, with the class in the names (gABI, "Sections", sh_type).
 #[derive(Debug, Drop)]
 pub enum SectionData<'a> {
-    /// No bytes: type Null or NoBits.
+    /// `SHT_NULL`, `SHT_NOBITS`: no bytes.
     Empty,
-    /// Bytes that have no meaning here.
+    /// `SHT_PROGBITS`, `SHT_SHLIB` and all from `SHT_LOOS` on: bytes that have no meaning here.
     Undefined(&'a [u8]),
-    /// Texts that zero bytes end.
+    /// `SHT_STRTAB`: texts that zero bytes end.
     StrArray(&'a [u8]),
-    /// Pointers to functions.
+    /// `SHT_INIT_ARRAY`, `SHT_FINI_ARRAY`, `SHT_PREINIT_ARRAY`: pointers to functions.
     FnArray32(Table<'a, u32>),
-    /// Pointers to functions.
+    /// `SHT_INIT_ARRAY`, `SHT_FINI_ARRAY`, `SHT_PREINIT_ARRAY`: pointers to functions.
     FnArray64(Table<'a, u64>),
-    /// Symbols.
+    /// `SHT_SYMTAB`: symbols.
     SymbolTable32(Table<'a, Entry32>),
-    /// Symbols.
+    /// `SHT_SYMTAB`: symbols.
     SymbolTable64(Table<'a, Entry64>),
-    /// Symbols of the dynamic linker.
+    /// `SHT_DYNSYM`: symbols of the dynamic linker.
     DynSymbolTable32(Table<'a, DynEntry32>),
-    /// Symbols of the dynamic linker.
+    /// `SHT_DYNSYM`: symbols of the dynamic linker.
     DynSymbolTable64(Table<'a, DynEntry64>),
-    /// Section indices of symbols, which need more than 16 bits.
+    /// `SHT_SYMTAB_SHNDX`: section indices of symbols that need more than 16 bits.
     SymTabShIndex(Table<'a, u32>),
-    /// The header of the first note, and all bytes that follow it.
+    /// `SHT_NOTE`: the header of the first note, and all bytes that follow it.
     Note64(NoteHeader, &'a [u8]),
-    /// Relocations with addends.
+    /// `SHT_RELA`: relocations with addends.
     Rela32(Table<'a, Rela<P32>>),
-    /// Relocations with addends.
+    /// `SHT_RELA`: relocations with addends.
     Rela64(Table<'a, Rela<P64>>),
-    /// Relocations without addends.
+    /// `SHT_REL`: relocations without addends.
     Rel32(Table<'a, Rel<P32>>),
-    /// Relocations without addends.
+    /// `SHT_REL`: relocations without addends.
     Rel64(Table<'a, Rel<P64>>),
-    /// What a dynamic linker needs.
+    /// `SHT_DYNAMIC`: what a dynamic linker needs.
     Dynamic32(Table<'a, Dynamic<P32>>),
-    /// What a dynamic linker needs.
+    /// `SHT_DYNAMIC`: what a dynamic linker needs.
     Dynamic64(Table<'a, Dynamic<P64>>),
-    /// A group of sections: `GRP_COMDAT` and the like, and the indices of its members.
+    /// `SHT_GROUP`: a group of sections.
     Group {
-        /// The flags of the group.
+        /// The flags of the group: `GRP_COMDAT` and the like.
         flags: u32,
         /// The section indices of its members.
         indicies: Table<'a, u32>,
     },
-    /// A hash table of symbols.
+    /// `SHT_HASH`: a hash table of symbols.
     HashTable(HashTable<'a>),
 }
 
