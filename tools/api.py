@@ -2,7 +2,8 @@
 """Writes docs/API.md: every public item of the libraries, with its doc, its signature and its clauses.
 
     tools/api.py            writes the page
-    tools/api.py --check    fails where the page isn't what the sources give, and writes nothing
+    tools/api.py --check    fails where the page isn't what the sources give, or where a type or a constant is
+                            missing among those that other crates' clauses import; writes nothing
 
 At the end stands which calls answer which error, as `tools/errors.py` reads it off their docs.
 
@@ -19,6 +20,9 @@ import errors
 ROOT = pathlib.Path(__file__).resolve().parent.parent
 PAGE = ROOT / "docs" / "API.md"
 
+# What clauses in other crates import the types, constants and refusals of xmas_elf from.
+TYPES = ROOT / "crates" / "xmas_elf" / "specs" / "Types.antt"
+
 # The libraries that a user names, in the order of the page.
 LIBRARIES = ("xmas_elf", "elf_linking")
 
@@ -31,6 +35,15 @@ Which calls answer which error, with its text. What an error means stands beside
 
 | Error | Text | Calls |
 |---|---|---|"""
+
+# The enums that are called `Type`, by their module, as TYPES names them.
+TYPE_OF = {"header": "Header", "program": "Segment", "symbol_table": "Symbol"}
+
+# What xmas_elf makes public and TYPES doesn't have, and why. Traits are named by a bound alone.
+NOT_IN_TYPES = {"P32": "a clause writes ℕ", "P64": "a clause writes ℕ"}
+
+# What TYPES has besides, and why.
+ONLY_IN_TYPES = {"HashVerdict": "clauses on a report speak of it, and no public path leads to it"}
 
 ITEM = re.compile(r"pub (struct|enum|trait|type|const|fn|const fn) (\w+)")
 TITLE = {"struct": "a struct", "enum": "an enum", "trait": "a trait", "type": "a type", "fn": "a function"}
@@ -264,12 +277,43 @@ class Page:
         )
 
 
+def public_types(page: Page) -> set:
+    """The structs, enums, types and constants that xmas_elf makes public, as TYPES is to name them."""
+    found = set()
+    for module in page.modules("xmas_elf"):
+        for name in page.public_names(page.sources["xmas_elf", module]):
+            item = page.declared("xmas_elf", module, name)
+            if item and item.kind in ("struct", "enum", "type", "const"):
+                found.add(TYPE_OF[module] + name if name in ("Type", "Type_") else name)
+    return found
+
+
+def names_in_types() -> set:
+    """The names that TYPES has for other crates."""
+    text = TYPES.read_text(encoding="utf-8")
+    found = set(re.findall(r"^abbrev pub (\w+) :", text, re.M))
+    for names in re.findall(r"^pub use [\w.]+\.\{([^}]*)\}", text, re.M):
+        found |= {it.strip() for it in names.split(",")}
+    return found
+
+
+def faults_in_types(page: Page) -> list:
+    """The names that TYPES lacks, and those that it shouldn't have."""
+    wanted = public_types(page) - set(NOT_IN_TYPES) | set(ONLY_IN_TYPES) | set(errors.texts())
+    named = names_in_types()
+    return [f"{it} is missing" for it in sorted(wanted - named)] + [f"{it} isn't public" for it in sorted(named - wanted)]
+
+
 def main() -> int:
-    text = Page().text()
+    page = Page()
+    text = page.text()
     if sys.argv[1:] == ["--check"]:
         is_same = PAGE.exists() and PAGE.read_text(encoding="utf-8") == text
         print(f"docs/API.md {'is' if is_same else 'IS NOT'} what the sources give")
-        return 0 if is_same else 1
+        faults = faults_in_types(page)
+        for fault in faults:
+            print(f"{TYPES.relative_to(ROOT)}: {fault}")
+        return 0 if is_same and not faults else 1
     PAGE.write_text(text, encoding="utf-8")
     print(f"docs/API.md: {text.count(chr(10))} lines, {len(re.findall('^###', text, re.M))} items")
     return 0

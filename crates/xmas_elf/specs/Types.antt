@@ -1,6 +1,7 @@
 -- Every public type, constant and refusal of the crate and of the two below it, by its name, for other crates:
 -- `Types.{ElfFile}`. The enums that are called `Type` have the name of what they are the type of, as
--- `SymbolType`. Other variants than refusals stand in `TheVariants` behind their type.
+-- `SymbolType`. Other variants than refusals stand in `TheVariants` behind their type. `P32` and `P64` are
+-- numbers, and a clause writes `ℕ` for them. `tools/api.py --check` compares these names with the sources.
 pub use Rattle.xmas_elf.specs.Prelude.{Order, Table, TableIter, ElfError, Header, HeaderPt1, HeaderPt2, HeaderPt2_, Class, Class_, Data, Data_, Machine, Machine_, OsAbi, OsAbi_, HeaderType, HeaderType_, Version, Version_, Dynamic, Tag, Tag_, Flags, SegmentType, SegmentType_, ShType, ShType_, NoteHeader, Rel, Rela, Binding, Binding_, SymbolType, SymbolType_, Visibility, Visibility_}
 pub use Rattle.elf_base.specs.declared.error.ElfError.TheVariants.{BadAlign, BadMagic, BucketIndex, ChainIndex, ChainSum, ClassMismatch, DataRange, EntryPointRange, ExpectedShIndex, HashCycle, HashData, HashMissing, HeaderSize, InvalidBinding, InvalidClass, InvalidPhType, InvalidPtr, InvalidShType, InvalidSymbolType, InvalidTag, InvalidValue, NoClass, NoDataFormat, NoDynstr, NoMagic, NoProgramHeaders, NoShIndex, NoStrtab, NoVersion, NotMultiple, Note32, NoteDesc, NoteName, NullData, NullName, PhSizeMismatch, PhTableRange, ReservedIndex, ReservedSymbolIndex, ShLibUsed, ShTableRange, ShortData, ShortHeaders, ShortPart1, ShortProgramHeader, ShortSectionHeader, ShortSectionOffset, SmallEntry, StrtabType, SymbolIndex, TextEnd, TextStart, TextUtf8, UnknownClass, WideIndex}
 pub use Rattle.elf_base.specs.declared.header.TheConstants.{MAGIC}
@@ -12,6 +13,7 @@ use Rattle.xmas_elf.specs.declared.sections.table.SectionTable.{SectionTable as 
 use Rattle.xmas_elf.specs.declared.sections.table.SectionTableIter.{SectionTableIter as the_SectionTableIter}
 use Rattle.xmas_elf.specs.declared.program.table.ProgramTable.{ProgramTable as the_ProgramTable}
 use Rattle.xmas_elf.specs.declared.program.table.ProgramTableIter.{ProgramTableIter as the_ProgramTableIter}
+use Rattle.xmas_elf.specs.declared.report.hash.HashVerdict.{HashVerdict as the_HashVerdict}
 
 -- the types of this crate
 abbrev pub ElfFile : Type 0
@@ -19,6 +21,10 @@ ElfFile = the_ElfFile
 
 abbrev pub HashTable : Type 0
 HashTable = the_HashTable
+
+-- what the report says of the hash table of a file; no Rust path leads to it
+abbrev pub HashVerdict : Type 0
+HashVerdict = the_HashVerdict
 
 abbrev pub ProgramIter : Type 0
 ProgramIter = the_ProgramIter
