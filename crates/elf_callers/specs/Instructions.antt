@@ -2,14 +2,12 @@
 use Rattle.std.specs.Prelude.{Bool, true, false, List, ℕ, Option, None, Result, Ok, codes, option_and_then, if◌then◌else◌}
 use Rattle.std.specs.Borrow.{Bor}
 use Rattle.std.specs.Result.{result_ok}
-use Rattle.xmas_elf.specs.ElfError.{ElfError}
 use Rattle.xmas_elf.specs.FileHeader.{header_of}
 use Rattle.xmas_elf.specs.NameTable.{section_named}
 use Rattle.xmas_elf.specs.SectionData.{section_data_of}
 use Rattle.xmas_elf.specs.SectionHeader.{section_type}
-use Rattle.xmas_elf.specs.ShType.{ShType}
 use Rattle.xmas_elf.specs.ShType.TheVariants.{ProgBits}
-use Rattle.xmas_elf.specs.declared.ElfFile.{ElfFile}
+use Rattle.xmas_elf.specs.Types.{ElfError, ElfFile, ShType}
 
 -- the type is ProgBits (SHT_PROGBITS)
 abbrev pub is_prog_bits : Result ShType ElfError → Bool

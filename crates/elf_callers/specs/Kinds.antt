@@ -2,10 +2,10 @@
 use Rattle.std.specs.Prelude.{ℕ, ◌==◌, List, Option, None, Some, Result, Ok, count_by, option_and_then}
 use Rattle.std.specs.Result.{result_ok}
 use Rattle.xmas_elf.specs.Content.{Content, dynamic_32, dynamic_64, hash_table, rela_64, strings, symbols_64, table_of}
-use Rattle.xmas_elf.specs.ElfError.{ElfError}
 use Rattle.xmas_elf.specs.Relocation as relocation
 use Rattle.xmas_elf.specs.Table.{records}
 use Rattle.xmas_elf.specs.Text.{text_of}
+use Rattle.xmas_elf.specs.Types.{ElfError}
 
 -- the bytes of symbols of class 64, if that is what it is
 abbrev pub symbols_64_in : Result Content ElfError → Option (List ℕ)

@@ -1,16 +1,14 @@
 -- A hash table and the symbols that it is linked to, in a file of class 64 that a program is linked to.
 use Rattle.std.specs.Prelude.{◌≡◌, ◌<◌, ℕ, List, Option, None, Some, MatchOption, Result, Ok, Err, codes, slice_get}
 use Rattle.xmas_elf.specs.Content.{Content, dyn_symbols_64, hash_table, table_of}
-use Rattle.xmas_elf.specs.ElfError.{ElfError}
 use Rattle.xmas_elf.specs.Good.{IsCheck, IsGood}
 use Rattle.xmas_elf.specs.HashReport.{content_at}
 use Rattle.xmas_elf.specs.HashTable.{hash_data, hash_order}
 use Rattle.xmas_elf.specs.NameTable.{section_named}
-use Rattle.xmas_elf.specs.Order.{Order}
 use Rattle.xmas_elf.specs.SectionContent.{section_content_of}
 use Rattle.xmas_elf.specs.SectionHeader.{section_fields}
 use Rattle.xmas_elf.specs.Symbols.{IsGlobal, Symbols, dyn_symbols_in_64}
-use Rattle.xmas_elf.specs.Types.{DynEntry64, ElfFile, HashTable, SectionHeader, ShortData}
+use Rattle.xmas_elf.specs.Types.{DynEntry64, ElfError, ElfFile, HashTable, Order, SectionHeader, ShortData}
 
 -- the order and the bytes of a hash table, if that is what a section has
 abbrev pub table_in : Result Content ElfError → Option (Order × List ℕ)

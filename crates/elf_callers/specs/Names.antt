@@ -3,15 +3,14 @@ use Rattle.std.specs.Prelude.{◌==◌, ◌%◌, ℕ, IsSome, List, [], ◌∷�
 use Rattle.std.specs.Borrow.{Bor}
 use Rattle.std.specs.Option.{option_map_or}
 use Rattle.elf_callers.specs.Totals.{IsTotal}
-use Rattle.xmas_elf.specs.ElfError.{ElfError}
 use Rattle.xmas_elf.specs.ElfError.TheVariants.{NotMultiple, SymbolIndex}
 use Rattle.xmas_elf.specs.FileHeader.{header_of}
 use Rattle.xmas_elf.specs.NameTable.{shstr_of}
-use Rattle.xmas_elf.specs.Order.{Order}
 use Rattle.xmas_elf.specs.Refusal.{and_then, unless}
 use Rattle.xmas_elf.specs.StringTable.{string_of}
 use Rattle.xmas_elf.specs.Symbol.{entry_64, entry_64_fields}
 use Rattle.xmas_elf.specs.Symbols.{Symbols}
+use Rattle.xmas_elf.specs.Types.{ElfError, Order}
 
 -- how many bytes a text has, and 0 where there is none
 abbrev pub text_length : Option (List ℕ) → ℕ

@@ -2,9 +2,7 @@
 use Rattle.std.specs.Prelude.{List, ℕ, Option, None, Some}
 use Rattle.std.specs.Borrow.{Bor}
 use Rattle.xmas_elf.specs.Place.{Part, all, behind, nothing, section_part, segment_part}
-use Rattle.xmas_elf.specs.declared.hash.HashTable.{HashTable}
-use Rattle.xmas_elf.specs.declared.program.content.SegmentData.{SegmentData}
-use Rattle.xmas_elf.specs.declared.sections.content.SectionData.{SectionData}
+use Rattle.xmas_elf.specs.Types.{HashTable, SectionData, SegmentData}
 use Rattle.xmas_elf.specs.declared.sections.content.SectionData.TheVariants as section_data
 
 -- the slice of a part

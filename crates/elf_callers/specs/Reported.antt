@@ -4,8 +4,7 @@ use Rattle.std.specs.Borrow.{Bor}
 use Rattle.xmas_elf.specs.FileHeader.{header_of}
 use Rattle.xmas_elf.specs.HashReport.{IsHashVerdict}
 use Rattle.xmas_elf.specs.Report.{report_text}
-use Rattle.xmas_elf.specs.declared.ElfFile.{ElfFile}
-use Rattle.xmas_elf.specs.declared.report.hash.HashVerdict.{HashVerdict}
+use Rattle.xmas_elf.specs.Types.{ElfFile, HashVerdict}
 
 -- the text is the report of a file
 abbrev pub IsReportOf : ElfFile → List ℕ → Type 0

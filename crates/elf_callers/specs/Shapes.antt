@@ -5,10 +5,8 @@ use Rattle.xmas_elf.specs.Content.{Content, TableKind, dyn_symbols_32, dyn_symbo
 use Rattle.xmas_elf.specs.FileHeader.{file_class}
 use Rattle.xmas_elf.specs.SectionContent.{has_no_bytes}
 use Rattle.xmas_elf.specs.SectionHeader.{section_fields, section_type}
-use Rattle.xmas_elf.specs.ShType.{ShType}
 use Rattle.xmas_elf.specs.ShType.TheVariants as sh_type
-use Rattle.xmas_elf.specs.declared.ElfFile.{ElfFile}
-use Rattle.xmas_elf.specs.declared.sections.section_header.SectionHeader.{SectionHeader}
+use Rattle.xmas_elf.specs.Types.{ElfFile, SectionHeader, ShType}
 
 -- what data is, without its bytes
 pub data Shape : Type 0 where

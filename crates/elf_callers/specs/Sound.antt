@@ -7,13 +7,9 @@ use Rattle.xmas_elf.specs.HeaderLayout.{header_fields, pt2_size}
 use Rattle.xmas_elf.specs.HeaderNumbers.{encoding_number, version_number}
 use Rattle.xmas_elf.specs.ProgramHeader.{program_fields, program_place, program_record_size, segment_type}
 use Rattle.xmas_elf.specs.SectionHeader.{section_fields, section_place, section_type}
-use Rattle.xmas_elf.specs.SegmentType as segment_types
 use Rattle.xmas_elf.specs.SegmentType.TheVariants.{ShLib}
-use Rattle.xmas_elf.specs.ShType.{ShType}
 use Rattle.xmas_elf.specs.ShType.TheVariants.{SymTab}
-use Rattle.xmas_elf.specs.declared.ElfFile.{ElfFile}
-use Rattle.xmas_elf.specs.declared.program.program_header.ProgramHeader.{ProgramHeader}
-use Rattle.xmas_elf.specs.declared.sections.section_header.SectionHeader.{SectionHeader}
+use Rattle.xmas_elf.specs.Types.{ElfFile, ProgramHeader, SectionHeader, SegmentType, ShType}
 
 -- an ELF header makes sense over its file: it says its size and class, and both header tables end in the
 -- input
@@ -36,7 +32,7 @@ IsSoundSection section = (kind : ShType) × (section_type section ≡ Ok kind)
 pub record IsSoundSegment (file : ElfFile) (program : ProgramHeader) : Type 0 where
   pub size : (header_fields file.header.pt2).ph_entry_size ≡ program_record_size program
   pub ends : (program_fields program).offset + (program_fields program).file_size < length file.input.now
-  pub kind : segment_types.Type
+  pub kind : SegmentType
   pub typed : segment_type (program_fields program) ≡ Ok kind
   pub not_sh_lib : kind ≢ ShLib
   pub aligned : 1 < (program_fields program).align

@@ -3,8 +3,6 @@ use Rattle.std.specs.Borrow.{Bor}
 use Rattle.std.specs.Prelude.{◌≡◌, ℕ, ◌==◌, ◌&&◌, Bool, List, [], ◌∷◌, Option, Some, None, MatchOption, Result, Ok, Err, MatchResult, codes, if◌then◌else◌}
 use Rattle.std.specs.Str.{bytes_eq}
 use Rattle.elf_base.specs.FileHeader.{file_order}
-use Rattle.elf_base.specs.declared.bytes.Order.{Order}
-use Rattle.elf_base.specs.declared.error.ElfError.{ElfError}
 use Rattle.elf_linking.specs.Notes.{NoteParts, notes_of}
 use Rattle.elf_linking.specs.declared.error.LinkError.{LinkError}
 use Rattle.elf_linking.specs.declared.error.LinkError.TheVariants.{Elf}
@@ -16,7 +14,7 @@ use Rattle.xmas_elf.specs.SectionData.{section_data_of}
 use Rattle.xmas_elf.specs.SectionHeader.{section_fields}
 use Rattle.xmas_elf.specs.SegmentData.{segment_data_of}
 use Rattle.xmas_elf.specs.SegmentType.TheVariants.{Note}
-use Rattle.xmas_elf.specs.Types.{ElfFile, ProgramHeader, SectionHeader}
+use Rattle.xmas_elf.specs.Types.{ElfError, ElfFile, Order, ProgramHeader, SectionHeader}
 
 -- the name of GNU's notes, with its zero byte
 abbrev pub gnu : List ℕ

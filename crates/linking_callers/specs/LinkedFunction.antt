@@ -11,7 +11,7 @@ use Rattle.elf_linking.specs.declared.error.LinkError.TheVariants.{UnknownClass}
 use Rattle.elf_linking.specs.declared.view.entry.DynamicEntry.{DynamicEntry}
 use Rattle.linking_callers.specs.LinkedValue.{linked_symbols_32, linked_symbols_64}
 use Rattle.xmas_elf.specs.Symbols.{Symbols}
-use Rattle.xmas_elf.specs.declared.ElfFile.{ElfFile}
+use Rattle.xmas_elf.specs.Types.{ElfFile}
 
 -- what is answered: the name of the first of these symbols that is a function with the address, or nothing where
 -- there is none, or a refusal where that function has no name

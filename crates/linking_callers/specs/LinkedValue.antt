@@ -4,7 +4,6 @@ use Rattle.std.specs.Prelude.{◌≡◌, ◌≢◌, ℕ, List, Option, None, Som
 use Rattle.std.specs.Result.{result_ok}
 use Rattle.elf_base.specs.FileHeader.{file_class, file_order}
 use Rattle.elf_base.specs.Table.{records}
-use Rattle.elf_base.specs.declared.bytes.Order.{Order}
 use Rattle.elf_linking.specs.DynamicEntries.{number_with}
 use Rattle.elf_linking.specs.DynamicTables.{gnu_hash_table_of, hash_table_of}
 use Rattle.elf_linking.specs.DynamicView.{dynamic_entries_of}
@@ -23,10 +22,7 @@ use Rattle.xmas_elf.specs.Good as gabi
 use Rattle.xmas_elf.specs.HashTable.{hash_data, hash_order}
 use Rattle.xmas_elf.specs.Symbol.{dyn_entry_32, dyn_entry_32_fields, dyn_entry_64, dyn_entry_64_fields}
 use Rattle.xmas_elf.specs.Symbols.{Symbols}
-use Rattle.xmas_elf.specs.declared.ElfFile.{ElfFile}
-use Rattle.xmas_elf.specs.declared.hash.HashTable.{HashTable}
-use Rattle.xmas_elf.specs.declared.symbol_table.entries.DynEntry32.{DynEntry32}
-use Rattle.xmas_elf.specs.declared.symbol_table.entries.DynEntry64.{DynEntry64}
+use Rattle.xmas_elf.specs.Types.{DynEntry32, DynEntry64, ElfFile, HashTable, Order}
 
 -- look-ups can rely on the table
 abbrev pub IsGoodBy : {E : Type 0} → AnyTable → Symbols E → Type 0

@@ -7,7 +7,6 @@ ghost use Rattle.std.specs.Prelude.{length, slice_get, true};
 ghost use Rattle.elf_callers.specs.Linked.{AreLinked, IsFileValueOf, IsLinkRefused};
 ghost use Rattle.elf_callers.specs.Linked.{NotLinked, symbols_in, table_in};
 ghost use Rattle.xmas_elf.specs.Chain.{Looks};
-ghost use Rattle.xmas_elf.specs.ElfError.{ElfError};
 ghost use Rattle.xmas_elf.specs.FileHeader.{header_of};
 ghost use Rattle.xmas_elf.specs.Good.{IsGood};
 ghost use Rattle.xmas_elf.specs.HashReport.{content_at};
@@ -15,7 +14,7 @@ ghost use Rattle.xmas_elf.specs.HashTable.{chain_count_of, hash_data, hash_order
 ghost use Rattle.xmas_elf.specs.SectionContent.{section_content_of};
 ghost use Rattle.xmas_elf.specs.Symbols.{Decides, IsGlobal, IsMatch, symbols_of};
 ghost use Rattle.xmas_elf.specs.Table.{table_data, table_items, table_order};
-ghost use Rattle.xmas_elf.specs.Types.{ElfFile};
+ghost use Rattle.xmas_elf.specs.Types.{ElfError, ElfFile};
 
 use xmas_elf::bytes::{Record, Table};
 use xmas_elf::hash::HashTable;

@@ -3,9 +3,8 @@
 ghost use Rattle.std.specs.Prelude.{◌≡◌, ◌↔◌, ◌⊎◌, IsOk, Ok, ℕ};
 ghost use Rattle.xmas_elf.specs.ProgramNumbers.{ph_type_of};
 ghost use Rattle.xmas_elf.specs.SectionNumbers.{sh_type_of};
-ghost use Rattle.xmas_elf.specs.SegmentType.{«Type» as SegmentType};
-ghost use Rattle.xmas_elf.specs.ShType.{ShType};
 ghost use Rattle.xmas_elf.specs.Dynamic.{pointer_of, tag_of, value_of};
+ghost use Rattle.xmas_elf.specs.Types.{SegmentType, ShType};
 
 use xmas_elf::dynamic::Tag;
 

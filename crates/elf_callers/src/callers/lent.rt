@@ -12,7 +12,7 @@ ghost use Rattle.xmas_elf.specs.SectionData.{HasSectionData, IsSectionData};
 ghost use Rattle.xmas_elf.specs.SectionHeader.{section_fields, section_by_u16};
 ghost use Rattle.xmas_elf.specs.SegmentContent.{segment_content, segment_content_of};
 ghost use Rattle.xmas_elf.specs.SegmentData.{HasSegmentData, IsSegmentData};
-ghost use Rattle.xmas_elf.specs.declared.ElfFile.{ElfFile};
+ghost use Rattle.xmas_elf.specs.Types.{ElfFile};
 
 use xmas_elf::bytes::{Order, Table};
 use xmas_elf::program::{ProgramHeader, SegmentData};

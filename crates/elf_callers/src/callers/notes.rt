@@ -5,15 +5,13 @@ ghost use Rattle.std.specs.Prelude.{IfNone, IfOk, IfSome, IsOkAnd, IsSomeAnd, Is
 ghost use Rattle.std.specs.Prelude.{MatchOption, Ok, Some, ℕ, codes, length};
 ghost use Rattle.xmas_elf.specs.BuildId.{IsBuildId};
 ghost use Rattle.xmas_elf.specs.FileHeader.{file_class, file_order, header_of};
-ghost use Rattle.xmas_elf.specs.Header.{Header};
 ghost use Rattle.xmas_elf.specs.Link.{IsAlternateLink, IsDebugLink};
 ghost use Rattle.xmas_elf.specs.NamedData.{IsDataNamed};
 ghost use Rattle.xmas_elf.specs.Note.{IsNoteName, NoteNameRefused, note_desc_size};
 ghost use Rattle.xmas_elf.specs.Note.{note_name_size, note_type, rounded_up};
-ghost use Rattle.xmas_elf.specs.NoteHeader.{NoteHeader};
 ghost use Rattle.xmas_elf.specs.Number.{number};
 ghost use Rattle.xmas_elf.specs.Text.{IsText};
-ghost use Rattle.xmas_elf.specs.Types.{ElfFile};
+ghost use Rattle.xmas_elf.specs.Types.{ElfFile, Header, NoteHeader};
 
 use xmas_elf::sections::NoteHeader;
 use xmas_elf::{ElfError, ElfFile, Extensions};

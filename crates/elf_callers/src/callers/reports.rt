@@ -2,8 +2,8 @@
 
 ghost use Rattle.std.specs.Prelude.{◌≡◌, ◌↔◌, ℕ, Err, IfOk, List};
 ghost use Rattle.elf_callers.specs.Reported.{IsReport, IsReportOf};
-ghost use Rattle.xmas_elf.specs.ElfError.{ElfError};
 ghost use Rattle.xmas_elf.specs.FileHeader.{header_of};
+ghost use Rattle.xmas_elf.specs.Types.{ElfError};
 
 use std::alloc::Global;
 use xmas_elf::ElfFile;

@@ -4,8 +4,7 @@ ghost use Rattle.std.specs.Prelude.{◌≡◌, ◌<◌, ◌+◌, IfNone, IfSome,
 ghost use Rattle.xmas_elf.specs.Counts.{program_count_of, section_count_of};
 ghost use Rattle.xmas_elf.specs.ProgramHeader.{program_of};
 ghost use Rattle.xmas_elf.specs.SectionHeader.{section_of};
-ghost use Rattle.xmas_elf.specs.declared.program.program_header.ProgramHeader.{ProgramHeader};
-ghost use Rattle.xmas_elf.specs.declared.sections.section_header.SectionHeader.{SectionHeader};
+ghost use Rattle.xmas_elf.specs.Types.{ProgramHeader, SectionHeader};
 
 use xmas_elf::ElfFile;
 use xmas_elf::program::{ProgramHeader, ProgramIter};

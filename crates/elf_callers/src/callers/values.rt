@@ -1,8 +1,8 @@
 //! Callers that rest on what is derived: copies, equality, and numbers there and back.
 
 ghost use Rattle.std.specs.Prelude.{◌≡◌, ◌↔◌, ◌<◌, IsTrue, length};
-ghost use Rattle.xmas_elf.specs.ElfError.{ElfError};
 ghost use Rattle.elf_callers.specs.Refusals.{is_short};
+ghost use Rattle.xmas_elf.specs.Types.{ElfError};
 
 use xmas_elf::ElfError;
 use xmas_elf::bytes::{Order, text_at};

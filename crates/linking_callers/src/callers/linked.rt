@@ -11,7 +11,7 @@ ghost use Rattle.linking_callers.specs.LinkedValue.{IsByClass, IsChecked, IsDefi
 ghost use Rattle.linking_callers.specs.LinkedValue.{IsFileAnswer, IsGoodBy};
 ghost use Rattle.linking_callers.specs.LinkedValue.{IsLinkedTable, IsTableRefused};
 ghost use Rattle.xmas_elf.specs.Symbols.{symbols_of};
-ghost use Rattle.xmas_elf.specs.declared.ElfFile.{ElfFile};
+ghost use Rattle.xmas_elf.specs.Types.{ElfFile};
 
 use crate::callers::AnyTable;
 use elf_base::bytes::{Record, Table};
