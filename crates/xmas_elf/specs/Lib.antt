@@ -18,13 +18,14 @@ pub use Rattle.elf_records.specs.HashNumber
 pub use Rattle.elf_records.specs.Relocation
 pub use Rattle.elf_records.specs.Dynamic
 pub use Rattle.elf_records.specs.Note
+-- for the variants of these types, in `TheVariants` behind each: the types and constants themselves are imported
+-- from `Types`, where `DynamicTag` is `Tag`
 pub use Rattle.elf_base.specs.declared.error.ElfError
 pub use Rattle.elf_base.specs.declared.bytes.Order
 pub use Rattle.elf_base.specs.declared.header.Header
 pub use Rattle.elf_base.specs.declared.header.HeaderPt1
 pub use Rattle.elf_base.specs.declared.header.HeaderPt2
 pub use Rattle.elf_base.specs.declared.header.HeaderPt2_
-pub use Rattle.elf_base.specs.declared.header.TheConstants as HeaderConstants
 pub use Rattle.elf_base.specs.declared.header.numbers.Class
 pub use Rattle.elf_base.specs.declared.header.numbers.Data
 pub use Rattle.elf_base.specs.declared.header.numbers.Version
@@ -33,14 +34,13 @@ pub use Rattle.elf_base.specs.declared.header.numbers.Type as HeaderType
 pub use Rattle.elf_base.specs.declared.header.numbers.Machine
 pub use Rattle.elf_records.specs.declared.sections.ShType
 pub use Rattle.elf_records.specs.declared.sections.note.NoteHeader
-pub use Rattle.elf_records.specs.declared.sections.TheConstants as SectionConstants
 pub use Rattle.elf_records.specs.declared.program.Type as SegmentType
 pub use Rattle.elf_records.specs.declared.program.Flags
-pub use Rattle.elf_records.specs.declared.program.TheConstants as SegmentConstants
 pub use Rattle.elf_records.specs.declared.symbol_table.Binding
 pub use Rattle.elf_records.specs.declared.symbol_table.Type as SymbolType
 pub use Rattle.elf_records.specs.declared.symbol_table.Visibility
 pub use Rattle.elf_records.specs.declared.dynamic.Tag as DynamicTag
+-- the definitions of this crate
 pub mod Prelude
 pub mod First
 pub mod HeaderTable
