@@ -3,13 +3,13 @@
 //! An address is what the values of the symbols are: one of memory in a program, and an offset in
 //! some section in an object file.
 
-ghost use Rattle.std.specs.Prelude.{◌≡◌, ◌↔◌, ◌<◌, ℕ, None, IfErr, IfOk, IsOkAnd, IsTrue};
+ghost use Rattle.std.specs.Prelude.{◌≡◌, ◌↔◌, ℕ, None, IfErr, IfOk, IsOkAnd, IsTrue};
 ghost use Rattle.std.specs.Prelude.{MatchOption, MatchResult, length};
-ghost use Rattle.std.specs.List.{HoldsAt};
 ghost use Rattle.elf_callers.specs.FunctionAt.{HasNoName, HoldsAddress, IsFunctionAt};
 ghost use Rattle.elf_callers.specs.FunctionAt.{IsFunctionName, IsFunctionNameOf};
 ghost use Rattle.elf_callers.specs.FunctionAt.{IsNameRefused, NoneHolds};
 ghost use Rattle.xmas_elf.specs.FileHeader.{header_of};
+ghost use Rattle.xmas_elf.specs.First.{FindsFirstAt};
 ghost use Rattle.xmas_elf.specs.Symbols.{symbols_of};
 ghost use Rattle.xmas_elf.specs.Table.{table_items};
 ghost use Rattle.xmas_elf.specs.Types.{ElfFile};
@@ -29,13 +29,10 @@ pub fn holds_address<E: Entry>(symbol: &E, address: u64) -> bool
         && address - start < symbol.size()
 }
 
-/// The place in the table of the first function that the address lies in, in std's words.
+/// The index in the table of the first function that the address lies in.
 pub fn function_place<E: Entry + Record>(symbols: &Table<'_, E>, address: u64) -> Option<usize>
-    ensures { let all = table_items symbols.now in MatchOption result
-        (NoneHolds E.fields all address (length all))
-        (λ place. (place < length all)
-        × HoldsAt (λ symbol. HoldsAddress (E.fields symbol) address) all place
-        × NoneHolds E.fields all address place) }
+    ensures { FindsFirstAt (λ symbol. HoldsAddress (E.fields symbol) address)
+        (table_items symbols.now) result }
 {
     symbols
         .iter()

@@ -1,9 +1,9 @@
 //! Callers that want the index of a header with the header:
 //! each index is that of `program_header_at`.
 
-ghost use Rattle.std.specs.Prelude.{◌≡◌, ◌<◌, IsOkAnd, MatchOption, Ok, length};
-ghost use Rattle.std.specs.List.{AllWithin, HoldsAt};
+ghost use Rattle.std.specs.Prelude.{◌≡◌, IsOkAnd, MatchOption, Ok, length};
 ghost use Rattle.elf_callers.specs.Executable.{IsExecutable};
+ghost use Rattle.xmas_elf.specs.First.{FindsFirstAt};
 ghost use Rattle.xmas_elf.specs.HeaderTable.{EachBelow};
 ghost use Rattle.xmas_elf.specs.ProgramHeader.{program_of};
 ghost use Rattle.xmas_elf.specs.ProgramList.{program_list};
@@ -11,12 +11,9 @@ ghost use Rattle.xmas_elf.specs.ProgramList.{program_list};
 use xmas_elf::ElfFile;
 use xmas_elf::program::ProgramHeader;
 
-/// The place in the list of the first executable segment, in std's words.
+/// The position in the list of the first executable segment.
 pub fn executable_place(file: &ElfFile<'_>) -> Option<usize>
-    ensures { let programs = program_list file.now in MatchOption result
-        (AllWithin (λ program. ¬ IsExecutable program) programs 0 (length programs))
-        (λ i. (i < length programs) × HoldsAt IsExecutable programs i
-        × AllWithin (λ program. ¬ IsExecutable program) programs 0 i) }
+    ensures { FindsFirstAt IsExecutable (program_list file.now) result }
 {
     file.program_iter()
         .position(|program| program.flags().is_execute())
