@@ -36,7 +36,7 @@ abbrev pub printed_result : {T : Type 0} → (T → Option (List ℕ)) → Resul
 printed_result text (Ok value) = Some (codes "Ok(") ++? text value ++? Some (codes ")")
 printed_result text (Err error) = Some (codes "Err(\"" ++ (message_of error ++ codes "\")"))
 
--- a field's line: four spaces, the label with a colon, filled with spaces up to 18 places, the value
+-- a field's line: four spaces, the label with a colon, filled with spaces up to 18 columns, the value
 unfoldable pub field_line : List ℕ → List ℕ → List ℕ
 field_line label value = codes "    " ++ (label ++ (codes ":"
     ++ (replicate (17 - length label) 32 ++ (value ++ codes "\n"))))

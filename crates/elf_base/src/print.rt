@@ -8,7 +8,7 @@ use std::fmt;
 use std::fmt::Display;
 
 /// A line of a printed header: four spaces, the label with its colon,
-/// spaces up to the value's place, the value.
+/// spaces up to the value's column, the value.
 #[derive(Clone, Copy, Debug)]
 pub struct Field<'a, T>(pub &'a str, pub T);
 

@@ -17,7 +17,7 @@ pub record HoldsAddress (symbol : SymbolFields) (address : ℕ) : Type 0 where
   pub begins : symbol.value ≤ address
   pub ends : address < symbol.value + symbol.size
 
--- of the symbols below place `high` none is such a function
+-- of the symbols below index `high` none is such a function
 abbrev pub NoneHolds : {E : Type 0} → (E → SymbolFields) → List E → ℕ → ℕ → Type 0
 NoneHolds fields symbols address high = AllWithin (λ symbol. ¬ HoldsAddress (fields symbol) address) symbols 0 high
 

@@ -117,7 +117,7 @@ pub fn empty_sections(file: &ElfFile<'_>) -> usize
         .count()
 }
 
-/// The place in the list of the first section at this offset.
+/// The position in the list of the first section at this offset.
 pub fn section_at(file: &ElfFile<'_>, offset: u64) -> Option<usize>
     ensures { let sections = section_list file.now in MatchOption result
         (AllWithin
