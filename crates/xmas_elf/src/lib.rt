@@ -12,7 +12,8 @@
 //! - `names`: the names of sections, and the section with a name.
 //! - `string_tables`, `symbol_table`, `hash`: the names of symbols, the symbols,
 //!   and look-ups of them.
-//! - `extensions`, with `notes`: build ids and links to debug information.
+//! - `notes`: the first note of a section or a segment. `extensions`: build ids and links to debug
+//!   information.
 //! - `header`: the ELF header and its check. `dynamic`: the entries of the dynamic section.
 //! - `report`: what `elfinfo` prints. `bytes`: numbers, records and texts in bytes. `ranges`: where
 //!   tables and data end.
