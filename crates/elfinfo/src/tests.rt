@@ -1,7 +1,7 @@
 //! Each way in which a run of the program can end.
 
-// The report on a file whose section headers stand behind its ELF header: by some fields of that, the lines of
-// the sections, and what it says of the hash table.
+// The report on a file whose section headers stand behind its ELF header: by some fields of that,
+// the lines of the sections, and what it says of the hash table.
 macro_rules! report {
     (
         class: $class:literal,

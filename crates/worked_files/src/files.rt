@@ -38,7 +38,8 @@ fn data_byte(order: Order) -> u8 {
     }
 }
 
-/// Writes the ELF header of class 32, with this many section headers from 52 on: section 1 holds their names.
+/// Writes the ELF header of class 32, with this many section headers from 52 on: section 1 holds
+/// their names.
 pub fn put_header_32(file: &mut [u8], count: u64, order: Order) {
     put(file, 0, &[0x7f, b'E', b'L', b'F', 1, data_byte(order), 1]);
     set(file, 0, header_32::SH_OFFSET, 52, order);
@@ -58,7 +59,8 @@ pub fn put_header_64(file: &mut [u8], count: u64, order: Order) {
     set(file, 0, header_64::SH_STR_INDEX, 1, order);
 }
 
-/// Writes the name, the type, the offset and the size of a section header of class 32 that begins at a place.
+/// Writes the name, the type, the offset and the size of a section header of class 32 that begins
+/// at a place.
 pub fn put_section_32(file: &mut [u8], start: usize, numbers: [u64; 4], order: Order) {
     set(file, start, section_32::NAME, numbers[0], order);
     set(file, start, section_32::TYPE, numbers[1], order);

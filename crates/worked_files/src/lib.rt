@@ -1,5 +1,5 @@
-//! Worked files for tests: small ELF files, field by field, the places of their fields, and lines of
-//! their reports.
+//! Worked files for tests: small ELF files, field by field, the places of their fields, and lines
+//! of their reports.
 #![tactic(auto)]
 
 pub mod files;

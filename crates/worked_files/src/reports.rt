@@ -3,8 +3,8 @@
 use std::alloc::Global;
 use xmas_elf::report::report;
 
-/// The lines of a report on the ELF header of a little-endian file whose section 1 holds the names. Fields
-/// that aren't given are as the worked files have them.
+/// The lines of a report on the ELF header of a little-endian file whose section 1 holds the names.
+/// Fields that aren't given are as the worked files have them.
 #[macro_export]
 macro_rules! header_lines {
     (

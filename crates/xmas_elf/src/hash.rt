@@ -17,8 +17,8 @@ pub use elf_records::hash::hash;
 // What the names of symbols stand in, as `Entry::string_table` answers.
 type Strings<'a> = Option<Result<&'a [u8], ElfError>>;
 
-/// The hash table of a symbol table, in words of four bytes: how many buckets and how many chains it
-/// has, the buckets, and the chains.
+/// The hash table of a symbol table, in words of four bytes: how many buckets and how many chains
+/// it has, the buckets, and the chains.
 ///
 /// It is a view: it keeps the data of its section and the order of the numbers there.
 #[derive(Clone, Copy, Debug)]
@@ -63,8 +63,8 @@ impl<'a> HashTable<'a> {
 
     /// The word of a bucket: the index of the first symbol on its chain, or 0.
     ///
-    /// Refused with `BucketIndex` where the index isn't below `bucket_count`, and with `HashData` where
-    /// the word doesn't lie whole in the data.
+    /// Refused with `BucketIndex` where the index isn't below `bucket_count`, and with `HashData`
+    /// where the word doesn't lie whole in the data.
     #[tactic(auto, unfolding(crate::specs::HashTable::bucket_of, crate::specs::HashTable::word_of))]
     pub fn get_bucket(&self, index: u32) -> Result<u32, ElfError>
         ensures readable { IsOk result ↔ HasBucket self.now index }
@@ -80,8 +80,8 @@ impl<'a> HashTable<'a> {
     /// The word of a chain: the index of the symbol that follows that of this index, or 0.
     ///
     /// Refused with `ChainIndex` where the index isn't below `chain_count`, with `ChainSum` where
-    /// `bucket_count` and the index add up to 2 to the 32 or more, and with `HashData` where the word
-    /// doesn't lie whole in the data.
+    /// `bucket_count` and the index add up to 2 to the 32 or more, and with `HashData` where the
+    /// word doesn't lie whole in the data.
     #[tactic(auto, unfolding(crate::specs::HashTable::chain_of, crate::specs::HashTable::word_of))]
     pub fn get_chain(&self, index: u32) -> Result<u32, ElfError>
         ensures readable { IsOk result ↔ HasChain self.now index }
@@ -112,8 +112,8 @@ impl<'a> HashTable<'a> {
         Some(self.get_bucket(hash(name) % bucket_count))
     }
 
-    // The symbol that a walk meets at an index, which isn't the end, behind so many others; or why it
-    // goes no further. Behind as many as there are chains or symbols it has met one twice.
+    // The symbol that a walk meets at an index, which isn't the end, behind so many others; or why
+    // it goes no further. Behind as many as there are chains or symbols it has met one twice.
     #[inline(always)]
     fn symbol_at<E: Record>(
         &self,
@@ -141,15 +141,17 @@ impl<'a> HashTable<'a> {
         Ok(entry)
     }
 
-    // The walk along a chain from an index on: the first symbol that passes the test, with its index;
-    // `None` where the chain ends before one; or why it goes no further. And how many it has tested.
+    // The walk along a chain from an index on: the first symbol that passes the test, with its
+    // index; `None` where the chain ends before one; or why it goes no further. And how many it has
+    // tested.
     fn walk<E: Record, F: Fn(&(u32, E)) -> bool>(
         &self,
         first: u32,
         symbols: &Table<'_, E>,
         stops: F,
     ) -> (Result<Option<(u32, E)>, ElfError>, u32)
-        requires { (at : Bor (ℕ × E)) → Contains (table_items symbols.now) at.now.1 → F.pre stops at }
+        requires { (at : Bor (ℕ × E)) → Contains (table_items symbols.now) at.now.1
+            → F.pre stops at }
         ensures in_chains { result.1 ≤ chain_count_of self.now }
         ensures in_symbols { result.1 ≤ length (table_items symbols.now) }
         ensures answer { Walks (λ at. FnReturnsAt F.Fn stops at true)

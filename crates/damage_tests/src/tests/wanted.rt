@@ -30,8 +30,8 @@ pub fn first<'a>() -> WantedSection<'a> {
     }
 }
 
-/// What is wanted of a section of this type by its numbers, its name and its bytes, and of its data where it
-/// has its bytes.
+/// What is wanted of a section of this type by its numbers, its name and its bytes, and of its data
+/// where it has its bytes.
 pub fn section<'a>(
     kind: ShType,
     numbers: [u64; 9],

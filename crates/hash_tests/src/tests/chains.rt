@@ -24,7 +24,8 @@ pub struct Answers {
     calls: u32,
 }
 
-/// What look-ups in a table of these words answer, with these symbols and a test that always answers the same.
+/// What look-ups in a table of these words answer, with these symbols and a test that always
+/// answers the same.
 pub fn look_up(
     words: &[u32],
     symbols: &[(u64, u64)],

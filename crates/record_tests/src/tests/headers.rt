@@ -17,8 +17,8 @@ const ASCENDING: [u8; 48] = [
     26, 27, 28, 29, 30, 31, 32, 33, 34, 35, 36, 37, 38, 39, 40, 41, 42, 43, 44, 45, 46, 47,
 ];
 
-// The fields of part 2 as the layout has them, but for the magic number. The three whose width is that of the
-// class are given.
+// The fields of part 2 as the layout has them, but for the magic number. The three whose width is
+// that of the class are given.
 fn fields<P>(part: &HeaderPt2_<P>, by_class: [u64; 3]) -> [u64; 13] {
     let [entry_point, ph_offset, sh_offset] = by_class;
     [

@@ -1,6 +1,8 @@
 //! The check of a hash table (this project's own).
 
-ghost use Rattle.std.specs.Prelude.{◌≡◌, ◌≢◌, ◌≤◌, ◌<◌, ◌+◌, ◌^◌, ◌/◌, ◌%◌, ◌↔◌, ◌⊎◌, ℕ, Err, IfSome, IsOk, IsTrue, List, MatchOption, MatchResult, None, Ok, Result, Some, false, length};
+ghost use Rattle.std.specs.Prelude.{◌≡◌, ◌≢◌, ◌≤◌, ◌<◌, ◌+◌, ◌^◌, ◌/◌, ◌%◌, ◌↔◌, ℕ, Err, IfSome};
+ghost use Rattle.std.specs.Prelude.{IsOk, IsTrue, List, MatchOption, MatchResult, None, Ok, Result};
+ghost use Rattle.std.specs.Prelude.{Some, false, length};
 ghost use Rattle.elf_base.specs.Table.{table_items};
 ghost use Rattle.elf_records.specs.HashNumber.{hash_number};
 ghost use Rattle.xmas_elf.specs.Counted.{IsCount};
@@ -19,7 +21,8 @@ fn global_name<'a, E: Entry>(entry: &E, strings: Strings<'a>, file: &ElfFile<'a>
     requires { IfSome strings (HoldsNames E.fields (λ e. E.text_in e file.now)) }
     ensures { MatchOption result
         ((E.fields entry.now).info / 16 ≢ 0 → E.text_in entry.now file.now ≡ None)
-        (λ name. ((E.fields entry.now).info / 16 ≢ 0) × (E.text_in entry.now file.now ≡ Some name.now)) }
+        (λ name. ((E.fields entry.now).info / 16 ≢ 0)
+        × (E.text_in entry.now file.now ≡ Some name.now)) }
 {
     if entry.info() / 16 == 0 {
         return None;
@@ -80,27 +83,29 @@ fn global_count<E: Entry + Record>(
 
 impl<'a> HashTable<'a> {
     ghost use Rattle.xmas_elf.specs.Chain.{Comes, LooksFrom, Reaches, StandsAt, chains_of};
-    ghost use Rattle.xmas_elf.specs.Good.{Ends, EndsBelow, IsAtFault, IsCheck, IsGood, IsHeldBelow, IsHeldBy, IsReached};
+    ghost use Rattle.xmas_elf.specs.Good.{Ends, EndsBelow, IsAtFault, IsCheck, IsGood};
+    ghost use Rattle.xmas_elf.specs.Good.{IsHeldBelow, IsHeldBy, IsReached};
     ghost use Rattle.xmas_elf.specs.HashTable.{bucket_count_of, bucket_of};
 
     /// Whether all chains come to an end, and each symbol that isn't local and has a name is on the
-    /// chain of that name, so that `lookup` finds it. A binding that has no meaning isn't local, and a
-    /// symbol whose name is refused needs no chain.
+    /// chain of that name, so that `lookup` finds it. A binding that has no meaning isn't local,
+    /// and a symbol whose name is refused needs no chain.
     ///
     /// Refused as `lookup` is on the chain of the least bucket whose chain doesn't end, and with
     /// `HashMissing` where all chains end and a symbol is missing.
     ///
-    /// It takes no memory, and marks nothing. It follows the chain of each bucket once, to its end, and
-    /// counts the symbols there that belong to that bucket by their names; then it counts those that
-    /// must be held, and compares. So where buckets share no chain it takes a step for each symbol on a
-    /// chain and one for each symbol, and reads each name twice, however the names are spread.
+    /// It takes no memory, and marks nothing. It follows the chain of each bucket once, to its end,
+    /// and counts the symbols there that belong to that bucket by their names; then it counts those
+    /// that must be held, and compares. So where buckets share no chain it takes a step for each
+    /// symbol on a chain and one for each symbol, and reads each name twice, however the names are
+    /// spread.
     ///
     /// Once that has taken more steps than there are chains, buckets share one, and it goes on by
-    /// words of chains alone. It walks from each index, upwards, until it comes to a lesser one or to
-    /// the end, which is one step where chains lead downwards, as a linker makes them; from each
-    /// bucket, if one of those comes to neither; and from the bucket of each symbol's name, which it
-    /// reads once more, up to the symbol. With B buckets, C chains and S symbols a table that was
-    /// made to cost much takes at most B + C + S times the lesser of C and S such steps.
+    /// words of chains alone. It walks from each index, upwards, until it comes to a lesser one or
+    /// to the end, which is one step where chains lead downwards, as a linker makes them; from each
+    /// bucket, if one of those comes to neither; and from the bucket of each symbol's name, which
+    /// it reads once more, up to the symbol. With B buckets, C chains and S symbols a table that
+    /// was made to cost much takes at most B + C + S times the lesser of C and S such steps.
     pub fn check<E: Entry + Record>(
         &self,
         symbols: &Table<'_, E>,
@@ -108,7 +113,8 @@ impl<'a> HashTable<'a> {
     ) -> Result<(), ElfError>
         ensures accepts { IsOk result
             ↔ IsGood self.now (symbols_of E.fields E.text_in symbols.now file.now) }
-        ensures exact { IsCheck self.now (symbols_of E.fields E.text_in symbols.now file.now) result }
+        ensures exact { IsCheck self.now
+            (symbols_of E.fields E.text_in symbols.now file.now) result }
         ensures only { (other : Result (Unit {0}) ElfError)
             → IsCheck self.now (symbols_of E.fields E.text_in symbols.now file.now) other
             → other ≡ result }
@@ -206,8 +212,8 @@ impl<'a> HashTable<'a> {
         Ok((held, count))
     }
 
-    // The symbol that a walk meets, and the index that it goes on to; or why one that looks for nothing
-    // is refused.
+    // The symbol that a walk meets, and the index that it goes on to; or why one that looks for
+    // nothing is refused.
     #[inline(always)]
     fn step<E: Record>(
         &self,
@@ -289,8 +295,8 @@ impl<'a> HashTable<'a> {
         Ok(())
     }
 
-    // An index below which each chain ends: the first that comes neither to a lesser index nor to the
-    // end, or else as many as can stand on a chain.
+    // An index below which each chain ends: the first that comes neither to a lesser index nor to
+    // the end, or else as many as can stand on a chain.
     fn ending<E: Record>(&self, symbols: &Table<'_, E>) -> u32
         ensures some { 0 < result }
         ensures each { (i : ℕ) → i < result

@@ -2,7 +2,8 @@
 
 ghost use Rattle.std.specs.Borrow.{Bor};
 ghost use Rattle.std.specs.Fn.{FnReturnsAt};
-ghost use Rattle.std.specs.Prelude.{◌≡◌, ◌≢◌, ◌≤◌, ◌↔◌, ℕ, Bool, true, false, Contains, IfSome, IsTrue, List, Option, Result, Ok, Err, Some, length};
+ghost use Rattle.std.specs.Prelude.{◌≡◌, ◌≢◌, ◌≤◌, ◌↔◌, ℕ, Bool, true, false, Contains, IfSome};
+ghost use Rattle.std.specs.Prelude.{IsTrue, List, Option, Result, Ok, Err, Some, length};
 ghost use Rattle.elf_base.specs.Table.{table_items};
 ghost use Rattle.xmas_elf.specs.SymbolName.{HoldsNames};
 ghost use Rattle.xmas_elf.specs.Symbols.{Decides, IsMatch, symbols_of};
@@ -49,11 +50,12 @@ impl<'a> HashTable<'a> {
     /// The first symbol on the chain of a name that bears the name and passes the test, with its
     /// index; `None` where the chain ends before one, or there are no buckets.
     ///
-    /// Refused as the bucket of the name is by `get_bucket`; with `ChainIndex` or `SymbolIndex` where
-    /// the chain leads to an index from `chain_count` or from `symbols.len()` on; as `get_chain` is
-    /// where the chain can't be followed; and with `HashCycle` where it never comes to an end. It is
-    /// never refused where `check` is Ok with the same symbols and file, and then finds something
-    /// wherever a symbol that isn't local bears the name and passes: of several the chain's first.
+    /// Refused as the bucket of the name is by `get_bucket`; with `ChainIndex` or `SymbolIndex`
+    /// where the chain leads to an index from `chain_count` or from `symbols.len()` on; as
+    /// `get_chain` is where the chain can't be followed; and with `HashCycle` where it never comes
+    /// to an end. It is never refused where `check` is Ok with the same symbols and file, and then
+    /// finds something wherever a symbol that isn't local bears the name and passes: of several the
+    /// chain's first.
     ///
     /// Where the bucket isn't empty it looks the string table of the symbols up once, by
     /// `Entry::string_table`, and compares the names there in place.
@@ -109,11 +111,12 @@ impl<'a> HashTable<'a> {
         self.search(name, None, symbols, file, &f)
     }
 
-    /// The answer of `lookup`, by what `Entry::string_table` answers for that file: to be taken once for
-    /// many look-ups, since it is looked up by its section's name. `None` reads each name by `get_name`.
+    /// The answer of `lookup`, by what `Entry::string_table` answers for that file: to be taken
+    /// once for many look-ups, since it is looked up by its section's name. `None` reads each name
+    /// by `get_name`.
     ///
-    /// Of the answer it promises what `lookup` does, wherever the names of such symbols stand in the table
-    /// that is handed in.
+    /// Of the answer it promises what `lookup` does, wherever the names of such symbols stand in
+    /// the table that is handed in.
     pub fn lookup_in<E: Entry + Record, F: Fn(&E) -> bool>(
         &self,
         name: &str,
@@ -169,8 +172,8 @@ impl<'a> HashTable<'a> {
         self.search(name, Some(strings), symbols, file, &f)
     }
 
-    // The look-up by a test that is lent: the walk from the bucket of the name on. Where the string table
-    // isn't handed in, it is looked up once there is a chain.
+    // The look-up by a test that is lent: the walk from the bucket of the name on. Where the string
+    // table isn't handed in, it is looked up once there is a chain.
     fn search<'f, E: Entry + Record, F: Fn(&E) -> bool>(
         &self,
         name: &str,
@@ -186,7 +189,8 @@ impl<'a> HashTable<'a> {
             IfSome prepared.entry (λ strings.
             IfSome strings (HoldsNames E.fields (λ e. E.text_in e file.now)))
             → Decides all F.Fn f.now
-            → Looks (IsMatch all F.Fn f.now name.now) self.now all.items name.now result.0 result.1 }
+            → Looks (IsMatch all F.Fn f.now name.now) self.now all.items name.now result.0
+            result.1 }
     {
         let first = match self.start(name) {
             None => return (Ok(None), 0),
@@ -201,10 +205,12 @@ impl<'a> HashTable<'a> {
             symbols,
             |at: &(u32, E)| -> bool
                 requires { (e : Bor E) → e.now ≡ at.now.1 → F.pre f.now e }
-                ensures yes { IfSome strings.entry (HoldsNames E.fields (λ e. E.text_in e file.entry.now))
+                ensures yes { IfSome strings.entry
+                    (HoldsNames E.fields (λ e. E.text_in e file.entry.now))
                     → IsTrue result → (E.text_in at.now.1 file.entry.now ≡ Some name.entry.now)
                     × FnReturnsAt F.Fn f.entry.now at.now.1 true }
-                ensures no { IfSome strings.entry (HoldsNames E.fields (λ e. E.text_in e file.entry.now))
+                ensures no { IfSome strings.entry
+                    (HoldsNames E.fields (λ e. E.text_in e file.entry.now))
                     → result ≡ false
                     → (FnReturnsAt F.Fn f.entry.now at.now.1 true
                     → FnReturnsAt F.Fn f.entry.now at.now.1 false → ⊥)
