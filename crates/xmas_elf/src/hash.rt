@@ -92,11 +92,11 @@ impl<'a> HashTable<'a> {
         if index >= self.chain_count() {
             return Err(ElfError::ChainIndex);
         }
-        let place = u64::from(self.bucket_count()) + u64::from(index);
-        if place > u64::from(u32::MAX) {
+        let behind = u64::from(self.bucket_count()) + u64::from(index);
+        if behind > u64::from(u32::MAX) {
             return Err(ElfError::ChainSum);
         }
-        self.word(2 + place)
+        self.word(2 + behind)
     }
 
     // The word of the bucket of a name, if there are buckets.
@@ -178,17 +178,17 @@ impl<'a> HashTable<'a> {
         (Ok(None), count)
     }
 
-    // The word at this place, in words.
+    // The word with this many words before it.
     #[tactic(auto, unfolding(crate::specs::HashTable::word_of))]
     #[inline(always)]
-    fn word(&self, place: u64) -> Result<u32, ElfError>
-        requires { place < 2 ^ 33 }
-        ensures { result ≡ word_of self.now place }
+    fn word(&self, before: u64) -> Result<u32, ElfError>
+        requires { before < 2 ^ 33 }
+        ensures { result ≡ word_of self.now before }
     {
-        let start = 4 * place as usize;
-        if self.bytes.len() < start + 4 {
+        let place = 4 * before as usize;
+        if self.bytes.len() < place + 4 {
             return Err(ElfError::HashData);
         }
-        Ok(read_u32(self.bytes, start, self.order))
+        Ok(read_u32(self.bytes, place, self.order))
     }
 }
