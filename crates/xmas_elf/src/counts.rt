@@ -15,7 +15,7 @@ use crate::bytes::Order;
 use crate::header::Class::{SixtyFour, ThirtyTwo};
 use crate::header::Class_;
 use crate::ranges::entry_at;
-use crate::sections::{SHN_LORESERVE, SHN_XINDEX, SectionHeader, section_at};
+use crate::sections::{SHN_LORESERVE, SHN_XINDEX, SectionHeader, section_at_place};
 use crate::{ElfError, ElfFile};
 use elf_base::header::byte_order;
 
@@ -115,5 +115,5 @@ fn first_at(
     if entry_size < least {
         return None;
     }
-    Some(section_at(input, place, class.raw(), order))
+    Some(section_at_place(input, place, class.raw(), order))
 }

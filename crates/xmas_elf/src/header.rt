@@ -83,7 +83,7 @@ fn check(file: &ElfFile<'_>) -> Result<(), ElfError>
     if pt1.class.is_none() {
         return Err(ElfError::NoClass);
     }
-    let class = class_number(pt2);
+    let class = part_class(pt2);
     if pt1.class.raw() != class {
         return Err(ElfError::ClassMismatch);
     }
@@ -105,7 +105,7 @@ fn check(file: &ElfFile<'_>) -> Result<(), ElfError>
 }
 
 // The number of the class whose part 2 this is.
-fn class_number(part: &HeaderPt2) -> u8
+fn part_class(part: &HeaderPt2) -> u8
     ensures { result ≡ part_class part.now }
 {
     match part {

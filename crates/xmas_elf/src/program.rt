@@ -18,7 +18,7 @@ pub use crate::program::content::SegmentData;
 pub use crate::program::program_header::{
     ProgramHeader, ProgramHeader32, ProgramHeader64, parse_program_header,
 };
-pub(crate) use crate::program::program_header::{program_at, program_entry};
+pub(crate) use crate::program::program_header::{program_at_place, program_entry};
 pub use crate::program::table::{ProgramTable, ProgramTableIter};
 pub(crate) use crate::program::text::SegmentType;
 use crate::ranges::ends_inside;

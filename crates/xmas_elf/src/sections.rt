@@ -17,7 +17,7 @@ mod text;
 
 pub use crate::sections::content::SectionData;
 pub use crate::sections::section_header::{SectionHeader, SectionHeader_, parse_section_header};
-pub(crate) use crate::sections::section_header::{section_at, section_entry};
+pub(crate) use crate::sections::section_header::{section_at_place, section_entry};
 pub use crate::sections::strings::SectionStrings;
 pub use crate::sections::table::{SectionTable, SectionTableIter};
 pub(crate) use crate::sections::text::SectionType;

@@ -406,14 +406,14 @@ pub(crate) fn program_entry(
     let place = entry_at(input, offset, entry_size, u64::from(index));
     // One choice of the order for all fields.
     match byte_order(header.pt1.encoding) {
-        Order::Little => header_at_place(input, place, header, Order::Little),
-        Order::Big => header_at_place(input, place, header, Order::Big),
+        Order::Little => read_at_place(input, place, header, Order::Little),
+        Order::Big => read_at_place(input, place, header, Order::Big),
     }
 }
 
 // The program header at a place of the input, if there is one, its width by the class.
 #[inline(always)]
-fn header_at_place(
+fn read_at_place(
     input: &[u8],
     place: Option<usize>,
     header: &Header,
@@ -455,7 +455,7 @@ fn header_at_place(
 
 // The program header at a place of the input, of 32 bits for class 1 and else of 64.
 #[inline(always)]
-pub(crate) fn program_at(input: &[u8], place: usize, class: u8, order: Order) -> ProgramHeader
+pub(crate) fn program_at_place(input: &[u8], place: usize, class: u8, order: Order) -> ProgramHeader
     requires { place + program_header_size class ≤ length input.now }
     ensures { result ≡ program_at_place class order place input.now }
 {

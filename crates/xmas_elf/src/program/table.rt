@@ -13,7 +13,7 @@ ghost use Rattle.xmas_elf.specs.ProgramList.{program_list};
 
 use crate::ElfFile;
 use crate::header::Class::{SixtyFour, ThirtyTwo};
-use crate::program::{ProgramHeader, program_at};
+use crate::program::{ProgramHeader, program_at_place};
 use crate::ranges::entries_within;
 use elf_base::bytes::Order;
 use elf_base::header::byte_order;
@@ -116,7 +116,7 @@ impl<'b, 'a> ProgramTable<'b, 'a> {
             return None;
         }
         let place = self.offset + index * self.entry_size;
-        Some(program_at(self.file.input, place, self.class, self.order))
+        Some(program_at_place(self.file.input, place, self.class, self.order))
     }
 
     // The program header at an index, and the index after it.

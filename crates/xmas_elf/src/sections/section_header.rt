@@ -376,14 +376,14 @@ pub(crate) fn section_entry(
     };
     // One choice of the order for all fields.
     match byte_order(header.pt1.encoding) {
-        Order::Little => header_at_place(input, place, header, Order::Little),
-        Order::Big => header_at_place(input, place, header, Order::Big),
+        Order::Little => read_at_place(input, place, header, Order::Little),
+        Order::Big => read_at_place(input, place, header, Order::Big),
     }
 }
 
 // The section header at a place of the input, its width by the class.
 #[inline(always)]
-fn header_at_place(
+fn read_at_place(
     input: &[u8],
     place: usize,
     header: &Header,
@@ -421,7 +421,7 @@ fn header_at_place(
 
 // The section header at a place of the input, of 32 bits for class 1 and else of 64.
 #[inline(always)]
-pub(crate) fn section_at(input: &[u8], place: usize, class: u8, order: Order) -> SectionHeader
+pub(crate) fn section_at_place(input: &[u8], place: usize, class: u8, order: Order) -> SectionHeader
     requires { place + section_header_size class ≤ length input.now }
     ensures { result ≡ section_at_place class order place input.now }
 {

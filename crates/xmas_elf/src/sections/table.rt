@@ -20,7 +20,7 @@ ghost use Rattle.xmas_elf.specs.SectionList.{section_list};
 use crate::bytes::text_at;
 use crate::header::Class::{SixtyFour, ThirtyTwo};
 use crate::ranges::entries_within;
-use crate::sections::{SectionHeader, ShType, section_at};
+use crate::sections::{SectionHeader, ShType, section_at_place};
 use crate::{ElfError, ElfFile};
 use elf_base::bytes::Order;
 use elf_base::header::byte_order;
@@ -127,7 +127,7 @@ impl<'b, 'a> SectionTable<'b, 'a> {
             return None;
         }
         let place = self.offset + index * self.entry_size;
-        Some(section_at(self.file.input, place, self.class, self.order))
+        Some(section_at_place(self.file.input, place, self.class, self.order))
     }
 
     /// The name of a section, with the answer of `SectionHeader::get_name`.

@@ -8,4 +8,4 @@ pub returns : goal.returns
 returns c =
     let table = c.args.self.now in
     let laid = table.laid c.args.index (omega (arith, c.if-index-self.false)) in
-    let item = table-item (programs table.file.now) (program_count_of table.file.now) c.args.index c.program_at.result in grind arith
+    let item = table-item (programs table.file.now) (program_count_of table.file.now) c.args.index c.program_at_place.result in grind arith

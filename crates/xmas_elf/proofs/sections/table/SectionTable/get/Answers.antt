@@ -8,4 +8,4 @@ pub returns : goal.returns
 returns c =
     let table = c.args.self.now in
     let laid = table.laid c.args.index (omega (arith, c.if-index-self.false)) in
-    let item = table-item (sections table.file.now) (section_count_of table.file.now) c.args.index c.section_at.result in grind arith
+    let item = table-item (sections table.file.now) (section_count_of table.file.now) c.args.index c.section_at_place.result in grind arith
