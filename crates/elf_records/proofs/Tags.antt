@@ -5,8 +5,8 @@ use Rattle.elf_base.specs.Refusal.{and_then}
 use Rattle.elf_base.specs.declared.error.ElfError.{ElfError}
 use Rattle.elf_base.specs.declared.error.ElfError.TheVariants.{InvalidTag}
 use Rattle.elf_records.specs.Dynamic.{pointer_in, pointer_of, row_in_range, row_of, tag_of, value_in, value_of}
-use Rattle.elf_records.specs.declared.dynamic.Content.{Content}
-use Rattle.elf_records.specs.declared.dynamic.Content.TheVariants.{Ignored, Value, Pointer, Unspecified}
+use Rattle.elf_records.specs.declared.dynamic.Meaning.{Meaning}
+use Rattle.elf_records.specs.declared.dynamic.Meaning.TheVariants.{Ignored, Value, Pointer, Unspecified}
 use Rattle.elf_records.specs.declared.dynamic.Tag.{Tag}
 use Rattle.elf_records.specs.declared.dynamic.Tag.TheVariants as tag
 use Rattle.elf_records.proofs.NamedRows.{named_has}
@@ -17,13 +17,13 @@ is_open (Ok (tag.OsSpecific n)) = true
 is_open (Ok (tag.ProcessorSpecific n)) = true
 is_open _ = false
 
-abbrev has_value : ℕ → Result (Tag ℕ × Content) ElfError → Bool
+abbrev has_value : ℕ → Result (Tag ℕ × Meaning) ElfError → Bool
 has_value value row = is_ok (and_then row (λ r. value_in value r.1))
 
-abbrev has_pointer : ℕ → Result (Tag ℕ × Content) ElfError → Bool
+abbrev has_pointer : ℕ → Result (Tag ℕ × Meaning) ElfError → Bool
 has_pointer value row = is_ok (and_then row (λ r. pointer_in value r.1))
 
-abbrev has_both : ℕ → Result (Tag ℕ × Content) ElfError → Type 0
+abbrev has_both : ℕ → Result (Tag ℕ × Meaning) ElfError → Type 0
 has_both value row = (has_value value row && has_pointer value row) ≡ is_open (and_then row (λ r. Ok r.0))
 
 in_range : (value n : ℕ) (a b : Bool) → has_both value (if a then Ok (tag.OsSpecific n, Unspecified) else (if b then Ok (tag.ProcessorSpecific n, Unspecified) else Err InvalidTag))

@@ -7,8 +7,8 @@ use Rattle.elf_base.specs.Refusal.{and_then}
 use Rattle.elf_base.specs.declared.bytes.Order.{Order}
 use Rattle.elf_base.specs.declared.error.ElfError.{ElfError}
 use Rattle.elf_base.specs.declared.error.ElfError.TheVariants.{InvalidPtr, InvalidTag, InvalidValue}
-use Rattle.elf_records.specs.declared.dynamic.Content.{Content}
-use Rattle.elf_records.specs.declared.dynamic.Content.TheVariants.{Ignored, Value, Pointer, Unspecified}
+use Rattle.elf_records.specs.declared.dynamic.Meaning.{Meaning}
+use Rattle.elf_records.specs.declared.dynamic.Meaning.TheVariants.{Ignored, Value, Pointer, Unspecified}
 use Rattle.elf_records.specs.declared.dynamic.Dynamic.{Dynamic}
 use Rattle.elf_records.specs.declared.dynamic.Tag_.{Tag_}
 use Rattle.elf_records.specs.declared.dynamic.Tag.{Tag}
@@ -44,14 +44,14 @@ abbrev pub tag_raw : {P : Type 0} → P → Tag_ P
 tag_raw n = record { 0 = n }
 
 -- the tags that are ranges: of the operating system, of the processor
-abbrev pub row_in_range : {P : Type 0} → P → ℕ → Result (Tag P × Content) ElfError
+abbrev pub row_in_range : {P : Type 0} → P → ℕ → Result (Tag P × Meaning) ElfError
 row_in_range raw n =
     if nat_le 0x6000000d n && nat_le n 0x6fffffff then Ok (tag.OsSpecific raw, Unspecified)
     else (if nat_le 0x70000000 n && nat_le n 0x7fffffff then Ok (tag.ProcessorSpecific raw, Unspecified)
     else Err InvalidTag)
 
 -- d_tag: its number, its name, and what d_un is; the same in both classes
-unfoldable pub row_of : {P : Type 0} → P → ℕ → Result (Tag P × Content) ElfError
+unfoldable pub row_of : {P : Type 0} → P → ℕ → Result (Tag P × Meaning) ElfError
 row_of raw n = named_or (row_in_range raw) (
     (0, Ok (tag.Null, Ignored))
     ∷ (1, Ok (tag.Needed, Value))
@@ -98,13 +98,13 @@ abbrev pub tag_of : ℕ → Result (Tag ℕ) ElfError
 tag_of n = and_then (row_of n n) (λ row. Ok row.0)
 
 -- d_un as a value, where the tag has one
-abbrev pub value_in : {P : Type 0} → P → Content → Result P ElfError
+abbrev pub value_in : {P : Type 0} → P → Meaning → Result P ElfError
 value_in value Value = Ok value
 value_in value Unspecified = Ok value
 value_in value _ = Err InvalidValue
 
 -- d_un as a pointer, where the tag has one
-abbrev pub pointer_in : {P : Type 0} → P → Content → Result P ElfError
+abbrev pub pointer_in : {P : Type 0} → P → Meaning → Result P ElfError
 pointer_in value Pointer = Ok value
 pointer_in value Unspecified = Ok value
 pointer_in value _ = Err InvalidPtr

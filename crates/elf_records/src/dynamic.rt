@@ -191,7 +191,7 @@ pub enum Tag<P> {
 
 // What the number of an entry is, by its tag (gABI, "Dynamic Section", the column d_un).
 #[derive(Clone, Copy)]
-enum Content {
+enum Meaning {
     // It has no meaning.
     Ignored,
     // A value, as a size or an offset.
@@ -202,7 +202,7 @@ enum Content {
     Unspecified,
 }
 
-impl Content {
+impl Meaning {
     // The number of an entry as a value.
     #[inline(always)]
     fn value<P: Copy>(self, number: P) -> Result<P, ElfError>
@@ -230,50 +230,50 @@ impl Content {
 // file has it.
 #[tactic(auto, unfolding(crate::specs::Dynamic::row_of))]
 #[inline(always)]
-fn row<P: Copy>(number: u64, raw: P) -> Result<(Tag<P>, Content), ElfError>
+fn row<P: Copy>(number: u64, raw: P) -> Result<(Tag<P>, Meaning), ElfError>
     ensures { result ≡ row_of raw number }
 {
     Ok(match number {
-        0 => (Tag::Null, Content::Ignored),
-        1 => (Tag::Needed, Content::Value),
-        2 => (Tag::PltRelSize, Content::Value),
-        3 => (Tag::Pltgot, Content::Pointer),
-        4 => (Tag::Hash, Content::Pointer),
-        5 => (Tag::StrTab, Content::Pointer),
-        6 => (Tag::SymTab, Content::Pointer),
-        7 => (Tag::Rela, Content::Pointer),
-        8 => (Tag::RelaSize, Content::Value),
-        9 => (Tag::RelaEnt, Content::Value),
-        10 => (Tag::StrSize, Content::Value),
-        11 => (Tag::SymEnt, Content::Value),
-        12 => (Tag::Init, Content::Pointer),
-        13 => (Tag::Fini, Content::Pointer),
-        14 => (Tag::SoName, Content::Value),
-        15 => (Tag::RPath, Content::Value),
-        16 => (Tag::Symbolic, Content::Ignored),
-        17 => (Tag::Rel, Content::Pointer),
-        18 => (Tag::RelSize, Content::Value),
-        19 => (Tag::RelEnt, Content::Value),
-        20 => (Tag::PltRel, Content::Value),
-        21 => (Tag::Debug, Content::Pointer),
-        22 => (Tag::TextRel, Content::Ignored),
-        23 => (Tag::JmpRel, Content::Pointer),
-        24 => (Tag::BindNow, Content::Ignored),
-        25 => (Tag::InitArray, Content::Pointer),
-        26 => (Tag::FiniArray, Content::Pointer),
-        27 => (Tag::InitArraySize, Content::Value),
-        28 => (Tag::FiniArraySize, Content::Value),
-        29 => (Tag::RunPath, Content::Value),
-        30 => (Tag::Flags, Content::Value),
-        32 => (Tag::PreInitArray, Content::Pointer),
-        33 => (Tag::PreInitArraySize, Content::Value),
-        34 => (Tag::SymTabShIndex, Content::Pointer),
-        35 => (Tag::RelrSize, Content::Value),
-        36 => (Tag::Relr, Content::Pointer),
-        37 => (Tag::RelrEnt, Content::Value),
-        0x6fff_fffb => (Tag::Flags1, Content::Value),
-        0x6000_000d..=0x6fff_ffff => (Tag::OsSpecific(raw), Content::Unspecified),
-        0x7000_0000..=0x7fff_ffff => (Tag::ProcessorSpecific(raw), Content::Unspecified),
+        0 => (Tag::Null, Meaning::Ignored),
+        1 => (Tag::Needed, Meaning::Value),
+        2 => (Tag::PltRelSize, Meaning::Value),
+        3 => (Tag::Pltgot, Meaning::Pointer),
+        4 => (Tag::Hash, Meaning::Pointer),
+        5 => (Tag::StrTab, Meaning::Pointer),
+        6 => (Tag::SymTab, Meaning::Pointer),
+        7 => (Tag::Rela, Meaning::Pointer),
+        8 => (Tag::RelaSize, Meaning::Value),
+        9 => (Tag::RelaEnt, Meaning::Value),
+        10 => (Tag::StrSize, Meaning::Value),
+        11 => (Tag::SymEnt, Meaning::Value),
+        12 => (Tag::Init, Meaning::Pointer),
+        13 => (Tag::Fini, Meaning::Pointer),
+        14 => (Tag::SoName, Meaning::Value),
+        15 => (Tag::RPath, Meaning::Value),
+        16 => (Tag::Symbolic, Meaning::Ignored),
+        17 => (Tag::Rel, Meaning::Pointer),
+        18 => (Tag::RelSize, Meaning::Value),
+        19 => (Tag::RelEnt, Meaning::Value),
+        20 => (Tag::PltRel, Meaning::Value),
+        21 => (Tag::Debug, Meaning::Pointer),
+        22 => (Tag::TextRel, Meaning::Ignored),
+        23 => (Tag::JmpRel, Meaning::Pointer),
+        24 => (Tag::BindNow, Meaning::Ignored),
+        25 => (Tag::InitArray, Meaning::Pointer),
+        26 => (Tag::FiniArray, Meaning::Pointer),
+        27 => (Tag::InitArraySize, Meaning::Value),
+        28 => (Tag::FiniArraySize, Meaning::Value),
+        29 => (Tag::RunPath, Meaning::Value),
+        30 => (Tag::Flags, Meaning::Value),
+        32 => (Tag::PreInitArray, Meaning::Pointer),
+        33 => (Tag::PreInitArraySize, Meaning::Value),
+        34 => (Tag::SymTabShIndex, Meaning::Pointer),
+        35 => (Tag::RelrSize, Meaning::Value),
+        36 => (Tag::Relr, Meaning::Pointer),
+        37 => (Tag::RelrEnt, Meaning::Value),
+        0x6fff_fffb => (Tag::Flags1, Meaning::Value),
+        0x6000_000d..=0x6fff_ffff => (Tag::OsSpecific(raw), Meaning::Unspecified),
+        0x7000_0000..=0x7fff_ffff => (Tag::ProcessorSpecific(raw), Meaning::Unspecified),
         _ => return Err(ElfError::InvalidTag),
     })
 }
@@ -288,7 +288,7 @@ impl Record for Dynamic<P32> {
     ghost size_above_zero = { lit< tt };
 
     fn decode(bytes: &[u8], order: Order) -> Dynamic<P32> {
-        Dynamic {
+        Self {
             tag: Tag_(read_u32(bytes, 0, order)),
             value: read_u32(bytes, 4, order),
         }
@@ -305,7 +305,7 @@ impl Record for Dynamic<P64> {
     ghost size_above_zero = { lit< tt };
 
     fn decode(bytes: &[u8], order: Order) -> Dynamic<P64> {
-        Dynamic {
+        Self {
             tag: Tag_(read_u64(bytes, 0, order)),
             value: read_u64(bytes, 8, order),
         }
@@ -317,7 +317,7 @@ impl<P: Copy> Tag_<P> {
     pub fn from_raw(number: P) -> Tag_<P>
         ensures { result ≡ tag_raw number }
     {
-        Tag_(number)
+        Self(number)
     }
 
     /// The number as it stands in the file.
@@ -334,7 +334,7 @@ impl Tag_<P32> {
     pub fn as_tag(self) -> Result<Tag<P32>, ElfError>
         ensures { result ≡ tag_of (tag_number self) }
     {
-        let (tag, _content) = row(u64::from(self.0), self.0)?;
+        let (tag, _meaning) = row(u64::from(self.0), self.0)?;
         Ok(tag)
     }
 }
@@ -353,8 +353,8 @@ impl Dynamic<P32> {
     pub fn get_val(&self) -> Result<P32, ElfError>
         ensures { result ≡ value_of (dynamic_tag self.now) (dynamic_value self.now) }
     {
-        let (_tag, content) = row(u64::from(self.tag.0), self.tag.0)?;
-        content.value(self.value)
+        let (_tag, meaning) = row(u64::from(self.tag.0), self.tag.0)?;
+        meaning.value(self.value)
     }
 
     /// The entry's number as a pointer; `InvalidTag`, or `InvalidPtr` where the tag has none.
@@ -362,8 +362,8 @@ impl Dynamic<P32> {
     pub fn get_ptr(&self) -> Result<P32, ElfError>
         ensures { result ≡ pointer_of (dynamic_tag self.now) (dynamic_value self.now) }
     {
-        let (_tag, content) = row(u64::from(self.tag.0), self.tag.0)?;
-        content.pointer(self.value)
+        let (_tag, meaning) = row(u64::from(self.tag.0), self.tag.0)?;
+        meaning.pointer(self.value)
     }
 }
 
@@ -373,7 +373,7 @@ impl Tag_<P64> {
     pub fn as_tag(self) -> Result<Tag<P64>, ElfError>
         ensures { result ≡ tag_of (tag_number self) }
     {
-        let (tag, _content) = row(self.0, self.0)?;
+        let (tag, _meaning) = row(self.0, self.0)?;
         Ok(tag)
     }
 }
@@ -392,8 +392,8 @@ impl Dynamic<P64> {
     pub fn get_val(&self) -> Result<P64, ElfError>
         ensures { result ≡ value_of (dynamic_tag self.now) (dynamic_value self.now) }
     {
-        let (_tag, content) = row(self.tag.0, self.tag.0)?;
-        content.value(self.value)
+        let (_tag, meaning) = row(self.tag.0, self.tag.0)?;
+        meaning.value(self.value)
     }
 
     /// The entry's number as a pointer; `InvalidTag`, or `InvalidPtr` where the tag has none.
@@ -401,7 +401,7 @@ impl Dynamic<P64> {
     pub fn get_ptr(&self) -> Result<P64, ElfError>
         ensures { result ≡ pointer_of (dynamic_tag self.now) (dynamic_value self.now) }
     {
-        let (_tag, content) = row(self.tag.0, self.tag.0)?;
-        content.pointer(self.value)
+        let (_tag, meaning) = row(self.tag.0, self.tag.0)?;
+        meaning.pointer(self.value)
     }
 }
