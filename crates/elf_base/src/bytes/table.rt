@@ -48,7 +48,7 @@ impl<'a, T: Record> Table<'a, T> {
         if bytes.len() % T::SIZE != 0 {
             return Err(ElfError::NotMultiple);
         }
-        Ok(Table {
+        Ok(Self {
             bytes,
             order,
             kind: PhantomData,
@@ -104,10 +104,8 @@ impl<'a, T: Record> Table<'a, T> {
             (λ p. (table_order p.1 ≡ table_order self.now)
             × (table_items self.now ≡ p.0 ∷ table_items p.1)) }
     {
-        let Some(first) = self.get(0) else {
-            return None;
-        };
-        let rest = Table {
+        let first = self.get(0)?;
+        let rest = Self {
             bytes: &self.bytes[T::SIZE..],
             order: self.order,
             kind: PhantomData,

@@ -53,10 +53,8 @@ pub fn text_range(data: &[u8], start: usize) -> Result<(usize, usize), ElfError>
         (λ range. text_of «data».now start ≡ Ok (take range.1 (drop start «data».now)))
         (λ error. text_of «data».now start ≡ Err error) }
 {
-    match text_at(data, start) {
-        Ok(text) => Ok((start, text.len())),
-        Err(error) => Err(error),
-    }
+    let text = text_at(data, start)?;
+    Ok((start, text.len()))
 }
 
 /// Whether the text from `start`, which is in bytes, up to the first zero byte is this one, and how
