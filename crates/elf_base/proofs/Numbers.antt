@@ -28,13 +28,13 @@ little_sum-first (suc w) a xs =
     let same : slice_index xs (a + suc w) ≡ slice_index xs (suc a + w) = ap (slice_index xs) (omega arith) in
     rw (same, pow-succ' 256 w) (omega (arith, ih))
 
-pub little_sum-from : (w a : ℕ) (xs : List ℕ) → little_sum w a xs ≡ little_from a w xs
+little_sum-from : (w a : ℕ) (xs : List ℕ) → little_sum w a xs ≡ little_from a w xs
 unfolding little_sum
 little_sum-from zero a xs = refl
 little_sum-from (suc w) a xs =
     little_sum-first w a xs ∙ ap (λ n. slice_index xs a + 256 * n) (little_sum-from w (suc a) xs)
 
-pub big_sum-from : (w a : ℕ) (xs : List ℕ) → big_sum w a xs ≡ big_from a w xs
+big_sum-from : (w a : ℕ) (xs : List ℕ) → big_sum w a xs ≡ big_from a w xs
 unfolding big_sum
 big_sum-from zero a xs = refl
 big_sum-from (suc w) a xs = ap (λ n. slice_index xs a * 256 ^ w + n) (big_sum-from w (suc a) xs)

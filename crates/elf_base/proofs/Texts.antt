@@ -57,7 +57,7 @@ one_front (x ∷ t) (y ∷ u) r s e ht hu =
     cc
 
 -- there is at most one text at a place
-pub one_ending : (bytes : List ℕ) (start : ℕ) (t u : List ℕ) → EndsInZero bytes start t → EndsInZero bytes start u → t ≡ u
+one_ending : (bytes : List ℕ) (start : ℕ) (t u : List ℕ) → EndsInZero bytes start t → EndsInZero bytes start u → t ≡ u
 one_ending bytes start t u a b = one_front t u a.after b.after (sym a.begins ∙ b.begins) a.no_zero b.no_zero
 
 pub one_text : (bytes : List ℕ) (start : ℕ) (t u : List ℕ) → IsText bytes start t → IsText bytes start u → t ≡ u
@@ -71,7 +71,7 @@ zero_stands bytes start t a =
     (omega arith, sym (get_or-drop start bytes (length t) 0) ∙ ap (λ l. slice_index l (length t)) a.begins ∙ get_or-append_seam t 0 a.after 0)
 
 -- where a text is refused there is none
-pub refused_none : (bytes : List ℕ) (start : ℕ) (e : ElfError) (t : List ℕ) → TextRefused bytes start e → IsText bytes start t → ⊥
+refused_none : (bytes : List ℕ) (start : ℕ) (e : ElfError) (t : List ℕ) → TextRefused bytes start e → IsText bytes start t → ⊥
 refused_none bytes start TextStart t refused is =
     let z = (zero_stands bytes start t is.ended).0 in omega arith
 refused_none bytes start TextEnd t refused is =

@@ -7,11 +7,11 @@ use Rattle.std.specs.Prelude.{slice_get}
 use Rattle.elf_base.specs.Table.{first_records, records, record_at}
 
 -- bytes that are a whole number of records, and not none of them, hold one
-pub one_record : (size n : ℕ) → n % size ≡ 0 → 0 < n → size ≤ n
+one_record : (size n : ℕ) → n % size ≡ 0 → 0 < n → size ≤ n
 one_record size n whole more = let h : n < size → n % size ≡ n = mod-eq_of_lt in grind (arith, h)
 
 -- the first record and the others
-pub records-first : {V : Type 0} (size : ℕ) (value : List ℕ → V) (bytes : List ℕ) → 0 < size → size ≤ length bytes
+records-first : {V : Type 0} (size : ℕ) (value : List ℕ → V) (bytes : List ℕ) → 0 < size → size ≤ length bytes
     → records size value bytes ≡ value (take size bytes) ∷ records size value (drop size bytes)
 unfolding records first_records
 records-first size value bytes above fits =
