@@ -28,8 +28,8 @@ length_front (x ∷ text) after = let h = length_front text after in omega (arit
 -- bytes that differ from a text and a zero byte don't begin with them
 differs_before : (ys text after : List ℕ) (k count : ℕ) → DiffersAt ys (text ++ (0 ∷ [])) k count → ys ≡ text ++ (0 ∷ after) → ⊥
 differs_before ys text after k count stop begins =
-    let long : k < length ys = let h = length_front text after in let e = ap length begins in let low = stop.place in omega (arith, h, e, low) in
-    let same : slice_index ys k ≡ slice_index (text ++ (0 ∷ [])) k = ap (λ l. slice_index l k) begins ∙ same_front text after k stop.place in
+    let long : k < length ys = let h = length_front text after in let e = ap length begins in let low = stop.below in omega (arith, h, e, low) in
+    let same : slice_index ys k ≡ slice_index (text ++ (0 ∷ [])) k = ap (λ l. slice_index l k) begins ∙ same_front text after k stop.below in
     elim stop.differs as (λ s. ⊥) [ inl short ↦ (let e = short.0 in omega (arith, e, long)) | inr other ↦ other.1 same ]
 
 -- bytes whose front is a text, with a zero byte behind it

@@ -9,7 +9,7 @@ SameBelow bytes wanted k = (j : ℕ) → j < k → slice_index bytes j ≡ slice
 -- `k` is the least place of `wanted` at which `bytes` has no byte, or another one: then `k` of them were
 -- compared, or `k` and one more
 pub record DiffersAt (bytes wanted : List ℕ) (k count : ℕ) : Type 0 where
-  pub place : k < length wanted
+  pub below : k < length wanted
   pub same : SameBelow bytes wanted k
   pub differs : ((length bytes ≡ k) × (count ≡ k))
       ⊎ ((k < length bytes) × (slice_index bytes k ≢ slice_index wanted k) × (count ≡ k + 1))

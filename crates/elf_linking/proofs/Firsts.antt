@@ -11,17 +11,17 @@ find_hit test items others x is hit = ap (find test) is ∙ rw hit refl
 pub find_other : {X : Type 0} (test : X → Bool) (items others : List X) (x : X) → items ≡ x ∷ others → test x ≡ false → find test items ≡ find test others
 find_other test items others x is miss = ap (find test) is ∙ rw miss refl
 
--- of the elements below a place none passes
+-- of the elements below a position none passes
 abbrev pub NonePasses : {X : Type 0} → (X → Bool) → List X → ℕ → Type 0
 NonePasses test items high = AllWithin (λ item. test item ≡ false) items 0 high
 
--- the one that is found stands at a place before which none passes
+-- the one that is found stands at a position before which none passes
 pub record IsFound {X : Type 0} (test : X → Bool) (items : List X) (x : X) : Type 0 where
-  pub place : ℕ
-  pub below : place < length items
-  pub stands : HoldsAt (λ item. item ≡ x) items place
+  pub position : ℕ
+  pub below : position < length items
+  pub stands : HoldsAt (λ item. item ≡ x) items position
   pub passes : test x ≡ true
-  pub first : NonePasses test items place
+  pub first : NonePasses test items position
 
 one_more : {X : Type 0} (test : X → Bool) (y : X) (others : List X) (high : ℕ) → test y ≡ false → NonePasses test others high → NonePasses test (y ∷ others) (suc high)
 one_more test y others high fails later zero d low below = fails
@@ -30,7 +30,7 @@ one_more test y others high fails later (suc k) d low below = later k d (omega a
 found_first : {X : Type 0} (test : X → Bool) (y x : X) (others : List X) (b : Bool) → test y ≡ b → (find test others ≡ Some x → IsFound test others x) → (if b then Some y else find test others) ≡ Some x → IsFound test (y ∷ others) x
 found_first test y x others true passes later is =
     let same : y ≡ x = cc in record {
-      place = 0;
+      position = 0;
       below = omega arith;
       stands = λ d. same;
       passes = subst (λ z. test z ≡ true) same passes;
@@ -38,11 +38,11 @@ found_first test y x others true passes later is =
     }
 found_first test y x others false fails later is =
     let found = later is in record {
-      place = suc found.place;
+      position = suc found.position;
       below = let below = found.below in omega arith;
       stands = found.stands;
       passes = found.passes;
-      first = one_more test y others found.place fails found.first;
+      first = one_more test y others found.position fails found.first;
     }
 
 pub found_in : {X : Type 0} (test : X → Bool) (items : List X) (x : X) → find test items ≡ Some x → IsFound test items x

@@ -60,11 +60,11 @@ pub first_holder : (file : ElfFile) (address count : ℕ) (program : ProgramHead
 unfolding holder_of
 first_holder file address count program is =
     let found = found_in (is_holder address count) (program_list file) program is in record {
-      index = found.place;
+      index = found.position;
       below = found.below;
-      is_header = (longest file).each found.place found.below program ∙ ap (λ p. Ok p) (found.stands program);
+      is_header = (longest file).each found.position found.below program ∙ ap (λ p. Ok p) (found.stands program);
       holds = holds_by_test address count program found.passes;
-      first = none_below file address count found.place (let below = found.below in omega arith) found.first;
+      first = none_below file address count found.position (let below = found.below in omega arith) found.first;
     }
 
 pub no_holder : (file : ElfFile) (address count : ℕ) → holder_of file address count ≡ None → NoneHolds file address count (length (program_list file))

@@ -24,11 +24,11 @@ module _ {H : Type 0} (test : H → Bool) (P : H → Type 0) (decides : (h : H) 
   finds : (items : List H) (r : Option H) → FindsFirst P items r → find test items ≡ r
   finds [] None none = refl
   finds (item ∷ items) None none =
-      let place : position_or_len test (item ∷ items) ≡ length (item ∷ items) = position_or_len_is test (item ∷ items) (length (item ∷ items)) item (omega arith) (λ k below. fails _ _ refl (none k item (omega arith) below)) (λ below. absurd (omega arith)) in
+      let position : position_or_len test (item ∷ items) ≡ length (item ∷ items) = position_or_len_is test (item ∷ items) (length (item ∷ items)) item (omega arith) (λ k below. fails _ _ refl (none k item (omega arith) below)) (λ below. absurd (omega arith)) in
       find_at test (item ∷ items) ∙ slice_get_past (item ∷ items) (position_or_len test (item ∷ items)) (omega arith)
   finds items (Some h) (has, (i, below, at, none)) =
-      let place : position_or_len test items ≡ i = position_or_len_is test items i h (omega arith) (λ k low. fails _ _ refl (none k h (omega arith) low)) (λ within. (decides _).1 (subst P (sym (at h)) has)) in
-      find_at test items ∙ ap (slice_get items) place ∙ slice_get-get_or items i h below ∙ ap Some (at h)
+      let position : position_or_len test items ≡ i = position_or_len_is test items i h (omega arith) (λ k low. fails _ _ refl (none k h (omega arith) low)) (λ within. (decides _).1 (subst P (sym (at h)) has)) in
+      find_at test items ∙ ap (slice_get items) position ∙ slice_get-get_or items i h below ∙ ap Some (at h)
 
 -- the text at an index of the name table that is computed is the text there
 shstr_of-is : (file : ElfFile) (index : ℕ) (name : List ℕ) → shstr_of file index ≡ Ok name → IsNameAt file index name

@@ -30,7 +30,7 @@ pub fn holds_address<E: Entry>(symbol: &E, address: u64) -> bool
 }
 
 /// The index in the table of the first function that the address lies in.
-pub fn function_place<E: Entry + Record>(symbols: &Table<'_, E>, address: u64) -> Option<usize>
+pub fn function_position<E: Entry + Record>(symbols: &Table<'_, E>, address: u64) -> Option<usize>
     ensures { FindsFirstAt (λ symbol. HoldsAddress (E.fields symbol) address)
         (table_items symbols.now) result }
 {
@@ -45,7 +45,7 @@ pub fn function_at<E: Entry + Record>(symbols: &Table<'_, E>, address: u64) -> O
         (NoneHolds E.fields all address (length all))
         (λ found. IsFunctionAt E.fields all address found.0 found.1) }
 {
-    let Some(index) = function_place(symbols, address) else {
+    let Some(index) = function_position(symbols, address) else {
         return None;
     };
     match symbols.get(index) {

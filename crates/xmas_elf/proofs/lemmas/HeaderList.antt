@@ -16,7 +16,7 @@ pub first_item : {H : Type 0} (items : List H) (i : ℕ) → i < length items �
 first_item [] i below = absurd (omega arith)
 first_item (h ∷ others) i below = h
 
--- what holds of all items below a place of the longest list holds of the headers below that index
+-- what holds of all items below a position of the longest list holds of the headers below that index
 pub headers_within : {H : Type 0} (header_at : ℕ → Result H ElfError) (limit : ℕ) (items : List H) (P : H → Type 0) (high : ℕ) → IsLongest header_at limit items → high ≤ length items → AllWithin P items 0 high → EachBelow header_at P high
 headers_within header_at limit items P high longest fits all i h below is =
     let item = longest.each i (omega arith) h in

@@ -4,7 +4,7 @@ use Rattle.std.proofs.lemmas.Iterator.Consumers.{YieldsList-from_first}
 use borrow.Author.Tests.{tests}
 use Rattle.elf_callers.specs.FunctionAt.{HoldsAddress}
 use Rattle.xmas_elf.specs.Table.{table_items, table_rest}
-use Rattle.elf_callers.proofs.callers.backtrace.function_place.Goals as goal
+use Rattle.elf_callers.proofs.callers.backtrace.function_position.Goals as goal
 
 -- what `position` finds in a table; where the type of its symbols isn't a parameter, no answer is needed
 pub returns : goal.returns
