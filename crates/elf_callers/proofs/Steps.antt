@@ -31,8 +31,8 @@ section_given old new (Some h) step =
     (is_below (section_of old.file.now) (section_count_of old.file.now) old.next_index h _ step.1.0, step.1.1.1, step.1.1.0)
 
 abbrev pub SegmentGiven : ProgramIter → ProgramIter → Option ProgramHeader → Type 0
-SegmentGiven old new found = IfSome found (λ segment. (old.next_index < program_count_of old.file.now)
-    × (program_of old.file.now old.next_index ≡ Ok segment) × (new.next_index ≡ old.next_index + 1))
+SegmentGiven old new found = IfSome found (λ program. (old.next_index < program_count_of old.file.now)
+    × (program_of old.file.now old.next_index ≡ Ok program) × (new.next_index ≡ old.next_index + 1))
 
 pub segment_given : (old new : ProgramIter) (found : Option ProgramHeader) → ProgramStep old found new → SegmentGiven old new found
 segment_given old new None step = tt

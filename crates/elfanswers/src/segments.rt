@@ -12,48 +12,48 @@ use xmas_elf::program::{ProgramHeader, SegmentData, sanity_check};
 pub fn write_segment<W: Write>(file: &ElfFile<'_>, index: u16, out: &mut W) -> io::Result<()> {
     let place = Place::header("segment", index);
     match file.program_header(index) {
-        Ok(segment) => {
+        Ok(program) => {
             writeln!(out, "{place} header = ok")?;
-            write_numbers(place, &segment, out)?;
-            write_bytes(file, place, &segment, out)?;
-            write_data(file, place, &segment, out)
+            write_numbers(place, &program, out)?;
+            write_bytes(file, place, &program, out)?;
+            write_data(file, place, &program, out)
         }
         Err(error) => writeln!(out, "{place} header = err {error}"),
     }
 }
 
-fn write_numbers<W: Write>(place: Place, segment: &ProgramHeader, out: &mut W) -> io::Result<()> {
-    writeln!(out, "{place} offset = {}", segment.offset())?;
-    writeln!(out, "{place} virtual_addr = {}", segment.virtual_addr())?;
-    writeln!(out, "{place} physical_addr = {}", segment.physical_addr())?;
-    writeln!(out, "{place} file_size = {}", segment.file_size())?;
-    writeln!(out, "{place} mem_size = {}", segment.mem_size())?;
-    writeln!(out, "{place} align = {}", segment.align())?;
-    let flags = segment.flags();
+fn write_numbers<W: Write>(place: Place, program: &ProgramHeader, out: &mut W) -> io::Result<()> {
+    writeln!(out, "{place} offset = {}", program.offset())?;
+    writeln!(out, "{place} virtual_addr = {}", program.virtual_addr())?;
+    writeln!(out, "{place} physical_addr = {}", program.physical_addr())?;
+    writeln!(out, "{place} file_size = {}", program.file_size())?;
+    writeln!(out, "{place} mem_size = {}", program.mem_size())?;
+    writeln!(out, "{place} align = {}", program.align())?;
+    let flags = program.flags();
     writeln!(out, "{place} flags = {}", Pair(flags.0, flags))?;
-    writeln!(out, "{place} get_type = {}", Answer(segment.get_type()))
+    writeln!(out, "{place} get_type = {}", Answer(program.get_type()))
 }
 
 fn write_bytes<W: Write>(
     file: &ElfFile<'_>,
     place: Place,
-    segment: &ProgramHeader,
+    program: &ProgramHeader,
     out: &mut W,
 ) -> io::Result<()> {
-    let bytes = Answer(segment.raw_data(file).map(|bytes| Told(bytes)));
+    let bytes = Answer(program.raw_data(file).map(|bytes| Told(bytes)));
     writeln!(out, "{place} raw_data = {bytes}")?;
-    let check = Answer(sanity_check(*segment, file).map(|_| Nothing));
+    let check = Answer(sanity_check(*program, file).map(|_| Nothing));
     writeln!(out, "{place} sanity_check = {check}")?;
-    writeln!(out, "{place} display = {segment}")
+    writeln!(out, "{place} display = {program}")
 }
 
 fn write_data<W: Write>(
     file: &ElfFile<'_>,
     place: Place,
-    segment: &ProgramHeader,
+    program: &ProgramHeader,
     out: &mut W,
 ) -> io::Result<()> {
-    match segment.get_data(file) {
+    match program.get_data(file) {
         Ok(SegmentData::Empty) => writeln!(out, "{place} get_data = ok Empty"),
         Ok(SegmentData::Undefined(bytes)) => {
             writeln!(out, "{place} get_data = ok Undefined {}", Told(bytes))

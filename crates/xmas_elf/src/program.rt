@@ -97,9 +97,9 @@ impl ProgramIter<'_, '_> {
         if self.next_index >= self.file.program_count() {
             return None;
         }
-        let header = self.file.program_header_at(self.next_index).ok()?;
+        let program = self.file.program_header_at(self.next_index).ok()?;
         self.next_index += 1;
-        Some(header)
+        Some(program)
     }
 }
 

@@ -101,9 +101,9 @@ impl SectionIter<'_, '_> {
         if self.next_index >= self.file.section_count() {
             return None;
         }
-        let header = self.file.section_header_at(self.next_index).ok()?;
+        let section = self.file.section_header_at(self.next_index).ok()?;
         self.next_index += 1;
-        Some(header)
+        Some(section)
     }
 }
 
@@ -121,9 +121,9 @@ impl Iterator for SectionIter<'_, '_> {
 }
 
 /// Whether a section header makes sense: `InvalidShType` is its one fault.
-pub fn sanity_check(header: SectionHeader, _file: &ElfFile<'_>) -> Result<(), ElfError>
-    ensures { result ≡ section_check header }
+pub fn sanity_check(section: SectionHeader, _file: &ElfFile<'_>) -> Result<(), ElfError>
+    ensures { result ≡ section_check section }
 {
-    let _kind = header.get_type()?;
+    let _kind = section.get_type()?;
     Ok(())
 }

@@ -29,18 +29,18 @@ pub fn has_data(file: &ElfFile<'_>, section: SectionHeader) -> bool
 }
 
 /// The same of a segment: its data is read as a shape exactly where the words say so.
-pub fn segment_data_is_shaped(file: &ElfFile<'_>, segment: ProgramHeader)
-    ensures { (wanted : Shape) → IsOkAnd (segment_content_of file.now (program_fields segment))
+pub fn segment_data_is_shaped(file: &ElfFile<'_>, program: ProgramHeader)
+    ensures { (wanted : Shape) → IsOkAnd (segment_content_of file.now (program_fields program))
         (λ content. shape content ≡ wanted)
-        ↔ HasSegmentShape file.now (program_fields segment) wanted }
+        ↔ HasSegmentShape file.now (program_fields program) wanted }
 {
-    let _part = (file.program_count(), segment.offset());
+    let _part = (file.program_count(), program.offset());
 }
 
 /// Whether the data of a segment can be read, whatever it is.
-pub fn segment_has_data(file: &ElfFile<'_>, segment: ProgramHeader) -> bool
+pub fn segment_has_data(file: &ElfFile<'_>, program: ProgramHeader) -> bool
     ensures { IsTrue result
-        ↔ ((wanted : Shape) × HasSegmentShape file.now (program_fields segment) wanted) }
+        ↔ ((wanted : Shape) × HasSegmentShape file.now (program_fields program) wanted) }
 {
-    segment.get_data(file).is_ok()
+    program.get_data(file).is_ok()
 }

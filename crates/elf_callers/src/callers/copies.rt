@@ -61,10 +61,10 @@ pub fn clone_section(section: &SectionHeader) -> Result<SectionHeader, AllocErro
 }
 
 /// A clone is its original.
-pub fn clone_segment(segment: &ProgramHeader) -> Result<ProgramHeader, AllocError>
-    ensures { IsOkAnd result (λ copy. copy ≡ segment.now) }
+pub fn clone_segment(program: &ProgramHeader) -> Result<ProgramHeader, AllocError>
+    ensures { IsOkAnd result (λ copy. copy ≡ program.now) }
 {
-    segment.clone()
+    program.clone()
 }
 
 /// A clone is its original.

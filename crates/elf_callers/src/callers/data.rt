@@ -85,23 +85,23 @@ pub fn is_empty(file: &ElfFile<'_>, section: SectionHeader) -> bool
 
 /// Notes of class 32 are not read.
 #[tactic(auto, unfolding(xmas_elf::specs::SegmentContent::segment_content_of, xmas_elf::specs::SegmentData::segment_data_of))]
-pub fn note_32(file: &ElfFile<'_>, segment: ProgramHeader) -> Option<ElfError>
-    requires typed { segment_type (program_fields segment) ≡ Ok Type.Note }
+pub fn note_32(file: &ElfFile<'_>, program: ProgramHeader) -> Option<ElfError>
+    requires typed { segment_type (program_fields program) ≡ Ok Type.Note }
     requires class { file_class file.now.header ≡ 1 }
-    requires bare { (program_fields segment).file_size ≡ 0 }
+    requires bare { (program_fields program).file_size ≡ 0 }
     ensures { result ≡ Some ElfError.Note32 }
 {
-    segment.get_data(file).err()
+    program.get_data(file).err()
 }
 
 /// How many bytes the dynamic section has: as many as its segment. None where the segment is of
 /// another type, or its data is refused.
-pub fn dynamic_bytes(file: &ElfFile<'_>, segment: ProgramHeader) -> Option<usize>
-    ensures { let found = dynamic_in (segment_content_of file.now (program_fields segment)) in
+pub fn dynamic_bytes(file: &ElfFile<'_>, program: ProgramHeader) -> Option<usize>
+    ensures { let found = dynamic_in (segment_content_of file.now (program_fields program)) in
         MatchOption result
-        (found ≡ None) (λ count. IsSome found × (count ≡ (program_fields segment).file_size)) }
+        (found ≡ None) (λ count. IsSome found × (count ≡ (program_fields program).file_size)) }
 {
-    match segment.get_data(file) {
+    match program.get_data(file) {
         Ok(SegmentData::Dynamic32(table)) => Some(table.bytes().len()),
         Ok(SegmentData::Dynamic64(table)) => Some(table.bytes().len()),
         _ => None,

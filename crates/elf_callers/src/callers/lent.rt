@@ -36,26 +36,26 @@ pub struct Overlay<'a> {
 #[tactic(auto, using(xmas_elf::proofs::lemmas::Lent::lies_between))]
 pub fn section_in_segment<'a>(
     file: &ElfFile<'a>,
-    segment: &ProgramHeader,
+    program: &ProgramHeader,
     section: &SectionHeader,
 ) -> Overlay<'a>
-    requires segment { HasSegmentData file.now (program_fields segment.now) }
-    requires full { (program_fields segment.now).file_size ≢ 0 }
+    requires segment { HasSegmentData file.now (program_fields program.now) }
+    requires full { (program_fields program.now).file_size ≢ 0 }
     requires section { HasSectionData file.now section.now }
-    requires behind { (program_fields segment.now).offset ≤ (section_fields section.now).offset }
-    ensures outer { IsSegmentData file.now (program_fields segment.now) result.outer.now }
+    requires behind { (program_fields program.now).offset ≤ (section_fields section.now).offset }
+    ensures outer { IsSegmentData file.now (program_fields program.now) result.outer.now }
     ensures inner { IsSectionData file.now section.now result.inner.now }
     ensures place { result.place
-        ≡ (section_fields section.now).offset - (program_fields segment.now).offset }
+        ≡ (section_fields section.now).offset - (program_fields program.now).offset }
     ensures lies { LiesAt result.outer result.place result.inner }
 {
-    let Ok(outer) = segment.raw_data(file) else {
+    let Ok(outer) = program.raw_data(file) else {
         unreachable!()
     };
     let Ok(inner) = section.raw_data(file) else {
         unreachable!()
     };
-    let place = section.offset() - segment.offset();
+    let place = section.offset() - program.offset();
     Overlay {
         outer,
         inner,
@@ -100,18 +100,18 @@ pub fn segment_data_in(input: &[u8], index: u16) -> Result<SegmentData<'_>, ElfE
     ensures found { IfOk result (λ part. IsOkAnd (header_of input.now) (λ header.
         let file : ElfFile = record { input = input.entry; header = header } in
         IsOkAnd (program_by_u16 input.now header index)
-        (λ segment. segment_content_of file (program_fields segment)
+        (λ program. segment_content_of file (program_fields program)
         ≡ Ok (segment_content part)))) }
     ensures refused { IfErr result (λ error. MatchResult (header_of input.now) (λ header.
         let file : ElfFile = record { input = input.entry; header = header } in
         MatchResult (program_by_u16 input.now header index)
-        (λ segment. segment_content_of file (program_fields segment) ≡ Err error)
+        (λ program. segment_content_of file (program_fields program) ≡ Err error)
         (λ why. why ≡ error))
         (λ why. why ≡ error)) }
 {
     let file = ElfFile::new(input)?;
-    let segment = file.program_header(index)?;
-    segment.get_data(&file)
+    let program = file.program_header(index)?;
+    program.get_data(&file)
 }
 
 /// The bytes of some symbols, which outlive the table that they were read by.

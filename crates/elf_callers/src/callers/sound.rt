@@ -25,10 +25,10 @@ pub fn is_sound_section(file: &ElfFile<'_>, section: SectionHeader) -> bool
 
 /// Whether a program header makes sense over the file.
 #[tactic(auto, unfolding(xmas_elf::specs::Checks::program_check))]
-pub fn is_sound_segment(file: &ElfFile<'_>, segment: ProgramHeader) -> bool
-    ensures { IsTrue result ↔ IsSoundSegment file.now segment }
+pub fn is_sound_segment(file: &ElfFile<'_>, program: ProgramHeader) -> bool
+    ensures { IsTrue result ↔ IsSoundSegment file.now program }
 {
-    program::sanity_check(segment, file).is_ok()
+    program::sanity_check(program, file).is_ok()
 }
 
 /// Whether the data of a section is symbols of class 64.

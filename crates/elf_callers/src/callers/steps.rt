@@ -28,13 +28,13 @@ pub fn next_section(sections: &mut SectionIter<'_, '_>) -> Option<SectionHeader>
 
 /// The same of segments.
 pub fn next_segment(segments: &mut ProgramIter<'_, '_>) -> Option<ProgramHeader>
-    ensures there { (segment : ProgramHeader)
+    ensures there { (program : ProgramHeader)
         → segments.old.next_index < program_count_of segments.old.file.now
-        → program_of segments.old.file.now segments.old.next_index ≡ Ok segment
-        → result ≡ Some segment }
-    ensures given { IfSome result (λ segment.
+        → program_of segments.old.file.now segments.old.next_index ≡ Ok program
+        → result ≡ Some program }
+    ensures given { IfSome result (λ program.
         (segments.old.next_index < program_count_of segments.old.file.now)
-        × (program_of segments.old.file.now segments.old.next_index ≡ Ok segment)
+        × (program_of segments.old.file.now segments.old.next_index ≡ Ok program)
         × (segments.new.next_index ≡ segments.old.next_index + 1)) }
     ensures stays { IfNone result (segments.new.next_index ≡ segments.old.next_index) }
 {

@@ -46,7 +46,7 @@ impl Display for ProgramFields {
 }
 
 impl Display for ProgramHeader64 {
-    ghost output = { λ header. Some (program_text header) };
+    ghost output = { λ segment. Some (program_text segment) };
 
     fn fmt<W: fmt::Write>(&self, f: &mut fmt::Formatter<W>) -> fmt::Result {
         write!(f, "Program header:\n{}", ProgramFields(*self))
@@ -54,7 +54,7 @@ impl Display for ProgramHeader64 {
 }
 
 impl Display for ProgramHeader32 {
-    ghost output = { λ header. Some (program_text (program_64 header)) };
+    ghost output = { λ program. Some (program_text (program_64 program)) };
 
     fn fmt<W: fmt::Write>(&self, f: &mut fmt::Formatter<W>) -> fmt::Result {
         self.to_64().fmt(f)
@@ -62,7 +62,7 @@ impl Display for ProgramHeader32 {
 }
 
 impl Display for ProgramHeader {
-    ghost output = { λ header. Some (program_text (program_fields header)) };
+    ghost output = { λ program. Some (program_text (program_fields program)) };
 
     fn fmt<W: fmt::Write>(&self, f: &mut fmt::Formatter<W>) -> fmt::Result {
         self.record_64().fmt(f)
