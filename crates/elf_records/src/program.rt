@@ -50,7 +50,7 @@ impl Type_ {
     pub fn from_raw(number: u32) -> Type_
         ensures { result ≡ ph_type_raw number }
     {
-        Type_(number)
+        Self(number)
     }
 
     /// The number as it stands in the file.
@@ -139,7 +139,7 @@ impl Flags {
     pub fn from_raw(number: u32) -> Flags
         ensures { result ≡ record { 0 = number } }
     {
-        Flags(number)
+        Self(number)
     }
 
     /// The number as it stands in the file.

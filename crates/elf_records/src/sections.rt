@@ -118,7 +118,7 @@ impl ShType_ {
     pub fn from_raw(number: u32) -> ShType_
         ensures { result ≡ sh_type_raw number }
     {
-        ShType_(number)
+        Self(number)
     }
 
     /// The number as it stands in the file.

@@ -20,7 +20,7 @@ impl Visibility_ {
     pub fn from_raw(number: u8) -> Visibility_
         ensures { result ≡ visibility_raw number }
     {
-        Visibility_(number)
+        Self(number)
     }
 
     /// The number as it stands in the file.
@@ -79,7 +79,7 @@ impl Binding_ {
     pub fn from_raw(number: u8) -> Binding_
         ensures { result ≡ binding_raw number }
     {
-        Binding_(number)
+        Self(number)
     }
 
     /// The number as it stands in the file.
@@ -143,7 +143,7 @@ impl Type_ {
     pub fn from_raw(number: u8) -> Type_
         ensures { result ≡ symbol_type_raw number }
     {
-        Type_(number)
+        Self(number)
     }
 
     /// The number as it stands in the file.

@@ -63,6 +63,6 @@ impl<'a> ElfFile<'a> {
         ensures refused { IfErr result (λ error. header_of input.now ≡ Err error) }
     {
         let header = parse_header(input)?;
-        Ok(ElfFile { input, header })
+        Ok(Self { input, header })
     }
 }

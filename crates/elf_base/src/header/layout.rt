@@ -20,7 +20,7 @@ impl HeaderPt1 {
         magic.copy_from_slice(&bytes[0..4]);
         let mut padding = [0; 7];
         padding.copy_from_slice(&bytes[9..16]);
-        HeaderPt1 {
+        Self {
             magic,
             class: Class_::from_raw(bytes[4]),
             encoding: Data_::from_raw(bytes[5]),
@@ -42,7 +42,7 @@ impl Record for HeaderPt1 {
     ghost size_above_zero = { lit< tt };
 
     fn decode(bytes: &[u8], _order: Order) -> HeaderPt1 {
-        HeaderPt1::read(bytes)
+        Self::read(bytes)
     }
 }
 
@@ -53,7 +53,7 @@ impl HeaderPt2_<P32> {
         requires { place + 36 ≤ length bytes.now }
         ensures { result ≡ header_pt2_32 order place bytes.now }
     {
-        HeaderPt2_ {
+        Self {
             type_: Type_::from_raw(read_u16(bytes, place, order)),
             machine: Machine_::from_raw(read_u16(bytes, place + 2, order)),
             version: read_u32(bytes, place + 4, order),
@@ -81,7 +81,7 @@ impl Record for HeaderPt2_<P32> {
     ghost size_above_zero = { lit< tt };
 
     fn decode(bytes: &[u8], order: Order) -> HeaderPt2_<P32> {
-        HeaderPt2_::<P32>::read(bytes, 0, order)
+        Self::read(bytes, 0, order)
     }
 }
 
@@ -92,7 +92,7 @@ impl HeaderPt2_<P64> {
         requires { place + 48 ≤ length bytes.now }
         ensures { result ≡ header_pt2_64 order place bytes.now }
     {
-        HeaderPt2_ {
+        Self {
             type_: Type_::from_raw(read_u16(bytes, place, order)),
             machine: Machine_::from_raw(read_u16(bytes, place + 2, order)),
             version: read_u32(bytes, place + 4, order),
@@ -120,6 +120,6 @@ impl Record for HeaderPt2_<P64> {
     ghost size_above_zero = { lit< tt };
 
     fn decode(bytes: &[u8], order: Order) -> HeaderPt2_<P64> {
-        HeaderPt2_::<P64>::read(bytes, 0, order)
+        Self::read(bytes, 0, order)
     }
 }

@@ -19,7 +19,7 @@ impl Class_ {
     pub fn from_raw(number: u8) -> Class_
         ensures { result ≡ class_raw number }
     {
-        Class_(number)
+        Self(number)
     }
 
     /// The number as it stands in the file.
@@ -67,7 +67,7 @@ impl Class {
     pub fn is_none(&self) -> bool
         ensures { IsTrue result ↔ (self.now ≡ Class.None) }
     {
-        matches!(*self, Class::None)
+        matches!(*self, Self::None)
     }
 }
 
@@ -80,7 +80,7 @@ impl Data_ {
     pub fn from_raw(number: u8) -> Data_
         ensures { result ≡ encoding_raw number }
     {
-        Data_(number)
+        Self(number)
     }
 
     /// The number as it stands in the file.
@@ -128,7 +128,7 @@ impl Data {
     pub fn is_none(&self) -> bool
         ensures { IsTrue result ↔ (self.now ≡ Data.None) }
     {
-        matches!(*self, Data::None)
+        matches!(*self, Self::None)
     }
 }
 
@@ -141,7 +141,7 @@ impl Version_ {
     pub fn from_raw(number: u8) -> Version_
         ensures { result ≡ version_raw number }
     {
-        Version_(number)
+        Self(number)
     }
 
     /// The number as it stands in the file.
@@ -186,7 +186,7 @@ impl Version {
     pub fn is_none(&self) -> bool
         ensures { IsTrue result ↔ (self.now ≡ Version.None) }
     {
-        matches!(*self, Version::None)
+        matches!(*self, Self::None)
     }
 }
 
@@ -199,7 +199,7 @@ impl OsAbi_ {
     pub fn from_raw(number: u8) -> OsAbi_
         ensures { result ≡ os_abi_raw number }
     {
-        OsAbi_(number)
+        Self(number)
     }
 
     /// The number as it stands in the file.
@@ -265,7 +265,7 @@ impl Type_ {
     pub fn from_raw(number: u16) -> Type_
         ensures { result ≡ type_raw number }
     {
-        Type_(number)
+        Self(number)
     }
 
     /// The number as it stands in the file.
@@ -317,7 +317,7 @@ impl Machine_ {
     pub fn from_raw(number: u16) -> Machine_
         ensures { result ≡ machine_raw number }
     {
-        Machine_(number)
+        Self(number)
     }
 
     /// The number as it stands in the file.

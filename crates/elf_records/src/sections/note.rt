@@ -33,7 +33,7 @@ impl Record for NoteHeader {
     #[inline(always)]
     fn decode(bytes: &[u8], order: Order) -> NoteHeader {
         match <[u8; 12]>::try_from(bytes) {
-            Ok(kept) => NoteHeader { bytes: kept, order },
+            Ok(kept) => Self { bytes: kept, order },
             Err(_) => unreachable!(),
         }
     }

@@ -34,7 +34,7 @@ impl Record for Rel<P32> {
     ghost size_above_zero = { lit< tt };
 
     fn decode(bytes: &[u8], order: Order) -> Rel<P32> {
-        Rel {
+        Self {
             offset: read_u32(bytes, 0, order),
             info: read_u32(bytes, 4, order),
         }
@@ -51,7 +51,7 @@ impl Record for Rel<P64> {
     ghost size_above_zero = { lit< tt };
 
     fn decode(bytes: &[u8], order: Order) -> Rel<P64> {
-        Rel {
+        Self {
             offset: read_u64(bytes, 0, order),
             info: read_u64(bytes, 8, order),
         }
@@ -68,7 +68,7 @@ impl Record for Rela<P32> {
     ghost size_above_zero = { lit< tt };
 
     fn decode(bytes: &[u8], order: Order) -> Rela<P32> {
-        Rela {
+        Self {
             offset: read_u32(bytes, 0, order),
             info: read_u32(bytes, 4, order),
             addend: read_u32(bytes, 8, order),
@@ -86,7 +86,7 @@ impl Record for Rela<P64> {
     ghost size_above_zero = { lit< tt };
 
     fn decode(bytes: &[u8], order: Order) -> Rela<P64> {
-        Rela {
+        Self {
             offset: read_u64(bytes, 0, order),
             info: read_u64(bytes, 8, order),
             addend: read_u64(bytes, 16, order),

@@ -115,7 +115,7 @@ impl ProgramHeader32 {
         requires { place + 32 ≤ length bytes.now }
         ensures { result ≡ program_header_32 order place bytes.now }
     {
-        ProgramHeader32 {
+        Self {
             type_: Type_::from_raw(read_u32(bytes, place, order)),
             offset: read_u32(bytes, place + 4, order),
             virtual_addr: read_u32(bytes, place + 8, order),
@@ -138,7 +138,7 @@ impl Record for ProgramHeader32 {
     ghost size_above_zero = { lit< tt };
 
     fn decode(bytes: &[u8], order: Order) -> ProgramHeader32 {
-        ProgramHeader32::read(bytes, 0, order)
+        Self::read(bytes, 0, order)
     }
 }
 
@@ -176,7 +176,7 @@ impl ProgramHeader64 {
         requires { place + 56 ≤ length bytes.now }
         ensures { result ≡ program_header_64 order place bytes.now }
     {
-        ProgramHeader64 {
+        Self {
             type_: Type_::from_raw(read_u32(bytes, place, order)),
             flags: Flags(read_u32(bytes, place + 4, order)),
             offset: read_u64(bytes, place + 8, order),
@@ -199,7 +199,7 @@ impl Record for ProgramHeader64 {
     ghost size_above_zero = { lit< tt };
 
     fn decode(bytes: &[u8], order: Order) -> ProgramHeader64 {
-        ProgramHeader64::read(bytes, 0, order)
+        Self::read(bytes, 0, order)
     }
 }
 

@@ -69,7 +69,7 @@ impl SectionHeader_<P32> {
         requires { place + 40 ≤ length bytes.now }
         ensures { result ≡ section_header_32 order place bytes.now }
     {
-        SectionHeader_ {
+        Self {
             name: read_u32(bytes, place, order),
             type_: ShType_::from_raw(read_u32(bytes, place + 4, order)),
             flags: read_u32(bytes, place + 8, order),
@@ -94,7 +94,7 @@ impl Record for SectionHeader_<P32> {
     ghost size_above_zero = { lit< tt };
 
     fn decode(bytes: &[u8], order: Order) -> SectionHeader_<P32> {
-        SectionHeader_::<P32>::read(bytes, 0, order)
+        Self::read(bytes, 0, order)
     }
 }
 
@@ -105,7 +105,7 @@ impl SectionHeader_<P64> {
         requires { place + 64 ≤ length bytes.now }
         ensures { result ≡ section_header_64 order place bytes.now }
     {
-        SectionHeader_ {
+        Self {
             name: read_u32(bytes, place, order),
             type_: ShType_::from_raw(read_u32(bytes, place + 4, order)),
             flags: read_u64(bytes, place + 8, order),
@@ -130,7 +130,7 @@ impl Record for SectionHeader_<P64> {
     ghost size_above_zero = { lit< tt };
 
     fn decode(bytes: &[u8], order: Order) -> SectionHeader_<P64> {
-        SectionHeader_::<P64>::read(bytes, 0, order)
+        Self::read(bytes, 0, order)
     }
 }
 

@@ -53,7 +53,7 @@ impl Record for Entry32 {
 
     fn decode(bytes: &[u8], order: Order) -> Entry32 {
         match <[u8; 16]>::try_from(bytes) {
-            Ok(kept) => Entry32 { bytes: kept, order },
+            Ok(kept) => Self { bytes: kept, order },
             Err(_) => unreachable!(),
         }
     }
@@ -70,7 +70,7 @@ impl Record for Entry64 {
 
     fn decode(bytes: &[u8], order: Order) -> Entry64 {
         match <[u8; 24]>::try_from(bytes) {
-            Ok(kept) => Entry64 { bytes: kept, order },
+            Ok(kept) => Self { bytes: kept, order },
             Err(_) => unreachable!(),
         }
     }
@@ -87,7 +87,7 @@ impl Record for DynEntry32 {
 
     fn decode(bytes: &[u8], order: Order) -> DynEntry32 {
         match <[u8; 16]>::try_from(bytes) {
-            Ok(kept) => DynEntry32 { bytes: kept, order },
+            Ok(kept) => Self { bytes: kept, order },
             Err(_) => unreachable!(),
         }
     }
@@ -104,7 +104,7 @@ impl Record for DynEntry64 {
 
     fn decode(bytes: &[u8], order: Order) -> DynEntry64 {
         match <[u8; 24]>::try_from(bytes) {
-            Ok(kept) => DynEntry64 { bytes: kept, order },
+            Ok(kept) => Self { bytes: kept, order },
             Err(_) => unreachable!(),
         }
     }
