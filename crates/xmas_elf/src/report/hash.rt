@@ -7,19 +7,19 @@ use crate::hash::HashTable;
 use crate::sections::{SectionData, SectionHeader, ShType};
 use crate::{ElfError, ElfFile};
 
-/// What is found of the hash table of a file.
+// What is found of the hash table of a file. It is `pub`, since definitions of other crates name it.
 #[derive(Clone, Copy)]
 pub enum HashVerdict {
-    /// It has none.
+    // It has none.
     NoTable,
-    /// Its link leads to no symbols.
+    // Its link leads to no symbols.
     NoSymbols,
-    /// The answer of its check, or why its data is refused.
+    // The answer of its check, or why its data is refused.
     Checked(Result<(), ElfError>),
 }
 
-/// What is found of the first hash table of a file, and the symbols that it is linked to.
-pub fn hash_verdict(file: &ElfFile<'_>) -> HashVerdict
+// What is found of the first hash table of a file, and the symbols that it is linked to.
+pub(crate) fn hash_verdict(file: &ElfFile<'_>) -> HashVerdict
     ensures { IsHashVerdict file.now result }
 {
     let Some(section) = hash_section(file) else {

@@ -15,17 +15,17 @@ use crate::symbol_table::{Entry, Visibility_};
 use crate::{ElfError, ElfFile};
 use elf_base::bytes::{read_u16, read_u32, read_u64};
 
-/// The bytes of a symbol and their order, in the layout of its class.
+// The bytes of a symbol and their order, in the layout of its class.
 pub(crate) enum Layout<'e> {
     Narrow(&'e [u8; 16], Order),
     Wide(&'e [u8; 24], Order),
 }
 
-/// A type that keeps a symbol's bytes.
+// A type that keeps a symbol's bytes.
 pub(crate) trait Kept {
     ghost fields: { Self → SymbolFields };
 
-    /// Whether its names stand in `.dynstr`, and not in `.strtab`.
+    // Whether its names stand in `.dynstr`, and not in `.strtab`.
     ghost DYNAMIC: { Bool };
 
     const DYNAMIC: bool;
