@@ -11,12 +11,12 @@ ghost use Rattle.xmas_elf.specs.Counts.{shstr_index_of};
 ghost use Rattle.xmas_elf.specs.HeaderTable.{entry_place, is_known_class};
 ghost use Rattle.xmas_elf.specs.SectionHeader.{section_at_place, section_header_size};
 
-use crate::bytes::Order;
+use crate::bytes::{Order, Record};
 use crate::header::Class::{SixtyFour, ThirtyTwo};
 use crate::header::Class_;
 use crate::ranges::entry_at;
-use crate::sections::{SHN_LORESERVE, SHN_XINDEX, SectionHeader, section_at_place};
-use crate::{ElfError, ElfFile};
+use crate::sections::{SHN_LORESERVE, SHN_XINDEX, SectionHeader, SectionHeader_, section_at_place};
+use crate::{ElfError, ElfFile, P32, P64};
 use elf_base::header::byte_order;
 
 // The count of program headers that stands for one in section header 0 (PN_XNUM).
@@ -108,11 +108,11 @@ fn first_at(
     }
     let place = entry_at(input, offset, entry_size, 0)?;
     let least = match class.as_class() {
-        ThirtyTwo => 40,
-        SixtyFour => 64,
+        ThirtyTwo => SectionHeader_::<P32>::SIZE,
+        SixtyFour => SectionHeader_::<P64>::SIZE,
         _ => return None,
     };
-    if entry_size < least {
+    if usize::from(entry_size) < least {
         return None;
     }
     Some(section_at_place(input, place, class.raw(), order))

@@ -12,10 +12,10 @@ ghost use Rattle.xmas_elf.specs.ProgramHeader.{program_header_size, program_of};
 ghost use Rattle.xmas_elf.specs.ProgramList.{program_list};
 
 use crate::ElfFile;
+use crate::bytes::{Order, Record};
 use crate::header::Class::{SixtyFour, ThirtyTwo};
-use crate::program::{ProgramHeader, program_at_place};
+use crate::program::{ProgramHeader, ProgramHeader32, ProgramHeader64, program_at_place};
 use crate::ranges::entries_within;
-use elf_base::bytes::Order;
 use elf_base::header::byte_order;
 
 /// The program headers of a file, for many calls: where they lie,
@@ -80,11 +80,11 @@ fn whole_programs(file: &ElfFile<'_>) -> usize
     let offset = file.header.pt2.ph_offset();
     let entry_size = file.header.pt2.ph_entry_size();
     let least = match file.header.pt1.class() {
-        ThirtyTwo => 32,
-        SixtyFour => 56,
+        ThirtyTwo => ProgramHeader32::SIZE,
+        SixtyFour => ProgramHeader64::SIZE,
         _ => return 0,
     };
-    if offset == 0 || entry_size < least {
+    if offset == 0 || usize::from(entry_size) < least {
         return 0;
     }
     let count = u64::from(file.program_count());
@@ -126,9 +126,7 @@ impl<'b, 'a> ProgramTable<'b, 'a> {
             (λ step. drop index (table_programs self.now)
             ≡ step.0 ∷ drop step.1 (table_programs self.now)) }
     {
-        let Some(program) = self.get(index) else {
-            return None;
-        };
+        let program = self.get(index)?;
         // By this the sum is known to be a number of 64 bits.
         prove!(index < self.len());
         Some((program, index + 1))

@@ -17,12 +17,11 @@ ghost use Rattle.xmas_elf.specs.SectionHeader.{HasSectionEntry, section_at_index
 ghost use Rattle.xmas_elf.specs.SectionHeader.{section_header_size, section_of};
 ghost use Rattle.xmas_elf.specs.SectionList.{section_list};
 
-use crate::bytes::text_at;
+use crate::bytes::{Order, Record, text_at};
 use crate::header::Class::{SixtyFour, ThirtyTwo};
 use crate::ranges::entries_within;
-use crate::sections::{SectionHeader, ShType, section_at_place};
-use crate::{ElfError, ElfFile};
-use elf_base::bytes::Order;
+use crate::sections::{SectionHeader, SectionHeader_, ShType, section_at_place};
+use crate::{ElfError, ElfFile, P32, P64};
 use elf_base::header::byte_order;
 
 /// The section headers of a file, for many calls: where they lie, their width and their order are
@@ -90,17 +89,18 @@ fn whole_sections(file: &ElfFile<'_>) -> usize
     ensures most { result < section_count_of file.now
         → ¬ HasSectionEntry file.now.input.now file.now.header result }
 {
+    let offset = file.header.pt2.sh_offset();
     let entry_size = file.header.pt2.sh_entry_size();
     let least = match file.header.pt1.class() {
-        ThirtyTwo => 40,
-        SixtyFour => 64,
+        ThirtyTwo => SectionHeader_::<P32>::SIZE,
+        SixtyFour => SectionHeader_::<P64>::SIZE,
         _ => return 0,
     };
-    if entry_size < least {
+    if usize::from(entry_size) < least {
         return 0;
     }
-    let offset = file.header.pt2.sh_offset();
-    entries_within(file.input, offset, entry_size, file.section_count())
+    let count = file.section_count();
+    entries_within(file.input, offset, entry_size, count)
 }
 
 impl<'b, 'a> SectionTable<'b, 'a> {
@@ -202,9 +202,7 @@ impl<'b, 'a> SectionTable<'b, 'a> {
             (λ step. drop index (table_sections self.now)
             ≡ step.0 ∷ drop step.1 (table_sections self.now)) }
     {
-        let Some(section) = self.get(index) else {
-            return None;
-        };
+        let section = self.get(index)?;
         // By this the sum is known to be a number of 64 bits.
         prove!(index < self.len());
         Some((section, index + 1))

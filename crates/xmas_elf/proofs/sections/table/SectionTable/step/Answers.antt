@@ -4,8 +4,8 @@ use Rattle.xmas_elf.specs.SectionList.{section_list}
 use Rattle.xmas_elf.proofs.HeaderLists.{item_before}
 use Rattle.xmas_elf.proofs.sections.table.SectionTable.step.Goals as goal
 
-pub returns-in_default : goal.returns-in_default
-returns-in_default c = drop_of_length-le (section_list c.args.self.now.file.now) c.in_default.ensures.value
+pub returns-in_err-section : goal.returns-in_err-section
+returns-in_err-section c = rw c.from_residual.ensures (drop_of_length-le (section_list c.args.self.now.file.now) c.in_err-section.ensures.value)
 
 pub returns : goal.returns
-returns c = item_before (section_list c.args.self.now.file.now) c.args.index c.in-Some.section (sym c.in-Some.ensures.item)
+returns c = item_before (section_list c.args.self.now.file.now) c.args.index c.in_ok-section.section (sym c.in_ok-section.ensures.item)
