@@ -121,6 +121,7 @@ impl Iterator for SectionIter<'_, '_> {
 }
 
 /// Whether a section header makes sense: `InvalidShType` is its one fault.
+#[inline(always)]
 pub fn sanity_check(section: SectionHeader, _file: &ElfFile<'_>) -> Result<(), ElfError>
     ensures { result ≡ section_check section }
 {

@@ -42,6 +42,7 @@ impl ProgramHeader {
     /// `UnknownClass` where the class is neither 1 nor 2, and with `NotMultiple` where it isn't
     /// a whole number of entries; notes with `Note32` in class 1, with `UnknownClass`, and
     /// below 12 bytes with `ShortData`.
+    #[inline(always)]
     pub fn get_data<'a>(&self, file: &ElfFile<'a>) -> Result<SegmentData<'a>, ElfError>
         ensures exact { MatchResult result
             (λ d. segment_content_of file.now (program_fields self.now) ≡ Ok (segment_content d))
@@ -62,6 +63,7 @@ impl ProgramHeader32 {
     ghost use Rattle.xmas_elf.specs.SegmentContent.{segment_content, segment_content_of};
 
     /// The data of the segment by its type, with the answer of `ProgramHeader::get_data`.
+    #[inline(always)]
     pub fn get_data<'a>(&self, file: &ElfFile<'a>) -> Result<SegmentData<'a>, ElfError>
         ensures exact { MatchResult result
             (λ d. segment_content_of file.now (program_64 self.now) ≡ Ok (segment_content d))
@@ -80,6 +82,7 @@ impl ProgramHeader64 {
 
     /// The data of the segment by its type, with the answer of `ProgramHeader::get_data`.
     #[tactic(auto, using(crate::proofs::Places::part_lies), unfolding(crate::specs::SegmentContent::segment_content_of))]
+    #[inline(always)]
     pub fn get_data<'a>(&self, file: &ElfFile<'a>) -> Result<SegmentData<'a>, ElfError>
         ensures exact { MatchResult result
             (λ d. segment_content_of file.now self.now ≡ Ok (segment_content d))

@@ -19,12 +19,13 @@ ghost use Rattle.xmas_elf.specs.ProgramHeader.{program_header_64, program_header
 ghost use Rattle.xmas_elf.specs.ProgramHeader.{program_record_size, segment_type};
 ghost use Rattle.xmas_elf.specs.SegmentData.{HasSegmentData, IsSegmentData, segment_data_of};
 
+use crate::bytes::{Order, Record};
 use crate::header::Class::{SixtyFour, ThirtyTwo};
 use crate::header::Header;
 use crate::program::{Flags, Type, Type_};
 use crate::ranges::{entry_at, range_at};
 use crate::{ElfError, ElfFile};
-use elf_base::bytes::{Order, Record, read_u32, read_u64};
+use elf_base::bytes::{read_u32, read_u64};
 use elf_base::header::byte_order;
 
 /// A program header of class 32 (gABI, "Program Header", Elf32_Phdr).
@@ -213,13 +214,53 @@ pub enum ProgramHeader {
 }
 
 impl ProgramHeader {
-    /// The alignment of the segment in memory and in the file, in bytes; 0 and 1 mean none.
-    pub fn align(&self) -> u64
-        ensures { result ≡ (program_fields self.now).align }
+    // What the segment is, as a number. That of a section is public, as in the Rust crate.
+    pub(crate) fn type_(&self) -> Type_
+        ensures { result ≡ (program_fields self.now).type_ }
     {
         match self {
-            Self::Ph32(header) => u64::from(header.align),
-            Self::Ph64(header) => header.align,
+            Self::Ph32(header) => header.type_,
+            Self::Ph64(header) => header.type_,
+        }
+    }
+
+    /// What may be done with the segment's memory.
+    pub fn flags(&self) -> Flags
+        ensures { result ≡ (program_fields self.now).flags }
+    {
+        match self {
+            Self::Ph32(header) => header.flags,
+            Self::Ph64(header) => header.flags,
+        }
+    }
+
+    /// The address of the segment in memory.
+    pub fn virtual_addr(&self) -> u64
+        ensures { result ≡ (program_fields self.now).virtual_addr }
+    {
+        match self {
+            Self::Ph32(header) => u64::from(header.virtual_addr),
+            Self::Ph64(header) => header.virtual_addr,
+        }
+    }
+
+    /// The physical address of the segment, where that matters.
+    pub fn physical_addr(&self) -> u64
+        ensures { result ≡ (program_fields self.now).physical_addr }
+    {
+        match self {
+            Self::Ph32(header) => u64::from(header.physical_addr),
+            Self::Ph64(header) => header.physical_addr,
+        }
+    }
+
+    /// Where the segment's data lies, in bytes from the start of the file.
+    pub fn offset(&self) -> u64
+        ensures { result ≡ (program_fields self.now).offset }
+    {
+        match self {
+            Self::Ph32(header) => u64::from(header.offset),
+            Self::Ph64(header) => header.offset,
         }
     }
 
@@ -243,43 +284,13 @@ impl ProgramHeader {
         }
     }
 
-    /// Where the segment's data lies, in bytes from the start of the file.
-    pub fn offset(&self) -> u64
-        ensures { result ≡ (program_fields self.now).offset }
+    /// The alignment of the segment in memory and in the file, in bytes; 0 and 1 mean none.
+    pub fn align(&self) -> u64
+        ensures { result ≡ (program_fields self.now).align }
     {
         match self {
-            Self::Ph32(header) => u64::from(header.offset),
-            Self::Ph64(header) => header.offset,
-        }
-    }
-
-    /// The physical address of the segment, where that matters.
-    pub fn physical_addr(&self) -> u64
-        ensures { result ≡ (program_fields self.now).physical_addr }
-    {
-        match self {
-            Self::Ph32(header) => u64::from(header.physical_addr),
-            Self::Ph64(header) => header.physical_addr,
-        }
-    }
-
-    /// The address of the segment in memory.
-    pub fn virtual_addr(&self) -> u64
-        ensures { result ≡ (program_fields self.now).virtual_addr }
-    {
-        match self {
-            Self::Ph32(header) => u64::from(header.virtual_addr),
-            Self::Ph64(header) => header.virtual_addr,
-        }
-    }
-
-    /// What may be done with the segment's memory.
-    pub fn flags(&self) -> Flags
-        ensures { result ≡ (program_fields self.now).flags }
-    {
-        match self {
-            Self::Ph32(header) => header.flags,
-            Self::Ph64(header) => header.flags,
+            Self::Ph32(header) => u64::from(header.align),
+            Self::Ph64(header) => header.align,
         }
     }
 
@@ -332,16 +343,6 @@ impl ProgramHeader {
             return Ok((0, 0));
         }
         Ok((self.offset() as usize, bytes.len()))
-    }
-
-    // What the segment is, as a number. That of a section is public, as in the Rust crate.
-    pub(crate) fn type_(&self) -> Type_
-        ensures { result ≡ (program_fields self.now).type_ }
-    {
-        match self {
-            Self::Ph32(header) => header.type_,
-            Self::Ph64(header) => header.type_,
-        }
     }
 
     // The record of the segment, in the types of class 64.

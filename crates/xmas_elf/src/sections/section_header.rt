@@ -20,12 +20,13 @@ ghost use Rattle.xmas_elf.specs.SectionHeader.{section_header_64};
 ghost use Rattle.xmas_elf.specs.SectionHeader.{section_header_size, section_type};
 ghost use Rattle.xmas_elf.specs.declared.ElfFile.{ElfFile};
 
+use crate::bytes::{Order, Record, stands_at};
 use crate::header::Class::{SixtyFour, ThirtyTwo};
 use crate::header::Header;
 use crate::ranges::{entry_at, range_at};
 use crate::sections::{SHN_LORESERVE, ShType, ShType_};
 use crate::{ElfError, ElfFile, P32, P64};
-use elf_base::bytes::{Order, Record, read_u32, read_u64, stands_at};
+use elf_base::bytes::{read_u32, read_u64};
 use elf_base::header::byte_order;
 
 /// A section header with numbers of type `P`, which `SectionHeader` reads (gABI, "Sections").
@@ -144,16 +145,6 @@ pub enum SectionHeader {
 }
 
 impl SectionHeader {
-    /// The flags of the section (`SHF_WRITE` and the like).
-    pub fn flags(&self) -> u64
-        ensures { result ≡ (section_fields self.now).flags }
-    {
-        match self {
-            Self::Sh32(header) => u64::from(header.flags),
-            Self::Sh64(header) => header.flags,
-        }
-    }
-
     /// The index of the section's name in the name table, in bytes.
     pub fn name(&self) -> u32
         ensures { result ≡ (section_fields self.now).name }
@@ -161,6 +152,26 @@ impl SectionHeader {
         match self {
             Self::Sh32(header) => header.name,
             Self::Sh64(header) => header.name,
+        }
+    }
+
+    /// What the section holds.
+    pub fn type_(&self) -> ShType_
+        ensures { result ≡ sh_type_raw (section_fields self.now).type_ }
+    {
+        match self {
+            Self::Sh32(header) => header.type_,
+            Self::Sh64(header) => header.type_,
+        }
+    }
+
+    /// The flags of the section (`SHF_WRITE` and the like).
+    pub fn flags(&self) -> u64
+        ensures { result ≡ (section_fields self.now).flags }
+    {
+        match self {
+            Self::Sh32(header) => u64::from(header.flags),
+            Self::Sh64(header) => header.flags,
         }
     }
 
@@ -194,16 +205,6 @@ impl SectionHeader {
         }
     }
 
-    /// What the section holds.
-    pub fn type_(&self) -> ShType_
-        ensures { result ≡ sh_type_raw (section_fields self.now).type_ }
-    {
-        match self {
-            Self::Sh32(header) => header.type_,
-            Self::Sh64(header) => header.type_,
-        }
-    }
-
     /// The index of a section that this one is linked to, if its type has one.
     pub fn link(&self) -> u32
         ensures { result ≡ (section_fields self.now).link }
@@ -224,16 +225,6 @@ impl SectionHeader {
         }
     }
 
-    /// How many bytes an entry of the section has, or 0.
-    pub fn entry_size(&self) -> u64
-        ensures { result ≡ (section_fields self.now).entry_size }
-    {
-        match self {
-            Self::Sh32(header) => u64::from(header.entry_size),
-            Self::Sh64(header) => header.entry_size,
-        }
-    }
-
     /// The alignment of the section's address, in bytes.
     pub fn align(&self) -> u64
         ensures { result ≡ (section_fields self.now).align }
@@ -241,6 +232,16 @@ impl SectionHeader {
         match self {
             Self::Sh32(header) => u64::from(header.align),
             Self::Sh64(header) => header.align,
+        }
+    }
+
+    /// How many bytes an entry of the section has, or 0.
+    pub fn entry_size(&self) -> u64
+        ensures { result ≡ (section_fields self.now).entry_size }
+    {
+        match self {
+            Self::Sh32(header) => u64::from(header.entry_size),
+            Self::Sh64(header) => header.entry_size,
         }
     }
 
