@@ -6,12 +6,12 @@ use Rattle.xmas_elf.specs.declared.sections.table.SectionTable.{SectionTable}
 use Rattle.xmas_elf.specs.declared.sections.table.SectionTableIter.{SectionTableIter}
 
 -- the file whose sections a table holds
-abbrev pub table_file : SectionTable → ElfFile
-table_file table = table.file.now
+abbrev pub section_table_file : SectionTable → ElfFile
+section_table_file table = table.file.now
 
 -- its sections: those of the file
 abbrev pub table_sections : SectionTable → List SectionHeader
-table_sections table = section_list (table_file table)
+table_sections table = section_list (section_table_file table)
 
 -- the sections that an iterator over a table has left
 abbrev pub table_sections_rest : SectionTableIter → List SectionHeader

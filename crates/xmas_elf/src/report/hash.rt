@@ -7,7 +7,7 @@ use crate::hash::HashTable;
 use crate::sections::{SectionData, SectionHeader, ShType};
 use crate::{ElfError, ElfFile};
 
-// What is found of the hash table of a file. It is `pub`, since definitions of other crates name it.
+// What is found of the hash table of a file. It is `pub`, since definitions elsewhere name it.
 #[derive(Clone, Copy)]
 pub enum HashVerdict {
     // It has none.

@@ -46,12 +46,12 @@ pub struct SectionTable<'b, 'a> {
 }
 
 impl<'a> ElfFile<'a> {
-    ghost use Rattle.xmas_elf.specs.SectionTable.{table_file, table_sections};
+    ghost use Rattle.xmas_elf.specs.SectionTable.{section_table_file, table_sections};
 
     /// The section headers for many calls: the same as by `section_iter`.
     #[inline(always)]
     pub fn section_table(&self) -> SectionTable<'_, 'a>
-        ensures file { table_file result ≡ self.now }
+        ensures file { section_table_file result ≡ self.now }
         ensures longest { IsLongest (section_of self.now) (section_count_of self.now)
             (table_sections result) }
     {
@@ -104,7 +104,8 @@ fn whole_sections(file: &ElfFile<'_>) -> usize
 }
 
 impl<'b, 'a> SectionTable<'b, 'a> {
-    ghost use Rattle.xmas_elf.specs.SectionTable.{table_file, table_sections, table_sections_rest};
+    ghost use Rattle.xmas_elf.specs.SectionTable.{section_table_file, table_sections};
+    ghost use Rattle.xmas_elf.specs.SectionTable.{table_sections_rest};
 
     /// How many section headers it has.
     #[inline(always)]
@@ -121,7 +122,7 @@ impl<'b, 'a> SectionTable<'b, 'a> {
         ensures value { MatchOption result (length (table_sections self.now) ≤ index)
             (λ section. (index < length (table_sections self.now)) × (section
             ≡ section_at_index
-            (table_file self.now).input.now (table_file self.now).header index)) }
+            (section_table_file self.now).input.now (section_table_file self.now).header index)) }
     {
         if index >= self.len {
             return None;
@@ -134,9 +135,9 @@ impl<'b, 'a> SectionTable<'b, 'a> {
     #[tactic(auto, unfolding(crate::specs::NameTable::name_of))]
     #[inline(always)]
     pub fn name_of(&self, section: &SectionHeader) -> Result<&'a str, ElfError>
-        ensures name { Lends (Bears (table_file self.now) section.now) result }
-        ensures only { LendsOnly (Bears (table_file self.now) section.now) result }
-        ensures exact { Answers (name_of (table_file self.now) section.now) result }
+        ensures name { Lends (Bears (section_table_file self.now) section.now) result }
+        ensures only { LendsOnly (Bears (section_table_file self.now) section.now) result }
+        ensures exact { Answers (name_of (section_table_file self.now) section.now) result }
     {
         match section.get_type()? {
             ShType::Null => Err(ElfError::NullName),
@@ -148,9 +149,9 @@ impl<'b, 'a> SectionTable<'b, 'a> {
     #[tactic(auto, unfolding(crate::specs::NameTable::shstr_of))]
     #[inline(always)]
     fn text(&self, index: u32) -> Result<&'a str, ElfError>
-        ensures name { Lends (IsNameAt (table_file self.now) index) result }
-        ensures only { LendsOnly (IsNameAt (table_file self.now) index) result }
-        ensures exact { Answers (shstr_of (table_file self.now) index) result }
+        ensures name { Lends (IsNameAt (section_table_file self.now) index) result }
+        ensures only { LendsOnly (IsNameAt (section_table_file self.now) index) result }
+        ensures exact { Answers (shstr_of (section_table_file self.now) index) result }
     {
         text_at(self.name_table()?, index as usize)
     }
@@ -158,9 +159,9 @@ impl<'b, 'a> SectionTable<'b, 'a> {
     // The name table, or why there is none.
     #[inline(always)]
     fn name_table(&self) -> Result<&'a [u8], ElfError>
-        ensures table { Lends (IsNameTable (table_file self.now)) result }
-        ensures only { LendsOnly (IsNameTable (table_file self.now)) result }
-        ensures exact { Answers (name_table_of (table_file self.now)) result }
+        ensures table { Lends (IsNameTable (section_table_file self.now)) result }
+        ensures only { LendsOnly (IsNameTable (section_table_file self.now)) result }
+        ensures exact { Answers (name_table_of (section_table_file self.now)) result }
     {
         self.names
     }
@@ -168,8 +169,8 @@ impl<'b, 'a> SectionTable<'b, 'a> {
     /// The first section that bears this name, with the answer of `ElfFile::find_section_by_name`.
     #[inline(always)]
     pub fn find_by_name(&self, name: &str) -> Option<SectionHeader>
-        ensures list { FindsNamed (table_file self.now) name.now result }
-        ensures exact { result ≡ section_named (table_file self.now) name.now }
+        ensures list { FindsNamed (section_table_file self.now) name.now result }
+        ensures exact { result ≡ section_named (section_table_file self.now) name.now }
     {
         self.first_named(name)
     }
@@ -177,7 +178,7 @@ impl<'b, 'a> SectionTable<'b, 'a> {
     // The first section that bears this name. It is read whole only once it is found.
     #[inline(always)]
     fn first_named(&self, name: &str) -> Option<SectionHeader>
-        ensures { FindsNamed (table_file self.now) name.now result }
+        ensures { FindsNamed (section_table_file self.now) name.now result }
     {
         let position = self.position_of_name(name)?;
         self.get(position)
@@ -186,7 +187,7 @@ impl<'b, 'a> SectionTable<'b, 'a> {
     // The position of that section.
     #[inline(always)]
     fn position_of_name(&self, name: &str) -> Option<usize>
-        ensures { FindsFirstAt (λ section. Bears (table_file self.now) section name.now)
+        ensures { FindsFirstAt (λ section. Bears (section_table_file self.now) section name.now)
             (table_sections self.now) result }
     {
         let Ok(names) = self.name_table() else {
