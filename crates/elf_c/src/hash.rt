@@ -10,7 +10,7 @@ ghost use Rattle.elf_c.specs.declared.hash.LookUp.{LookUp};
 ghost use Rattle.elf_c.specs.declared.status.Refusal.{Refusal};
 ghost use Rattle.elf_c.specs.declared.status.Refusal.TheVariants.{Elf};
 ghost use Rattle.xmas_elf.specs.HashReport.{content_at};
-ghost use Rattle.xmas_elf.specs.SectionContent.{content};
+ghost use Rattle.xmas_elf.specs.SectionContent.{section_content};
 ghost use Rattle.xmas_elf.specs.SymbolName.{HoldsNames};
 ghost use Rattle.xmas_elf.specs.Symbols.{symbols_of};
 
@@ -65,7 +65,7 @@ impl LookUp {
 // What the section at an index holds.
 #[inline(always)]
 pub(crate) fn data_at<'a>(file: &ElfFile<'a>, section: u32) -> Result<SectionData<'a>, ElfError>
-    ensures { MatchResult result (λ held. content_at file.now section ≡ Ok (content held))
+    ensures { MatchResult result (λ held. content_at file.now section ≡ Ok (section_content held))
         (λ error. content_at file.now section ≡ Err error) }
 {
     file.section_header_at(u64::from(section))?.get_data(file)

@@ -10,7 +10,7 @@ use Rattle.xmas_elf.specs.Number.{number}
 use Rattle.xmas_elf.specs.Order.{Order}
 use Rattle.xmas_elf.specs.Range.{range_of}
 use Rattle.xmas_elf.specs.Refusal.{and_then}
-use Rattle.xmas_elf.specs.SectionContent.{content_in, content_of, has_no_bytes, section_content_of}
+use Rattle.xmas_elf.specs.SectionContent.{content_in, content_of_section, has_no_bytes, section_content_of}
 use Rattle.xmas_elf.specs.SectionHeader.{section_fields, section_type}
 use Rattle.xmas_elf.specs.ShType.{ShType}
 use Rattle.xmas_elf.specs.ShType.TheVariants as sh_type
@@ -117,12 +117,12 @@ record IsShaped (file : ElfFile) (section : SectionHeader) (kind : ShType) (want
 abbrev Agrees : ElfFile → SectionHeader → ShType → Type 0
 Agrees file section kind = (wanted : Shape) → IsOkAnd (content_in file section kind) (λ c. shape c ≡ wanted) ↔ IsShaped file section kind wanted
 
-with_bytes : (file : ElfFile) (section : SectionHeader) (kind : ShType) → has_no_bytes kind ≡ false → ((b : List ℕ) → Says (content_of kind (file_class file.header) (file_order file.header) b) (shape_in kind (file_class file.header)) (length b)) → Agrees file section kind
+with_bytes : (file : ElfFile) (section : SectionHeader) (kind : ShType) → has_no_bytes kind ≡ false → ((b : List ℕ) → Says (content_of_section kind (file_class file.header) (file_order file.header) b) (shape_in kind (file_class file.header)) (length b)) → Agrees file section kind
 with_bytes file section kind has says wanted =
     let input = file.input.now in
     let start = (section_fields section).offset in
     let size = (section_fields section).size in
-    let make = content_of kind (file_class file.header) (file_order file.header) in
+    let make = content_of_section kind (file_class file.header) (file_order file.header) in
     let there = in_range make (shape_in kind (file_class file.header)) input start size says wanted in
     let same : content_in file section kind ≡ and_then (range_of input start size) make = ap (λ (t : Bool). if t then Ok empty else and_then (range_of input start size) make) has in (
       λ is. (let held = there.0 (subst (λ r. IsOkAnd r (λ c. shape c ≡ wanted)) same is) in record {
@@ -138,7 +138,7 @@ without_bytes file section kind none one wanted =
     let input = file.input.now in
     let start = (section_fields section).offset in
     let size = (section_fields section).size in
-    let make = content_of kind (file_class file.header) (file_order file.header) in
+    let make = content_of_section kind (file_class file.header) (file_order file.header) in
     let same : content_in file section kind ≡ Ok empty = ap (λ (t : Bool). if t then Ok empty else and_then (range_of input start size) make) none in (
       λ is. (let nothing_is : nothing ≡ wanted = subst (λ r. IsOkAnd r (λ c. shape c ≡ wanted)) same is in record {
         is = one ∙ ap (λ s. Some s) nothing_is;

@@ -1,5 +1,4 @@
--- What the data of a section is taken for, by its type (gABI, "Sections", sh_type, and
--- "Sections").
+-- What the data of a section is taken for, by its type (gABI, "Sections", sh_type).
 use Rattle.std.specs.Prelude.{ℕ, Bool, true, false, List, Result, Ok, if◌then◌else◌}
 use Rattle.elf_base.specs.FileHeader.{file_class, file_order}
 use Rattle.elf_base.specs.Refusal.{and_then}
@@ -13,45 +12,44 @@ use Rattle.xmas_elf.specs.SectionHeader.{section_fields, section_type}
 use Rattle.xmas_elf.specs.declared.sections.content.SectionData.TheVariants as section_data
 
 -- what a value of `SectionData` holds
-abbrev pub content : SectionData → Content
-content section_data.Empty = empty
-content (section_data.Undefined bytes) = undefined bytes.now
-content (section_data.StrArray bytes) = strings bytes.now
-content (section_data.SymbolTable32 table) = table_of symbols_32 (table_order table) (table_data table)
-content (section_data.SymbolTable64 table) = table_of symbols_64 (table_order table) (table_data table)
-content (section_data.DynSymbolTable32 table) = table_of dyn_symbols_32 (table_order table) (table_data table)
-content (section_data.DynSymbolTable64 table) = table_of dyn_symbols_64 (table_order table) (table_data table)
-content (section_data.FnArray32 table) = table_of functions_32 (table_order table) (table_data table)
-content (section_data.FnArray64 table) = table_of functions_64 (table_order table) (table_data table)
-content (section_data.Rela32 table) = table_of rela_32 (table_order table) (table_data table)
-content (section_data.Rela64 table) = table_of rela_64 (table_order table) (table_data table)
-content (section_data.Rel32 table) = table_of rel_32 (table_order table) (table_data table)
-content (section_data.Rel64 table) = table_of rel_64 (table_order table) (table_data table)
-content (section_data.Dynamic32 table) = table_of dynamic_32 (table_order table) (table_data table)
-content (section_data.Dynamic64 table) = table_of dynamic_64 (table_order table) (table_data table)
-content (section_data.SymTabShIndex table) = table_of section_indices (table_order table) (table_data table)
-content (section_data.Group flags table) = group flags (table_order table) (table_data table)
-content (section_data.Note64 header body) = note_64 header body.now
-content (section_data.HashTable table) = hash_table (hash_order table) (hash_data table)
+abbrev pub section_content : SectionData → Content
+section_content section_data.Empty = empty
+section_content (section_data.Undefined bytes) = undefined bytes.now
+section_content (section_data.StrArray bytes) = strings bytes.now
+section_content (section_data.SymbolTable32 table) = table_of symbols_32 (table_order table) (table_data table)
+section_content (section_data.SymbolTable64 table) = table_of symbols_64 (table_order table) (table_data table)
+section_content (section_data.DynSymbolTable32 table) = table_of dyn_symbols_32 (table_order table) (table_data table)
+section_content (section_data.DynSymbolTable64 table) = table_of dyn_symbols_64 (table_order table) (table_data table)
+section_content (section_data.FnArray32 table) = table_of functions_32 (table_order table) (table_data table)
+section_content (section_data.FnArray64 table) = table_of functions_64 (table_order table) (table_data table)
+section_content (section_data.Rela32 table) = table_of rela_32 (table_order table) (table_data table)
+section_content (section_data.Rela64 table) = table_of rela_64 (table_order table) (table_data table)
+section_content (section_data.Rel32 table) = table_of rel_32 (table_order table) (table_data table)
+section_content (section_data.Rel64 table) = table_of rel_64 (table_order table) (table_data table)
+section_content (section_data.Dynamic32 table) = table_of dynamic_32 (table_order table) (table_data table)
+section_content (section_data.Dynamic64 table) = table_of dynamic_64 (table_order table) (table_data table)
+section_content (section_data.SymTabShIndex table) = table_of section_indices (table_order table) (table_data table)
+section_content (section_data.Group flags table) = group flags (table_order table) (table_data table)
+section_content (section_data.Note64 header body) = note_64 header body.now
+section_content (section_data.HashTable table) = hash_table (hash_order table) (hash_data table)
 
--- what bytes are in a section of this type, in a file of this class and order, or why they can't be
-abbrev pub content_of : ShType → ℕ → Order → List ℕ → Result Content ElfError
-content_of sh_type.Null class order bytes = Ok empty
-content_of sh_type.NoBits class order bytes = Ok empty
-content_of sh_type.StrTab class order bytes = Ok (strings bytes)
-content_of sh_type.SymTab class order bytes = by_class symbols_32 symbols_64 class order bytes
-content_of sh_type.DynSym class order bytes = by_class dyn_symbols_32 dyn_symbols_64 class order bytes
-content_of sh_type.InitArray class order bytes = by_class functions_32 functions_64 class order bytes
-content_of sh_type.FiniArray class order bytes = by_class functions_32 functions_64 class order bytes
-content_of sh_type.PreInitArray class order bytes = by_class functions_32 functions_64 class order bytes
-content_of sh_type.Rela class order bytes = by_class rela_32 rela_64 class order bytes
-content_of sh_type.Rel class order bytes = by_class rel_32 rel_64 class order bytes
-content_of sh_type.Dynamic class order bytes = by_class dynamic_32 dynamic_64 class order bytes
-content_of sh_type.SymTabShIndex class order bytes = whole_table section_indices order bytes
-content_of sh_type.Group class order bytes = group_of order bytes
-content_of sh_type.Note class order bytes = note_of class order bytes
-content_of sh_type.Hash class order bytes = hash_table_of order bytes
-content_of _ class order bytes = Ok (undefined bytes)
+-- what bytes are in a section of this type, which has bytes, in a file of this class and order, or why
+-- they can't be
+abbrev pub content_of_section : ShType → ℕ → Order → List ℕ → Result Content ElfError
+content_of_section sh_type.StrTab class order bytes = Ok (strings bytes)
+content_of_section sh_type.SymTab class order bytes = by_class symbols_32 symbols_64 class order bytes
+content_of_section sh_type.DynSym class order bytes = by_class dyn_symbols_32 dyn_symbols_64 class order bytes
+content_of_section sh_type.InitArray class order bytes = by_class functions_32 functions_64 class order bytes
+content_of_section sh_type.FiniArray class order bytes = by_class functions_32 functions_64 class order bytes
+content_of_section sh_type.PreInitArray class order bytes = by_class functions_32 functions_64 class order bytes
+content_of_section sh_type.Rela class order bytes = by_class rela_32 rela_64 class order bytes
+content_of_section sh_type.Rel class order bytes = by_class rel_32 rel_64 class order bytes
+content_of_section sh_type.Dynamic class order bytes = by_class dynamic_32 dynamic_64 class order bytes
+content_of_section sh_type.SymTabShIndex class order bytes = whole_table section_indices order bytes
+content_of_section sh_type.Group class order bytes = group_of order bytes
+content_of_section sh_type.Note class order bytes = note_of class order bytes
+content_of_section sh_type.Hash class order bytes = hash_table_of order bytes
+content_of_section _ class order bytes = Ok (undefined bytes)
 
 -- the type is one whose sections have no bytes in the file (SHT_NULL and SHT_NOBITS)
 abbrev pub has_no_bytes : ShType → Bool
@@ -63,7 +61,7 @@ has_no_bytes _ = false
 abbrev pub content_in : ElfFile → SectionHeader → ShType → Result Content ElfError
 content_in file section kind = if has_no_bytes kind then Ok empty
     else and_then (range_of file.input.now (section_fields section).offset (section_fields section).size)
-    (content_of kind (file_class file.header) (file_order file.header))
+    (content_of_section kind (file_class file.header) (file_order file.header))
 
 -- what a section has, or the first reason why it has nothing
 unfoldable pub section_content_of : ElfFile → SectionHeader → Result Content ElfError

@@ -19,9 +19,9 @@ segment_content (segment_data.Dynamic32 table) = table_of dynamic_32 (table_orde
 segment_content (segment_data.Dynamic64 table) = table_of dynamic_64 (table_order table) (table_data table)
 segment_content (segment_data.Note64 header body) = note_64 header body.now
 
--- what bytes are in a segment of this type, in a file of this class and order, or why they can't be
+-- what bytes are in a segment of this type, which isn't Null, in a file of this class and order, or why
+-- they can't be
 abbrev pub content_of_segment : SegmentType → ℕ → Order → List ℕ → Result Content ElfError
-content_of_segment segment_type.Null class order bytes = Ok empty
 content_of_segment segment_type.Dynamic class order bytes = by_class dynamic_32 dynamic_64 class order bytes
 content_of_segment segment_type.Note class order bytes = note_of class order bytes
 content_of_segment _ class order bytes = Ok (undefined bytes)

@@ -8,7 +8,7 @@ ghost use Rattle.elf_callers.specs.Kinds.{symbols_64_in, text_found, uses_in};
 ghost use Rattle.xmas_elf.specs.FileHeader.{file_class, file_order};
 ghost use Rattle.xmas_elf.specs.Number.{number};
 ghost use Rattle.xmas_elf.specs.ProgramHeader.{program_fields, segment_type};
-ghost use Rattle.xmas_elf.specs.SectionContent.{content, section_content_of};
+ghost use Rattle.xmas_elf.specs.SectionContent.{section_content, section_content_of};
 ghost use Rattle.xmas_elf.specs.SectionHeader.{section_fields, section_type};
 ghost use Rattle.xmas_elf.specs.SegmentContent.{segment_content_of};
 ghost use Rattle.xmas_elf.specs.Strings.{string_data, strings_of};
@@ -150,8 +150,8 @@ pub fn text_in<'a>(file: &ElfFile<'a>, section: SectionHeader, index: usize) -> 
 /// How many items the texts of a string table come to, with a fault as the last.
 /// None where it is other data.
 pub fn text_count(part: &SectionData<'_>) -> Option<usize>
-    ensures { MatchOption result (string_data (content part.now) ≡ None)
-        (λ count. IsSomeAnd (string_data (content part.now))
+    ensures { MatchOption result (string_data (section_content part.now) ≡ None)
+        (λ count. IsSomeAnd (string_data (section_content part.now))
         (λ bytes. count ≡ length (strings_of bytes))) }
 {
     let texts = part.strings().ok()?;

@@ -7,7 +7,7 @@ ghost use Rattle.xmas_elf.specs.FileHeader.{header_of};
 ghost use Rattle.xmas_elf.specs.Lent.{LiesAt};
 ghost use Rattle.xmas_elf.specs.Place.{LiesAsSection};
 ghost use Rattle.xmas_elf.specs.ProgramHeader.{program_fields, program_by_u16};
-ghost use Rattle.xmas_elf.specs.SectionContent.{content, section_content_of};
+ghost use Rattle.xmas_elf.specs.SectionContent.{section_content, section_content_of};
 ghost use Rattle.xmas_elf.specs.SectionData.{HasSectionData, IsSectionData};
 ghost use Rattle.xmas_elf.specs.SectionHeader.{section_fields, section_by_u16};
 ghost use Rattle.xmas_elf.specs.SegmentContent.{segment_content, segment_content_of};
@@ -82,7 +82,7 @@ pub fn section_data_in(input: &[u8], index: u16) -> Result<SectionData<'_>, ElfE
     ensures found { IfOk result (λ part. IsOkAnd (header_of input.now) (λ header.
         let file : ElfFile = record { input = input.entry; header = header } in
         IsOkAnd (section_by_u16 input.now header index)
-        (λ section. section_content_of file section ≡ Ok (content part)))) }
+        (λ section. section_content_of file section ≡ Ok (section_content part)))) }
     ensures refused { IfErr result (λ error. MatchResult (header_of input.now) (λ header.
         let file : ElfFile = record { input = input.entry; header = header } in
         MatchResult (section_by_u16 input.now header index)

@@ -70,7 +70,7 @@ pub enum SectionData<'a> {
 impl SectionHeader {
     ghost use Rattle.xmas_elf.specs.Content.{Holds};
     ghost use Rattle.xmas_elf.specs.Place.{PartLies, section_part};
-    ghost use Rattle.xmas_elf.specs.SectionContent.{content, section_content_of};
+    ghost use Rattle.xmas_elf.specs.SectionContent.{section_content, section_content_of};
 
     /// The data of the section by its type, which lives as long as the input. The class and the
     /// order of its numbers are those of the file.
@@ -86,10 +86,10 @@ impl SectionHeader {
     #[inline(always)]
     pub fn get_data<'a>(&self, file: &ElfFile<'a>) -> Result<SectionData<'a>, ElfError>
         ensures exact { MatchResult result
-            (λ d. section_content_of file.now self.now ≡ Ok (content d))
+            (λ d. section_content_of file.now self.now ≡ Ok (section_content d))
             (λ e. section_content_of file.now self.now ≡ Err e) }
         ensures holds { IfOk result (λ d. Holds (IsSectionData file.now self.now)
-            (file_order file.now.header) (content d)) }
+            (file_order file.now.header) (section_content d)) }
         ensures place { IfOk result (λ d.
             PartLies file.now.input (section_fields self.now).offset (section_part d)) }
     {
@@ -104,26 +104,25 @@ impl SectionHeader {
 }
 
 impl<'a> SectionData<'a> {
-    ghost use Rattle.xmas_elf.specs.SectionContent.{content, content_of};
+    ghost use Rattle.xmas_elf.specs.SectionContent.{section_content, content_of_section};
     ghost use Rattle.xmas_elf.specs.Content.{Holds, group_of};
     ghost use Rattle.xmas_elf.specs.Place.{PartLies, section_part};
 
-    // What these bytes are in a section of this type.
+    // What these bytes are in a section of this type, which has bytes.
     #[inline(always)]
     fn read(kind: ShType, file: &ElfFile<'a>, bytes: &'a [u8]) -> Result<SectionData<'a>, ElfError>
         ensures exact { MatchResult result
-            (λ d. content_of kind (file_class file.now.header) (file_order file.now.header)
-            bytes.now ≡ Ok (content d))
-            (λ e. content_of kind (file_class file.now.header) (file_order file.now.header)
+            (λ d. content_of_section kind (file_class file.now.header) (file_order file.now.header)
+            bytes.now ≡ Ok (section_content d))
+            (λ e. content_of_section kind (file_class file.now.header) (file_order file.now.header)
             bytes.now ≡ Err e) }
         ensures holds { (f : ElfFile) (section : SectionHeader) → IsSectionData f section bytes.now
             → IfOk result (λ d. Holds (IsSectionData f section)
-            (file_order file.now.header) (content d)) }
+            (file_order file.now.header) (section_content d)) }
         ensures place { IfOk result (λ d. PartLies bytes.entry 0 (section_part d)) }
     {
         let order = byte_order(file.header.pt1.encoding);
         match (kind, file.header.pt1.class()) {
-            (ShType::Null | ShType::NoBits, _) => Ok(Self::Empty),
             (ShType::StrTab, _) => Ok(Self::StrArray(bytes)),
             (ShType::SymTab, ThirtyTwo) => Ok(Self::SymbolTable32(Table::new(bytes, order)?)),
             (ShType::SymTab, SixtyFour) => Ok(Self::SymbolTable64(Table::new(bytes, order)?)),
@@ -149,7 +148,9 @@ impl<'a> SectionData<'a> {
             }
             (ShType::Hash, _) => Ok(Self::HashTable(HashTable::read(bytes, order)?)),
             (
-                ShType::ProgBits
+                ShType::Null
+                | ShType::NoBits
+                | ShType::ProgBits
                 | ShType::ShLib
                 | ShType::OsSpecific(_)
                 | ShType::ProcessorSpecific(_)
@@ -164,10 +165,10 @@ impl<'a> SectionData<'a> {
     #[inline(always)]
     fn group(bytes: &'a [u8], order: Order) -> Result<SectionData<'a>, ElfError>
         ensures exact { MatchResult result
-            (λ d. group_of order bytes.now ≡ Ok (content d))
+            (λ d. group_of order bytes.now ≡ Ok (section_content d))
             (λ e. group_of order bytes.now ≡ Err e) }
         ensures holds { (f : ElfFile) (section : SectionHeader) → IsSectionData f section bytes.now
-            → IfOk result (λ d. Holds (IsSectionData f section) order (content d)) }
+            → IfOk result (λ d. Holds (IsSectionData f section) order (section_content d)) }
         ensures place { IfOk result (λ d. PartLies bytes.entry 0 (section_part d)) }
     {
         if bytes.len() < 4 {

@@ -15,7 +15,7 @@ pub struct SectionStrings<'a> {
 }
 
 impl<'a> SectionData<'a> {
-    ghost use Rattle.xmas_elf.specs.SectionContent.{content};
+    ghost use Rattle.xmas_elf.specs.SectionContent.{section_content};
     ghost use Rattle.xmas_elf.specs.Strings.{Strings, string_data, strings_bytes, strings_left};
 
     /// The texts of a string table; an error for all other data.
@@ -26,8 +26,8 @@ impl<'a> SectionData<'a> {
         ensures items { IfOk result (λ s. Strings (strings_bytes s) (strings_left s)) }
         ensures fits { IfOk result (λ s. length (strings_left s) < 2 ^ 64) }
         ensures exact { MatchResult result
-            (λ s. string_data (content self.now) ≡ Some (strings_bytes s))
-            (λ e. string_data (content self.now) ≡ None) }
+            (λ s. string_data (section_content self.now) ≡ Some (strings_bytes s))
+            (λ e. string_data (section_content self.now) ≡ None) }
     {
         match self {
             Self::StrArray(bytes) => {

@@ -1,6 +1,6 @@
 use Rattle.std.proofs.Common.{rules, ◌≡◌, ℕ, List, Result, Ok, Err, ap, sym, ◌∙◌}
 use Rattle.xmas_elf.specs.HashReport.{content_at}
-use Rattle.xmas_elf.specs.SectionContent.{content}
+use Rattle.xmas_elf.specs.SectionContent.{section_content}
 use Rattle.xmas_elf.specs.SectionHeader.{section_fields}
 use Rattle.elf_c.specs.Lookup.{LooksAmong, OfTable}
 use Rattle.elf_c.specs.declared.hash.LookUp.{LookUp}
@@ -19,7 +19,7 @@ returns-in-Err c = answered_so _ _ _ _ _ _ (λ name answer refused. record {
 pub returns-in-HashTable : goal.returns-in-HashTable
 returns-in-HashTable c = answered_so _ _ _ _ _ _ (λ name answer says. record {
   utf8 = λ utf8. with_table c.args.file.now c.args.section (LooksAmong c.args.file.now name) answer _ c.in-HashTable.table _
-      (sym c.in-Ok.ensures.exact) (c.in-Ok-get_data.ensures.exact ∙ ap (λ held. Ok (content held)) c.in-HashTable.is) c.link.ensures (says.0 utf8);
+      (sym c.in-Ok.ensures.exact) (c.in-Ok-get_data.ensures.exact ∙ ap (λ held. Ok (section_content held)) c.in-HashTable.is) c.link.ensures (says.0 utf8);
   not_utf8 = says.1;
 }) c.look_ups_among.ensures
 
@@ -30,7 +30,7 @@ returns-in_default c = answered_so _ _ _ _ _ _ (λ name answer refused. record {
   not_utf8 = refused.1;
 }) c.refuse_all-in_default.ensures
   where
-    other : (name : List ℕ) (answer : Result LookUp Refusal) → answer ≡ Err OtherData → OfTable (λ table. LooksAmong c.args.file.now name table (content_at c.args.file.now (section_fields c.in-Ok.found).link)) (content c.in-Ok-get_data.held) answer
+    other : (name : List ℕ) (answer : Result LookUp Refusal) → answer ≡ Err OtherData → OfTable (λ table. LooksAmong c.args.file.now name table (content_at c.args.file.now (section_fields c.in-Ok.found).link)) (section_content c.in-Ok-get_data.held) answer
     other name answer refused = search rules
 
 pub returns-in-Err-get_data : goal.returns-in-Err-get_data

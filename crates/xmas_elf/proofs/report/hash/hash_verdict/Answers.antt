@@ -1,6 +1,6 @@
 use Rattle.std.proofs.Common.{Ok, ap, subst, ◌∙◌}
 use Rattle.xmas_elf.specs.HashReport.{IsLinkedVerdict, content_at, linked, none, refused}
-use Rattle.xmas_elf.specs.SectionContent.{content}
+use Rattle.xmas_elf.specs.SectionContent.{section_content}
 use Rattle.xmas_elf.proofs.HashSections.{hash_data_is_table}
 use Rattle.xmas_elf.proofs.report.hash.hash_verdict.Goals as goal
 
@@ -15,5 +15,5 @@ unreachable-requires c = hash_data_is_table c.args.file.now c.in-Some.section c.
 
 pub returns : goal.returns
 returns c = linked c.in-Some.section c.in-HashTable.table c.linked_verdict.result c.in-Some.ensures
-    (c.in-Ok.ensures.exact ∙ ap (λ d. Ok (content d)) c.in-HashTable.is)
+    (c.in-Ok.ensures.exact ∙ ap (λ d. Ok (section_content d)) c.in-HashTable.is)
     (subst (λ link. IsLinkedVerdict c.args.file.now c.in-HashTable.table (content_at c.args.file.now link) c.linked_verdict.result) c.link.ensures c.linked_verdict.ensures)
