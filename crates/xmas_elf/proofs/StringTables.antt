@@ -2,10 +2,9 @@
 use Rattle.std.proofs.Common.{◌≡◌, List, ℕ, take, drop, Some, Result, Ok, Err, IsOk, IsOkAnd, ◌↔◌, Bor, ap, refl, subst, sym, ◌∙◌}
 use Rattle.elf_base.specs.Lent.{Lends}
 use Rattle.xmas_elf.specs.Prelude.{ElfError, ElfFile, SectionHeader, ShType}
-use Rattle.xmas_elf.specs.SectionData.{HasSectionData, IsSectionData}
+use Rattle.xmas_elf.specs.SectionData.{HasSectionData, IsDataNamed, IsSectionData, IsTypedData}
 use Rattle.xmas_elf.specs.SectionHeader.{section_fields, section_type}
 use Rattle.xmas_elf.specs.NameTable.{IsFirstNamed}
-use Rattle.xmas_elf.specs.NamedData.{IsDataNamed, IsTypedData}
 
 -- the data of the section that was found are those of the first that bears the name
 pub typed_data : (file : ElfFile) (name : List ℕ) (kind : ShType) (section : SectionHeader) (r : Result (Bor (List ℕ)) ElfError) → section_type section ≡ Ok kind → (index : ℕ) × IsFirstNamed file name index section → (IsOk r ↔ HasSectionData file section) → Lends (IsSectionData file section) r → Lends (IsTypedData file name kind) r

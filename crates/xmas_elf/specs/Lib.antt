@@ -60,7 +60,6 @@ pub mod Content
 pub mod SectionContent
 pub mod Strings
 pub mod NameTable
-pub mod NamedData
 pub mod StringTable
 pub mod SymbolName
 pub mod SymbolSection

@@ -6,7 +6,7 @@ use Rattle.elf_base.specs.Number.{number}
 use Rattle.elf_base.specs.Text.{IsText}
 use Rattle.elf_records.specs.Note.{rounded_up}
 use Rattle.xmas_elf.specs.Prelude.{ElfFile, Order}
-use Rattle.xmas_elf.specs.NamedData.{IsDataNamed}
+use Rattle.xmas_elf.specs.SectionData.{IsDataNamed}
 
 -- where the checksum of a link stands: behind the text and its zero byte, at a multiple of four
 abbrev pub checksum_place : List ℕ → ℕ

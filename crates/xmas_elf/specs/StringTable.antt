@@ -8,8 +8,7 @@ use Rattle.elf_base.specs.Text.{IsText, text_of}
 use Rattle.elf_records.specs.declared.sections.ShType.TheVariants.{StrTab}
 use Rattle.xmas_elf.specs.Prelude.{ElfError, ElfFile, NoDynstr, NoStrtab, StrtabType}
 use Rattle.xmas_elf.specs.NameTable.{section_named}
-use Rattle.xmas_elf.specs.NamedData.{IsDataNamed, IsTypedData, typed_data_of}
-use Rattle.xmas_elf.specs.SectionData.{section_data_of}
+use Rattle.xmas_elf.specs.SectionData.{IsDataNamed, IsTypedData, section_data_of, typed_data_of}
 
 -- `table` is the string table of symbols: the data of .strtab, whose type is StrTab
 abbrev pub IsStrtab : ElfFile → List ℕ → Type 0

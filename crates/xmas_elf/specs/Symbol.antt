@@ -11,8 +11,8 @@ use Rattle.xmas_elf.specs.declared.symbol_table.entries.DynEntry32.{DynEntry32}
 use Rattle.xmas_elf.specs.declared.symbol_table.entries.DynEntry64.{DynEntry64}
 use Rattle.xmas_elf.specs.declared.symbol_table.entries.Entry32.{Entry32}
 use Rattle.xmas_elf.specs.declared.symbol_table.entries.Entry64.{Entry64}
-use Rattle.xmas_elf.specs.declared.symbol_table.entries.kept.Layout.{Layout}
-use Rattle.xmas_elf.specs.declared.symbol_table.entries.kept.Layout.TheVariants.{Narrow, Wide}
+use Rattle.xmas_elf.specs.declared.symbol_table.entries.Layout.{Layout}
+use Rattle.xmas_elf.specs.declared.symbol_table.entries.Layout.TheVariants.{Narrow, Wide}
 
 -- what a symbol says, in numbers
 pub record SymbolFields : Type 0 where

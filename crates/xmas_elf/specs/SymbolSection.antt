@@ -7,7 +7,7 @@ use Rattle.elf_base.specs.Refusal.{and_then, unless}
 use Rattle.elf_records.specs.declared.sections.ShType.TheVariants.{SymTabShIndex}
 use Rattle.xmas_elf.specs.Prelude.{ElfError, ElfFile, ExpectedShIndex, NoShIndex, NotMultiple, ReservedSymbolIndex, SectionHeader, SymbolIndex}
 use Rattle.xmas_elf.specs.SectionHeader.{section_by_u16, section_of}
-use Rattle.xmas_elf.specs.NamedData.{IsTypedData, typed_data_of}
+use Rattle.xmas_elf.specs.SectionData.{IsTypedData, typed_data_of}
 use Rattle.xmas_elf.specs.Symbol.{SymbolFields}
 
 -- `table` is the data of .symtab_shndx, whose type is SymTabShIndex

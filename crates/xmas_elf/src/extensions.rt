@@ -7,7 +7,7 @@ ghost use Rattle.elf_records.specs.declared.sections.note.NoteHeader.{NoteHeader
 ghost use Rattle.xmas_elf.specs.BuildId.{IsBuildId, IsBuildIdNote, IsNoteSection};
 ghost use Rattle.xmas_elf.specs.Link.{IsAlternateLink, IsDebugLink, IsLink, IsTextAndRest};
 ghost use Rattle.xmas_elf.specs.NameTable.{IsFirstNamed};
-ghost use Rattle.xmas_elf.specs.NamedData.{IsDataNamed};
+ghost use Rattle.xmas_elf.specs.SectionData.{IsDataNamed};
 ghost use Rattle.xmas_elf.specs.Place.{LiesAsBuildId, LiesAsRest};
 ghost use Rattle.xmas_elf.specs.SectionHeader.{section_fields};
 ghost use Rattle.xmas_elf.specs.declared.sections.section_header.SectionHeader.{SectionHeader};

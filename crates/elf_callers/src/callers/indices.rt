@@ -12,7 +12,7 @@ use xmas_elf::ElfFile;
 use xmas_elf::program::ProgramHeader;
 
 /// The position in the list of the first executable segment.
-pub fn executable_place(file: &ElfFile<'_>) -> Option<usize>
+pub fn executable_position(file: &ElfFile<'_>) -> Option<usize>
     ensures { FindsFirstAt IsExecutable (program_list file.now) result }
 {
     file.program_iter()
@@ -28,7 +28,7 @@ pub fn first_executable(file: &ElfFile<'_>) -> Option<usize>
         (λ i. IsOkAnd (program_of file.now i) IsExecutable
         × EachBelow (program_of file.now) (λ program. ¬ IsExecutable program) i) }
 {
-    executable_place(file)
+    executable_position(file)
 }
 
 /// The first executable segment with its index, by a loop.

@@ -6,7 +6,7 @@ ghost use Rattle.std.specs.Prelude.{MatchOption, Ok, Some, ℕ, codes, length};
 ghost use Rattle.xmas_elf.specs.BuildId.{IsBuildId};
 ghost use Rattle.xmas_elf.specs.FileHeader.{file_class, file_order, header_of};
 ghost use Rattle.xmas_elf.specs.Link.{IsAlternateLink, IsDebugLink};
-ghost use Rattle.xmas_elf.specs.NamedData.{IsDataNamed};
+ghost use Rattle.xmas_elf.specs.SectionData.{IsDataNamed};
 ghost use Rattle.xmas_elf.specs.Note.{IsNoteName, NoteNameRefused, note_desc_size};
 ghost use Rattle.xmas_elf.specs.Note.{note_name_size, note_type, rounded_up};
 ghost use Rattle.xmas_elf.specs.Number.{number};

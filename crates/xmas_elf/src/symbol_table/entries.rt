@@ -1,14 +1,23 @@
-//! The entries of symbol tables, kept as their bytes
-//! (gABI, "Symbol Table": Elf32_Sym and Elf64_Sym).
+//! The entries of symbol tables, kept as their bytes; what each says, read from these, and where its
+//! name stands, for all four types at once (gABI, "Symbol Table": Elf32_Sym and Elf64_Sym).
 
-ghost use Rattle.std.specs.Prelude.{◌≡◌};
+ghost use Rattle.std.specs.Prelude.{◌≡◌, Bool, false, true, IfSome, IsSomeAnd};
+ghost use Rattle.std.specs.Result.{result_ok};
 ghost use Rattle.std.proofs.Common.{lit<};
+ghost use Rattle.elf_base.specs.Lent.{Answers, Lends, LendsOnly};
+ghost use Rattle.xmas_elf.specs.Symbol.{SymbolFields, symbol_in};
 ghost use Rattle.xmas_elf.specs.Symbol.{dyn_entry_32, dyn_entry_64, entry_32, entry_64};
+ghost use Rattle.xmas_elf.specs.Symbol.{dyn_entry_32_fields, dyn_entry_64_fields};
+ghost use Rattle.xmas_elf.specs.Symbol.{entry_32_fields, entry_64_fields};
+ghost use Rattle.xmas_elf.specs.SymbolName.{HoldsNames, IsSymbolString};
+ghost use Rattle.xmas_elf.specs.SymbolName.{symbol_string_of, symbol_strings_of};
 
-mod kept;
-mod printed;
+mod text;
 
 use crate::bytes::{Order, Record};
+use crate::symbol_table::{Entry, Visibility_};
+use crate::{ElfError, ElfFile};
+use elf_base::bytes::{read_u16, read_u32, read_u64};
 
 /// A symbol of class 32 (gABI, "Symbol Table", Elf32_Sym). Its name stands in `.strtab`: `get_name`
 /// has the answer of `ElfFile::get_string`.
@@ -107,5 +116,171 @@ impl Record for DynEntry64 {
             Ok(kept) => Self { bytes: kept, order },
             Err(_) => unreachable!(),
         }
+    }
+}
+
+// The bytes of a symbol and their order, in the layout of its class.
+pub(crate) enum Layout<'e> {
+    Narrow(&'e [u8; 16], Order),
+    Wide(&'e [u8; 24], Order),
+}
+
+// A type that keeps a symbol's bytes.
+pub(crate) trait Kept {
+    ghost fields: { Self → SymbolFields };
+
+    // Whether its names stand in `.dynstr`, and not in `.strtab`.
+    ghost DYNAMIC: { Bool };
+
+    const DYNAMIC: bool;
+
+    fn layout(&self) -> Layout<'_>
+        ensures { fields self.now ≡ symbol_in result };
+}
+
+impl<K: Kept> Entry for K {
+    ghost fields = { K.fields };
+
+    ghost text_in = { λ entry file.
+        result_ok (symbol_string_of K.DYNAMIC file (K.fields entry).name) };
+
+    #[inline(always)]
+    fn name(&self) -> u32 {
+        match self.layout() {
+            Layout::Narrow(bytes, order) => read_u32(bytes, 0, order),
+            Layout::Wide(bytes, order) => read_u32(bytes, 0, order),
+        }
+    }
+
+    #[inline(always)]
+    fn info(&self) -> u8 {
+        match self.layout() {
+            Layout::Narrow(bytes, _) => bytes[12],
+            Layout::Wide(bytes, _) => bytes[4],
+        }
+    }
+
+    #[inline(always)]
+    fn other(&self) -> Visibility_ {
+        Visibility_::from_raw(match self.layout() {
+            Layout::Narrow(bytes, _) => bytes[13],
+            Layout::Wide(bytes, _) => bytes[5],
+        })
+    }
+
+    #[inline(always)]
+    fn shndx(&self) -> u16 {
+        match self.layout() {
+            Layout::Narrow(bytes, order) => read_u16(bytes, 14, order),
+            Layout::Wide(bytes, order) => read_u16(bytes, 6, order),
+        }
+    }
+
+    #[inline(always)]
+    fn value(&self) -> u64 {
+        match self.layout() {
+            Layout::Narrow(bytes, order) => u64::from(read_u32(bytes, 4, order)),
+            Layout::Wide(bytes, order) => read_u64(bytes, 8, order),
+        }
+    }
+
+    #[inline(always)]
+    fn size(&self) -> u64 {
+        match self.layout() {
+            Layout::Narrow(bytes, order) => u64::from(read_u32(bytes, 8, order)),
+            Layout::Wide(bytes, order) => read_u64(bytes, 16, order),
+        }
+    }
+
+    /// The text at the symbol's name in `.strtab`, with the answer of `ElfFile::get_string`; for a
+    /// symbol of the dynamic linker in `.dynstr`, with the answer of `ElfFile::get_dyn_string`.
+    fn get_name<'a>(&self, file: &ElfFile<'a>) -> Result<&'a str, ElfError>
+        ensures text { Lends (IsSymbolString K.DYNAMIC file.now (K.fields self.now).name) result }
+        ensures only { LendsOnly
+            (IsSymbolString K.DYNAMIC file.now (K.fields self.now).name) result }
+        ensures exact { Answers
+            (symbol_string_of K.DYNAMIC file.now (K.fields self.now).name) result }
+    {
+        if K::DYNAMIC {
+            file.get_dyn_string(self.name())
+        } else {
+            file.get_string(self.name())
+        }
+    }
+
+    /// The data of `.strtab`. Refused with `NoStrtab` where no section bears that name, with
+    /// `StrtabType` where the first that does isn't a string table, and with `DataRange` where it
+    /// passes the end of the input.
+    ///
+    /// For symbols of the dynamic linker the data of `.dynstr`. Refused with `NoDynstr`
+    /// where no section bears that name, and with `DataRange` where the first that does
+    /// passes the end of the input.
+    #[tactic(auto, using(crate::proofs::SymbolNames::holds_found))]
+    fn string_table<'a>(file: &ElfFile<'a>) -> Option<Result<&'a [u8], ElfError>>
+        ensures table { IsSomeAnd result (Answers (symbol_strings_of K.DYNAMIC file.now)) }
+        ensures names { IfSome result (HoldsNames K.fields
+            (λ e. result_ok (symbol_string_of K.DYNAMIC file.now (K.fields e).name))) }
+    {
+        if K::DYNAMIC {
+            Some(file.dynstr())
+        } else {
+            Some(file.strtab())
+        }
+    }
+}
+
+#[tactic(auto, unfolding(crate::specs::Symbol::entry_32_fields))]
+impl Kept for Entry32 {
+    ghost fields = { entry_32_fields };
+
+    ghost DYNAMIC = { false };
+
+    const DYNAMIC: bool = false;
+
+    #[inline(always)]
+    fn layout(&self) -> Layout<'_> {
+        Layout::Narrow(&self.bytes, self.order)
+    }
+}
+
+#[tactic(auto, unfolding(crate::specs::Symbol::entry_64_fields))]
+impl Kept for Entry64 {
+    ghost fields = { entry_64_fields };
+
+    ghost DYNAMIC = { false };
+
+    const DYNAMIC: bool = false;
+
+    #[inline(always)]
+    fn layout(&self) -> Layout<'_> {
+        Layout::Wide(&self.bytes, self.order)
+    }
+}
+
+#[tactic(auto, unfolding(crate::specs::Symbol::dyn_entry_32_fields))]
+impl Kept for DynEntry32 {
+    ghost fields = { dyn_entry_32_fields };
+
+    ghost DYNAMIC = { true };
+
+    const DYNAMIC: bool = true;
+
+    #[inline(always)]
+    fn layout(&self) -> Layout<'_> {
+        Layout::Narrow(&self.bytes, self.order)
+    }
+}
+
+#[tactic(auto, unfolding(crate::specs::Symbol::dyn_entry_64_fields))]
+impl Kept for DynEntry64 {
+    ghost fields = { dyn_entry_64_fields };
+
+    ghost DYNAMIC = { true };
+
+    const DYNAMIC: bool = true;
+
+    #[inline(always)]
+    fn layout(&self) -> Layout<'_> {
+        Layout::Wide(&self.bytes, self.order)
     }
 }
