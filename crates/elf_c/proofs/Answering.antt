@@ -7,7 +7,7 @@ use Rattle.std.specs.Borrow.{Bor}
 use Rattle.std.specs.Prelude.{slice_get, slice_set}
 use Rattle.elf_base.specs.declared.error.ElfError.{ElfError}
 use Rattle.elf_base.specs.declared.error.ElfError.TheVariants.{TextUtf8}
-use Rattle.xmas_elf.specs.Range.{range_of}
+use Rattle.xmas_elf.specs.Ranges.{range_of}
 use Rattle.elf_c.specs.LookUps.{AreAnswered, IfUtf8, IsForRange, IsNamed, answered}
 use Rattle.elf_c.specs.declared.hash.LookUp.{LookUp}
 use Rattle.elf_c.specs.declared.look_ups.Answer.{Answer}

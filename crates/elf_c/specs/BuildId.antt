@@ -4,7 +4,7 @@ use Rattle.std.specs.Prelude.{ℕ, ◌==◌, ◌&&◌, List, [], ◌∷◌, code
 use Rattle.std.specs.Str.{bytes_eq}
 use Rattle.elf_base.specs.FileHeader.{file_order}
 use Rattle.xmas_elf.specs.NameTable.{section_named}
-use Rattle.xmas_elf.specs.Range.{range_of}
+use Rattle.xmas_elf.specs.Ranges.{range_of}
 use Rattle.xmas_elf.specs.SectionData.{section_data_of}
 use Rattle.xmas_elf.specs.SectionHeader.{section_fields}
 use Rattle.xmas_elf.specs.declared.ElfFile.{ElfFile}

@@ -3,7 +3,7 @@ use Rattle.std.specs.Prelude.{ℕ, ◌+◌, ◌-◌, ◌==◌, nat_le, List, len
 use Rattle.elf_base.specs.declared.bytes.Order.{Order}
 use Rattle.elf_linking.specs.Notes.{begins_with_note, desc_size, desc_start, name_size, next_note, type_number}
 use Rattle.elf_linking.specs.declared.error.LinkError.TheVariants.{ShortNote}
-use Rattle.xmas_elf.specs.Range.{range_of}
+use Rattle.xmas_elf.specs.Ranges.{range_of}
 use Rattle.elf_c.specs.Records.{range_at}
 use Rattle.elf_c.specs.Status.{and_so}
 use Rattle.elf_c.specs.declared.names.Range.{Range}

@@ -13,7 +13,7 @@ use Rattle.elf_linking.specs.Run.{Looks}
 use Rattle.elf_linking.specs.declared.error.LinkError.{LinkError}
 use Rattle.elf_linking.specs.declared.gnu_hash.GnuHashTable.{GnuHashTable}
 use Rattle.xmas_elf.specs.Content.{Content, dyn_symbols_32, dyn_symbols_64, symbols_32, symbols_64, table_of}
-use Rattle.xmas_elf.specs.HashReport.{content_at}
+use Rattle.xmas_elf.specs.ReportHash.{content_at}
 use Rattle.xmas_elf.specs.SectionData.{section_data_of}
 use Rattle.xmas_elf.specs.SectionHeader.{section_fields, section_of}
 use Rattle.xmas_elf.specs.Symbols.{Symbols, dyn_symbols_in_32, dyn_symbols_in_64, symbols_in_32, symbols_in_64}

@@ -3,7 +3,7 @@ use Rattle.std.specs.Prelude.{◌≡◌, ◌<◌, ◌≤◌, ℕ, List, length, 
 use Rattle.std.specs.Borrow.{Bor}
 use Rattle.std.specs.Str.{IsUtf8}
 use Rattle.elf_base.specs.declared.error.ElfError.TheVariants.{TextUtf8}
-use Rattle.xmas_elf.specs.Range.{range_of}
+use Rattle.xmas_elf.specs.Ranges.{range_of}
 use Rattle.elf_c.specs.Status.{refusal_number}
 use Rattle.elf_c.specs.declared.hash.LookUp.{LookUp}
 use Rattle.elf_c.specs.declared.look_ups.Answer.{Answer}

@@ -7,7 +7,7 @@ use Rattle.elf_base.specs.declared.error.ElfError.TheVariants.{TextUtf8}
 use Rattle.xmas_elf.specs.Chain.{Looks}
 use Rattle.xmas_elf.specs.Content.{Content, dyn_symbols_32, dyn_symbols_64, hash_table, symbols_32, symbols_64, table_of}
 use Rattle.xmas_elf.specs.Good.{FindsAll, IsCheck, IsGood}
-use Rattle.xmas_elf.specs.HashReport.{content_at}
+use Rattle.xmas_elf.specs.ReportHash.{content_at}
 use Rattle.xmas_elf.specs.HashTable.{hash_data, hash_order}
 use Rattle.xmas_elf.specs.SectionContent.{section_content_of}
 use Rattle.xmas_elf.specs.SectionHeader.{section_fields, section_of}

@@ -10,7 +10,7 @@ use Rattle.elf_records.specs.SectionNumbers.{is_sh_type}
 use Rattle.elf_records.specs.declared.sections.ShType.TheVariants.{Null}
 use Rattle.xmas_elf.specs.Counts.{program_count_of, section_count_of}
 use Rattle.xmas_elf.specs.NameTable.{names_section_of, section_named}
-use Rattle.xmas_elf.specs.Range.{range_of}
+use Rattle.xmas_elf.specs.Ranges.{range_of}
 use Rattle.xmas_elf.specs.SectionData.{section_data_of}
 use Rattle.xmas_elf.specs.SectionHeader.{section_fields, section_type}
 use Rattle.xmas_elf.specs.SegmentData.{segment_data_of}

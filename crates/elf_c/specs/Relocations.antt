@@ -1,7 +1,7 @@
 -- The relocations of a section, in numbers (gABI, "Relocation").
 use Rattle.std.specs.Prelude.{ℕ, Result, Err}
 use Rattle.elf_base.specs.Table.{records}
-use Rattle.elf_records.specs.Relocation as relocation
+use Rattle.elf_records.specs.Relocations as relocation
 use Rattle.elf_records.specs.declared.sections.relocations.Rel.{Rel}
 use Rattle.elf_records.specs.declared.sections.relocations.Rela.{Rela}
 use Rattle.xmas_elf.specs.Content as kind

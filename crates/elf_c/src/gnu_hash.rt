@@ -10,7 +10,7 @@ ghost use Rattle.elf_c.specs.Status.{GivesHere};
 ghost use Rattle.elf_c.specs.declared.hash.LookUp.{LookUp};
 ghost use Rattle.elf_c.specs.declared.status.Refusal.{Refusal};
 ghost use Rattle.elf_c.specs.declared.status.Refusal.TheVariants.{Link};
-ghost use Rattle.xmas_elf.specs.HashReport.{content_at};
+ghost use Rattle.xmas_elf.specs.ReportHash.{content_at};
 ghost use Rattle.xmas_elf.specs.SymbolName.{HoldsNames};
 ghost use Rattle.xmas_elf.specs.Symbols.{symbols_of};
 

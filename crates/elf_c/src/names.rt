@@ -9,7 +9,7 @@ ghost use Rattle.elf_c.specs.Records.{found_in, name_answer, name_range};
 ghost use Rattle.elf_c.specs.Records.{name_range_by, names_range, text_range};
 ghost use Rattle.elf_c.specs.Status.{Gives, GivesHere};
 ghost use Rattle.elf_c.specs.declared.status.Refusal.{Refusal};
-ghost use Rattle.xmas_elf.specs.Range.{range_of};
+ghost use Rattle.xmas_elf.specs.Ranges.{range_of};
 ghost use Rattle.xmas_elf.specs.SectionHeader.{section_of};
 ghost use Rattle.xmas_elf.specs.SectionList.{section_list};
 ghost use Rattle.xmas_elf.specs.SectionTable.{table_sections};

@@ -9,7 +9,7 @@ use Rattle.xmas_elf.specs.ElfError.TheVariants.{NullData}
 use Rattle.xmas_elf.specs.FileHeader.{file_class, file_order}
 use Rattle.xmas_elf.specs.ProgramHeader.{segment_type}
 use Rattle.xmas_elf.specs.ProgramNumbers.{is_ph_type}
-use Rattle.xmas_elf.specs.Range.{range_of}
+use Rattle.xmas_elf.specs.Ranges.{range_of}
 use Rattle.xmas_elf.specs.Refusal.{and_then}
 use Rattle.xmas_elf.specs.SegmentContent.{content_of_segment, segment_content_of}
 use Rattle.xmas_elf.specs.SegmentData.{segment_data_of}

@@ -8,7 +8,7 @@ use Rattle.xmas_elf.specs.FileHeader.{file_class, file_order}
 use Rattle.xmas_elf.specs.Note.{note_header}
 use Rattle.xmas_elf.specs.Number.{number}
 use Rattle.xmas_elf.specs.Order.{Order}
-use Rattle.xmas_elf.specs.Range.{range_of}
+use Rattle.xmas_elf.specs.Ranges.{range_of}
 use Rattle.xmas_elf.specs.Refusal.{and_then}
 use Rattle.xmas_elf.specs.SectionContent.{content_in, content_of_section, has_no_bytes, section_content_of}
 use Rattle.xmas_elf.specs.SectionHeader.{section_fields, section_type}

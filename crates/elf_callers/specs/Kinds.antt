@@ -2,7 +2,7 @@
 use Rattle.std.specs.Prelude.{ℕ, ◌==◌, List, Option, None, Some, Result, Ok, count_by, option_and_then}
 use Rattle.std.specs.Result.{result_ok}
 use Rattle.xmas_elf.specs.Content.{Content, dynamic_32, dynamic_64, hash_table, rela_64, strings, symbols_64, table_of}
-use Rattle.xmas_elf.specs.Relocation as relocation
+use Rattle.xmas_elf.specs.Relocations as relocation
 use Rattle.xmas_elf.specs.Table.{records}
 use Rattle.xmas_elf.specs.Text.{text_of}
 use Rattle.xmas_elf.specs.Types.{ElfError}

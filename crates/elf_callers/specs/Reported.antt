@@ -2,7 +2,7 @@
 use Rattle.std.specs.Prelude.{◌≡◌, ℕ, List, IsOkAnd}
 use Rattle.std.specs.Borrow.{Bor}
 use Rattle.xmas_elf.specs.FileHeader.{header_of}
-use Rattle.xmas_elf.specs.HashReport.{IsHashVerdict}
+use Rattle.xmas_elf.specs.ReportHash.{IsHashVerdict}
 use Rattle.xmas_elf.specs.Report.{report_text}
 use Rattle.xmas_elf.specs.Types.{ElfFile, HashVerdict}
 

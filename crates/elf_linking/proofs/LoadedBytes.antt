@@ -12,7 +12,7 @@ use Rattle.xmas_elf.specs.HeaderTable.{IsLongest}
 use Rattle.xmas_elf.specs.Counts.{program_count_of}
 use Rattle.xmas_elf.specs.ProgramHeader.{program_fields, program_of, segment_type}
 use Rattle.xmas_elf.specs.ProgramList.{program_list}
-use Rattle.xmas_elf.specs.Range.{IsRange}
+use Rattle.xmas_elf.specs.Ranges.{IsRange}
 use Rattle.xmas_elf.specs.SegmentData.{IsSegmentData}
 use Rattle.xmas_elf.specs.declared.ElfFile.{ElfFile}
 use Rattle.xmas_elf.specs.declared.program.program_header.ProgramHeader.{ProgramHeader}

@@ -1,6 +1,6 @@
 pub mod SectionNumbers
 pub mod ProgramNumbers
-pub mod Relocation
+pub mod Relocations
 pub mod Note
 pub mod Dynamic
 pub mod SymbolNumbers

@@ -5,7 +5,7 @@ use Rattle.elf_base.specs.Refusal.{and_then}
 use Rattle.elf_records.specs.declared.sections.ShType.TheVariants.{Hash}
 use Rattle.xmas_elf.specs.Prelude.{ElfError, ElfFile, HashTable, Order, SectionData, SectionHeader}
 use Rattle.xmas_elf.specs.Content.{Content, hash_table}
-use Rattle.xmas_elf.specs.Range.{range_of}
+use Rattle.xmas_elf.specs.Ranges.{range_of}
 use Rattle.xmas_elf.specs.SectionContent.{content_in, content_of_section, section_content, section_content_of}
 use Rattle.xmas_elf.specs.SectionHeader.{section_fields, section_type}
 use Rattle.xmas_elf.specs.declared.sections.content.SectionData.TheVariants as section_data

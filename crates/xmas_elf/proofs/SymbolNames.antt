@@ -5,7 +5,7 @@ use Rattle.elf_base.specs.Lent.{Answers}
 use Rattle.elf_base.specs.Text.{IsText, text_of}
 use Rattle.elf_base.proofs.lemmas.TextLemmas.{text_of-is, is-text_of}
 use Rattle.xmas_elf.specs.Prelude.{ElfError, ElfFile}
-use Rattle.xmas_elf.specs.StringTable.{dyn_string_of, string_of}
+use Rattle.xmas_elf.specs.StringTables.{dyn_string_of, string_of}
 use Rattle.xmas_elf.specs.Symbol.{SymbolFields}
 use Rattle.xmas_elf.specs.SymbolName.{HoldsNames, name_in_table, symbol_string_of, symbol_strings_of}
 

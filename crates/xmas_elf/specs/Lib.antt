@@ -15,7 +15,7 @@ pub use Rattle.elf_records.specs.SectionNumbers
 pub use Rattle.elf_records.specs.ProgramNumbers
 pub use Rattle.elf_records.specs.SymbolNumbers
 pub use Rattle.elf_records.specs.HashNumber
-pub use Rattle.elf_records.specs.Relocation
+pub use Rattle.elf_records.specs.Relocations
 pub use Rattle.elf_records.specs.Dynamic
 pub use Rattle.elf_records.specs.Note
 -- for the variants of these types, in `TheVariants` behind each: the types and constants themselves are imported
@@ -48,7 +48,7 @@ pub mod SectionHeader
 pub mod Counts
 pub mod SectionList
 pub mod SectionTable
-pub mod Range
+pub mod Ranges
 pub mod SectionData
 pub mod Symbol
 pub mod HashTable
@@ -60,7 +60,7 @@ pub mod Content
 pub mod SectionContent
 pub mod Strings
 pub mod NameTable
-pub mod StringTable
+pub mod StringTables
 pub mod SymbolName
 pub mod SymbolSection
 pub mod SymbolText
@@ -75,6 +75,6 @@ pub mod Checks
 pub mod BuildId
 pub mod Link
 pub mod Place
-pub mod HashReport
+pub mod ReportHash
 pub mod Report
 pub mod Types

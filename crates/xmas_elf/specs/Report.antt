@@ -9,7 +9,7 @@ use Rattle.elf_base.specs.FileHeader.{header_of}
 use Rattle.elf_records.specs.ProgramNumbers.{ph_type_number}
 use Rattle.xmas_elf.specs.Prelude.{ElfError, ElfFile, ProgramHeader, ReportFault, SectionHeader}
 use Rattle.xmas_elf.specs.Checks.{header_check, program_check}
-use Rattle.xmas_elf.specs.HashReport.{IsHashVerdict}
+use Rattle.xmas_elf.specs.ReportHash.{IsHashVerdict}
 use Rattle.xmas_elf.specs.NameTable.{name_of}
 use Rattle.xmas_elf.specs.ProgramHeader.{program_fields}
 use Rattle.xmas_elf.specs.ProgramList.{program_list}

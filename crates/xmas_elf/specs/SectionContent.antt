@@ -7,7 +7,7 @@ use Rattle.elf_records.specs.declared.sections.ShType.TheVariants as sh_type
 use Rattle.xmas_elf.specs.Prelude.{ElfError, ElfFile, Order, SectionData, SectionHeader, ShType}
 use Rattle.xmas_elf.specs.Content.{Content, by_class, dyn_symbols_32, dyn_symbols_64, dynamic_32, dynamic_64, empty, functions_32, functions_64, group, group_of, hash_table, hash_table_of, note_64, note_of, rel_32, rel_64, rela_32, rela_64, section_indices, strings, symbols_32, symbols_64, table_of, undefined, whole_table}
 use Rattle.xmas_elf.specs.HashTable.{hash_data, hash_order}
-use Rattle.xmas_elf.specs.Range.{range_of}
+use Rattle.xmas_elf.specs.Ranges.{range_of}
 use Rattle.xmas_elf.specs.SectionHeader.{section_fields, section_type}
 use Rattle.xmas_elf.specs.declared.sections.content.SectionData.TheVariants as section_data
 

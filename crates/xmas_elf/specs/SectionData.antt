@@ -8,7 +8,7 @@ use Rattle.elf_records.specs.SectionNumbers.{has_sh_type, is_sh_type}
 use Rattle.elf_records.specs.declared.sections.ShType.TheVariants.{Null}
 use Rattle.xmas_elf.specs.Prelude.{ElfError, ElfFile, NullData, SectionHeader, ShType}
 use Rattle.xmas_elf.specs.NameTable.{IsFirstNamed, section_named}
-use Rattle.xmas_elf.specs.Range.{IsRange, range_of}
+use Rattle.xmas_elf.specs.Ranges.{IsRange, range_of}
 use Rattle.xmas_elf.specs.SectionHeader.{section_fields, section_type}
 
 -- a section has data: its type is valid and not Null, and its range lies in the input

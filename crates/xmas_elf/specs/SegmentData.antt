@@ -5,7 +5,7 @@ use Rattle.elf_base.specs.Refusal.{and_then}
 use Rattle.elf_records.specs.ProgramNumbers.{is_ph_type}
 use Rattle.elf_records.specs.declared.program.Type.TheVariants.{Null}
 use Rattle.xmas_elf.specs.Prelude.{ElfError, ElfFile, NullData, ProgramHeader64, SegmentType}
-use Rattle.xmas_elf.specs.Range.{IsRange, range_of}
+use Rattle.xmas_elf.specs.Ranges.{IsRange, range_of}
 use Rattle.xmas_elf.specs.ProgramHeader.{segment_type}
 
 -- a segment has data: its type is valid and not Null, and its range lies in the input or is empty

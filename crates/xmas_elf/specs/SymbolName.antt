@@ -5,7 +5,7 @@ use Rattle.std.specs.Borrow.{Bor}
 use Rattle.std.specs.Result.{result_ok}
 use Rattle.elf_base.specs.Text.{text_of}
 use Rattle.xmas_elf.specs.Prelude.{ElfError, ElfFile}
-use Rattle.xmas_elf.specs.StringTable.{IsDynString, IsString, dyn_string_of, dynstr_of, string_of, strtab_of}
+use Rattle.xmas_elf.specs.StringTables.{IsDynString, IsString, dyn_string_of, dynstr_of, string_of, strtab_of}
 use Rattle.xmas_elf.specs.Symbol.{SymbolFields}
 
 -- the string table of symbols and the text at an index there: .dynstr for those of the dynamic linker,

@@ -4,7 +4,7 @@ ghost use Rattle.std.specs.Prelude.{◌≡◌, ◌↔◌, ◌+◌, ◌≤◌, �
 ghost use Rattle.std.specs.Prelude.{IfOk, IsOk, IsTrue, MatchOption, length, ℕ};
 ghost use Rattle.elf_base.specs.Lent.{Answers, Lends, LiesAt};
 ghost use Rattle.xmas_elf.specs.HeaderTable.{entry_place};
-ghost use Rattle.xmas_elf.specs.Range.{IsRange, range_of};
+ghost use Rattle.xmas_elf.specs.Ranges.{IsRange, range_of};
 
 use crate::ElfError;
 

@@ -1,8 +1,8 @@
 //! The string tables of symbols, by name, and the texts there (gABI, "String Table").
 
 ghost use Rattle.elf_base.specs.Lent.{Answers, Lends, LendsOnly};
-ghost use Rattle.xmas_elf.specs.StringTable.{IsDynString, IsDynstr, IsString, IsStrtab};
-ghost use Rattle.xmas_elf.specs.StringTable.{dyn_string_of, dynstr_of, string_of, strtab_of};
+ghost use Rattle.xmas_elf.specs.StringTables.{IsDynString, IsDynstr, IsString, IsStrtab};
+ghost use Rattle.xmas_elf.specs.StringTables.{dyn_string_of, dynstr_of, string_of, strtab_of};
 
 use crate::bytes::text_at;
 use crate::sections::ShType;
@@ -18,7 +18,7 @@ impl<'a> ElfFile<'a> {
     ///
     /// Each call looks for the section by its name, in one pass over the section headers. For many
     /// texts, take `raw_data` of the section once, and then `bytes::text_at` of it.
-    #[tactic(auto, unfolding(crate::specs::StringTable::string_of))]
+    #[tactic(auto, unfolding(crate::specs::StringTables::string_of))]
     pub fn get_string(&self, index: u32) -> Result<&'a str, ElfError>
         ensures text { Lends (IsString self.now index) result }
         ensures only { LendsOnly (IsString self.now index) result }
@@ -32,7 +32,7 @@ impl<'a> ElfFile<'a> {
     /// Refused with `NoDynstr` where no section bears that name, with `DataRange` where the data
     /// of the first that does, whatever its type, passes the end of the input, and as
     /// `bytes::text_at` is.
-    #[tactic(auto, unfolding(crate::specs::StringTable::dyn_string_of))]
+    #[tactic(auto, unfolding(crate::specs::StringTables::dyn_string_of))]
     pub fn get_dyn_string(&self, index: u32) -> Result<&'a str, ElfError>
         ensures text { Lends (IsDynString self.now index) result }
         ensures only { LendsOnly (IsDynString self.now index) result }
@@ -42,7 +42,7 @@ impl<'a> ElfFile<'a> {
     }
 
     // The data of `.strtab`.
-    #[tactic(auto, unfolding(crate::specs::StringTable::strtab_of))]
+    #[tactic(auto, unfolding(crate::specs::StringTables::strtab_of))]
     pub(crate) fn strtab(&self) -> Result<&'a [u8], ElfError>
         ensures table { Lends (IsStrtab self.now) result }
         ensures only { LendsOnly (IsStrtab self.now) result }
@@ -58,7 +58,7 @@ impl<'a> ElfFile<'a> {
     }
 
     // The data of `.dynstr`, of whatever type.
-    #[tactic(auto, unfolding(crate::specs::StringTable::dynstr_of))]
+    #[tactic(auto, unfolding(crate::specs::StringTables::dynstr_of))]
     pub(crate) fn dynstr(&self) -> Result<&'a [u8], ElfError>
         ensures table { Lends (IsDynstr self.now) result }
         ensures only { LendsOnly (IsDynstr self.now) result }

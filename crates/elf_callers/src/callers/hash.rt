@@ -9,7 +9,7 @@ ghost use Rattle.elf_callers.specs.Linked.{NotLinked, symbols_in, table_in};
 ghost use Rattle.xmas_elf.specs.Chain.{Looks};
 ghost use Rattle.xmas_elf.specs.FileHeader.{header_of};
 ghost use Rattle.xmas_elf.specs.Good.{IsGood};
-ghost use Rattle.xmas_elf.specs.HashReport.{content_at};
+ghost use Rattle.xmas_elf.specs.ReportHash.{content_at};
 ghost use Rattle.xmas_elf.specs.HashTable.{chain_count_of, hash_data, hash_order};
 ghost use Rattle.xmas_elf.specs.SectionContent.{section_content_of};
 ghost use Rattle.xmas_elf.specs.Symbols.{Decides, IsGlobal, IsMatch, symbols_of};

@@ -10,8 +10,8 @@ ghost use Rattle.xmas_elf.specs.Lent.{Answers, Lends};
 ghost use Rattle.xmas_elf.specs.NameTable.{section_named};
 ghost use Rattle.xmas_elf.specs.Number.{number};
 ghost use Rattle.xmas_elf.specs.SectionHeader.{section_of};
-ghost use Rattle.xmas_elf.specs.StringTable.{IsDynString, IsString};
-ghost use Rattle.xmas_elf.specs.StringTable.{dyn_string_of, string_of, strtab_of};
+ghost use Rattle.xmas_elf.specs.StringTables.{IsDynString, IsString};
+ghost use Rattle.xmas_elf.specs.StringTables.{dyn_string_of, string_of, strtab_of};
 ghost use Rattle.xmas_elf.specs.Symbol.{dyn_entry_32_fields, entry_64_fields};
 ghost use Rattle.xmas_elf.specs.SymbolSection.{IsSectionIndex, symbol_section_of};
 ghost use Rattle.xmas_elf.specs.Symbols.{symbols_of};
@@ -42,7 +42,7 @@ pub fn dyn_name_or_refusal<'a>(symbol: &DynEntry32, file: &ElfFile<'a>) -> Resul
 }
 
 /// Why a symbol has no name where no section is named `.strtab`.
-#[tactic(auto, unfolding(xmas_elf::specs::StringTable::string_of, xmas_elf::specs::StringTable::strtab_of))]
+#[tactic(auto, unfolding(xmas_elf::specs::StringTables::string_of, xmas_elf::specs::StringTables::strtab_of))]
 pub fn without_strtab(symbol: &Entry64, file: &ElfFile<'_>) -> Option<ElfError>
     requires { section_named file.now (codes ".strtab") ≡ None }
     ensures { result ≡ Some ElfError.NoStrtab }
@@ -90,7 +90,7 @@ pub fn value_at(table: &Table<'_, Entry64>, index: usize) -> Option<u64>
 
 /// The name of a symbol by the bytes of a string table: in each file that has it,
 /// what `get_name` answers.
-#[tactic(auto, unfolding(xmas_elf::specs::StringTable::string_of))]
+#[tactic(auto, unfolding(xmas_elf::specs::StringTables::string_of))]
 pub fn name_in<'a>(strings: &'a [u8], symbol: &Entry64) -> Result<&'a str, ElfError>
     ensures exact { Answers (text_of strings.now (entry_64_fields symbol.now).name) result }
     ensures in_files { (file : ElfFile) → strtab_of file ≡ Ok strings.now
@@ -100,7 +100,7 @@ pub fn name_in<'a>(strings: &'a [u8], symbol: &Entry64) -> Result<&'a str, ElfEr
 }
 
 /// The name of a symbol by the string table that is taken once for many: what `get_name` answers.
-#[tactic(auto, unfolding(xmas_elf::specs::StringTable::string_of))]
+#[tactic(auto, unfolding(xmas_elf::specs::StringTables::string_of))]
 pub fn name_by_table<'a>(file: &ElfFile<'a>, symbol: &Entry64) -> Result<&'a str, ElfError>
     ensures { Answers (string_of file.now (entry_64_fields symbol.now).name) result }
 {

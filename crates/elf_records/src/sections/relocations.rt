@@ -2,9 +2,9 @@
 
 ghost use Rattle.std.specs.Prelude.{◌≡◌};
 ghost use Rattle.std.proofs.Common.{lit<};
-ghost use Rattle.elf_records.specs.Relocation.{rel_32, rel_64, rel_info, rel_offset, rela_32};
-ghost use Rattle.elf_records.specs.Relocation.{rela_64, rela_addend, rela_info, rela_offset};
-ghost use Rattle.elf_records.specs.Relocation.{symbol_in_32, symbol_in_64, type_in_32, type_in_64};
+ghost use Rattle.elf_records.specs.Relocations.{rel_32, rel_64, rel_info, rel_offset, rela_32};
+ghost use Rattle.elf_records.specs.Relocations.{rela_64, rela_addend, rela_info, rela_offset};
+ghost use Rattle.elf_records.specs.Relocations.{symbol_in_32, symbol_in_64, type_in_32, type_in_64};
 
 use elf_base::bytes::{Order, Record, read_u32, read_u64};
 use elf_base::{P32, P64};

@@ -1,7 +1,7 @@
 //! What the report says of the hash table of a file.
 
 ghost use Rattle.std.specs.Prelude.{◌≡◌};
-ghost use Rattle.xmas_elf.specs.HashReport.{FindsHash, IsHashVerdict, IsLinkedVerdict, content_at};
+ghost use Rattle.xmas_elf.specs.ReportHash.{FindsHash, IsHashVerdict, IsLinkedVerdict, content_at};
 
 use crate::hash::HashTable;
 use crate::sections::{SectionData, SectionHeader, ShType};

@@ -1,5 +1,5 @@
 use Rattle.std.proofs.Common.{rules, ◌≡◌, ℕ, List, Result, Ok, Err, ap, sym, ◌∙◌}
-use Rattle.xmas_elf.specs.HashReport.{content_at}
+use Rattle.xmas_elf.specs.ReportHash.{content_at}
 use Rattle.xmas_elf.specs.SectionContent.{section_content}
 use Rattle.xmas_elf.specs.SectionHeader.{section_fields}
 use Rattle.elf_c.specs.Lookup.{LooksAmong, OfTable}

@@ -1,5 +1,5 @@
 use Rattle.std.proofs.Common.{Ok, ap, subst, ◌∙◌}
-use Rattle.xmas_elf.specs.HashReport.{IsLinkedVerdict, content_at, linked, none, refused}
+use Rattle.xmas_elf.specs.ReportHash.{IsLinkedVerdict, content_at, linked, none, refused}
 use Rattle.xmas_elf.specs.SectionContent.{section_content}
 use Rattle.xmas_elf.proofs.HashSections.{hash_data_is_table}
 use Rattle.xmas_elf.proofs.report.hash.hash_verdict.Goals as goal
