@@ -1,16 +1,12 @@
 //! The entries of symbol tables, kept as their bytes; what each says, read from these, and where its
 //! name stands, for all four types at once (gABI, "Symbol Table": Elf32_Sym and Elf64_Sym).
 
-ghost use Rattle.std.specs.Prelude.{◌≡◌, Bool, false, true, IfSome, IsSomeAnd};
-ghost use Rattle.std.specs.Result.{result_ok};
+ghost use Rattle.std.specs.Prelude.{◌≡◌, Bool, false, true};
 ghost use Rattle.std.proofs.Common.{lit<};
-ghost use Rattle.elf_base.specs.Lent.{Answers, Lends, LendsOnly};
 ghost use Rattle.xmas_elf.specs.Symbol.{SymbolFields, symbol_in};
 ghost use Rattle.xmas_elf.specs.Symbol.{dyn_entry_32, dyn_entry_64, entry_32, entry_64};
 ghost use Rattle.xmas_elf.specs.Symbol.{dyn_entry_32_fields, dyn_entry_64_fields};
 ghost use Rattle.xmas_elf.specs.Symbol.{entry_32_fields, entry_64_fields};
-ghost use Rattle.xmas_elf.specs.SymbolName.{HoldsNames, IsSymbolString};
-ghost use Rattle.xmas_elf.specs.SymbolName.{symbol_string_of, symbol_strings_of};
 
 mod text;
 
@@ -139,6 +135,12 @@ pub(crate) trait Kept {
 }
 
 impl<K: Kept> Entry for K {
+    ghost use Rattle.std.specs.Prelude.{IfSome, IsSomeAnd};
+    ghost use Rattle.std.specs.Result.{result_ok};
+    ghost use Rattle.elf_base.specs.Lent.{Answers, Lends, LendsOnly};
+    ghost use Rattle.xmas_elf.specs.SymbolName.{HoldsNames, IsSymbolString};
+    ghost use Rattle.xmas_elf.specs.SymbolName.{symbol_string_of, symbol_strings_of};
+
     ghost fields = { K.fields };
 
     ghost text_in = { λ entry file.
