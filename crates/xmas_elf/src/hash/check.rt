@@ -81,6 +81,7 @@ fn global_count<E: Entry + Record>(
     count
 }
 
+// Refusals are handed on by `match` here: an answer by hand in a proof would have to undo a `?`.
 impl<'a> HashTable<'a> {
     ghost use Rattle.xmas_elf.specs.Chain.{Comes, LooksFrom, Reaches, StandsAt, chains_of};
     ghost use Rattle.xmas_elf.specs.Good.{Ends, EndsBelow, IsAtFault, IsCheck, IsGood};
