@@ -10,7 +10,7 @@ pub struct Place(pub usize, pub usize);
 /// A word of four bytes.
 pub const WORD: Place = Place(0, 4);
 
-/// Places that are the same in both classes.
+// The first six places are the same in both classes.
 pub const CLASS: Place = Place(4, 1);
 
 pub const ENCODING: Place = Place(5, 1);

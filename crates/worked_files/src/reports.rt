@@ -1,4 +1,4 @@
-//! Reports of worked files.
+//! Lines of reports on worked files.
 
 use std::alloc::Global;
 use xmas_elf::report::report;

@@ -407,7 +407,8 @@ fn prints_wide_headers(rt: HostRuntime) -> Result<(), AllocError> {
     Ok(())
 }
 
-/// How the report of `overlaid_file` ends.
+/// How a report ends on a file with the two segments of `overlaid_file`, and on one that counts as
+/// many elsewhere.
 pub const REPORT_END: &str = "    sh_str_index:     1
 check: ok
 sections

@@ -103,8 +103,8 @@ const NONE: [(&str, bool, Answer); 3] = [
     (".strtab", true, (Ok(None), 0)),
 ];
 
-// A table of one symbol, `ab`, whose Bloom word lets every name pass. The rows say what else theirs
-// have.
+// A table of one symbol, `ab`, whose Bloom word lets every name pass: `ab` is found, and the check
+// is Ok. Each row says where it differs.
 const PLAIN: Row<'static> = Row {
     class: WIDE,
     words: TABLE,
