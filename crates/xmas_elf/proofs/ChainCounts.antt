@@ -17,7 +17,7 @@ use Rattle.xmas_elf.proofs.SymbolCounts.{count_all, count_join, count_lacks, cou
 
 module _ {E : Type 0} (table : HashTable) (symbols : Symbols E) where
   -- a symbol belongs to one bucket
-  pub belongs_once : (k l x : ℕ) → Belongs table symbols k x → Belongs table symbols l x → k ≡ l
+  belongs_once : (k l x : ℕ) → Belongs table symbols k x → Belongs table symbols l x → k ≡ l
   belongs_once k l x (e, name, global, bucket) (d, other, global', bucket') =
       sym bucket ∙ ap (λ n. hash_number n % bucket_count_of table) (named_once table symbols x e d name other global global') ∙ bucket'
 
@@ -51,16 +51,16 @@ module _ {E : Type 0} (table : HashTable) (symbols : Symbols E) where
       ])
       before here
 
-  pub must_be : (i : ℕ) → IsHeldBelow table symbols (bucket_count_of table) i → MustBeHeld symbols i
+  must_be : (i : ℕ) → IsHeldBelow table symbols (bucket_count_of table) i → MustBeHeld symbols i
   must_be i (k, below, ((e, name, global, bucket), held)) = (e, name, global)
 
   -- a symbol is on the chain of its name exactly if the bucket of the name holds it
-  pub reached_held : (i : ℕ) (e : E) (name : List ℕ) → IsGlobal symbols i e name → IsReached table symbols.items name i → IsHeldBelow table symbols (bucket_count_of table) i
+  reached_held : (i : ℕ) (e : E) (name : List ℕ) → IsGlobal symbols i e name → IsReached table symbols.items name i → IsHeldBelow table symbols (bucket_count_of table) i
   reached_held i e name global (first, start, r) =
       let (some, at) = start_at table name (Ok first) start in
       (hash_number name % bucket_count_of table, omega arith, ((e, name, global, refl), (first, at, r)))
 
-  pub held_reached : (i : ℕ) (e : E) (name : List ℕ) → IsGlobal symbols i e name → IsHeldBelow table symbols (bucket_count_of table) i → IsReached table symbols.items name i
+  held_reached : (i : ℕ) (e : E) (name : List ℕ) → IsGlobal symbols i e name → IsHeldBelow table symbols (bucket_count_of table) i → IsReached table symbols.items name i
   held_reached i e name global (k, below, (belongs, (first, at, r))) =
       let some : bucket_count_of table ≡ 0 → ⊥ = λ is. omega arith in
       let own : hash_number name % bucket_count_of table ≡ k = belongs_once (hash_number name % bucket_count_of table) k i (e, name, global, refl) belongs in

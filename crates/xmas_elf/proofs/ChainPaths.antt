@@ -1,5 +1,5 @@
--- Walks along the chains of a hash table: they go one way, from one index at most one stop is reached,
--- and a walk that reaches one passes no index twice.
+-- Walks along the chains of a hash table: they go one way, one that reaches a stop passes no index twice,
+-- and what the code's walk answers is what a look-up does.
 use Rattle.std.proofs.Common.{◌≡◌, ◌<◌, ◌≤◌, ◌↔◌, ℕ, zero, suc, ◌+◌, Option, Some, None, Result, Ok, Err, Bool, IsTrue, true, false, length, refl, sym, subst, arith, slice_get, ◌⊎◌, inl, inr, Contains}
 use Rattle.std.proofs.lemmas.Bool.{cases_order}
 use Rattle.std.proofs.lemmas.Option.{slice_get_within, get_or_from_slice_get}
@@ -29,7 +29,7 @@ module _ {E : Type 0} (chains : Chains E) where
   link_once i j k a b = cc
 
   -- one entry stands at an index
-  pub stand_once : (i : ℕ) (d e : E) → StandsAt chains i d → StandsAt chains i e → d ≡ e
+  stand_once : (i : ℕ) (d e : E) → StandsAt chains i d → StandsAt chains i e → d ≡ e
   stand_once i d e a b = cc
 
   -- an entry that stands at an index is one of the symbols
@@ -71,7 +71,7 @@ module _ {E : Type 0} (chains : Chains E) where
       (λ later. absurd (omega arith))
 
   -- what a walk comes to behind an index that it comes to, it comes to from there
-  pub goes_ahead : (first m last n x : ℕ) → Comes chains first m last → n ≤ m → Comes chains first n x → (t : ℕ) × (n + t ≡ m) × Comes chains x t last
+  goes_ahead : (first m last n x : ℕ) → Comes chains first m last → n ≤ m → Comes chains first n x → (t : ℕ) × (n + t ≡ m) × Comes chains x t last
   goes_ahead first _ _ n x starts below at =
       let none : n ≡ 0 = omega arith in
       (0, omega arith, subst (λ z. Comes chains z zero first) (sym (comes_same first n zero x first none at starts)) starts)
@@ -81,12 +81,12 @@ module _ {E : Type 0} (chains : Chains E) where
       (λ earlier. (let (t, sum, ahead) = goes_ahead first m k n x c (omega arith) at in (suc t, omega (arith, sum), goes t k j ahead l)))
       (λ later. absurd (omega arith))
 
-  pub goes_along : (first n x t y : ℕ) → Comes chains first n x → Comes chains x t y → Comes chains first (n + t) y
+  goes_along : (first n x t y : ℕ) → Comes chains first n x → Comes chains x t y → Comes chains first (n + t) y
   goes_along first n x _ _ at starts = comes_in first n (n + zero) x (omega arith) at
   goes_along first n x _ _ at (goes t k j c l) =
       comes_in first (suc (n + t)) (n + suc t) j (omega arith) (goes (n + t) k j (goes_along first n x t k at c) l)
 
-  pub reaches_along : (i j k : ℕ) → Reaches chains i j → Reaches chains j k → Reaches chains i k
+  reaches_along : (i j k : ℕ) → Reaches chains i j → Reaches chains j k → Reaches chains i k
   reaches_along i j k (n, at) (m, on) = (n + m, goes_along i n j m k at on)
 
   pub first_ends : (i : ℕ) → i < 1 → Reaches chains i 0
@@ -101,14 +101,6 @@ module _ {E : Type 0} (chains : Chains E) where
   apart_before first m last n c new within a b x earlier below at again =
       let (t, sum, ahead) = goes_ahead first m last b x c (omega arith) again in
       new (a + t) (omega (arith, sum)) (goes_along first a x t last at ahead)
-
-  -- from one index at most one end is reached
-  pub end_once : (first n m i j : ℕ) → Comes chains first n i → ((x : ℕ) → Links chains i x → ⊥) → Comes chains first m j → ((x : ℕ) → Links chains j x → ⊥) → i ≡ j
-  end_once first n m i j c stop c' stop' =
-      by_order (i ≡ j) n m
-      (λ same. comes_same first n m i j same c c')
-      (λ earlier. absurd (let (x, l) = goes_on first m j n i c' earlier c in stop x l))
-      (λ later. absurd (let (x, l) = goes_on first n i m j c later c' in stop' x l))
 
 module _ {E : Type 0} (chains : Chains E) (Q : ℕ → Type 0) where
   -- index x has Q, and a walk passes it in n steps
@@ -148,7 +140,7 @@ module _ {E : Type 0} (P : E → Type 0) (chains : Chains E) where
   stop_or_link _ j _ _ (refused i e error stands misses refuses) l none = let h : chains.chain i ≡ Ok j = l.next in cc
 
   -- a walk that has passed as many entries as there are, and stands at one more, reaches no stop
-  pub too_long : (bound first n i : ℕ) (e : E) (last m p : ℕ) (a : Result (Option (ℕ × E)) ElfError) → ((q : ℕ) (d : E) → StandsAt chains q d → q < bound) → Comes chains first n i → NoneBefore P chains first n → StandsAt chains i e → bound ≤ n → Comes chains first m last → NoneBefore P chains first m → Stops P chains last a p → ⊥
+  too_long : (bound first n i : ℕ) (e : E) (last m p : ℕ) (a : Result (Option (ℕ × E)) ElfError) → ((q : ℕ) (d : E) → StandsAt chains q d → q < bound) → Comes chains first n i → NoneBefore P chains first n → StandsAt chains i e → bound ≤ n → Comes chains first m last → NoneBefore P chains first m → Stops P chains last a p → ⊥
   too_long bound first n i e last m p a within c none stands long c' none' s =
       by_order chains ⊥ m n
       (λ same. ends (omega arith))

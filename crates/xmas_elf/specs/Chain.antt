@@ -74,7 +74,8 @@ pub data Halts {E : Type 0} (chains : Chains E) (passed i : ℕ) : ElfError → 
   too_many : (e : E) → StandsAt chains i e → (chains.count ≤ passed) ⊎ (length chains.symbols ≤ passed)
       → Halts chains passed i HashCycle
 
--- a walk from the first index has come to index i in n steps, and its test passed over each symbol before
+-- a walk from the first index has come to index i in n steps, and Over holds of each symbol before: its test
+-- was false there
 pub record Walked {E : Type 0} (Over : ℕ × E → Type 0) (chains : Chains E) (first n i : ℕ) : Type 0 where
   pub comes : Comes chains first n i
   pub over : (m x : ℕ) (e : E) → m < n → Comes chains first m x → StandsAt chains x e → Over (x, e)

@@ -141,7 +141,7 @@ impl<'a> HashTable<'a> {
         Ok(entry)
     }
 
-    // The walk along a chain from an index on: the first symbol that passes the test, with its
+    // The walk along a chain from an index on: the first symbol at which the test is true, with its
     // index; `None` where the chain ends before one; or why it goes no further. And how many it has
     // tested.
     fn walk<E: Record, F: Fn(&(u32, E)) -> bool>(

@@ -40,7 +40,11 @@ module _ {H : Type 0} (header_at : ℕ → Result H ElfError) (limit : ℕ) (ite
     headers_within header_at limit items N i longest (let below = found.0 in omega arith) found.2,
   )
 
--- the same for the segments of a file
+-- the same for the sections and for the segments of a file
+pub found_section : (file : ElfFile) (P N : SectionHeader → Type 0) (r : Option ℕ) → FoundAt (section_of file) (section_count_of file) (section_list file) P N r → FoundHeader (section_of file) (section_count_of file) (section_list file) P N r
+found_section file P N r found =
+    found_header (section_of file) (section_count_of file) (section_list file) P N r (header_list-longest (section_of file) (section_count_of file)) found
+
 pub found_segment : (file : ElfFile) (P N : ProgramHeader → Type 0) (r : Option ℕ) → FoundAt (program_of file) (program_count_of file) (program_list file) P N r → FoundHeader (program_of file) (program_count_of file) (program_list file) P N r
 found_segment file P N r found =
     found_header (program_of file) (program_count_of file) (program_list file) P N r (header_list-longest (program_of file) (program_count_of file)) found

@@ -1,12 +1,12 @@
 //! The check of a hash table (this project's own).
 
-ghost use Rattle.std.specs.Prelude.{◌≡◌, ◌≢◌, ◌≤◌, ◌<◌, ◌+◌, ◌^◌, ◌/◌, ◌%◌, ◌↔◌, ℕ, Err, IfSome};
+ghost use Rattle.std.specs.Prelude.{◌≡◌, ◌≢◌, ◌<◌, ◌+◌, ◌^◌, ◌/◌, ◌%◌, ◌↔◌, ℕ, Err, IfSome};
 ghost use Rattle.std.specs.Prelude.{IsOk, IsTrue, List, MatchOption, MatchResult, None, Ok, Result};
-ghost use Rattle.std.specs.Prelude.{Some, false, length};
+ghost use Rattle.std.specs.Prelude.{Some, false};
 ghost use Rattle.elf_base.specs.Table.{table_items};
 ghost use Rattle.elf_records.specs.HashNumber.{hash_number};
 ghost use Rattle.xmas_elf.specs.Counted.{IsCount};
-ghost use Rattle.xmas_elf.specs.Good.{Belongs, MustBeHeld};
+ghost use Rattle.xmas_elf.specs.Good.{MustBeHeld};
 ghost use Rattle.xmas_elf.specs.SymbolName.{HoldsNames};
 ghost use Rattle.xmas_elf.specs.Symbols.{IsGlobal, symbols_of};
 

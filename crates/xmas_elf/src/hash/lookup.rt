@@ -2,8 +2,8 @@
 
 ghost use Rattle.std.specs.Borrow.{Bor};
 ghost use Rattle.std.specs.Fn.{FnReturnsAt};
-ghost use Rattle.std.specs.Prelude.{◌≡◌, ◌≢◌, ◌≤◌, ◌↔◌, ℕ, Bool, true, false, Contains, IfSome};
-ghost use Rattle.std.specs.Prelude.{IsTrue, List, Option, Result, Ok, Err, Some, length};
+ghost use Rattle.std.specs.Prelude.{◌≡◌, ◌≢◌, ◌≤◌, ◌↔◌, ℕ, true, false, Contains, IfSome};
+ghost use Rattle.std.specs.Prelude.{IsTrue, Option, Result, Ok, Err, Some, length};
 ghost use Rattle.elf_base.specs.Table.{table_items};
 ghost use Rattle.xmas_elf.specs.SymbolName.{HoldsNames};
 ghost use Rattle.xmas_elf.specs.Symbols.{Decides, IsMatch, symbols_of};
@@ -45,7 +45,7 @@ fn bears<E: Entry>(entry: &E, name: &str, strings: Strings<'_>, file: &ElfFile<'
 impl<'a> HashTable<'a> {
     ghost use Rattle.xmas_elf.specs.Chain.{Looks};
     ghost use Rattle.xmas_elf.specs.Good.{FindsAll, IsGood};
-    ghost use Rattle.xmas_elf.specs.HashTable.{chain_count_of, start_of};
+    ghost use Rattle.xmas_elf.specs.HashTable.{chain_count_of};
 
     /// The first symbol on the chain of a name that bears the name and passes the test, with its
     /// index; `None` where the chain ends before one, or there are no buckets.
@@ -199,7 +199,7 @@ impl<'a> HashTable<'a> {
             Some(Err(error)) => return (Err(error), 0),
         };
         let strings = strings_of::<E>(prepared, file);
-        // The test is put to symbols that bear the name alone.
+        // The test is put only to symbols that bear the name.
         self.walk(
             first,
             symbols,
