@@ -114,4 +114,4 @@ if [ -n "$bindings" ]; then
 fi
 cat "$room/table.md"
 [ -z "$growth" ] || "$here/growth.sh" "$room" | tee "$room/growth.md"
-[ -z "$paste" ] || "$here/table.py" paste "$top/README.md" "$room/table.md"
+[ -z "$paste" ] || "$here/table.py" paste "$top" "$room/table.md"

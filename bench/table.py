@@ -1,8 +1,9 @@
 #!/usr/bin/env python3
 """table.py passes REPOSITORY ROOM: the table of what the runs in ROOM measured, the least of each.
-table.py growth RUN: the same of one run over files of several sizes, without the peers but one.
+table.py growth RUN: the same of one run over files of growing size, a row for each kind of file, without the peers but one.
 table.py exports ROOM: what `speed` measured by the exports for C, beside the runs in ROOM.
-table.py paste PAGE TABLE: puts a table into a page, between the lines `<!-- bench -->` and `<!-- /bench -->`.
+table.py paste REPOSITORY TABLE: puts the table into docs/BENCH.md, and the rows of SHORT with fewer columns into
+README.md, in each between the lines `<!-- bench -->` and `<!-- /bench -->`.
 """
 import pathlib
 import platform
@@ -43,6 +44,11 @@ def read(room: pathlib.Path) -> tuple:
     return cells, items
 
 
+def row_of(*cells: str) -> str:
+    """A row of a table; its cells stand close, as a page counts what stands between blanks as a word."""
+    return "|" + "|".join(cells) + "|"
+
+
 def ratio(value: float, other) -> str:
     return f"{value / other:.2f}" if other else "-"
 
@@ -52,33 +58,35 @@ def passes(repository: str, room: pathlib.Path) -> None:
     columns = [who for who in PEERS + HERE if any(who in row for row in cells.values())]
     commit = said("git", "-C", repository, "rev-parse", "--short", "HEAD")
     runs = len(list(room.glob("run_*.tsv")))
-    print(f"Commit {commit}, {machine()}, {said('rustc', '--version')}, {said('gcc', '--version')}, `{said('rt', 'version')}`.")
+    print(f"Measured at {commit} by `bench/run.sh` on {machine()}. Built by {said('rustc', '--version')}, {said('gcc', '--version')}, `{said('rt', 'version')}`.")
     print(f"Nanoseconds an item, the least of {runs} runs. The ratios are those of the faster way here.")
     print()
-    print("| Pass | file | items | " + " | ".join(columns) + " | to the crate | to `object` | spread |")
+    print(row_of("Pass", "file", "items", *columns, "to the crate", "to `object`", "spread"))
     print("|---|---|" + "---:|" * (len(columns) + 4))
     for (group, name), row in cells.items():
         least = {who: min(times) for who, times in row.items()}
         best = min(least[who] for who in HERE if who in least)
         spread = max(max(times) / min(times) - 1 for times in row.values())
         shown = [number(least[who]) if who in least else "-" for who in columns]
-        print(f"| {name} | {group} | {items[group, name]} | " + " | ".join(shown)
-              + f" | {ratio(best, least.get('crate'))} | {ratio(best, least.get('object'))} | {100 * spread:.0f} % |")
+        ratios = [ratio(best, least.get("crate")), ratio(best, least.get("object")), f"{100 * spread:.0f}%"]
+        print(row_of(name, group, str(items[group, name]), *shown, *ratios))
 
 
 def growth(run: pathlib.Path) -> None:
     rows = {}
     for line in run.read_text(encoding="utf-8").splitlines():
-        file, name, who, each, count, _rounds = line.split("\t")
-        rows.setdefault((name, file), (int(count), {}))[1][who] = float(each)
-    print("Nanoseconds an item, the least of one run.")
+        file, name, who, each, _count, _rounds = line.split("\t")
+        family, _, size = file.partition(".")[0].rpartition("_")
+        family, size = (family, size) if size.isdigit() else (file.partition(".")[0], "all")
+        rows.setdefault((name, family), {}).setdefault(size, {})[who] = float(each)
+    print("Nanoseconds an item, the least of one run. The sizes are those in the names of the files.")
     print()
-    print("| Pass | file | items | here | `object` |")
+    print(row_of("Pass", "files", "sizes", "here", "`object`"))
     print("|---|---|---:|---:|---:|")
-    for (name, file), (count, row) in sorted(rows.items(), key=lambda found: found[0][0]):
-        best = min(row[who] for who in HERE if who in row)
-        other = number(row["object"]) if "object" in row else "-"
-        print(f"| {name} | {file} | {count} | {number(best)} | {other} |")
+    for (name, family), sizes in sorted(rows.items()):
+        here = ", ".join(number(min(row[who] for who in HERE if who in row)) for row in sizes.values())
+        other = ", ".join(number(row["object"]) for row in sizes.values() if "object" in row) or "-"
+        print(row_of(name, family, ", ".join(sizes), here, other))
 
 
 # What `bindings/c/speed.c` calls a pass, and which pass of the bench is the library's, and by which way there.
@@ -103,7 +111,7 @@ def exports(room: pathlib.Path) -> None:
     print()
     print("By the exports for C, `bindings/c/speed.c`: nanoseconds an item, the least of as many runs. The library's are those of the table above.")
     print()
-    print("| Pass | file | by the exports | the library |")
+    print(row_of("Pass", "file", "by the exports", "the library"))
     print("|---|---|---:|---:|")
     least: dict[tuple[str, str], float] = {}
     for line in (room / "exports.tsv").read_text(encoding="utf-8").splitlines():
@@ -113,16 +121,56 @@ def exports(room: pathlib.Path) -> None:
         wanted, way = EXPORTS[name]
         found = cells.get((group, wanted), {}).get(way)
         if found:
-            print(f"| {name} | {group} | {number(each)} | {number(min(found))} |")
+            print(row_of(name, group, number(each), number(min(found))))
 
 
-def paste(page: pathlib.Path, table: pathlib.Path) -> None:
+# The rows of the README, by pass and file, and its columns.
+SHORT = [
+    ("parse the header", "large"),
+    ("names of sections", "large"),
+    ("find the last section by its name (a call)", "large"),
+    ("data of sections by type", "exports"),
+    ("values of symbols", "large"),
+    ("names of symbols, string table once", "large"),
+    ("relocations", "large"),
+    ("dynamic entries with their tags", "large"),
+    ("look-ups by the gABI's hash table", "exports"),
+    ("look-ups by GNU's hash table", "exports"),
+]
+SHOWN = ["crate", "object", "C"]
+
+
+def short(table: str) -> str:
+    """The README's table, from the long one."""
+    lines = table.strip().splitlines()
+    commit = re.match(r"Measured at (\w+) by `[^`]*` on (.*?)\. Built by", lines[0])
+    rows = [line.strip("|").split("|") for line in lines if re.match(r"\|[^-]", line)]
+    head, cells = rows[0], {}
+    for row in rows:
+        cells.setdefault((row[0], row[1]), dict(zip(head, row)))  # a later table has a row of the same name
+    columns = [it for it in SHOWN if it in head]
+    said = [f"Nanoseconds an item. Measured at {commit[1]} by `bench/run.sh` on {commit[2]}. `object` is measured in its raw calls, which don't test names for UTF-8."]
+    said += ["", row_of("Pass", *columns, "here", "to the crate"), "|---|" + "---:|" * (len(columns) + 2)]
+    for wanted in SHORT:
+        row = cells[wanted]
+        ways = [row[it] for it in HERE if row.get(it, "-") != "-"]
+        said.append(row_of(wanted[0], *(row[it] for it in columns), min(ways, key=float), row["to the crate"]))
+    return "\n".join(said)
+
+
+def put(page: pathlib.Path, table: str) -> None:
     text = page.read_text(encoding="utf-8")
     parts = re.split(r"(?m)^(<!-- /?bench -->)$", text)
     if parts[1::2] != ["<!-- bench -->", "<!-- /bench -->"]:
         sys.exit(f"{page} has no lines <!-- bench --> and <!-- /bench -->, one of each")
-    parts[2] = f"\n{table.read_text(encoding='utf-8').strip()}\n"
+    parts[2] = f"\n{table.strip()}\n"
     page.write_text("".join(parts), encoding="utf-8")
+
+
+def paste(repository: pathlib.Path, table: pathlib.Path) -> None:
+    text = table.read_text(encoding="utf-8")
+    put(repository / "docs" / "BENCH.md", text)
+    put(repository / "README.md", short(text))
 
 
 if sys.argv[1:2] == ["passes"]:

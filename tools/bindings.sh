@@ -1,6 +1,7 @@
 #!/usr/bin/env bash
-# Builds and tests what calls the static library `elf_c` from C and from Rust.
-#   tools/bindings.sh            the C example, the header as C++, the Rust crate with its own tests: no registry
+# Builds and tests what calls the static library `elf_c` from C, C++ and Rust.
+#   tools/bindings.sh            the programs in C and C++, each export, the Rust crate with its own tests, its package
+#                                and its pages: no registry
 #   tools/bindings.sh --compare  besides, all answers beside those of `object`, of Debian's librust-object-dev, over the
 #                                files of the system
 #   tools/bindings.sh --valgrind besides, the tests of the Rust crate and the C example under valgrind, which tells of
@@ -12,12 +13,14 @@ room="$(mktemp -d)"
 trap 'rm -rf "$room"' EXIT
 
 tools/statuses.py --check
+tools/exports.py --check
 if [ -z "${XMAS_ELF_ARCHIVE:-}" ]; then
     (cd crates/elf_c && rt lib) > "$room/lib" 2>&1 || { tail -n 20 "$room/lib"; exit 1; }
     XMAS_ELF_ARCHIVE="$PWD/crates/elf_c/out"
 fi
 export XMAS_ELF_ARCHIVE CARGO_TARGET_DIR="$room/target"
-strict=(-O2 -Wall -Wextra -Werror -pedantic -Ibindings/include)
+archive="$XMAS_ELF_ARCHIVE/libelf_c.a"
+strict=(-O2 -Wall -Wextra -Werror -Wpedantic -Ibindings/include)
 
 # The names that a program prints, and those of readelf but for the sections, whose names it shows for theirs. It adds
 # versions behind an `@`, which a few names have too.
@@ -33,21 +36,67 @@ held() {
         sub(/@.*/, "", $8); sub(/:/, "", $1); if (index(names, " " $8 " ")) print $1, $2, $8 }' | sort
 }
 
+# What the header says of the archive: it has the exports of the list, needs `memmove` alone, keeps nothing (no section is
+# writable), has no unwind tables, and no absolute addresses in code.
+diff <(nm --defined-only --extern-only "$archive" | awk 'NF == 3 { print $3 }' | sort) \
+    <(python3 -c 'import sys; sys.path.insert(0, "tools"); import exports_list
+for one in exports_list.read().functions: print(one.export)' | sort)
+diff <(nm --undefined-only "$archive" | awk '$1 == "U" { print $2 }') <(echo memmove)
+readelf --wide --sections --relocs "$archive" > "$room/archive"
+if grep -E 'eh_frame|R_X86_64_(32|32S|64) | WAT? ' "$room/archive"; then exit 1; fi
+
 for program in nm find speed; do
-    gcc -std=c11 "${strict[@]}" "bindings/c/$program.c" "$XMAS_ELF_ARCHIVE/libelf_c.a" -o "$room/${program}_c"
+    gcc -std=c11 "${strict[@]}" "bindings/c/$program.c" "$archive" -o "$room/${program}_c"
 done
-g++ -std=c++17 "${strict[@]}" -x c++ -fsyntax-only bindings/include/xmas_elf.h
-# The programs of the page, in the order in which they stand there.
-shown() { awk -v wanted="$1" '/^```c$/ { count++; on = count == wanted; next } /^```$/ { on = 0 } on' bindings/README.md > "$room/shown_$1.c"; }
-shown 1
-gcc -std=c11 "${strict[@]}" "$room/shown_1.c" "$XMAS_ELF_ARCHIVE/libelf_c.a" -o "$room/names_c"
-shown 2
-gcc -std=c11 "${strict[@]}" -Wno-unused-function -c "$room/shown_2.c" -o "$room/find.o"
+cxx=(g++)
+if command -v clang++ > /dev/null; then cxx+=(clang++); else echo "bindings: no clang here: by gcc alone"; fi
+for compiler in "${cxx[@]}"; do
+    "$compiler" -std=c++17 "${strict[@]}" bindings/cpp/nm.cpp "$archive" -o "$room/nm_$compiler"
+    # C++11 has no [[nodiscard]]; a struct may have its zero as its value.
+    "$compiler" -std=c++11 "${strict[@]}" -x c++ -fsyntax-only bindings/include/xmas_elf.h
+    echo '#include "xmas_elf.h"
+        xmas_elf_counts_t counts{}; xmas_elf_section_t section{}; xmas_elf_range_t range = {0, 1};' |
+        "$compiler" -std=c++20 "${strict[@]}" -x c++ -fsyntax-only -
+done
+# Each export, over a program with both kinds of hash tables and packed relocations: of gcc, and of clang with its checks at run time.
+both=(-rdynamic -Wl,--hash-style=both -Wl,--build-id -Wl,-z,pack-relative-relocs)
+gcc -std=c11 "${strict[@]}" "${both[@]}" bindings/c/every.c "$archive" -o "$room/every_gcc"
+"$room/every_gcc" "$room/every_gcc"
+if command -v clang > /dev/null; then
+    clang -std=c11 "${strict[@]}" "${both[@]}" -fsanitize=address,undefined bindings/c/every.c "$archive" -o "$room/every_clang"
+    "$room/every_clang" "$room/every_gcc"
+fi
+# The numbers of the standard, beside those of the C library.
+python3 - << 'END' | gcc -std=c11 -x c -fsyntax-only -
+import sys
+sys.path.insert(0, "tools")
+import exports_list
+print("#include <elf.h>")
+for one in exports_list.constants():
+    print(f'_Static_assert({one.name} == {one.value}, "{one.name}");')
+END
+# The programs of the page: one in each language.
+shown() { awk -v begin="^\`\`\`$1\$" '$0 ~ begin { on = 1; next } /^```$/ { on = 0 } on' bindings/README.md > "$room/shown.$1"; }
+shown c
+gcc -std=c11 "${strict[@]}" "$room/shown.c" "$archive" -o "$room/names_c"
+shown cpp
+g++ -std=c++17 "${strict[@]}" "$room/shown.cpp" "$archive" -o "$room/sections_cpp"
+diff <("$room/sections_cpp" < "$room/nm_c" | wc -l) <(readelf -hW "$room/nm_c" | awk '/Number of section headers/ { print $NF }')
 cargo build --quiet --offline --release --manifest-path bindings/rust/Cargo.toml --examples
+# The texts of the dynamic segment, also of a file whose ELF header names no sections.
+linked() { readelf --wide --dynamic "$1" | sed -nE 's/.*\((NEEDED|SONAME|RUNPATH)\).*\[(.*)\]$/\1 \2/p' | sort; }
+echo 'int one(void) { return 1; }' | gcc -shared -fPIC -x c - -o "$room/libnamed.so" -Wl,-soname,libnamed.so.1 -Wl,-rpath,/a:/b -Wl,--enable-new-dtags
+cp "$room/libnamed.so" "$room/libcut.so"
+printf '%0.s\0' {1..8} | dd of="$room/libcut.so" bs=1 seek=40 conv=notrunc status=none
+for file in "$room/libnamed.so" /lib/x86_64-linux-gnu/libc.so.6 /lib/x86_64-linux-gnu/libm.so.6; do
+    "$CARGO_TARGET_DIR/release/examples/needed" "$file" | sort | diff - <(linked "$file")
+done
+"$CARGO_TARGET_DIR/release/examples/needed" "$room/libcut.so" | sort | diff - <(linked "$room/libnamed.so")
 for file in "$room/nm_c" /lib/x86_64-linux-gnu/libc.so.6; do
     "$room/nm_c" "$file" > "$room/of_c"
     "$CARGO_TARGET_DIR/release/examples/nm" "$file" > "$room/of_rust"
     cmp "$room/of_c" "$room/of_rust"
+    for compiler in "${cxx[@]}"; do "$room/nm_$compiler" "$file" | cmp - "$room/of_c"; done
     diff <(printed "$room/of_c") <(names "$file") > "$room/difference" || { head "$room/difference"; exit 1; }
     "$room/names_c" < "$file" > "$room/of_page"
     diff <(sed 's/@.*//' "$room/of_page" | grep . | sort) <(names "$file") > "$room/difference" || { head "$room/difference"; exit 1; }
@@ -66,8 +115,38 @@ import damage
 for index in range(1000):
     (pathlib.Path(sys.argv[1]) / str(index)).write_bytes(damage.damaged(1, index))
 END
+# No call answers a status that the list does not have for it.
+gcc -shared -o "$room/libelf_c.so" -Wl,--whole-archive "$archive" -Wl,--no-whole-archive
+tools/answered_statuses.py "$room/libelf_c.so" "$room"/damaged/*
 XMAS_ELF_DAMAGED="$room/damaged" cargo test --quiet --offline --release --manifest-path bindings/rust/Cargo.toml
-echo "bindings: the C example, the header as C++ and the Rust crate agree with readelf"
+cargo build --quiet --offline --release --no-default-features --manifest-path bindings/rust/Cargo.toml
+echo "bindings: the programs in C and C++ and the Rust crate agree with readelf"
+
+# The crate as a release has it: with the archive inside it builds by itself. Its pages need no archive.
+cp -r bindings/rust "$room/crate"
+cp LICENSE-APACHE LICENSE-MIT "$room/crate/"
+rm -f "$room/crate/Cargo.lock"
+mkdir -p "$room/crate/lib/x86_64-unknown-linux-gnu"
+cp "$archive" "$room/crate/lib/x86_64-unknown-linux-gnu/"
+(cd "$room/crate" && env -u XMAS_ELF_ARCHIVE cargo package --quiet --offline --allow-dirty)
+tar -tf "$CARGO_TARGET_DIR"/package/xmas-elf-proved-*.crate > "$room/packed"
+for wanted in README.md LICENSE-MIT LICENSE-APACHE lib/x86_64-unknown-linux-gnu/libelf_c.a src/ffi.rs; do
+    grep -q "/$wanted\$" "$room/packed" || { echo "the package has no $wanted"; exit 1; }
+done
+rm -r "$room/crate/lib"
+(cd "$room/crate" && env -u XMAS_ELF_ARCHIVE DOCS_RS=1 RUSTDOCFLAGS="-D warnings" cargo doc --quiet --offline --no-deps)
+# Where the archive is missing, the build says so and what helps.
+script="$(find "$CARGO_TARGET_DIR/release/build" -path '*xmas-elf-proved*' -name build-script-build | head -n 1)"
+refused() { # ARCHITECTURE FOLDER WORD..
+    local said folder="$2"
+    said="$(env -i PATH=/nowhere TARGET="$1-test" CARGO_CFG_TARGET_ARCH="$1" CARGO_CFG_TARGET_OS=linux CARGO_CFG_TARGET_POINTER_WIDTH=64 \
+        CARGO_MANIFEST_DIR="$folder" "$script" 2>&1)" && { echo "built without an archive: $said"; exit 1; }
+    for word in "${@:3}"; do grep -qF -- "$word" <<< "$said" || { echo "no $word in: $said"; exit 1; }; done
+}
+refused x86_64 "$PWD/bindings/rust" libelf_c.a '`rt`' XMAS_ELF_ARCHIVE 'rt lib'
+refused x86_64 "$room/crate" libelf_c.a 'is missing' XMAS_ELF_ARCHIVE 'rt lib'
+refused aarch64 "$room/crate" 'the target is aarch64-test'
+echo "bindings: the Rust crate builds from its package"
 
 if [ "${1:-}" = --compare ]; then
     (cd bindings/compare && cargo build --quiet --offline --release)

@@ -1,17 +1,17 @@
 #!/usr/bin/env python3
-"""Compare the notes and packed relative relocations that elfnotes prints with readelf's.
+"""Compare the notes and packed relative relocations that elfsections prints with readelf's.
 
-    tools/compare_notes.py [--elfnotes PATH] FILE..
+    tools/compare_notes.py [--elfsections PATH] FILE..
 
-Runs the built elfnotes and `readelf -nrW` of GNU binutils on each FILE. Of
+Runs the built elfsections and `readelf -nrW` of GNU binutils on each FILE. Of
 each section of notes it compares the number of notes, and the type, the name
 and the size of the description of each; of each RELR section the addresses.
-PATH is crates/elfnotes/out/elfnotes under the repository root where it isn't
+PATH is crates/elfsections/out/elfsections under the repository root where it isn't
 given. A FILE that doesn't begin with the ELF magic number is passed over
 silently.
 
 readelf prints the names of GNU's build attributes decoded, so these aren't
-compared. Each difference is a line `FILE: what: elfnotes says X, readelf says
+compared. Each difference is a line `FILE: what: elfsections says X, readelf says
 Y`, and the last line holds the counts. The exit status is 0 if there is no
 difference, 1 if there is one, and 2 if the comparison couldn't be run.
 """
@@ -79,7 +79,7 @@ class Tally(comparing.Tally):
 
 
 def read_own(output: str) -> Contents:
-    """Takes what elfnotes prints of one file apart; raises ValueError at a strange line."""
+    """Takes what elfsections prints of one file apart, but for hash tables; raises ValueError at a strange line."""
     contents = Contents([], [])
     place = ""
     for line in output.split("\n")[1:]:
@@ -88,6 +88,8 @@ def read_own(output: str) -> Contents:
         if word in ("notes", "relr"):
             place = word
             (contents.notes if word == "notes" else contents.addresses).append((rest, []))
+        elif word == "hash" or place == "hash":
+            place = "hash"
         elif place == "notes" and note:
             name = None if note[4].startswith("! ") else note[4]
             contents.notes[-1][1].append(Note(int(note[1], 16), name, int(note[3])))
@@ -161,12 +163,12 @@ def compare_addresses(path: str, says: Contents, reads: Contents, tally: Tally) 
         tally.differ(path, "packed relocations", says.addresses, reads.addresses)
 
 
-def compare_file(path: str, elfnotes: str, tally: Tally) -> None:
+def compare_file(path: str, elfsections: str, tally: Tally) -> None:
     """Runs both programs on a file and compares what they print."""
     if not read_elf(path):
         return
     tally.files += 1
-    status, own, _ = run([elfnotes, path])
+    status, own, _ = run([elfsections, path])
     _, other, _ = run(["readelf", "-nrW", "--", path])
     if status != 0:
         tally.differ(path, "file", f"status {status}", "a file")
@@ -182,5 +184,5 @@ def compare_file(path: str, elfnotes: str, tally: Tally) -> None:
 
 
 if __name__ == "__main__":
-    compared = Tally("elfnotes")
-    sys.exit(comparing.compare_all(__doc__, compared, lambda path, elfnotes: compare_file(path, elfnotes, compared)))
+    compared = Tally("elfsections")
+    sys.exit(comparing.compare_all(__doc__, compared, lambda path, elfsections: compare_file(path, elfsections, compared)))

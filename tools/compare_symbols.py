@@ -1,18 +1,18 @@
 #!/usr/bin/env python3
-"""Compare what elfgnu finds by GNU's hash tables with the symbols that readelf lists.
+"""Compare what elfsections finds by GNU's hash tables with the symbols that readelf lists.
 
-    tools/compare_symbols.py [--elfgnu PATH] FILE..
+    tools/compare_symbols.py [--elfsections PATH] FILE..
 
-Runs the built elfgnu and `readelf --dyn-syms -W` of GNU binutils on each FILE.
+Runs the built elfsections and `readelf --dyn-syms -W` of GNU binutils on each FILE.
 The check of the table must be ok. Each name that readelf lists as defined and
 not local must be found at an index at which readelf lists it so, whatever its
 version. Each other name must not be found, or at an index at which readelf
 lists it: linkers put some undefined symbols of programs into the table. PATH
-is crates/elfgnu/out/elfgnu under the repository root where it isn't given. A
+is crates/elfsections/out/elfsections under the repository root where it isn't given. A
 FILE that doesn't begin with the ELF magic number, or has no GNU hash table, is
 passed over silently.
 
-Each difference is a line `FILE: what: elfgnu says X, readelf says Y`, and the
+Each difference is a line `FILE: what: elfsections says X, readelf says Y`, and the
 last line holds the counts. The exit status is 0 if there is no difference, 1
 if there is one, and 2 if the comparison couldn't be run.
 """
@@ -20,7 +20,7 @@ if there is one, and 2 if the comparison couldn't be run.
 import re
 import sys
 from collections import defaultdict
-from typing import Dict, NamedTuple, Set
+from typing import Dict, List, NamedTuple, Set
 
 import comparing
 from comparing import read_elf, run
@@ -88,18 +88,30 @@ def compare_line(path: str, line: str, reads: Listing, tally: Tally) -> None:
             tally.differ(path, own[3], own[2], "another name there")
 
 
-def compare_file(path: str, elfgnu: str, tally: Tally) -> None:
+def own_table(output: str) -> List[str]:
+    """The lines that elfsections prints of the GNU hash tables of one file."""
+    lines, inside = [], False
+    for line in output.rstrip("\n").split("\n")[1:]:
+        if line.startswith(("notes ", "relr ", "hash ")):
+            inside = line.startswith("hash ")
+        elif inside:
+            lines.append(line)
+    return lines
+
+
+def compare_file(path: str, elfsections: str, tally: Tally) -> None:
     """Runs both programs on a file and compares what they print."""
     if not read_elf(path):
         return
-    status, own, _ = run([elfgnu, path])
+    status, own, _ = run([elfsections, path])
     if status != 0:
         tally.differ(path, "file", f"status {status}", "a file")
         return
-    if not own:
+    table = own_table(own)
+    if not table:
         return
     tally.files += 1
-    check, *lines = own.rstrip("\n").split("\n")
+    check, *lines = table
     if check != "ok":
         tally.differ(path, "check", check, "nothing")
     reads = read_readelf(run(["readelf", "--dyn-syms", "-W", "--", path])[1])
@@ -111,5 +123,5 @@ def compare_file(path: str, elfgnu: str, tally: Tally) -> None:
 
 
 if __name__ == "__main__":
-    compared = Tally("elfgnu")
-    sys.exit(comparing.compare_all(__doc__, compared, lambda path, elfgnu: compare_file(path, elfgnu, compared)))
+    compared = Tally("elfsections")
+    sys.exit(comparing.compare_all(__doc__, compared, lambda path, elfsections: compare_file(path, elfsections, compared)))

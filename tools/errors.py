@@ -1,10 +1,10 @@
 #!/usr/bin/env python3
-"""Which calls answer which error of `ElfError`, by the docs of the calls.
+"""Which calls return which error of `ElfError`, by the docs of the calls.
 
-A call's doc names the errors that it answers, as `DataRange`, and the calls whose refusals it hands on:
-"as `bytes::text_at` is" or "the answer of `parse_header`". `tools/api.py` writes the table into
-docs/API.md. Run by itself at the top of the repository, tools/errors.py fails at a doc that hands on the
-refusals of a call that it can't tell, and at an error that no call answers, but for those of UNUSED.
+The doc of a call names the errors that it returns, such as `DataRange`, and the calls whose errors it
+passes on: "those of `bytes::text_at`", "as in `parse_header`" or "The result of `lookup`". `tools/api.py` writes the table into
+docs/API.md. Run by itself at the top of the repository, tools/errors.py fails if a doc names a call that
+it doesn't find, and if no call returns an error, except for those in UNUSED.
 """
 import pathlib
 import re
@@ -19,7 +19,7 @@ UNUSED = {"WideIndex"}
 
 OWNER = re.compile(r"^(?:pub )?(?:impl(?:<.*?>)? (?:(\w+)(?:<.*?>)? for )?(\w+)|trait (\w+))")
 CALL = re.compile(r"^( *)(?:pub )?fn (\w+)")
-HANDED_ON = re.compile(r"(?:\bas|answer of|answers of) `([\w:]+)`")
+HANDED_ON = re.compile(r"(?:(?<!such )\bas(?: in)?|those of|answers? of|The result of) `([\w:]+)`")
 NAME = re.compile(r"`([\w:]+)`")
 
 
@@ -33,7 +33,7 @@ def texts() -> dict[str, str]:
     """The variants of `ElfError`, in order, each with its text."""
     text = ENUM.read_text(encoding="utf-8")
     body = text.split("pub enum ElfError {")[1].split("\n}")[0]
-    names = re.findall(r"^    (\w+),$", body, re.MULTILINE)
+    names = re.findall(r"^    (\w+) = \d+,$", body, re.MULTILINE)
     said = dict(re.findall(r'Self::(\w+) =>\s*(?:\{\s*)?"([^"]*)"', text))
     return {name: said[name] for name in names}
 

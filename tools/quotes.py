@@ -3,8 +3,9 @@
 link to lead somewhere.
 
 A block is told by its language, `rust` or `antt`. Its paragraphs must all stand in one source file of
-crates/, but for how their lines are broken. docs/API.md has a script of its own for its blocks. Run it at
-the top of the repository: tools/quotes.py
+crates/, but for how their lines are broken. The pages of docs/api have a script of their own for their
+blocks. A link may name a heading of its page or of another, or a line of a file, as `specs/Text.antt#L12`.
+Run it at the top of the repository: tools/quotes.py
 """
 import pathlib
 import re
@@ -32,24 +33,35 @@ def anchors(text: str) -> set:
     return {re.sub(r"[^\w\- ]", "", it.lower()).replace(" ", "-") for it in HEADING.findall(text)}
 
 
-def broken_links(page: pathlib.Path, text: str) -> list:
-    """The links of a page to files that aren't there, and to headings that it doesn't have."""
-    found = [it for it in LINK.findall(text) if "://" not in it]
-    inside = anchors(text)
-    return [it for it in found if (it[1:] not in inside if it[0] == "#" else not (page.parent / it).exists())]
+def leads(page: pathlib.Path, link: str, headings: dict) -> bool:
+    """Whether a link of a page leads to a file, and there to a heading or a line."""
+    path, _, inside = link.partition("#")
+    target = (page.parent / path).resolve() if path else page
+    if not target.exists() or not inside:
+        return target.exists()
+    if line := re.fullmatch(r"L(\d+)", inside):
+        return int(line[1]) <= target.read_text(encoding="utf-8").count("\n")
+    if target not in headings:
+        headings[target] = anchors(target.read_text(encoding="utf-8"))
+    return inside in headings[target]
+
+
+def broken_links(page: pathlib.Path, text: str, headings: dict) -> list:
+    """The links of a page to files, headings and lines that aren't there."""
+    return [it for it in LINK.findall(text) if "://" not in it and not leads(page, it, headings)]
 
 
 def main() -> int:
     files = [it for it in ROOT.glob("crates/*/*/**/*") if it.suffix in ENDS.values() and "out" not in it.parts]
     texts = {it: one_line(it.read_text(encoding="utf-8")) for it in files}
-    pages = [ROOT / "README.md", ROOT / "CALLING.md", *sorted((ROOT / "docs").glob("*.md"))]
-    failed = count = 0
+    pages = [ROOT / "README.md", ROOT / "CALLING.md", *sorted((ROOT / "docs").rglob("*.md"))]
+    failed, count, headings = 0, 0, {}
     for page in pages:
         said = page.read_text(encoding="utf-8")
-        for link in broken_links(page, said):
+        for link in broken_links(page, said, headings):
             failed += 1
             print(f"{page.relative_to(ROOT)}: the link {link} leads nowhere")
-        for language, block in BLOCK.findall(said if page.name != "API.md" else ""):
+        for language, block in BLOCK.findall(said if page.parent.name != "api" else ""):
             count += 1
             parts = paragraphs(block)
             if not any(it.suffix == ENDS[language] and all(part in text for part in parts) for it, text in texts.items()):

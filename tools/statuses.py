@@ -1,16 +1,21 @@
 #!/usr/bin/env python3
 """Writes the list of statuses into bindings/include/xmas_elf.h and bindings/rust/src/error.rs.
 
-The numbers are those of crates/elf_c/src/status.rt, the texts those of crates/elf_base, crates/elf_linking and
-crates/elf_c.
+The numbers of `ElfError` are those that its variants are declared with, the others those of
+crates/elf_c/src/status.rt; the texts are those of crates/elf_base, crates/elf_linking and crates/elf_c.
+A number never changes: bindings/statuses.txt has each name with its number, and the script only adds lines to it. Where
+a refusal has another number than there, or a name there is no refusal's, the script fails, and writes nothing.
 --check: writes nothing, and fails where a file differs."""
 import pathlib
 import re
 import sys
 
+from exports_list import constant
+
 ROOT = pathlib.Path(__file__).resolve().parent.parent
 HEADER = ROOT / "bindings/include/xmas_elf.h"
 RUST = ROOT / "bindings/rust/src/error.rs"
+PINNED = ROOT / "bindings/statuses.txt"
 FIRST, LAST = "/* The statuses, written by tools/statuses.py. */", "/* End of the statuses. */"
 
 
@@ -20,10 +25,11 @@ def matched(path, pattern):
 
 def statuses():
     """Rows of name, number and text."""
-    texts = dict(matched("crates/elf_base/src/error.rt", r'Self::(\w+) => "([^"]*)"'))
+    errors = "crates/elf_base/src/error.rt"
+    texts = dict(matched(errors, r'Self::(\w+) => "([^"]*)"'))
     link_texts = dict(matched("crates/elf_linking/src/error.rt", r'LinkError::(\w+) => "([^"]*)"'))
     source = "crates/elf_c/src/status.rt"
-    rows = [(name, int(number), texts[name]) for name, number in matched(source, r"ElfError::(\w+) => (\d+)")]
+    rows = [(name, int(number), texts[name]) for name, number in matched(errors, r"(?m)^    (\w+) = (\d+),$")]
     for name, number in matched(source, r"LinkError::(\w+) => (\d+)"):
         rows.append(("Link" + name, int(number), link_texts[name]))
     own_texts = dict(matched("crates/elf_c/src/message.rt", r'Refusal::(\w+) => "([^"]*)"'))
@@ -31,12 +37,21 @@ def statuses():
         rows.append((name, int(number), own_texts[name]))
     numbers = [number for _, number, _ in rows]
     assert len(set(numbers)) == len(numbers) and 0 not in numbers and len(rows) > 60
+    assert {name for name, _, _ in rows} >= set(texts) | set(own_texts) | {"Link" + name for name in link_texts}
     return rows
 
 
-def constant(name):
-    words = re.findall(r"[A-Z][a-z]*|[0-9]+", name)
-    return "XMAS_ELF_" + "_".join(words).upper()
+def numbered(rows):
+    """The lines of bindings/statuses.txt: a number and a name each."""
+    return [f"{number} {constant(name)}" for number, name in [(0, "Ok"), *((number, name) for name, number, _ in rows)]]
+
+
+def check_numbers_kept(rows):
+    """Fails where a line of bindings/statuses.txt is no longer true."""
+    pinned = PINNED.read_text().splitlines() if PINNED.exists() else []
+    for line in pinned:
+        if line not in numbered(rows):
+            sys.exit(f"{PINNED}: {line}: a number never changes, and here it has another name")
 
 
 def longest(rows):
@@ -79,7 +94,9 @@ def header_with(part):
 
 def main():
     rows = statuses()
+    check_numbers_kept(rows)
     wanted = {HEADER: header_with(c_part(rows)), RUST: "\n".join(rust_part(rows)) + "\n"}
+    wanted[PINNED] = "\n".join(numbered(rows)) + "\n"
     for path, text in wanted.items():
         if "--check" not in sys.argv[1:]:
             path.write_text(text)
@@ -87,4 +104,5 @@ def main():
             sys.exit(f"{path}: run tools/statuses.py")
 
 
-main()
+if __name__ == "__main__":
+    main()

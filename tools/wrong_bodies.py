@@ -3,19 +3,24 @@
 
 A function is proved by the contracts of what it calls, and not by their bodies. So edits of different
 functions are tried together, in one check of a copy of the crate, and each is judged by what is said
-of its own function: a goal of its contract must be left open. One of which that isn't said is tried
+of its own function. Any goal that is left open there will do while no edit of the batch changes a
+line outside a body; else it must be a goal of the contract. An edit of which that isn't said is tried
 alone, where any goal will do, since nothing else was changed. An edit fails that doesn't apply or
 compile, that changes nothing, or with which the crate is still proved.
 
     tools/wrong_bodies.py [--jobs N] [NAME..]    a NAME is that of a crate, a topic or an edit; none: all
+    tools/wrong_bodies.py --since COMMIT         those of functions that changed since this commit
+    tools/wrong_bodies.py --list [NAME..]        the batches, and nothing is tried
     tools/wrong_bodies.py --self-test            whether the script itself tells right from wrong
 
 Each crate must be proved as it stands, and is checked first; what that check and earlier ones kept in
-out/ is used again. At the end stand the slowest checks and the functions at which each stayed longest,
-so that edits can be found that make the prover's search run to its limits. The last line is
+out/ is used again. At the end stand what the checks of each crate took, the slowest ones, and the
+functions at which each of these stayed longest, so that edits can be found that make the prover's
+search run to its limits. The last line is
 `N refused, M failed`.
 """
 import argparse
+import collections
 import concurrent.futures
 import dataclasses
 import os
@@ -30,8 +35,11 @@ import time
 
 ROOT = pathlib.Path(__file__).resolve().parent.parent
 
+# The names of the edits that must stay.
+MUST_STAY = ROOT / "docs" / "wrong_bodies.txt"
+
 # Many edits of one batch share what a check costs before the first goal; few leave work for others.
-BATCH = 24
+BATCH = 40
 
 CONTRACT = re.compile(r"what the function ensures|the invariant of the loop|the loop's invariant")
 NOTE = re.compile(r"note: (?:\./)?(src/\S+?):(\d+):\d+: it is not proved that (.*)")
@@ -56,6 +64,8 @@ class Function:
     first: int
     last: int
     path: str
+    # the line that opens the body
+    body: int = 0
 
     def tail(self) -> str:
         return "::".join(self.path.split("::")[-2:])
@@ -70,6 +80,8 @@ class Edit:
     changes: list
     functions: set
     fault: str = ""
+    # whether each changed line stands in a function's body, so that no other function can see the change
+    inside: bool = True
 
     def label(self) -> str:
         return f"{self.crate}/{self.name}"
@@ -88,6 +100,15 @@ def label_of(head: str) -> str:
     return found[3] + "".join(arguments if trait else ["+" + it for it in arguments]) + trait
 
 
+def body_of(lines: list, first: int, last: int, indent: str) -> int:
+    """The line that opens the body of a function: the end of its head, or a line of its own behind a contract."""
+    for at in range(first, last + 1):
+        line = lines[at - 1]
+        if line == indent + "{" or line.endswith(" {") and (at == first or line.startswith(indent + ")")):
+            return at
+    return last
+
+
 def functions_of(file: str, text: str, crate: str) -> list:
     """The functions of a source file, as its layout shows where each begins and ends."""
     module = re.sub(r"^src/|\.rt$", "", file).replace("/", "::")
@@ -98,14 +119,14 @@ def functions_of(file: str, text: str, crate: str) -> list:
             label = label_of(" ".join(lines[at - 1 : at + 6]))
         elif line == "}":
             label = "" if not re.match(r"}", lines[at - 2]) else label
-        begins = re.match(r"( {0,4})(?:pub(?:\(\w+\))? )?(?:const )?fn (\w+)", line)
+        begins = re.match(r"( {0,4})(?:pub(?:\(\w+\))? )?(?:const )?(?:unsafe )?(?:extern \"C\" )?fn (\w+)", line)
         if re.match(r" {0,4}(#\[|///? )", line):
             first = first or at
         elif begins:
             inside = label if begins[1] else ""
             path = "::".join(it for it in (prefix, inside, begins[2]) if it)
             end = next((k for k in range(at, len(lines) + 1) if lines[k - 1] == begins[1] + "}"), at)
-            found.append(Function(file, first or at, end, path))
+            found.append(Function(file, first or at, end, path, body_of(lines, at, end, begins[1])))
             first = None
         else:
             first = None
@@ -201,15 +222,19 @@ class Crate:
             text = self.changed([Edit("", "", changes[:at], set())]).get(file, self.texts[file])
             line = text.count("\n", 0, text.find(old)) + 1
             if not text.split("\n")[line - 1].startswith(("use ", "ghost use ")):
-                functions.add(self.function_at(file, line))
+                one = self.function_at(file, line)
+                functions.add(one)
+                edit.inside &= one is not None and one.body < line
         return edit
 
 
 def batches_of(crate: Crate, edits) -> list:
     """The edits in few groups, each of edits of different functions that can be made together."""
+    many = collections.Counter(one for edit in edits for one in edit.functions)
+    # Those of functions with many edits come first, each in a group of its own, and the others fill these groups.
+    rank = lambda it: (not it.inside, -max(many[one] for one in it.functions), it.changes[0][0], it.name)
     batches = []
-    # A file that is changed is proved again whole, so the edits of one file stand together.
-    for edit in sorted(edits, key=lambda it: (it.changes[0][0], it.name)):
+    for edit in sorted(edits, key=rank):
         for batch in batches:
             used = set().union(*(it.functions for it in batch))
             if len(batch) < BATCH and None not in used | edit.functions and not used & edit.functions:
@@ -221,7 +246,8 @@ def batches_of(crate: Crate, edits) -> list:
                     continue
         else:
             batches.append([edit])
-    return batches
+    # The longest begin first, so that none is the last to end.
+    return sorted(batches, key=len, reverse=True)
 
 
 def goals_in(crate: Crate, said: str) -> dict:
@@ -317,8 +343,9 @@ class Room:
             fault = "the crate is still proved" if reached[1] == "proved" else "no goal is left open, only a name that it took away"
             return [(edits[0], goal, "" if goal else fault)]
         judged = []
+        hidden = all(it.inside for it in edits)
         for edit in edits:
-            own = [it for one in edit.functions for it in goals.get(one, []) if CONTRACT.search(it)]
+            own = [it for one in edit.functions for it in goals.get(one, []) if hidden or CONTRACT.search(it)]
             judged += [(edit, own[0], "")] if own else self.judge([edit])
         return judged
 
@@ -337,10 +364,12 @@ class Task:
 class Trial:
     """All edits of a repository that are to be tried, by several workers."""
 
-    def __init__(self, root: pathlib.Path, names, jobs: int):
+    def __init__(self, root: pathlib.Path, names, jobs: int, since=None):
         self.root, self.jobs, self.lock = root, jobs, threading.Lock()
+        self.of_crate = collections.Counter()
         self.refused, self.failed, self.times = [], [], []
         self.tasks, self.idle, self.made = [], jobs, 0
+        self.may_be_empty = since is not None
         below = {}
         for line in (root / "crates.txt").read_text(encoding="utf-8").splitlines():
             name, _, deps = line.partition("#")[0].partition(":")
@@ -350,6 +379,8 @@ class Trial:
             crate = Crate(root / "crates" / name)
             edits = [crate.read_edit(it) for it in sorted((crate.folder / "wrong-bodies").glob("*/*.edit"))]
             edits = [it for it in edits if not names or any(self.is_named(it, word) for word in names)]
+            if since is not None:
+                edits = [it for it in edits if since.touches(it)]
             for edit in edits:
                 if edit.fault:
                     self.tell(edit, "", edit.fault)
@@ -378,11 +409,13 @@ class Trial:
     def prove(self, task: Task, jobs: int):
         """Checks a crate as it stands, and keeps what that proves for the copies."""
         began = time.monotonic()
-        status = check(task.crate.folder, "--jobs", str(jobs)).status
+        ran = [check(task.crate.folder, "--jobs", str(jobs))]
         # The check of a crate above would build it, and so change what is being copied.
-        if not status and any(task.crate.name in it.below for it in self.tasks):
-            status = check(task.crate.folder, "--jobs", str(jobs), verb="lib").status
+        if not ran[0].status and any(task.crate.name in it.below for it in self.tasks):
+            ran.append(check(task.crate.folder, "--jobs", str(jobs), verb="lib"))
+        status = ran[-1].status
         with self.lock:
+            self.of_crate["the crates as they stand"] += sum(it.seconds for it in ran)
             task.state = "not proved" if status else "proved"
             if status:
                 self.failed.append(task.crate.name)
@@ -396,6 +429,7 @@ class Trial:
         for edit, goal, fault in room.judge(batch):
             self.tell(edit, goal, fault)
         with self.lock:
+            self.of_crate[task.crate.name] += sum(it[0] for it in room.times)
             self.times, room.times = self.times + room.times, []
             is_wanted = len(task.rooms) < len(task.batches)
             if is_wanted:
@@ -440,14 +474,43 @@ class Trial:
                 for it in concurrent.futures.wait(running, return_when=concurrent.futures.FIRST_COMPLETED).done:
                     self.idle += running.pop(it)
                     it.result()
+        for name, seconds in self.of_crate.items():
+            print(f"{name}: {seconds:.0f} processor seconds")
         if self.times:
-            print(f"{sum(it[0] for it in self.times):.0f} processor seconds, of these")
+            print(f"{sum(it[0] for it in self.times):.0f} processor seconds in {len(self.times)} checks of wrong bodies, of these")
         for seconds, what in sorted(self.times, reverse=True)[:SLOWEST]:
             print(f"{seconds:6.0f} {what}")
         if self.failed:
             print(f"FAILED: {' '.join(sorted(self.failed))}")
         print(f"{len(self.refused)} refused, {len(self.failed)} failed")
-        return 1 if self.failed or not self.refused else 0
+        return 1 if self.failed or not (self.refused or self.may_be_empty) else 0
+
+    def list(self) -> int:
+        """Prints the batches."""
+        for task in self.tasks:
+            for number, batch in enumerate(task.batches):
+                print(f"{task.crate.name}, batch {number}: {len(batch)} edits")
+                for edit in batch:
+                    print(f"    {edit.label()}: {', '.join(it.tail() if it else 'no function' for it in edit.functions)}")
+        edits = sum(len(it) for task in self.tasks for it in task.batches)
+        print(f"{edits} edits in {sum(len(it.batches) for it in self.tasks)} batches, {len(self.failed)} failed")
+        return 1 if self.failed else 0
+
+
+class Since:
+    """The functions that changed since a commit."""
+
+    def __init__(self, commit: str):
+        import changed
+
+        found = changed.changes(changed.base(commit))
+        self.functions = {(name, one.file, one.path) for name, change in found.items() for one in change.functions}
+        self.files = {it for it in changed.changed_files(changed.base(commit)) if it.endswith(".edit")}
+
+    def touches(self, edit: Edit) -> bool:
+        """Whether an edit is new, or one of its functions changed."""
+        is_new = any(it.startswith(f"crates/{edit.crate}/wrong-bodies/{edit.name}.") for it in self.files)
+        return is_new or any(one and (edit.crate, one.file, one.path) in self.functions for one in edit.functions)
 
 
 PAIR = """//! Two functions.
@@ -505,15 +568,28 @@ def self_test() -> int:
     return 0 if well else 1
 
 
+def lost() -> list:
+    """The names of edits that must stay, and that no edit has."""
+    there = {it.stem for folder in ("wrong-bodies/*", "must-fail") for it in ROOT.glob(f"crates/*/{folder}/*.edit")}
+    lines = MUST_STAY.read_text(encoding="utf-8").splitlines()
+    return [it for it in lines if it and not it.startswith("#") and it not in there]
+
+
 def main() -> int:
     words = argparse.ArgumentParser(description=__doc__, formatter_class=argparse.RawDescriptionHelpFormatter)
     words.add_argument("--jobs", type=int, default=2, help="how many checks run side by side (each takes some 2 GB)")
     words.add_argument("--self-test", action="store_true", help="try the script on a crate of two functions")
+    words.add_argument("--since", metavar="COMMIT", help="only edits of functions that changed since this commit, and edits that are new")
+    words.add_argument("--list", action="store_true", help="print the batches, and try none")
     words.add_argument("names", nargs="*", metavar="NAME", help="a crate, a topic or an edit")
     given = words.parse_args()
     if given.self_test:
         return self_test()
-    return Trial(ROOT, given.names, max(given.jobs, 1)).run()
+    if missing := lost():
+        print(f"FAILED: no edit has the name {', '.join(missing)}")
+        return 1
+    trial = Trial(ROOT, given.names, max(given.jobs, 1), Since(given.since) if given.since else None)
+    return trial.list() if given.list else trial.run()
 
 
 if __name__ == "__main__":

@@ -8,7 +8,7 @@
 struct input {
     uint8_t *bytes;
     size_t size;
-    struct xmas_elf_header header;
+    xmas_elf_header_t header;
 };
 
 static int is_read(const char *path, struct input *input)
@@ -26,7 +26,7 @@ static int is_read(const char *path, struct input *input)
 }
 
 /* Bytes in hexadecimal. */
-static void print_range(const struct input *input, struct xmas_elf_range range)
+static void print_range(const struct input *input, xmas_elf_range_t range)
 {
     for (uint64_t i = 0; i < range.size; i++) printf("%02x", input->bytes[range.offset + i]);
     putchar('\n');
@@ -40,7 +40,7 @@ static void print_refusal(const char *what, uint32_t status)
 
 static void print_build_id(const struct input *input)
 {
-    struct xmas_elf_range id;
+    xmas_elf_range_t id;
     uint32_t status = xmas_elf_build_id(input->bytes, input->size, &input->header, &id);
     if (status != XMAS_ELF_OK) {
         print_refusal("build id", status);
@@ -51,9 +51,9 @@ static void print_build_id(const struct input *input)
 }
 
 /* The first section of a type, or the number of sections where there is none. */
-static uint64_t section_of_type(const struct input *input, uint32_t type, struct xmas_elf_section *section)
+static uint64_t section_of_type(const struct input *input, uint32_t type, xmas_elf_section_t *section)
 {
-    struct xmas_elf_counts counts = {0, 0};
+    xmas_elf_counts_t counts = {0, 0};
     uint64_t index = 0;
     xmas_elf_counts(input->bytes, input->size, &input->header, &counts);
     while (index < counts.sections && (xmas_elf_section(input->bytes, input->size, &input->header, index, section) != XMAS_ELF_OK || section->type != type))
@@ -64,8 +64,8 @@ static uint64_t section_of_type(const struct input *input, uint32_t type, struct
 
 static void print_symbol(const struct input *input, uint64_t symbols, uint32_t index, const char *name)
 {
-    struct xmas_elf_symbol symbol;
-    struct xmas_elf_range code;
+    xmas_elf_symbol_t symbol;
+    xmas_elf_range_t code;
     if (xmas_elf_symbol(input->bytes, input->size, &input->header, symbols, index, &symbol) != XMAS_ELF_OK) return;
     printf("%s %u %016llx ", name, index, (unsigned long long)symbol.value);
     uint32_t status = xmas_elf_bytes_at(input->bytes, input->size, &input->header, symbol.value, 8, &code);
@@ -76,7 +76,7 @@ static void print_symbol(const struct input *input, uint64_t symbols, uint32_t i
 int main(int argc, char **argv)
 {
     struct input input = {0};
-    struct xmas_elf_section section;
+    xmas_elf_section_t section;
     if (argc < 2 || !is_read(argv[1], &input)) {
         fprintf(stderr, "usage: find FILE NAME..\n");
         return 2;
@@ -95,7 +95,7 @@ int main(int argc, char **argv)
                  : xmas_elf_check_hash(input.bytes, input.size, &input.header, table);
     if (status != XMAS_ELF_OK) print_refusal("hash table", status);
     for (int i = 2; i < argc && status == XMAS_ELF_OK; i++) {
-        struct xmas_elf_look_up said;
+        xmas_elf_look_up_t said;
         const uint8_t *name = (const uint8_t *)argv[i];
         status = gnu ? xmas_elf_gnu_look_up(input.bytes, input.size, &input.header, table, name, strlen(argv[i]), &said)
                      : xmas_elf_look_up(input.bytes, input.size, &input.header, table, name, strlen(argv[i]), &said);

@@ -18,16 +18,16 @@ static uint8_t *read_file(const char *path, size_t *size)
     return bytes;
 }
 
-static void print_symbols(const uint8_t *input, size_t size, const struct xmas_elf_header *header, uint64_t index)
+static void print_symbols(const uint8_t *input, size_t size, const xmas_elf_header_t *header, uint64_t index)
 {
-    struct xmas_elf_section section;
-    struct xmas_elf_symbol symbols[64];
-    struct xmas_elf_name names[64];
+    xmas_elf_section_t section;
+    xmas_elf_symbol_t symbols[64];
+    xmas_elf_name_t names[64];
     uint64_t count;
     if (xmas_elf_section(input, size, header, index, &section) != XMAS_ELF_OK) return;
     if (section.type != 2 && section.type != 11) return; /* SHT_SYMTAB, SHT_DYNSYM */
     for (uint64_t first = 1; xmas_elf_symbols(input, size, header, index, first, symbols, 64, &count) == XMAS_ELF_OK; first += count) {
-        xmas_elf_symbol_names(input, size, header, index, first, names, 64, &count);
+        if (xmas_elf_symbol_names(input, size, header, index, first, names, 64, &count) != XMAS_ELF_OK) return;
         for (uint64_t i = 0; i < count; i++)
             if (names[i].status == XMAS_ELF_OK)
                 printf("%016llx %5u %.*s\n", (unsigned long long)symbols[i].value, symbols[i].shndx, (int)names[i].range.size,
@@ -38,8 +38,8 @@ static void print_symbols(const uint8_t *input, size_t size, const struct xmas_e
 int main(int argc, char **argv)
 {
     size_t size = 0;
-    struct xmas_elf_header header;
-    struct xmas_elf_counts counts;
+    xmas_elf_header_t header;
+    xmas_elf_counts_t counts;
     uint8_t *input = argc == 2 ? read_file(argv[1], &size) : NULL;
     if (input == NULL) {
         fprintf(stderr, "usage: nm FILE\n");

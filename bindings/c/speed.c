@@ -8,10 +8,10 @@
 struct input {
     const uint8_t *bytes;
     size_t size;
-    struct xmas_elf_header header;
+    xmas_elf_header_t header;
     uint64_t sections, symbols_at, table_at, names;
-    struct xmas_elf_range *name;
-    struct xmas_elf_range last;
+    xmas_elf_range_t *name;
+    xmas_elf_range_t last;
 };
 
 /* Each pass adds numbers up, and says how many items it saw. */
@@ -19,14 +19,14 @@ typedef uint64_t pass(const struct input *input, uint64_t *sum);
 
 static uint64_t open_pass(const struct input *input, uint64_t *sum)
 {
-    struct xmas_elf_header header;
+    xmas_elf_header_t header;
     if (xmas_elf_open(input->bytes, input->size, &header) == XMAS_ELF_OK) *sum += header.sh_offset;
     return 1;
 }
 
 static uint64_t sections_pass(const struct input *input, uint64_t *sum)
 {
-    struct xmas_elf_section section;
+    xmas_elf_section_t section;
     for (uint64_t i = 0; i < input->sections; i++)
         if (xmas_elf_section(input->bytes, input->size, &input->header, i, &section) == XMAS_ELF_OK) *sum += section.size;
     return input->sections;
@@ -34,7 +34,7 @@ static uint64_t sections_pass(const struct input *input, uint64_t *sum)
 
 static uint64_t names_pass(const struct input *input, uint64_t *sum)
 {
-    struct xmas_elf_range name;
+    xmas_elf_range_t name;
     for (uint64_t i = 0; i < input->sections; i++)
         if (xmas_elf_section_name(input->bytes, input->size, &input->header, i, &name) == XMAS_ELF_OK) *sum += name.size;
     return input->sections;
@@ -43,7 +43,7 @@ static uint64_t names_pass(const struct input *input, uint64_t *sum)
 /* The headers and the names by one call for 64. */
 static uint64_t sections_many_pass(const struct input *input, uint64_t *sum)
 {
-    struct xmas_elf_section sections[64];
+    xmas_elf_section_t sections[64];
     uint64_t first = 0, count;
     while (xmas_elf_sections(input->bytes, input->size, &input->header, first, sections, 64, &count) == XMAS_ELF_OK) {
         for (uint64_t i = 0; i < count; i++) *sum += sections[i].size;
@@ -54,7 +54,7 @@ static uint64_t sections_many_pass(const struct input *input, uint64_t *sum)
 
 static uint64_t names_many_pass(const struct input *input, uint64_t *sum)
 {
-    struct xmas_elf_name names[64];
+    xmas_elf_name_t names[64];
     uint64_t first = 0, count;
     while (xmas_elf_section_names(input->bytes, input->size, &input->header, first, names, 64, &count) == XMAS_ELF_OK) {
         for (uint64_t i = 0; i < count; i++) *sum += names[i].range.size;
@@ -65,7 +65,7 @@ static uint64_t names_many_pass(const struct input *input, uint64_t *sum)
 
 static uint64_t symbols_pass(const struct input *input, uint64_t *sum)
 {
-    struct xmas_elf_symbol symbol;
+    xmas_elf_symbol_t symbol;
     uint64_t i = 0;
     while (xmas_elf_symbol(input->bytes, input->size, &input->header, input->symbols_at, i, &symbol) == XMAS_ELF_OK) {
         *sum += symbol.value;
@@ -76,7 +76,7 @@ static uint64_t symbols_pass(const struct input *input, uint64_t *sum)
 
 static uint64_t symbols_many_pass(const struct input *input, uint64_t *sum)
 {
-    struct xmas_elf_symbol symbols[64];
+    xmas_elf_symbol_t symbols[64];
     uint64_t first = 0, count;
     while (xmas_elf_symbols(input->bytes, input->size, &input->header, input->symbols_at, first, symbols, 64, &count) == XMAS_ELF_OK) {
         for (uint64_t i = 0; i < count; i++) *sum += symbols[i].value;
@@ -87,7 +87,7 @@ static uint64_t symbols_many_pass(const struct input *input, uint64_t *sum)
 
 static uint64_t symbol_names_pass(const struct input *input, uint64_t *sum)
 {
-    struct xmas_elf_name names[64];
+    xmas_elf_name_t names[64];
     uint64_t first = 0, count;
     while (xmas_elf_symbol_names(input->bytes, input->size, &input->header, input->symbols_at, first, names, 64, &count) == XMAS_ELF_OK) {
         for (uint64_t i = 0; i < count; i++) *sum += names[i].range.size;
@@ -99,7 +99,7 @@ static uint64_t symbol_names_pass(const struct input *input, uint64_t *sum)
 /* The last section that has a name, by it. */
 static uint64_t find_pass(const struct input *input, uint64_t *sum)
 {
-    struct xmas_elf_section section;
+    xmas_elf_section_t section;
     if (xmas_elf_find_section(input->bytes, input->size, &input->header, input->bytes + input->last.offset,
                               (size_t)input->last.size, &section) == XMAS_ELF_OK)
         *sum += section.size;
@@ -109,7 +109,7 @@ static uint64_t find_pass(const struct input *input, uint64_t *sum)
 /* Each name of the symbols for the dynamic linker, by GNU's hash table. */
 static uint64_t look_ups_pass(const struct input *input, uint64_t *sum)
 {
-    struct xmas_elf_look_up said;
+    xmas_elf_look_up_t said;
     for (uint64_t i = 0; i < input->names; i++)
         if (xmas_elf_gnu_look_up(input->bytes, input->size, &input->header, input->table_at, input->bytes + input->name[i].offset,
                                  (size_t)input->name[i].size, &said) == XMAS_ELF_OK)
@@ -120,7 +120,7 @@ static uint64_t look_ups_pass(const struct input *input, uint64_t *sum)
 /* The same by one call for 64 names. */
 static uint64_t look_ups_many_pass(const struct input *input, uint64_t *sum)
 {
-    struct xmas_elf_answer said[64];
+    xmas_elf_answer_t said[64];
     for (uint64_t i = 0; i < input->names; i += 64) {
         size_t count = input->names - i < 64 ? (size_t)(input->names - i) : 64;
         xmas_elf_gnu_look_ups(input->bytes, input->size, &input->header, input->table_at, input->bytes, input->size,
@@ -139,9 +139,9 @@ static uint64_t check_pass(const struct input *input, uint64_t *sum)
 /* Where the names of the symbols stand that GNU's hash table is for. */
 static void find_names(struct input *input, uint64_t table, uint64_t symbols)
 {
-    struct xmas_elf_section section;
-    struct xmas_elf_range strings;
-    struct xmas_elf_symbol symbol;
+    xmas_elf_section_t section;
+    xmas_elf_range_t strings;
+    xmas_elf_symbol_t symbol;
     input->table_at = table;
     if (xmas_elf_section(input->bytes, input->size, &input->header, symbols, &section) != XMAS_ELF_OK) return;
     if (xmas_elf_section_data(input->bytes, input->size, &input->header, section.link, &strings) != XMAS_ELF_OK) return;
@@ -174,7 +174,7 @@ static void measure(const char *name, pass *run, const struct input *input)
 int main(int argc, char **argv)
 {
     struct input input = {0};
-    struct xmas_elf_counts counts;
+    xmas_elf_counts_t counts;
     FILE *file = argc == 2 ? fopen(argv[1], "rb") : NULL;
     if (file == NULL || fseek(file, 0, SEEK_END) != 0) return 2;
     size_t size = (size_t)ftell(file);
@@ -187,10 +187,10 @@ int main(int argc, char **argv)
     if (xmas_elf_open(bytes, size, &input.header) != XMAS_ELF_OK) return 1;
     if (xmas_elf_counts(bytes, size, &input.header, &counts) != XMAS_ELF_OK) return 1;
     input.sections = counts.sections;
-    struct xmas_elf_section section;
+    xmas_elf_section_t section;
     for (uint64_t i = 0; i < input.sections; i++) {
         if (xmas_elf_section(bytes, size, &input.header, i, &section) != XMAS_ELF_OK) continue;
-        xmas_elf_section_name(bytes, size, &input.header, i, &input.last); /* a refusal leaves the name before */
+        (void)xmas_elf_section_name(bytes, size, &input.header, i, &input.last); /* a refusal leaves the name before */
         if (section.type == 2 || (section.type == 11 && !input.symbols_at)) input.symbols_at = i;
         if (section.type == 0x6ffffff6) find_names(&input, i, section.link);
     }

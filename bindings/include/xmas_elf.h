@@ -1,20 +1,34 @@
-/* The proved ELF reader for C11 and C++: declarations of the static library `elf_c`.
+/* A proved reader of ELF files for C11 and C++: the declarations of the static library `elf_c`.
  *
- * A file is the bytes `input[0 .. input_size]`, which the caller keeps. `xmas_elf_open` reads its header
- * into a record; the calls for parts of the file take the same bytes and that record. A call answers a status, which is
- * XMAS_ELF_OK or the number of a refusal, and fills `*out` where the status is XMAS_ELF_OK; else `*out` stays
- * as it was. No call takes memory, keeps anything, writes elsewhere or fails otherwise, whatever the bytes,
- * the record and the indices are. Answers are numbers, and ranges of the input.
+ * A file is the bytes `input[0 .. input_size]`, which the caller keeps. `xmas_elf_open` reads the ELF header into a
+ * struct, and the calls for parts of the file take the same bytes and that struct. A call answers a status: XMAS_ELF_OK,
+ * or the number of the reason why it is refused, the first that applies in the order that its comment gives. No call
+ * allocates, keeps a pointer, locks, writes anything but its outputs, or fails otherwise, whatever the bytes, the header
+ * and the indices are. Any number of threads may call at the same time.
  *
- * No pointer may be null. An input of no bytes needs a pointer too, which is not read. `*out` is a record
- * whose memory the caller owns alone during the call; it need hold no value of a sort before. The same holds of
- * room for several, `out[0 .. out_size]`.
+ * Outputs. `*out` and `*count` may be uninitialised before the call. Where the status is XMAS_ELF_OK they are written;
+ * else they keep the value that they had, so that an uninitialised one stays uninitialised: test the status first.
  *
- * Calls for many records put as many to the front of `out` as it has room for, or all that follow index `first`. Their
- * number goes to `*count`; what of `out` is behind them stays. With no room (`out_size` 0) the number is 0. Where the
- * call is refused, `out` and `*count` stay as they were. Behind the last record it is refused with
- * XMAS_ELF_NO_RECORD, so that a loop ends:
- *     for (first = 0; xmas_elf_sections(.., first, out, out_size, &count) == XMAS_ELF_OK; first += count) ..
+ * Calls for many records write to the front of `out` as many records as `out_count` says, or all that follow index
+ * `first`, and their number to `*count`; the rest of `out` keeps its value. With `out_count` 0 the number is 0. After
+ * the last record the call is refused with XMAS_ELF_NO_RECORD, which ends a loop:
+ *     for (first = 0; xmas_elf_sections(.., first, out, 64, &count) == XMAS_ELF_OK; first += count) ..
+ *
+ * Pointers. A pointer with a count after it (`input`, `name`, `names`, `ranges`, an array `out`) may be null where the
+ * count is 0. Every other pointer points to a value. Bytes need no alignment: `input` and `names` may begin at any
+ * address. Structs have the alignment that C gives them.
+ *
+ * Overlap. What a call writes (`out`, `count`) may not overlap anything else that it is handed: not the input, the header,
+ * `part`, `names` or `ranges`, and not each other. What it only reads may overlap, so `names` may be the input. No other
+ * thread may write to any of it during the call.
+ *
+ * Ranges. A range that a call answers lies in the input, an empty one too: `offset + size <= input_size`. An empty
+ * section answers its own offset; an empty segment offset 0, whatever its own is; a refused name of many offset 0 and
+ * size 0.
+ *
+ * The archive is built for x86-64 Linux and processors of level x86-64-v2 (SSE4.2 and POPCNT), and is position
+ * independent. It needs `memmove` of the C library, and nothing else. It has no unwind tables (.eh_frame): a debugger
+ * or profiler shows no callers above a function of the archive. No call calls back, so no exception passes through one.
  */
 #ifndef XMAS_ELF_H
 #define XMAS_ELF_H
@@ -22,270 +36,21 @@
 #include <stddef.h>
 #include <stdint.h>
 
-#ifdef __cplusplus
-extern "C" {
+/* A refused call leaves its outputs as they were, so its status should be read. C++17 and C23 warn where it is not. */
+#if defined(__cplusplus) && __cplusplus >= 201703L
+#define XMAS_ELF_NODISCARD [[nodiscard]]
+#elif defined(__STDC_VERSION__) && __STDC_VERSION__ >= 202311L
+#define XMAS_ELF_NODISCARD [[nodiscard]]
+#else
+#define XMAS_ELF_NODISCARD
 #endif
 
-/* The header of a file (gABI, "ELF Header"). Filled by `xmas_elf_open`. */
-struct xmas_elf_header {
-    uint64_t entry_point;
-    uint64_t ph_offset;
-    uint64_t sh_offset;
-    uint32_t version;
-    uint32_t flags;
-    uint16_t type;
-    uint16_t machine;
-    uint16_t header_size;
-    uint16_t ph_entry_size;
-    uint16_t ph_count;     /* as it stands in the file: see `xmas_elf_counts` */
-    uint16_t sh_entry_size;
-    uint16_t sh_count;     /* as it stands in the file: see `xmas_elf_counts` */
-    uint16_t sh_str_index; /* as it stands in the file: see `xmas_elf_names_index` */
-    uint8_t file_class;    /* 1: class 32, 2: class 64 */
-    uint8_t encoding;      /* 2: big-endian; else little-endian */
-    uint8_t header_version;
-    uint8_t os_abi;
-    uint8_t abi_version;
-    uint8_t padding[7];
-};
-
-/* How many sections and segments a file has, counts past 16 bits included. */
-struct xmas_elf_counts {
-    uint64_t sections;
-    uint32_t segments;
-};
-
-/* The bytes `input[offset .. offset + size]`, which lie in the input. */
-struct xmas_elf_range {
-    uint64_t offset;
-    uint64_t size;
-};
-
-/* Where one name of many stands. */
-struct xmas_elf_name {
-    struct xmas_elf_range range; /* without the zero byte behind it; empty and at 0 where the name is refused */
-    uint32_t status;             /* of this name */
-};
-
-/* A section header (gABI, "Sections"). */
-struct xmas_elf_section {
-    uint64_t flags;
-    uint64_t address;
-    uint64_t offset;
-    uint64_t size;
-    uint64_t align;
-    uint64_t entry_size;
-    uint32_t name;
-    uint32_t type;
-    uint32_t link;
-    uint32_t info;
-};
-
-/* A program header (gABI, "Program Header"). */
-struct xmas_elf_segment {
-    uint64_t offset;
-    uint64_t virtual_addr;
-    uint64_t physical_addr;
-    uint64_t file_size;
-    uint64_t mem_size;
-    uint64_t align;
-    uint32_t type;
-    uint32_t flags;
-};
-
-/* A symbol (gABI, "Symbol Table"). */
-struct xmas_elf_symbol {
-    uint64_t value;
-    uint64_t size;
-    uint32_t name;  /* an index of the string table, in bytes */
-    uint16_t shndx; /* the index of a section, or one with a meaning of its own */
-    uint8_t info;   /* binding * 16 + type */
-    uint8_t other;
-};
-
-/* A relocation (gABI, "Relocation"). An addend of class 32 is a number of 32 bits. */
-struct xmas_elf_relocation {
-    uint64_t offset;
-    uint64_t addend;
-    uint32_t symbol;
-    uint32_t type;
-    uint32_t has_addend; /* 1, or 0 in a table without addends, where `addend` is 0 */
-};
-
-/* A dynamic entry (gABI, "Dynamic Section"). */
-struct xmas_elf_dynamic {
-    uint64_t tag;
-    uint64_t value;
-};
-
-/* A note (gABI, "Note Section"). */
-struct xmas_elf_note {
-    struct xmas_elf_range name; /* as many bytes as the note says: with the zero byte that ends it */
-    struct xmas_elf_range desc;
-    struct xmas_elf_range rest; /* what follows the note and its padding: the next notes */
-    uint32_t type;              /* what the description means, by the name */
-};
-
-/* What a look-up says. */
-struct xmas_elf_look_up {
-    uint32_t found;     /* 1 where a symbol is found, and else 0 */
-    uint32_t index;     /* of the symbol, or 0 */
-    uint32_t looked_at; /* how many entries of the table the look-up came by */
-};
-
-/* What one look-up of many says. */
-struct xmas_elf_answer {
-    uint32_t status;    /* of this look-up; where it isn't XMAS_ELF_OK, the numbers behind it are 0 */
-    uint32_t found;     /* 1 where a symbol is found, and else 0 */
-    uint32_t index;     /* of the symbol, or 0 */
-    uint32_t looked_at; /* how many entries of the table the look-up came by */
-};
-
-/* The header of the file that these bytes are. */
-uint32_t xmas_elf_open(const uint8_t *input, size_t input_size, struct xmas_elf_header *out);
-
-/* Whether the header makes sense over the input: its own size, its class, and where its tables end. */
-uint32_t xmas_elf_check_header(const uint8_t *input, size_t input_size, const struct xmas_elf_header *header);
-
-/* How many sections and segments there are, as the file says: its tables may be cut off. Never refused. */
-uint32_t xmas_elf_counts(const uint8_t *input, size_t input_size, const struct xmas_elf_header *header,
-                         struct xmas_elf_counts *out);
-
-/* The index of the section that holds the names of the sections. */
-uint32_t xmas_elf_names_index(const uint8_t *input, size_t input_size, const struct xmas_elf_header *header,
-                              uint32_t *out);
-
-/* The section header at an index, which isn't compared with the count of sections: behind that it is what the bytes
- * there say, or refused. */
-uint32_t xmas_elf_section(const uint8_t *input, size_t input_size, const struct xmas_elf_header *header,
-                          uint64_t index, struct xmas_elf_section *out);
-
-/* The section headers from index `first` on, up to the count of sections or the first that is refused. Where they end
- * before the count, `xmas_elf_section` says why. */
-uint32_t xmas_elf_sections(const uint8_t *input, size_t input_size, const struct xmas_elf_header *header,
-                           uint64_t first, struct xmas_elf_section *out, size_t out_size, uint64_t *count);
-
-/* The first section with a name: XMAS_ELF_NOT_FOUND where none has it, as where it isn't UTF-8. Sections whose name is
- * refused are passed over. */
-uint32_t xmas_elf_find_section(const uint8_t *input, size_t input_size, const struct xmas_elf_header *header,
-                               const uint8_t *name, size_t name_size, struct xmas_elf_section *out);
-
-/* Where the data of a section stands. A section of type NoBits has none: its range belongs to others. Type Null (0) is
- * refused with XMAS_ELF_NULL_DATA, and a type that the reader doesn't know with XMAS_ELF_INVALID_SH_TYPE. */
-uint32_t xmas_elf_section_data(const uint8_t *input, size_t input_size, const struct xmas_elf_header *header,
-                               uint64_t index, struct xmas_elf_range *out);
-
-/* Where the name of a section stands, without the zero byte behind it. It is UTF-8. Type Null (0), which section 0 has,
- * is refused with XMAS_ELF_NULL_NAME, and a type that the reader doesn't know, as 19 (RELR), with
- * XMAS_ELF_INVALID_SH_TYPE; `xmas_elf_names` and `xmas_elf_text` give the names of these too. */
-uint32_t xmas_elf_section_name(const uint8_t *input, size_t input_size, const struct xmas_elf_header *header,
-                               uint64_t index, struct xmas_elf_range *out);
-
-/* Where the names of the sections from index `first` on stand, each as by `xmas_elf_section_name` and with a status of
- * its own. They are those of the sections that `xmas_elf_sections` gives, and as many; refused as that is. */
-uint32_t xmas_elf_section_names(const uint8_t *input, size_t input_size, const struct xmas_elf_header *header,
-                                uint64_t first, struct xmas_elf_name *out, size_t out_size, uint64_t *count);
-
-/* Where the table of those names stands. To be taken once: the name of a section is then the text there
- * at its `name`, by `xmas_elf_text`. */
-uint32_t xmas_elf_names(const uint8_t *input, size_t input_size, const struct xmas_elf_header *header,
-                        struct xmas_elf_range *out);
-
-/* Where the text stands that begins `index` bytes behind the start of a range and ends before the next
- * zero byte of the range. It is UTF-8. */
-uint32_t xmas_elf_text(const uint8_t *input, size_t input_size, const struct xmas_elf_range *part,
-                       uint64_t index, struct xmas_elf_range *out);
-
-/* The program header at an index. */
-uint32_t xmas_elf_segment(const uint8_t *input, size_t input_size, const struct xmas_elf_header *header,
-                          uint32_t index, struct xmas_elf_segment *out);
-
-/* Where the data of a segment stands. */
-uint32_t xmas_elf_segment_data(const uint8_t *input, size_t input_size, const struct xmas_elf_header *header,
-                               uint32_t index, struct xmas_elf_range *out);
-
-/* The symbol at an index of the section at an index: XMAS_ELF_OTHER_DATA where the section is of another type than 2
- * (SHT_SYMTAB) and 11 (SHT_DYNSYM), XMAS_ELF_NO_RECORD from their number on. Else it is refused as the header of the
- * section is, or for its data, as where its type isn't known or the data is cut off. Its name is a text of the string
- * table whose section index is the `link` of the symbols' section. */
-uint32_t xmas_elf_symbol(const uint8_t *input, size_t input_size, const struct xmas_elf_header *header,
-                         uint64_t section, uint64_t index, struct xmas_elf_symbol *out);
-
-/* The symbols from index `first` on of the section at an index, refused as `xmas_elf_symbol` is at `first`. */
-uint32_t xmas_elf_symbols(const uint8_t *input, size_t input_size, const struct xmas_elf_header *header,
-                          uint64_t section, uint64_t first, struct xmas_elf_symbol *out, size_t out_size,
-                          uint64_t *count);
-
-/* Where the names of the same symbols stand, each with a status of its own: the texts of the string table that the
- * section is linked to, at the `name` of each. As many as `xmas_elf_symbols` gives, and refused as that is. */
-uint32_t xmas_elf_symbol_names(const uint8_t *input, size_t input_size, const struct xmas_elf_header *header,
-                               uint64_t section, uint64_t first, struct xmas_elf_name *out, size_t out_size,
-                               uint64_t *count);
-
-/* The relocation at an index of the section at an index, refused as symbols are. */
-uint32_t xmas_elf_relocation(const uint8_t *input, size_t input_size, const struct xmas_elf_header *header,
-                             uint64_t section, uint64_t index, struct xmas_elf_relocation *out);
-
-/* The dynamic entry at an index of the section at an index, refused as symbols are. */
-uint32_t xmas_elf_dynamic(const uint8_t *input, size_t input_size, const struct xmas_elf_header *header,
-                          uint64_t section, uint64_t index, struct xmas_elf_dynamic *out);
-
-/* The note that a range begins with, by the alignment of its section or segment: XMAS_ELF_NO_RECORD where the
- * range is empty, XMAS_ELF_LINK_SHORT_NOTE where it holds no whole note. */
-uint32_t xmas_elf_note(const uint8_t *input, size_t input_size, const struct xmas_elf_header *header,
-                       const struct xmas_elf_range *part, uint64_t align, struct xmas_elf_note *out);
-
-/* Where the build id stands, of a file of either class: the description of the first note of section
- * `.note.gnu.build-id`. XMAS_ELF_NOT_FOUND where there is no such section, or its first note is not of type 3
- * and named `GNU`. */
-uint32_t xmas_elf_build_id(const uint8_t *input, size_t input_size, const struct xmas_elf_header *header,
-                           struct xmas_elf_range *out);
-
-/* Where the bytes stand that the file has for `count` addresses from `address` on: those of the first loaded
- * segment that has them all, or XMAS_ELF_LINK_ADDRESS. No section header is needed. */
-uint32_t xmas_elf_bytes_at(const uint8_t *input, size_t input_size, const struct xmas_elf_header *header,
-                           uint64_t address, uint64_t count, struct xmas_elf_range *out);
-
-/* The symbol with a name by the hash table that is the section at an index, of type SHT_HASH, among the symbols
- * of the section that this one is linked to: the first on the chain of the name, whether it is defined or not.
- * XMAS_ELF_OTHER_DATA where these sections hold other data; XMAS_ELF_TEXT_UTF_8 where the name isn't UTF-8.
- * That no symbol is found is no refusal. A table that nobody checked may be refused, or miss a symbol; it takes
- * no more steps than the table has entries. The names are those in section `.dynstr`, and of symbols of a section
- * of type SHT_SYMTAB in `.strtab`; in an undamaged file that is the string table that the symbols are linked to. */
-uint32_t xmas_elf_look_up(const uint8_t *input, size_t input_size, const struct xmas_elf_header *header,
-                          uint64_t section, const uint8_t *name, size_t name_size, struct xmas_elf_look_up *out);
-
-/* The same for many names by one call, each a range of the bytes `names`: as many as there are ranges, and as `out`
- * has room for. Each answer is that of xmas_elf_look_up for the name; XMAS_ELF_DATA_RANGE where the range passes the
- * end of `names`. The table and its symbols are found once, so this is the faster way for many names. `names` may be
- * another file, and the ranges those of the names of its symbols. */
-void xmas_elf_look_ups(const uint8_t *input, size_t input_size, const struct xmas_elf_header *header,
-                       uint64_t section, const uint8_t *names, size_t names_size,
-                       const struct xmas_elf_range *ranges, size_t ranges_count,
-                       struct xmas_elf_answer *out, size_t out_count);
-
-/* Whether look-ups by that table can be relied on: then none is refused for the table, and each finds a symbol
- * wherever one that isn't local bears the name. To be called once for many look-ups. A table that was made to
- * cost much takes steps of a few nanoseconds by the product of its buckets and chains. */
-uint32_t xmas_elf_check_hash(const uint8_t *input, size_t input_size, const struct xmas_elf_header *header,
-                             uint64_t section);
-
-/* The same three by GNU's hash table, a section of type 0x6ffffff6. It is to hold the symbols that are defined and
- * not local, from its first on. The check is one pass over the table and one over the symbols and their names. */
-uint32_t xmas_elf_gnu_look_up(const uint8_t *input, size_t input_size, const struct xmas_elf_header *header,
-                              uint64_t section, const uint8_t *name, size_t name_size,
-                              struct xmas_elf_look_up *out);
-void xmas_elf_gnu_look_ups(const uint8_t *input, size_t input_size, const struct xmas_elf_header *header,
-                           uint64_t section, const uint8_t *names, size_t names_size,
-                           const struct xmas_elf_range *ranges, size_t ranges_count,
-                           struct xmas_elf_answer *out, size_t out_count);
-uint32_t xmas_elf_check_gnu_hash(const uint8_t *input, size_t input_size, const struct xmas_elf_header *header,
-                                 uint64_t section);
-
-/* Writes the text of a status to the front of `out`, as much as fits, and answers how many bytes the text has.
- * It is ASCII, with no zero byte behind it; room for XMAS_ELF_LONGEST_MESSAGE bytes holds any. A status that is
- * no refusal's, as XMAS_ELF_OK, has a text of no bytes. */
-size_t xmas_elf_message(uint32_t status, uint8_t *out, size_t out_size);
+#ifdef __cplusplus
+#define XMAS_ELF_NOEXCEPT noexcept
+extern "C" {
+#else
+#define XMAS_ELF_NOEXCEPT
+#endif
 
 /* The statuses, written by tools/statuses.py. */
 enum xmas_elf_status {
@@ -437,6 +202,462 @@ enum xmas_elf_status {
 /* How many bytes the longest text of a status has. */
 #define XMAS_ELF_LONGEST_MESSAGE 54
 /* End of the statuses. */
+
+/* The structs and functions, written by tools/exports.py. */
+/* The ELF header of a file (gABI, "ELF Header"). */
+typedef struct xmas_elf_header_t {
+    /* The address at which a program begins to run, or 0 (e_entry). */
+    uint64_t entry_point;
+    /* The offset of the program header table in the file, in bytes, or 0 (e_phoff). */
+    uint64_t ph_offset;
+    /* The offset of the section header table in the file, in bytes, or 0 (e_shoff). */
+    uint64_t sh_offset;
+    /* The version of the file (e_version). */
+    uint32_t version;
+    /* Flags of the processor (e_flags). */
+    uint32_t flags;
+    /* The kind of file (e_type). */
+    uint16_t type;
+    /* The processor that the file is for (e_machine). */
+    uint16_t machine;
+    /* The size of the ELF header in bytes, as the file says (e_ehsize). */
+    uint16_t header_size;
+    /* The size of an entry of the program header table in bytes (e_phentsize). */
+    uint16_t ph_entry_size;
+    /* The number of program headers, or 0xffff where it needs more than 16 bits (e_phnum). */
+    uint16_t ph_count;
+    /* The size of an entry of the section header table in bytes (e_shentsize). */
+    uint16_t sh_entry_size;
+    /* The number of section headers, or 0 where it needs more than 16 bits (e_shnum). */
+    uint16_t sh_count;
+    /* The index of the section with the names of sections, or 0xffff where it needs more than 16 bits (e_shstrndx). */
+    uint16_t sh_str_index;
+    /* 1: class 32, 2: class 64 (EI_CLASS). */
+    uint8_t file_class;
+    /* 2: big-endian; any other number is read as little-endian (EI_DATA). */
+    uint8_t encoding;
+    /* The version of the header (EI_VERSION). */
+    uint8_t header_version;
+    /* The operating system whose extensions the file uses (EI_OSABI). */
+    uint8_t os_abi;
+    /* The version of these extensions (EI_ABIVERSION). */
+    uint8_t abi_version;
+    /* Bytes without a meaning (EI_PAD). */
+    uint8_t padding[7];
+} xmas_elf_header_t;
+
+/* The numbers of sections and segments, also those that need more than 16 bits. */
+typedef struct xmas_elf_counts_t {
+    /* The number of sections. */
+    uint64_t sections;
+    /* The number of segments. */
+    uint32_t segments;
+} xmas_elf_counts_t;
+
+/* A byte range of the input: `input[offset .. offset + size]`. A range that a call answers lies in the input. */
+typedef struct xmas_elf_range_t {
+    /* The offset of the first byte, in bytes from the start of the input. */
+    uint64_t offset;
+    /* The number of bytes. */
+    uint64_t size;
+} xmas_elf_range_t;
+
+/* The range of one name of many. */
+typedef struct xmas_elf_name_t {
+    /* The bytes of the name without the zero byte that ends it; offset and size are 0 where the name is refused. */
+    xmas_elf_range_t range;
+    /* The status of this name. */
+    uint32_t status;
+} xmas_elf_name_t;
+
+/* A section header (gABI, "Sections"). */
+typedef struct xmas_elf_section_t {
+    /* The flags of the section (sh_flags). */
+    uint64_t flags;
+    /* The address of the section in memory, or 0 (sh_addr). */
+    uint64_t address;
+    /* The offset of the section's data in the file, in bytes (sh_offset). */
+    uint64_t offset;
+    /* The size of the section in bytes (sh_size). */
+    uint64_t size;
+    /* The alignment of the section's address, in bytes (sh_addralign). */
+    uint64_t align;
+    /* The size of an entry of the section in bytes, or 0 (sh_entsize). */
+    uint64_t entry_size;
+    /* The index of the section's name in the name table, in bytes (sh_name). */
+    uint32_t name;
+    /* The type of the section (sh_type). */
+    uint32_t type;
+    /* The index of a linked section; its meaning depends on the type (sh_link). */
+    uint32_t link;
+    /* More about the section; its meaning depends on the type (sh_info). */
+    uint32_t info;
+} xmas_elf_section_t;
+
+/* A program header (gABI, "Program Header"). */
+typedef struct xmas_elf_segment_t {
+    /* The offset of the segment's data in the file, in bytes (p_offset). */
+    uint64_t offset;
+    /* The address of the segment in memory (p_vaddr). */
+    uint64_t virtual_addr;
+    /* The physical address of the segment, where that matters (p_paddr). */
+    uint64_t physical_addr;
+    /* The size of the segment in the file, in bytes (p_filesz). */
+    uint64_t file_size;
+    /* The size of the segment in memory, in bytes (p_memsz). */
+    uint64_t mem_size;
+    /* The alignment of the segment in memory and in the file, in bytes; 0 and 1 mean none (p_align). */
+    uint64_t align;
+    /* The type of the segment (p_type). */
+    uint32_t type;
+    /* The permissions of the segment's memory (p_flags). */
+    uint32_t flags;
+} xmas_elf_segment_t;
+
+/* A symbol (gABI, "Symbol Table"). */
+typedef struct xmas_elf_symbol_t {
+    /* The address of the symbol, or an offset in its section (st_value). */
+    uint64_t value;
+    /* The size of the function or object in bytes, or 0 (st_size). */
+    uint64_t size;
+    /* The index of the symbol's name in its string table, in bytes; 0 where it has none (st_name). */
+    uint32_t name;
+    /* The index of the section that the symbol belongs to, or a reserved index (st_shndx). */
+    uint16_t shndx;
+    /* The binding times 16, plus the type (st_info). */
+    uint8_t info;
+    /* The visibility: the remainder of this number by 4 (st_other). */
+    uint8_t other;
+} xmas_elf_symbol_t;
+
+/* A relocation (gABI, "Relocation"). */
+typedef struct xmas_elf_relocation_t {
+    /* The place that is changed: an offset in its section, or an address (r_offset). */
+    uint64_t offset;
+    /* The addend; 32 bits of it count in class 32, and it is 0 in a table without addends (r_addend). */
+    uint64_t addend;
+    /* The index of the symbol (r_info). */
+    uint32_t symbol;
+    /* The type of the relocation, by the processor (r_info). */
+    uint32_t type;
+    /* 1 in a table with addends (SHT_RELA), 0 in one without (SHT_REL). */
+    uint32_t has_addend;
+} xmas_elf_relocation_t;
+
+/* A dynamic entry (gABI, "Dynamic Section"). */
+typedef struct xmas_elf_dynamic_t {
+    /* The tag (d_tag). */
+    uint64_t tag;
+    /* A value or an address, by the tag (d_un). */
+    uint64_t value;
+} xmas_elf_dynamic_t;
+
+/* A note (gABI, "Note Section"), and the notes that follow it. */
+typedef struct xmas_elf_note_t {
+    /* The name, with the zero byte that ends it (namesz bytes). */
+    xmas_elf_range_t name;
+    /* The description (descsz bytes). */
+    xmas_elf_range_t desc;
+    /* The bytes after the note and its padding: the next notes. */
+    xmas_elf_range_t rest;
+    /* The type of the note; its meaning depends on the name. */
+    uint32_t type;
+} xmas_elf_note_t;
+
+/* The answer of a look-up. */
+typedef struct xmas_elf_look_up_t {
+    /* 1 where a symbol is found, and else 0. */
+    uint32_t found;
+    /* The index of the symbol, or 0. */
+    uint32_t index;
+    /* The number of chain entries that the look-up read. */
+    uint32_t looked_at;
+} xmas_elf_look_up_t;
+
+/* The answer of one look-up of many. */
+typedef struct xmas_elf_answer_t {
+    /* The status of this look-up; where it is not OK, the numbers after it are 0. */
+    uint32_t status;
+    /* 1 where a symbol is found, and else 0. */
+    uint32_t found;
+    /* The index of the symbol, or 0. */
+    uint32_t index;
+    /* The number of chain entries that the look-up read. */
+    uint32_t looked_at;
+} xmas_elf_answer_t;
+
+/* Reads the ELF header of a file. The call is refused with (in the order of the tests) XMAS_ELF_SHORT_PART_1,
+ * XMAS_ELF_NO_MAGIC, XMAS_ELF_INVALID_CLASS, XMAS_ELF_SHORT_HEADERS. */
+XMAS_ELF_NODISCARD uint32_t xmas_elf_open(const uint8_t *input, size_t input_size, xmas_elf_header_t *out)
+    XMAS_ELF_NOEXCEPT;
+
+/* Checks the header against the input: its own size, its class, version and byte order, and that its two tables lie
+ * in the input. The call is refused with (in the order of the tests) XMAS_ELF_HEADER_SIZE, XMAS_ELF_NO_CLASS,
+ * XMAS_ELF_CLASS_MISMATCH, XMAS_ELF_NO_VERSION, XMAS_ELF_NO_DATA_FORMAT, XMAS_ELF_PH_TABLE_RANGE,
+ * XMAS_ELF_SH_TABLE_RANGE. */
+XMAS_ELF_NODISCARD uint32_t xmas_elf_check_header(const uint8_t *input, size_t input_size,
+    const xmas_elf_header_t *header) XMAS_ELF_NOEXCEPT;
+
+/* The numbers of sections and segments that the file claims; its tables may be cut off before. Never refused. */
+uint32_t xmas_elf_counts(const uint8_t *input, size_t input_size, const xmas_elf_header_t *header,
+    xmas_elf_counts_t *out) XMAS_ELF_NOEXCEPT;
+
+/* The index of the section with the names of sections. The call is refused with XMAS_ELF_RESERVED_INDEX. */
+XMAS_ELF_NODISCARD uint32_t xmas_elf_names_index(const uint8_t *input, size_t input_size,
+    const xmas_elf_header_t *header, uint32_t *out) XMAS_ELF_NOEXCEPT;
+
+/* The section header at an index. The index is not compared with the number of sections: past the table the call
+ * reads what bytes are there, or is refused. The call is refused with (in the order of the tests)
+ * XMAS_ELF_SHORT_SECTION_HEADER, XMAS_ELF_UNKNOWN_CLASS, XMAS_ELF_SMALL_ENTRY. */
+XMAS_ELF_NODISCARD uint32_t xmas_elf_section(const uint8_t *input, size_t input_size, const xmas_elf_header_t *header,
+    uint64_t index, xmas_elf_section_t *out) XMAS_ELF_NOEXCEPT;
+
+/* The section headers from index `first` on, up to the number of sections or the first that is refused. Where they
+ * end before that number, `xmas_elf_section` at the next index says why. The call is refused with XMAS_ELF_NO_RECORD. */
+XMAS_ELF_NODISCARD uint32_t xmas_elf_sections(const uint8_t *input, size_t input_size,
+    const xmas_elf_header_t *header, uint64_t first, xmas_elf_section_t *out, size_t out_count, uint64_t *count)
+    XMAS_ELF_NOEXCEPT;
+
+/* The first section with a name. A section whose name is refused is skipped, and a name that is not UTF-8 is never
+ * found. The call is refused with XMAS_ELF_NOT_FOUND. */
+XMAS_ELF_NODISCARD uint32_t xmas_elf_find_section(const uint8_t *input, size_t input_size,
+    const xmas_elf_header_t *header, const uint8_t *name, size_t name_size, xmas_elf_section_t *out)
+    XMAS_ELF_NOEXCEPT;
+
+/* The range of a section's data. A section of type SHT_NOBITS has none in the file: its range belongs to other
+ * sections. XMAS_ELF_NULL_DATA is for type SHT_NULL, XMAS_ELF_INVALID_SH_TYPE for a type that this reader does not
+ * know. The range of an empty section begins at its offset. The call is refused with (in the order of the tests)
+ * XMAS_ELF_SHORT_SECTION_HEADER, XMAS_ELF_UNKNOWN_CLASS, XMAS_ELF_SMALL_ENTRY, XMAS_ELF_INVALID_SH_TYPE,
+ * XMAS_ELF_NULL_DATA, XMAS_ELF_DATA_RANGE. */
+XMAS_ELF_NODISCARD uint32_t xmas_elf_section_data(const uint8_t *input, size_t input_size,
+    const xmas_elf_header_t *header, uint64_t index, xmas_elf_range_t *out) XMAS_ELF_NOEXCEPT;
+
+/* The range of a section's name, without the zero byte that ends it. It is UTF-8. XMAS_ELF_NULL_NAME is for type
+ * SHT_NULL, which section 0 has, XMAS_ELF_INVALID_SH_TYPE for a type that this reader does not know, such as 19
+ * (SHT_RELR); `xmas_elf_names` and `xmas_elf_text` give the names of these too. The call is refused with (in the
+ * order of the tests) XMAS_ELF_SHORT_SECTION_HEADER, XMAS_ELF_UNKNOWN_CLASS, XMAS_ELF_SMALL_ENTRY,
+ * XMAS_ELF_INVALID_SH_TYPE, XMAS_ELF_NULL_NAME, XMAS_ELF_RESERVED_INDEX, XMAS_ELF_SHORT_SECTION_OFFSET,
+ * XMAS_ELF_TEXT_START, XMAS_ELF_TEXT_END, XMAS_ELF_TEXT_UTF_8. */
+XMAS_ELF_NODISCARD uint32_t xmas_elf_section_name(const uint8_t *input, size_t input_size,
+    const xmas_elf_header_t *header, uint64_t index, xmas_elf_range_t *out) XMAS_ELF_NOEXCEPT;
+
+/* The ranges of the names of sections from index `first` on, each with a status of its own, as
+ * `xmas_elf_section_name` answers. The call gives as many names as `xmas_elf_sections` gives headers. The call is
+ * refused with XMAS_ELF_NO_RECORD. Each record is refused with (in the order of the tests) XMAS_ELF_INVALID_SH_TYPE,
+ * XMAS_ELF_NULL_NAME, XMAS_ELF_RESERVED_INDEX, XMAS_ELF_SHORT_SECTION_HEADER, XMAS_ELF_SHORT_SECTION_OFFSET,
+ * XMAS_ELF_TEXT_START, XMAS_ELF_TEXT_END, XMAS_ELF_TEXT_UTF_8. */
+XMAS_ELF_NODISCARD uint32_t xmas_elf_section_names(const uint8_t *input, size_t input_size,
+    const xmas_elf_header_t *header, uint64_t first, xmas_elf_name_t *out, size_t out_count, uint64_t *count)
+    XMAS_ELF_NOEXCEPT;
+
+/* The range of the name table of sections, which goes on to the end of the input. Read it once: the name of a section
+ * is the text there at the section's `name`, by `xmas_elf_text`. The call is refused with (in the order of the tests)
+ * XMAS_ELF_RESERVED_INDEX, XMAS_ELF_SHORT_SECTION_HEADER, XMAS_ELF_UNKNOWN_CLASS, XMAS_ELF_SMALL_ENTRY,
+ * XMAS_ELF_SHORT_SECTION_OFFSET. */
+XMAS_ELF_NODISCARD uint32_t xmas_elf_names(const uint8_t *input, size_t input_size, const xmas_elf_header_t *header,
+    xmas_elf_range_t *out) XMAS_ELF_NOEXCEPT;
+
+/* The range of the text that begins `index` bytes after the start of `part` and ends before the next zero byte of
+ * `part`. It is UTF-8. The call is refused with (in the order of the tests) XMAS_ELF_DATA_RANGE, XMAS_ELF_TEXT_START,
+ * XMAS_ELF_TEXT_END, XMAS_ELF_TEXT_UTF_8. */
+XMAS_ELF_NODISCARD uint32_t xmas_elf_text(const uint8_t *input, size_t input_size, const xmas_elf_range_t *part,
+    uint64_t index, xmas_elf_range_t *out) XMAS_ELF_NOEXCEPT;
+
+/* The range of the text that begins `index` bytes after the start of a section's data and ends before the next zero
+ * byte of the data: the name of a symbol is the text at its `name` in the section `link` of its own section. The call
+ * does not test that the section is of type SHT_STRTAB. The call is refused with (in the order of the tests)
+ * XMAS_ELF_SHORT_SECTION_HEADER, XMAS_ELF_UNKNOWN_CLASS, XMAS_ELF_SMALL_ENTRY, XMAS_ELF_INVALID_SH_TYPE,
+ * XMAS_ELF_NULL_DATA, XMAS_ELF_DATA_RANGE, XMAS_ELF_TEXT_START, XMAS_ELF_TEXT_END, XMAS_ELF_TEXT_UTF_8. */
+XMAS_ELF_NODISCARD uint32_t xmas_elf_section_text(const uint8_t *input, size_t input_size,
+    const xmas_elf_header_t *header, uint64_t section, uint64_t index, xmas_elf_range_t *out) XMAS_ELF_NOEXCEPT;
+
+/* The program header at an index. The call is refused with (in the order of the tests) XMAS_ELF_NO_PROGRAM_HEADERS,
+ * XMAS_ELF_UNKNOWN_CLASS, XMAS_ELF_SHORT_PROGRAM_HEADER, XMAS_ELF_SMALL_ENTRY. */
+XMAS_ELF_NODISCARD uint32_t xmas_elf_segment(const uint8_t *input, size_t input_size, const xmas_elf_header_t *header,
+    uint32_t index, xmas_elf_segment_t *out) XMAS_ELF_NOEXCEPT;
+
+/* The program headers from index `first` on, up to the number of segments or the first that is refused. Where they
+ * end before that number, `xmas_elf_segment` at the next index says why. The call is refused with XMAS_ELF_NO_RECORD. */
+XMAS_ELF_NODISCARD uint32_t xmas_elf_segments(const uint8_t *input, size_t input_size,
+    const xmas_elf_header_t *header, uint64_t first, xmas_elf_segment_t *out, size_t out_count, uint64_t *count)
+    XMAS_ELF_NOEXCEPT;
+
+/* The range of a segment's data. XMAS_ELF_NULL_DATA is for type PT_NULL, XMAS_ELF_INVALID_PH_TYPE for a type that
+ * this reader does not know. An empty segment (p_filesz 0) answers offset 0 and size 0, whatever its offset is. The
+ * call is refused with (in the order of the tests) XMAS_ELF_NO_PROGRAM_HEADERS, XMAS_ELF_UNKNOWN_CLASS,
+ * XMAS_ELF_SHORT_PROGRAM_HEADER, XMAS_ELF_SMALL_ENTRY, XMAS_ELF_INVALID_PH_TYPE, XMAS_ELF_NULL_DATA,
+ * XMAS_ELF_DATA_RANGE. */
+XMAS_ELF_NODISCARD uint32_t xmas_elf_segment_data(const uint8_t *input, size_t input_size,
+    const xmas_elf_header_t *header, uint32_t index, xmas_elf_range_t *out) XMAS_ELF_NOEXCEPT;
+
+/* The symbol at an index of a section of type SHT_SYMTAB or SHT_DYNSYM; XMAS_ELF_OTHER_DATA is for other sections.
+ * Its name is a text of the string table that is the section `link`. The call is refused with (in the order of the
+ * tests) XMAS_ELF_SHORT_SECTION_HEADER, XMAS_ELF_UNKNOWN_CLASS, XMAS_ELF_SMALL_ENTRY, XMAS_ELF_INVALID_SH_TYPE,
+ * XMAS_ELF_DATA_RANGE, XMAS_ELF_NOT_MULTIPLE, XMAS_ELF_NOTE_32, XMAS_ELF_SHORT_DATA, XMAS_ELF_OTHER_DATA,
+ * XMAS_ELF_NO_RECORD. */
+XMAS_ELF_NODISCARD uint32_t xmas_elf_symbol(const uint8_t *input, size_t input_size, const xmas_elf_header_t *header,
+    uint64_t section, uint64_t index, xmas_elf_symbol_t *out) XMAS_ELF_NOEXCEPT;
+
+/* The symbols from index `first` on of a section. The call is refused with (in the order of the tests)
+ * XMAS_ELF_SHORT_SECTION_HEADER, XMAS_ELF_UNKNOWN_CLASS, XMAS_ELF_SMALL_ENTRY, XMAS_ELF_INVALID_SH_TYPE,
+ * XMAS_ELF_DATA_RANGE, XMAS_ELF_NOT_MULTIPLE, XMAS_ELF_NOTE_32, XMAS_ELF_SHORT_DATA, XMAS_ELF_OTHER_DATA,
+ * XMAS_ELF_NO_RECORD. */
+XMAS_ELF_NODISCARD uint32_t xmas_elf_symbols(const uint8_t *input, size_t input_size, const xmas_elf_header_t *header,
+    uint64_t section, uint64_t first, xmas_elf_symbol_t *out, size_t out_count, uint64_t *count) XMAS_ELF_NOEXCEPT;
+
+/* The ranges of the names of these symbols, each with a status of its own: the texts at each symbol's `name` in the
+ * string table that the section is linked to. The call gives as many names as `xmas_elf_symbols` gives symbols. The
+ * call is refused with (in the order of the tests) XMAS_ELF_SHORT_SECTION_HEADER, XMAS_ELF_UNKNOWN_CLASS,
+ * XMAS_ELF_SMALL_ENTRY, XMAS_ELF_INVALID_SH_TYPE, XMAS_ELF_DATA_RANGE, XMAS_ELF_NOT_MULTIPLE, XMAS_ELF_NOTE_32,
+ * XMAS_ELF_SHORT_DATA, XMAS_ELF_OTHER_DATA, XMAS_ELF_NO_RECORD. Each record is refused with (in the order of the
+ * tests) XMAS_ELF_SHORT_SECTION_HEADER, XMAS_ELF_INVALID_SH_TYPE, XMAS_ELF_NULL_DATA, XMAS_ELF_DATA_RANGE,
+ * XMAS_ELF_TEXT_START, XMAS_ELF_TEXT_END, XMAS_ELF_TEXT_UTF_8. */
+XMAS_ELF_NODISCARD uint32_t xmas_elf_symbol_names(const uint8_t *input, size_t input_size,
+    const xmas_elf_header_t *header, uint64_t section, uint64_t first, xmas_elf_name_t *out, size_t out_count,
+    uint64_t *count) XMAS_ELF_NOEXCEPT;
+
+/* The relocation at an index of a section of type SHT_REL or SHT_RELA; XMAS_ELF_OTHER_DATA is for other sections. The
+ * call is refused with (in the order of the tests) XMAS_ELF_SHORT_SECTION_HEADER, XMAS_ELF_UNKNOWN_CLASS,
+ * XMAS_ELF_SMALL_ENTRY, XMAS_ELF_INVALID_SH_TYPE, XMAS_ELF_DATA_RANGE, XMAS_ELF_NOT_MULTIPLE, XMAS_ELF_NOTE_32,
+ * XMAS_ELF_SHORT_DATA, XMAS_ELF_OTHER_DATA, XMAS_ELF_NO_RECORD. */
+XMAS_ELF_NODISCARD uint32_t xmas_elf_relocation(const uint8_t *input, size_t input_size,
+    const xmas_elf_header_t *header, uint64_t section, uint64_t index, xmas_elf_relocation_t *out) XMAS_ELF_NOEXCEPT;
+
+/* The relocations from index `first` on of a section. The call is refused with (in the order of the tests)
+ * XMAS_ELF_SHORT_SECTION_HEADER, XMAS_ELF_UNKNOWN_CLASS, XMAS_ELF_SMALL_ENTRY, XMAS_ELF_INVALID_SH_TYPE,
+ * XMAS_ELF_DATA_RANGE, XMAS_ELF_NOT_MULTIPLE, XMAS_ELF_NOTE_32, XMAS_ELF_SHORT_DATA, XMAS_ELF_OTHER_DATA,
+ * XMAS_ELF_NO_RECORD. */
+XMAS_ELF_NODISCARD uint32_t xmas_elf_relocations(const uint8_t *input, size_t input_size,
+    const xmas_elf_header_t *header, uint64_t section, uint64_t first, xmas_elf_relocation_t *out, size_t out_count,
+    uint64_t *count) XMAS_ELF_NOEXCEPT;
+
+/* The addresses in the packed relative relocations of a section of type 19 (SHT_RELR) from index `first` on: those of
+ * the words to which the load address is added. Each call reads the words from the first on, so give much room. The
+ * call is refused with (in the order of the tests) XMAS_ELF_SHORT_SECTION_HEADER, XMAS_ELF_UNKNOWN_CLASS,
+ * XMAS_ELF_SMALL_ENTRY, XMAS_ELF_OTHER_DATA, XMAS_ELF_DATA_RANGE, XMAS_ELF_LINK_NOT_MULTIPLE, XMAS_ELF_NO_RECORD. */
+XMAS_ELF_NODISCARD uint32_t xmas_elf_packed_relocations(const uint8_t *input, size_t input_size,
+    const xmas_elf_header_t *header, uint64_t section, uint64_t first, uint64_t *out, size_t out_count,
+    uint64_t *count) XMAS_ELF_NOEXCEPT;
+
+/* The dynamic entry at an index of a section of type SHT_DYNAMIC, also after the entry with tag 0;
+ * XMAS_ELF_OTHER_DATA is for other sections. The call is refused with (in the order of the tests)
+ * XMAS_ELF_SHORT_SECTION_HEADER, XMAS_ELF_UNKNOWN_CLASS, XMAS_ELF_SMALL_ENTRY, XMAS_ELF_INVALID_SH_TYPE,
+ * XMAS_ELF_DATA_RANGE, XMAS_ELF_NOT_MULTIPLE, XMAS_ELF_NOTE_32, XMAS_ELF_SHORT_DATA, XMAS_ELF_OTHER_DATA,
+ * XMAS_ELF_NO_RECORD. */
+XMAS_ELF_NODISCARD uint32_t xmas_elf_dynamic(const uint8_t *input, size_t input_size, const xmas_elf_header_t *header,
+    uint64_t section, uint64_t index, xmas_elf_dynamic_t *out) XMAS_ELF_NOEXCEPT;
+
+/* The dynamic entries from index `first` on of a section, also those after the entry with tag 0. The call is refused
+ * with (in the order of the tests) XMAS_ELF_SHORT_SECTION_HEADER, XMAS_ELF_UNKNOWN_CLASS, XMAS_ELF_SMALL_ENTRY,
+ * XMAS_ELF_INVALID_SH_TYPE, XMAS_ELF_DATA_RANGE, XMAS_ELF_NOT_MULTIPLE, XMAS_ELF_NOTE_32, XMAS_ELF_SHORT_DATA,
+ * XMAS_ELF_OTHER_DATA, XMAS_ELF_NO_RECORD. */
+XMAS_ELF_NODISCARD uint32_t xmas_elf_dynamics(const uint8_t *input, size_t input_size,
+    const xmas_elf_header_t *header, uint64_t section, uint64_t first, xmas_elf_dynamic_t *out, size_t out_count,
+    uint64_t *count) XMAS_ELF_NOEXCEPT;
+
+/* The first note of a range, by the alignment of its section or segment (8, and else 4). XMAS_ELF_NO_RECORD is for an
+ * empty range, XMAS_ELF_LINK_SHORT_NOTE for one that holds no whole note. The call is refused with (in the order of
+ * the tests) XMAS_ELF_DATA_RANGE, XMAS_ELF_NO_RECORD, XMAS_ELF_LINK_SHORT_NOTE. */
+XMAS_ELF_NODISCARD uint32_t xmas_elf_note(const uint8_t *input, size_t input_size, const xmas_elf_header_t *header,
+    const xmas_elf_range_t *part, uint64_t align, xmas_elf_note_t *out) XMAS_ELF_NOEXCEPT;
+
+/* The range of the build id, of a file of either class: the description of the first note of section
+ * `.note.gnu.build-id`. XMAS_ELF_NOT_FOUND is for a file without this section, and for a first note that is not of
+ * type 3 with name `GNU`. The call is refused with (in the order of the tests) XMAS_ELF_NOT_FOUND,
+ * XMAS_ELF_DATA_RANGE, XMAS_ELF_NO_RECORD, XMAS_ELF_LINK_SHORT_NOTE. */
+XMAS_ELF_NODISCARD uint32_t xmas_elf_build_id(const uint8_t *input, size_t input_size,
+    const xmas_elf_header_t *header, xmas_elf_range_t *out) XMAS_ELF_NOEXCEPT;
+
+/* The range of the file bytes for addresses `address .. address + count`: those of the first PT_LOAD segment that has
+ * them all. No section header is needed. Of a segment without file bytes the offset is 0. The call is refused with
+ * (in the order of the tests) XMAS_ELF_LINK_ADDRESS, XMAS_ELF_DATA_RANGE. */
+XMAS_ELF_NODISCARD uint32_t xmas_elf_bytes_at(const uint8_t *input, size_t input_size,
+    const xmas_elf_header_t *header, uint64_t address, uint64_t count, xmas_elf_range_t *out) XMAS_ELF_NOEXCEPT;
+
+/* The range of the text that the first dynamic entry with a tag names: for tag 14 (DT_SONAME) the name of the
+ * library, for 29 (DT_RUNPATH) and 15 (DT_RPATH) the folders where the dynamic linker looks for libraries. The
+ * entries are those of the first segment of type PT_DYNAMIC before the entry with tag 0, so no section header is
+ * needed. XMAS_ELF_NOT_FOUND is for a tag that no entry has. The call is refused with (in the order of the tests)
+ * XMAS_ELF_LINK_NO_DYNAMIC, XMAS_ELF_DATA_RANGE, XMAS_ELF_NOT_MULTIPLE, XMAS_ELF_NOT_FOUND, XMAS_ELF_LINK_NO_ENTRY,
+ * XMAS_ELF_LINK_ADDRESS, XMAS_ELF_TEXT_START, XMAS_ELF_TEXT_END, XMAS_ELF_TEXT_UTF_8. */
+XMAS_ELF_NODISCARD uint32_t xmas_elf_dynamic_text(const uint8_t *input, size_t input_size,
+    const xmas_elf_header_t *header, uint64_t tag, xmas_elf_range_t *out) XMAS_ELF_NOEXCEPT;
+
+/* The ranges of the names of the libraries that the file needs (DT_NEEDED), each with a status of its own, in the
+ * order of the entries of `xmas_elf_dynamic_text`. Index `first` counts libraries. Each call reads the entries from
+ * the first on, so give room for all where a file may have many. The call is refused with (in the order of the tests)
+ * XMAS_ELF_LINK_NO_DYNAMIC, XMAS_ELF_DATA_RANGE, XMAS_ELF_NOT_MULTIPLE, XMAS_ELF_NO_RECORD. Each record is refused
+ * with (in the order of the tests) XMAS_ELF_LINK_NO_ENTRY, XMAS_ELF_LINK_ADDRESS, XMAS_ELF_DATA_RANGE,
+ * XMAS_ELF_TEXT_START, XMAS_ELF_TEXT_END, XMAS_ELF_TEXT_UTF_8. */
+XMAS_ELF_NODISCARD uint32_t xmas_elf_needed(const uint8_t *input, size_t input_size, const xmas_elf_header_t *header,
+    uint64_t first, xmas_elf_name_t *out, size_t out_count, uint64_t *count) XMAS_ELF_NOEXCEPT;
+
+/* Looks a name up in the hash table that is a section of type SHT_HASH, among the symbols of the section that it is
+ * linked to: the first symbol on the chain of the name, defined or not. That no symbol is found is no refusal. A
+ * table that `xmas_elf_check_hash` did not pass may be refused or miss a symbol; the look-up reads no more chain
+ * entries than the table has. Names are those in section `.dynstr`, and of symbols of a section of type SHT_SYMTAB in
+ * `.strtab`; in an undamaged file that is the string table that the symbols are linked to. The call is refused with
+ * (in the order of the tests) XMAS_ELF_TEXT_UTF_8, XMAS_ELF_SHORT_SECTION_HEADER, XMAS_ELF_UNKNOWN_CLASS,
+ * XMAS_ELF_SMALL_ENTRY, XMAS_ELF_INVALID_SH_TYPE, XMAS_ELF_DATA_RANGE, XMAS_ELF_NOT_MULTIPLE, XMAS_ELF_NOTE_32,
+ * XMAS_ELF_SHORT_DATA, XMAS_ELF_OTHER_DATA, XMAS_ELF_HASH_DATA, XMAS_ELF_CHAIN_INDEX, XMAS_ELF_SYMBOL_INDEX,
+ * XMAS_ELF_CHAIN_SUM, XMAS_ELF_HASH_CYCLE. */
+XMAS_ELF_NODISCARD uint32_t xmas_elf_look_up(const uint8_t *input, size_t input_size, const xmas_elf_header_t *header,
+    uint64_t section, const uint8_t *name, size_t name_size, xmas_elf_look_up_t *out) XMAS_ELF_NOEXCEPT;
+
+/* Looks many names up in one call, each a range of the bytes `names`: as many as there are ranges, and as `out` has
+ * room for. Each answer is that of `xmas_elf_look_up` for the name; XMAS_ELF_DATA_RANGE is for a range that passes
+ * the end of `names`. The table and its symbols are read once, so this is faster for many names. `names` may be
+ * another file, and the ranges those of the names of its symbols. Each record is refused with (in the order of the
+ * tests) XMAS_ELF_DATA_RANGE, XMAS_ELF_TEXT_UTF_8, XMAS_ELF_SHORT_SECTION_HEADER, XMAS_ELF_UNKNOWN_CLASS,
+ * XMAS_ELF_SMALL_ENTRY, XMAS_ELF_INVALID_SH_TYPE, XMAS_ELF_NOT_MULTIPLE, XMAS_ELF_NOTE_32, XMAS_ELF_SHORT_DATA,
+ * XMAS_ELF_OTHER_DATA, XMAS_ELF_HASH_DATA, XMAS_ELF_CHAIN_INDEX, XMAS_ELF_SYMBOL_INDEX, XMAS_ELF_CHAIN_SUM,
+ * XMAS_ELF_HASH_CYCLE. */
+void xmas_elf_look_ups(const uint8_t *input, size_t input_size, const xmas_elf_header_t *header, uint64_t section,
+    const uint8_t *names, size_t names_size, const xmas_elf_range_t *ranges, size_t ranges_count,
+    xmas_elf_answer_t *out, size_t out_count) XMAS_ELF_NOEXCEPT;
+
+/* Checks a hash table of type SHT_HASH: where it is OK, no look-up is refused for the table, and each finds a symbol
+ * where one that is not local has the name. Call it once before many look-ups. A table that was made to be slow takes
+ * a few nanoseconds times the product of its buckets and chains. The call is refused with (in the order of the tests)
+ * XMAS_ELF_SHORT_SECTION_HEADER, XMAS_ELF_UNKNOWN_CLASS, XMAS_ELF_SMALL_ENTRY, XMAS_ELF_INVALID_SH_TYPE,
+ * XMAS_ELF_DATA_RANGE, XMAS_ELF_NOT_MULTIPLE, XMAS_ELF_NOTE_32, XMAS_ELF_SHORT_DATA, XMAS_ELF_OTHER_DATA,
+ * XMAS_ELF_HASH_DATA, XMAS_ELF_CHAIN_INDEX, XMAS_ELF_SYMBOL_INDEX, XMAS_ELF_CHAIN_SUM, XMAS_ELF_HASH_CYCLE,
+ * XMAS_ELF_HASH_MISSING. */
+XMAS_ELF_NODISCARD uint32_t xmas_elf_check_hash(const uint8_t *input, size_t input_size,
+    const xmas_elf_header_t *header, uint64_t section) XMAS_ELF_NOEXCEPT;
+
+/* Looks a name up in GNU's hash table, a section of type 0x6ffffff6 (SHT_GNU_HASH), which holds the symbols from its
+ * first on that are defined and not local; else as `xmas_elf_look_up`. The call is refused with (in the order of the
+ * tests) XMAS_ELF_TEXT_UTF_8, XMAS_ELF_SHORT_SECTION_HEADER, XMAS_ELF_UNKNOWN_CLASS, XMAS_ELF_SMALL_ENTRY,
+ * XMAS_ELF_OTHER_DATA, XMAS_ELF_DATA_RANGE, XMAS_ELF_LINK_SHORT_TABLE, XMAS_ELF_LINK_BLOOM_COUNT,
+ * XMAS_ELF_INVALID_SH_TYPE, XMAS_ELF_NOT_MULTIPLE, XMAS_ELF_NOTE_32, XMAS_ELF_SHORT_DATA, XMAS_ELF_LINK_CHAIN_INDEX,
+ * XMAS_ELF_LINK_SYMBOL_INDEX, XMAS_ELF_LINK_CHAIN_DATA. */
+XMAS_ELF_NODISCARD uint32_t xmas_elf_gnu_look_up(const uint8_t *input, size_t input_size,
+    const xmas_elf_header_t *header, uint64_t section, const uint8_t *name, size_t name_size, xmas_elf_look_up_t *out)
+    XMAS_ELF_NOEXCEPT;
+
+/* Looks many names up in GNU's hash table in one call, as `xmas_elf_look_ups` does. Each record is refused with (in
+ * the order of the tests) XMAS_ELF_DATA_RANGE, XMAS_ELF_TEXT_UTF_8, XMAS_ELF_SHORT_SECTION_HEADER,
+ * XMAS_ELF_UNKNOWN_CLASS, XMAS_ELF_SMALL_ENTRY, XMAS_ELF_OTHER_DATA, XMAS_ELF_LINK_SHORT_TABLE,
+ * XMAS_ELF_LINK_BLOOM_COUNT, XMAS_ELF_INVALID_SH_TYPE, XMAS_ELF_NOT_MULTIPLE, XMAS_ELF_NOTE_32, XMAS_ELF_SHORT_DATA,
+ * XMAS_ELF_LINK_CHAIN_INDEX, XMAS_ELF_LINK_SYMBOL_INDEX, XMAS_ELF_LINK_CHAIN_DATA. */
+void xmas_elf_gnu_look_ups(const uint8_t *input, size_t input_size, const xmas_elf_header_t *header, uint64_t section,
+    const uint8_t *names, size_t names_size, const xmas_elf_range_t *ranges, size_t ranges_count,
+    xmas_elf_answer_t *out, size_t out_count) XMAS_ELF_NOEXCEPT;
+
+/* Checks GNU's hash table, in one pass over the table and one over the symbols and their names: where it is OK, no
+ * look-up is refused for the table, and each finds a symbol where one from the table's first on that is defined and
+ * not local has the name. The call is refused with (in the order of the tests) XMAS_ELF_SHORT_SECTION_HEADER,
+ * XMAS_ELF_UNKNOWN_CLASS, XMAS_ELF_SMALL_ENTRY, XMAS_ELF_OTHER_DATA, XMAS_ELF_DATA_RANGE, XMAS_ELF_LINK_SHORT_TABLE,
+ * XMAS_ELF_LINK_BLOOM_COUNT, XMAS_ELF_INVALID_SH_TYPE, XMAS_ELF_NOT_MULTIPLE, XMAS_ELF_NOTE_32, XMAS_ELF_SHORT_DATA,
+ * XMAS_ELF_LINK_CHAIN_INDEX, XMAS_ELF_LINK_SYMBOL_INDEX, XMAS_ELF_LINK_CHAIN_DATA, XMAS_ELF_LINK_MISSING. */
+XMAS_ELF_NODISCARD uint32_t xmas_elf_check_gnu_hash(const uint8_t *input, size_t input_size,
+    const xmas_elf_header_t *header, uint64_t section) XMAS_ELF_NOEXCEPT;
+
+/* Writes the text of a status to the front of `out`, as much as fits, and answers the size of the whole text in
+ * bytes. The text is ASCII without a zero byte at its end. A status that is no refusal, such as 0, has an empty text. */
+size_t xmas_elf_message(uint32_t status, uint8_t *out, size_t out_size) XMAS_ELF_NOEXCEPT;
+/* End of the structs and functions. */
 
 #ifdef __cplusplus
 }

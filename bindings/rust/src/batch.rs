@@ -17,10 +17,16 @@ impl<T: Copy + Default, const N: usize> Batch<T, N> {
         Batch { first: 0, count: 0, next: 0, records: [T::default(); N] }
     }
 
+    // The records from index 0 on, which `ask` gives as it does for `next`.
+    pub(crate) fn items(mut ask: impl FnMut(u64, &mut [T]) -> Result<u64, Error>) -> impl Iterator<Item = T> {
+        let mut batch = Batch::<T, N>::new();
+        core::iter::from_fn(move || batch.next(&mut ask).map(|(_, record)| record))
+    }
+
     // The next record, with its index. Where there is none left, `ask` puts those from an index on to the front of a
     // slice, and says how many.
     #[inline]
-    pub(crate) fn next(&mut self, ask: impl FnOnce(u64, &mut [T]) -> Result<usize, Error>) -> Option<(u64, T)> {
+    pub(crate) fn next(&mut self, ask: impl FnOnce(u64, &mut [T]) -> Result<u64, Error>) -> Option<(u64, T)> {
         if self.next == self.count {
             self.refill(ask)?;
         }
@@ -31,10 +37,10 @@ impl<T: Copy + Default, const N: usize> Batch<T, N> {
     }
 
     #[cold]
-    fn refill(&mut self, ask: impl FnOnce(u64, &mut [T]) -> Result<usize, Error>) -> Option<()> {
+    fn refill(&mut self, ask: impl FnOnce(u64, &mut [T]) -> Result<u64, Error>) -> Option<()> {
         let first = self.first + self.count as u64;
         let count = ask(first, &mut self.records).ok()?;
-        (self.first, self.count, self.next) = (first, count.min(N), 0);
+        (self.first, self.count, self.next) = (first, (count as usize).min(N), 0);
         (count > 0).then_some(())
     }
 }

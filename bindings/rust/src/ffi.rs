@@ -1,429 +1,477 @@
-//! The declarations of the archive, as `bindings/include/xmas_elf.h` has them. Nothing proves that they agree
-//! with the exports: the tests compare all answers.
+//! The declarations of the archive, and a safe call for each. Written by tools/exports.py.
+//!
+//! One reason holds for each `unsafe`: the export reads the slices and records that it is lent, for the call alone, writes
+//! the records that it is lent to write, of a slice at most as many as it has, and is defined whatever they hold. All of
+//! these are references of the call, of the types that the archive declares.
 
+use crate::records::{Answer, Counts, Dynamic, Entry, Header, LookUp, Name, NoteRange, ProgramHeader, Range, Relocation, SectionHeader};
 use crate::Error;
 
-/// The ELF header of a file, in numbers.
-#[repr(C)]
-#[derive(Clone, Copy, Debug, Default)]
-pub struct Header {
-    /// The address at which a program begins to run, or 0.
-    pub entry_point: u64,
-    /// Where the program header table lies, in bytes from the start of the file, or 0.
-    pub ph_offset: u64,
-    /// Where the section header table lies, in bytes from the start of the file, or 0.
-    pub sh_offset: u64,
-    /// The version of the file.
-    pub version: u32,
-    /// Flags of the processor.
-    pub flags: u32,
-    /// What the file is for.
-    pub type_: u16,
-    /// The processor that the file is for.
-    pub machine: u16,
-    /// How many bytes the ELF header has, as it says itself.
-    pub header_size: u16,
-    /// How many bytes one entry of the program header table has.
-    pub ph_entry_size: u16,
-    /// How many entries the program header table has, as it stands in the file.
-    pub ph_count: u16,
-    /// How many bytes one entry of the section header table has.
-    pub sh_entry_size: u16,
-    /// How many entries the section header table has, as it stands in the file.
-    pub sh_count: u16,
-    /// The index of the section that holds the names, as it stands in the file.
-    pub sh_str_index: u16,
-    /// 1 for class 32, 2 for class 64.
-    pub class: u8,
-    /// 2 for big-endian numbers; else they are little-endian.
-    pub encoding: u8,
-    /// The version of the header.
-    pub header_version: u8,
-    /// The operating system whose extensions the file uses.
-    pub os_abi: u8,
-    /// The version of those extensions.
-    pub abi_version: u8,
-    /// Bytes without a meaning.
-    pub padding: [u8; 7],
-}
-
-#[repr(C)]
-#[derive(Clone, Copy, Default)]
-pub(crate) struct Counts {
-    pub(crate) sections: u64,
-    pub(crate) segments: u32,
-}
-
-/// As many bytes from a place on.
-#[repr(C)]
-#[derive(Clone, Copy, Debug, Default, PartialEq, Eq)]
-pub struct Range {
-    /// The place of the first byte, in bytes from the start.
-    pub offset: u64,
-    /// How many bytes they are.
-    pub size: u64,
-}
-
-impl From<core::ops::Range<usize>> for Range {
-    fn from(range: core::ops::Range<usize>) -> Range {
-        Range { offset: range.start as u64, size: range.len() as u64 }
+fn answered<T>(status: u32, value: T) -> Result<T, Error> {
+    match status {
+        0 => Ok(value),
+        status => Err(Error::of(status)),
     }
 }
-
-impl Range {
-    // The bytes of a range that the archive answered, which lies in the input.
-    pub(crate) fn bytes_in(self, input: &[u8]) -> &[u8] {
-        let start = self.offset as usize;
-        input.get(start..start.saturating_add(self.size as usize)).unwrap_or_default()
-    }
-
-    // The text of a range that the archive answered as one.
-    pub(crate) fn text_in(self, input: &[u8]) -> &str {
-        core::str::from_utf8(self.bytes_in(input)).unwrap_or_default()
-    }
-}
-
-/// Where one name of many stands.
-#[repr(C)]
-#[derive(Clone, Copy, Debug, Default)]
-pub struct Name {
-    range: Range,
-    status: u32,
-}
-
-impl Name {
-    /// Where the name stands in the file, without the zero byte behind it, or why it has none.
-    pub fn range(&self) -> Result<Range, Error> {
-        checked(self.status).map(|()| self.range)
-    }
-}
-
-/// A section header, in numbers.
-#[repr(C)]
-#[derive(Clone, Copy, Debug, Default)]
-pub struct SectionHeader {
-    /// The flags of the section.
-    pub flags: u64,
-    /// The address of the section in memory, or 0.
-    pub address: u64,
-    /// Where the section's data lies, in bytes from the start of the file.
-    pub offset: u64,
-    /// How many bytes the section has.
-    pub size: u64,
-    /// The alignment of the section's address, in bytes.
-    pub align: u64,
-    /// How many bytes an entry of the section has, or 0.
-    pub entry_size: u64,
-    /// The index of the section's name in the name table, in bytes.
-    pub name: u32,
-    /// What the section holds.
-    pub type_: u32,
-    /// The index of a section that this one is linked to, if its type has one.
-    pub link: u32,
-    /// More about the section, as its type has it.
-    pub info: u32,
-}
-
-/// A program header, in numbers.
-#[repr(C)]
-#[derive(Clone, Copy, Debug, Default)]
-pub struct ProgramHeader {
-    /// Where the segment's data lies, in bytes from the start of the file.
-    pub offset: u64,
-    /// The address of the segment in memory.
-    pub virtual_addr: u64,
-    /// The physical address of the segment, where that matters.
-    pub physical_addr: u64,
-    /// How many bytes the segment has in the file.
-    pub file_size: u64,
-    /// How many bytes the segment has in memory.
-    pub mem_size: u64,
-    /// The alignment of the segment in memory and in the file, in bytes.
-    pub align: u64,
-    /// What the segment is.
-    pub type_: u32,
-    /// What may be done with the segment's memory.
-    pub flags: u32,
-}
-
-/// A symbol, in numbers.
-#[repr(C)]
-#[derive(Clone, Copy, Debug, Default)]
-pub struct Entry {
-    /// The symbol's address or offset.
-    pub value: u64,
-    /// How many bytes what it stands for has, or 0.
-    pub size: u64,
-    /// The index of the symbol's name in its string table, in bytes; 0 if it has none.
-    pub name: u32,
-    /// The index of the section that the symbol belongs to, or one with a meaning of its own.
-    pub shndx: u16,
-    /// The symbol's binding, times 16, and its type.
-    pub info: u8,
-    /// Who sees the symbol: its remainder by 4.
-    pub other: u8,
-}
-
-/// A relocation, in numbers.
-#[repr(C)]
-#[derive(Clone, Copy, Debug, Default)]
-pub struct Relocation {
-    /// The place that changes: an offset in its section, or an address.
-    pub offset: u64,
-    /// What is added; of class 32 a number of 32 bits, and 0 in a table without addends.
-    pub addend: u64,
-    /// The index of the symbol that it names.
-    pub symbol: u32,
-    /// How the place changes, by the processor.
-    pub type_: u32,
-    /// 1 in a table with addends, and else 0.
-    pub has_addend: u32,
-}
-
-/// A dynamic entry, in numbers.
-#[repr(C)]
-#[derive(Clone, Copy, Debug, Default)]
-pub struct Dynamic {
-    /// What the entry is.
-    pub tag: u64,
-    /// A value or a pointer, by the tag.
-    pub value: u64,
-}
-
-#[repr(C)]
-#[derive(Clone, Copy, Default)]
-pub(crate) struct NoteRange {
-    pub(crate) name: Range,
-    pub(crate) desc: Range,
-    pub(crate) rest: Range,
-    pub(crate) type_: u32,
-}
-
-/// What a look-up says.
-#[repr(C)]
-#[derive(Clone, Copy, Debug, Default)]
-pub struct LookUp {
-    /// 1 where a symbol is found, and else 0.
-    pub found: u32,
-    /// The index of the symbol, or 0.
-    pub index: u32,
-    /// How many entries of the table the look-up came by.
-    pub looked_at: u32,
-}
-
-/// What one look-up of many says.
-#[repr(C)]
-#[derive(Clone, Copy, Debug, Default)]
-pub struct Answer {
-    status: u32,
-    said: LookUp,
-}
-
-impl Answer {
-    /// What the look-up says, in numbers, or why it is refused.
-    pub fn look_up(&self) -> Result<LookUp, Error> {
-        checked(self.status).map(|()| self.said)
-    }
-
-    /// The index of the symbol that it finds, or none.
-    pub fn index(&self) -> Result<Option<u32>, Error> {
-        self.look_up().map(|said| (said.found != 0).then_some(said.index))
-    }
-}
-
-type Bytes = *const u8;
 
 extern "C" {
-    fn xmas_elf_open(input: Bytes, size: usize, out: *mut Header) -> u32;
-    fn xmas_elf_check_header(input: Bytes, size: usize, header: *const Header) -> u32;
-    fn xmas_elf_counts(input: Bytes, size: usize, header: *const Header, out: *mut Counts) -> u32;
-    fn xmas_elf_section(input: Bytes, size: usize, header: *const Header, index: u64, out: *mut SectionHeader) -> u32;
-    fn xmas_elf_sections(input: Bytes, size: usize, header: *const Header, first: u64, out: *mut SectionHeader, room: usize, count: *mut u64) -> u32;
-    fn xmas_elf_section_names(input: Bytes, size: usize, header: *const Header, first: u64, out: *mut Name, room: usize, count: *mut u64) -> u32;
-    fn xmas_elf_section_data(input: Bytes, size: usize, header: *const Header, index: u64, out: *mut Range) -> u32;
-    fn xmas_elf_section_name(input: Bytes, size: usize, header: *const Header, index: u64, out: *mut Range) -> u32;
-    fn xmas_elf_names(input: Bytes, size: usize, header: *const Header, out: *mut Range) -> u32;
-    fn xmas_elf_text(input: Bytes, size: usize, part: *const Range, index: u64, out: *mut Range) -> u32;
-    fn xmas_elf_segment(input: Bytes, size: usize, header: *const Header, index: u32, out: *mut ProgramHeader) -> u32;
-    fn xmas_elf_segment_data(input: Bytes, size: usize, header: *const Header, index: u32, out: *mut Range) -> u32;
-    fn xmas_elf_symbol(input: Bytes, size: usize, header: *const Header, section: u64, index: u64, out: *mut Entry) -> u32;
-    fn xmas_elf_relocation(input: Bytes, size: usize, header: *const Header, section: u64, index: u64, out: *mut Relocation) -> u32;
-    fn xmas_elf_dynamic(input: Bytes, size: usize, header: *const Header, section: u64, index: u64, out: *mut Dynamic) -> u32;
-    fn xmas_elf_symbols(input: Bytes, size: usize, header: *const Header, section: u64, first: u64, out: *mut Entry, room: usize, count: *mut u64) -> u32;
-    fn xmas_elf_symbol_names(input: Bytes, size: usize, header: *const Header, section: u64, first: u64, out: *mut Name, room: usize, count: *mut u64) -> u32;
-    fn xmas_elf_build_id(input: Bytes, size: usize, header: *const Header, out: *mut Range) -> u32;
-    fn xmas_elf_bytes_at(input: Bytes, size: usize, header: *const Header, address: u64, count: u64, out: *mut Range) -> u32;
-    fn xmas_elf_look_up(input: Bytes, size: usize, header: *const Header, section: u64, name: Bytes, name_size: usize, out: *mut LookUp) -> u32;
-    fn xmas_elf_check_hash(input: Bytes, size: usize, header: *const Header, section: u64) -> u32;
-    fn xmas_elf_gnu_look_up(input: Bytes, size: usize, header: *const Header, section: u64, name: Bytes, name_size: usize, out: *mut LookUp) -> u32;
-    fn xmas_elf_look_ups(input: Bytes, size: usize, header: *const Header, section: u64, names: Bytes, names_size: usize, ranges: *const Range, ranges_count: usize, out: *mut Answer, room: usize);
-    fn xmas_elf_gnu_look_ups(input: Bytes, size: usize, header: *const Header, section: u64, names: Bytes, names_size: usize, ranges: *const Range, ranges_count: usize, out: *mut Answer, room: usize);
-    fn xmas_elf_check_gnu_hash(input: Bytes, size: usize, header: *const Header, section: u64) -> u32;
-    fn xmas_elf_message(status: u32, out: *mut u8, room: usize) -> usize;
-    fn xmas_elf_note(input: Bytes, size: usize, header: *const Header, part: *const Range, align: u64, out: *mut NoteRange) -> u32;
+    fn xmas_elf_open(input: *const u8, input_len: usize, out: *mut Header) -> u32;
+    fn xmas_elf_check_header(input: *const u8, input_len: usize, header: *const Header) -> u32;
+    fn xmas_elf_counts(input: *const u8, input_len: usize, header: *const Header, out: *mut Counts) -> u32;
+    fn xmas_elf_names_index(input: *const u8, input_len: usize, header: *const Header, out: *mut u32) -> u32;
+    fn xmas_elf_section(input: *const u8, input_len: usize, header: *const Header, index: u64,
+        out: *mut SectionHeader) -> u32;
+    fn xmas_elf_sections(input: *const u8, input_len: usize, header: *const Header, first: u64,
+        out: *mut SectionHeader, out_len: usize, count: *mut u64) -> u32;
+    fn xmas_elf_find_section(input: *const u8, input_len: usize, header: *const Header, name: *const u8,
+        name_len: usize, out: *mut SectionHeader) -> u32;
+    fn xmas_elf_section_data(input: *const u8, input_len: usize, header: *const Header, index: u64,
+        out: *mut Range) -> u32;
+    fn xmas_elf_section_name(input: *const u8, input_len: usize, header: *const Header, index: u64,
+        out: *mut Range) -> u32;
+    fn xmas_elf_section_names(input: *const u8, input_len: usize, header: *const Header, first: u64, out: *mut Name,
+        out_len: usize, count: *mut u64) -> u32;
+    fn xmas_elf_names(input: *const u8, input_len: usize, header: *const Header, out: *mut Range) -> u32;
+    fn xmas_elf_text(input: *const u8, input_len: usize, part: *const Range, index: u64, out: *mut Range) -> u32;
+    fn xmas_elf_section_text(input: *const u8, input_len: usize, header: *const Header, section: u64, index: u64,
+        out: *mut Range) -> u32;
+    fn xmas_elf_segment(input: *const u8, input_len: usize, header: *const Header, index: u32,
+        out: *mut ProgramHeader) -> u32;
+    fn xmas_elf_segments(input: *const u8, input_len: usize, header: *const Header, first: u64,
+        out: *mut ProgramHeader, out_len: usize, count: *mut u64) -> u32;
+    fn xmas_elf_segment_data(input: *const u8, input_len: usize, header: *const Header, index: u32,
+        out: *mut Range) -> u32;
+    fn xmas_elf_symbol(input: *const u8, input_len: usize, header: *const Header, section: u64, index: u64,
+        out: *mut Entry) -> u32;
+    fn xmas_elf_symbols(input: *const u8, input_len: usize, header: *const Header, section: u64, first: u64,
+        out: *mut Entry, out_len: usize, count: *mut u64) -> u32;
+    fn xmas_elf_symbol_names(input: *const u8, input_len: usize, header: *const Header, section: u64, first: u64,
+        out: *mut Name, out_len: usize, count: *mut u64) -> u32;
+    fn xmas_elf_relocation(input: *const u8, input_len: usize, header: *const Header, section: u64, index: u64,
+        out: *mut Relocation) -> u32;
+    fn xmas_elf_relocations(input: *const u8, input_len: usize, header: *const Header, section: u64, first: u64,
+        out: *mut Relocation, out_len: usize, count: *mut u64) -> u32;
+    fn xmas_elf_packed_relocations(input: *const u8, input_len: usize, header: *const Header, section: u64,
+        first: u64, out: *mut u64, out_len: usize, count: *mut u64) -> u32;
+    fn xmas_elf_dynamic(input: *const u8, input_len: usize, header: *const Header, section: u64, index: u64,
+        out: *mut Dynamic) -> u32;
+    fn xmas_elf_dynamics(input: *const u8, input_len: usize, header: *const Header, section: u64, first: u64,
+        out: *mut Dynamic, out_len: usize, count: *mut u64) -> u32;
+    fn xmas_elf_note(input: *const u8, input_len: usize, header: *const Header, part: *const Range, align: u64,
+        out: *mut NoteRange) -> u32;
+    fn xmas_elf_build_id(input: *const u8, input_len: usize, header: *const Header, out: *mut Range) -> u32;
+    fn xmas_elf_bytes_at(input: *const u8, input_len: usize, header: *const Header, address: u64, count: u64,
+        out: *mut Range) -> u32;
+    fn xmas_elf_dynamic_text(input: *const u8, input_len: usize, header: *const Header, tag: u64,
+        out: *mut Range) -> u32;
+    fn xmas_elf_needed(input: *const u8, input_len: usize, header: *const Header, first: u64, out: *mut Name,
+        out_len: usize, count: *mut u64) -> u32;
+    fn xmas_elf_look_up(input: *const u8, input_len: usize, header: *const Header, section: u64, name: *const u8,
+        name_len: usize, out: *mut LookUp) -> u32;
+    fn xmas_elf_look_ups(input: *const u8, input_len: usize, header: *const Header, section: u64, names: *const u8,
+        names_len: usize, ranges: *const Range, ranges_len: usize, out: *mut Answer, out_len: usize);
+    fn xmas_elf_check_hash(input: *const u8, input_len: usize, header: *const Header, section: u64) -> u32;
+    fn xmas_elf_gnu_look_up(input: *const u8, input_len: usize, header: *const Header, section: u64, name: *const u8,
+        name_len: usize, out: *mut LookUp) -> u32;
+    fn xmas_elf_gnu_look_ups(input: *const u8, input_len: usize, header: *const Header, section: u64,
+        names: *const u8, names_len: usize, ranges: *const Range, ranges_len: usize, out: *mut Answer,
+        out_len: usize);
+    fn xmas_elf_check_gnu_hash(input: *const u8, input_len: usize, header: *const Header, section: u64) -> u32;
+    fn xmas_elf_message(status: u32, out: *mut u8, out_len: usize) -> usize;
 }
 
-// The answer of a call that fills a record.
-fn filled<T: Default>(call: impl FnOnce(*mut T) -> u32) -> Result<T, Error> {
-    let mut out = T::default();
-    match call(&mut out) {
-        0 => Ok(out),
-        status => Err(Error::of(status)),
-    }
-}
-
-// One reason holds for each `unsafe` below: the export reads the input and the records that it is lent, for the
-// call alone, writes `out` alone, and is defined whatever they hold. All of these are references of this call, of
-// the types that the archive declares.
+/// Reads the ELF header of a file. The call is refused with (in the order of the tests) `ShortPart1`, `NoMagic`,
+/// `InvalidClass`, `ShortHeaders`.
 pub(crate) fn open(input: &[u8]) -> Result<Header, Error> {
-    // SAFETY: see above.
-    filled(|out| unsafe { xmas_elf_open(input.as_ptr(), input.len(), out) })
+    let mut out = Header::default();
+    // SAFETY: see the head of this file.
+    let status = unsafe { xmas_elf_open(input.as_ptr(), input.len(), &mut out) };
+    answered(status, out)
 }
 
-// The answer of a call that fills none.
-fn checked(status: u32) -> Result<(), Error> {
-    match status {
-        0 => Ok(()),
-        status => Err(Error::of(status)),
-    }
-}
-
+/// Checks the header against the input: its own size, its class, version and byte order, and that its two tables lie
+/// in the input. The call is refused with (in the order of the tests) `HeaderSize`, `NoClass`, `ClassMismatch`,
+/// `NoVersion`, `NoDataFormat`, `PhTableRange`, `ShTableRange`.
 pub(crate) fn check_header(input: &[u8], header: &Header) -> Result<(), Error> {
-    // SAFETY: see above.
-    checked(unsafe { xmas_elf_check_header(input.as_ptr(), input.len(), header) })
+    // SAFETY: see the head of this file.
+    let status = unsafe { xmas_elf_check_header(input.as_ptr(), input.len(), header) };
+    answered(status, ())
 }
 
-pub(crate) fn counts(input: &[u8], header: &Header) -> Counts {
-    // SAFETY: see above.
-    filled(|out| unsafe { xmas_elf_counts(input.as_ptr(), input.len(), header, out) }).unwrap_or_default()
+/// The numbers of sections and segments that the file claims; its tables may be cut off before. Never refused.
+pub(crate) fn counts(input: &[u8], header: &Header) -> Result<Counts, Error> {
+    let mut out = Counts::default();
+    // SAFETY: see the head of this file.
+    let status = unsafe { xmas_elf_counts(input.as_ptr(), input.len(), header, &mut out) };
+    answered(status, out)
 }
 
+/// The index of the section with the names of sections. The call is refused with `ReservedIndex`.
+pub(crate) fn names_index(input: &[u8], header: &Header) -> Result<u32, Error> {
+    let mut out = u32::default();
+    // SAFETY: see the head of this file.
+    let status = unsafe { xmas_elf_names_index(input.as_ptr(), input.len(), header, &mut out) };
+    answered(status, out)
+}
+
+/// The section header at an index. The index is not compared with the number of sections: past the table the call
+/// reads what bytes are there, or is refused. The call is refused with (in the order of the tests)
+/// `ShortSectionHeader`, `UnknownClass`, `SmallEntry`.
 pub(crate) fn section(input: &[u8], header: &Header, index: u64) -> Result<SectionHeader, Error> {
-    // SAFETY: see above.
-    filled(|out| unsafe { xmas_elf_section(input.as_ptr(), input.len(), header, index, out) })
+    let mut out = SectionHeader::default();
+    // SAFETY: see the head of this file.
+    let status = unsafe { xmas_elf_section(input.as_ptr(), input.len(), header, index, &mut out) };
+    answered(status, out)
 }
 
+/// The section headers from index `first` on, up to the number of sections or the first that is refused. Where they
+/// end before that number, `section` at the next index says why. The call is refused with `NoRecord`.
+pub(crate) fn sections(input: &[u8], header: &Header, first: u64, out: &mut [SectionHeader]) -> Result<u64, Error> {
+    let mut count = u64::default();
+    // SAFETY: see the head of this file.
+    let status = unsafe { xmas_elf_sections(input.as_ptr(), input.len(), header, first, out.as_mut_ptr(), out.len(),
+        &mut count) };
+    answered(status, count)
+}
+
+/// The first section with a name. A section whose name is refused is skipped, and a name that is not UTF-8 is never
+/// found. The call is refused with `NotFound`.
+pub(crate) fn find_section(input: &[u8], header: &Header, name: &[u8]) -> Result<SectionHeader, Error> {
+    let mut out = SectionHeader::default();
+    // SAFETY: see the head of this file.
+    let status = unsafe { xmas_elf_find_section(input.as_ptr(), input.len(), header, name.as_ptr(), name.len(), &mut
+        out) };
+    answered(status, out)
+}
+
+/// The range of a section's data. A section of type SHT_NOBITS has none in the file: its range belongs to other
+/// sections. `NullData` is for type SHT_NULL, `InvalidShType` for a type that this reader does not know. The range of
+/// an empty section begins at its offset. The call is refused with (in the order of the tests) `ShortSectionHeader`,
+/// `UnknownClass`, `SmallEntry`, `InvalidShType`, `NullData`, `DataRange`.
 pub(crate) fn section_data(input: &[u8], header: &Header, index: u64) -> Result<Range, Error> {
-    // SAFETY: see above.
-    filled(|out| unsafe { xmas_elf_section_data(input.as_ptr(), input.len(), header, index, out) })
+    let mut out = Range::default();
+    // SAFETY: see the head of this file.
+    let status = unsafe { xmas_elf_section_data(input.as_ptr(), input.len(), header, index, &mut out) };
+    answered(status, out)
 }
 
+/// The range of a section's name, without the zero byte that ends it. It is UTF-8. `NullName` is for type SHT_NULL,
+/// which section 0 has, `InvalidShType` for a type that this reader does not know, such as 19 (SHT_RELR); `names` and
+/// `text` give the names of these too. The call is refused with (in the order of the tests) `ShortSectionHeader`,
+/// `UnknownClass`, `SmallEntry`, `InvalidShType`, `NullName`, `ReservedIndex`, `ShortSectionOffset`, `TextStart`,
+/// `TextEnd`, `TextUtf8`.
 pub(crate) fn section_name(input: &[u8], header: &Header, index: u64) -> Result<Range, Error> {
-    // SAFETY: see above.
-    filled(|out| unsafe { xmas_elf_section_name(input.as_ptr(), input.len(), header, index, out) })
+    let mut out = Range::default();
+    // SAFETY: see the head of this file.
+    let status = unsafe { xmas_elf_section_name(input.as_ptr(), input.len(), header, index, &mut out) };
+    answered(status, out)
 }
 
+/// The ranges of the names of sections from index `first` on, each with a status of its own, as `section_name`
+/// answers. The call gives as many names as `sections` gives headers. The call is refused with `NoRecord`. Each
+/// record is refused with (in the order of the tests) `InvalidShType`, `NullName`, `ReservedIndex`,
+/// `ShortSectionHeader`, `ShortSectionOffset`, `TextStart`, `TextEnd`, `TextUtf8`.
+pub(crate) fn section_names(input: &[u8], header: &Header, first: u64, out: &mut [Name]) -> Result<u64, Error> {
+    let mut count = u64::default();
+    // SAFETY: see the head of this file.
+    let status = unsafe { xmas_elf_section_names(input.as_ptr(), input.len(), header, first, out.as_mut_ptr(),
+        out.len(), &mut count) };
+    answered(status, count)
+}
+
+/// The range of the name table of sections, which goes on to the end of the input. Read it once: the name of a
+/// section is the text there at the section's `name`, by `text`. The call is refused with (in the order of the tests)
+/// `ReservedIndex`, `ShortSectionHeader`, `UnknownClass`, `SmallEntry`, `ShortSectionOffset`.
 pub(crate) fn names(input: &[u8], header: &Header) -> Result<Range, Error> {
-    // SAFETY: see above.
-    filled(|out| unsafe { xmas_elf_names(input.as_ptr(), input.len(), header, out) })
+    let mut out = Range::default();
+    // SAFETY: see the head of this file.
+    let status = unsafe { xmas_elf_names(input.as_ptr(), input.len(), header, &mut out) };
+    answered(status, out)
 }
 
+/// The range of the text that begins `index` bytes after the start of `part` and ends before the next zero byte of
+/// `part`. It is UTF-8. The call is refused with (in the order of the tests) `DataRange`, `TextStart`, `TextEnd`,
+/// `TextUtf8`.
 pub(crate) fn text(input: &[u8], part: &Range, index: u64) -> Result<Range, Error> {
-    // SAFETY: see above.
-    filled(|out| unsafe { xmas_elf_text(input.as_ptr(), input.len(), part, index, out) })
+    let mut out = Range::default();
+    // SAFETY: see the head of this file.
+    let status = unsafe { xmas_elf_text(input.as_ptr(), input.len(), part, index, &mut out) };
+    answered(status, out)
 }
 
+/// The range of the text that begins `index` bytes after the start of a section's data and ends before the next zero
+/// byte of the data: the name of a symbol is the text at its `name` in the section `link` of its own section. The
+/// call does not test that the section is of type SHT_STRTAB. The call is refused with (in the order of the tests)
+/// `ShortSectionHeader`, `UnknownClass`, `SmallEntry`, `InvalidShType`, `NullData`, `DataRange`, `TextStart`,
+/// `TextEnd`, `TextUtf8`.
+pub(crate) fn section_text(input: &[u8], header: &Header, section: u64, index: u64) -> Result<Range, Error> {
+    let mut out = Range::default();
+    // SAFETY: see the head of this file.
+    let status = unsafe { xmas_elf_section_text(input.as_ptr(), input.len(), header, section, index, &mut out) };
+    answered(status, out)
+}
+
+/// The program header at an index. The call is refused with (in the order of the tests) `NoProgramHeaders`,
+/// `UnknownClass`, `ShortProgramHeader`, `SmallEntry`.
 pub(crate) fn segment(input: &[u8], header: &Header, index: u32) -> Result<ProgramHeader, Error> {
-    // SAFETY: see above.
-    filled(|out| unsafe { xmas_elf_segment(input.as_ptr(), input.len(), header, index, out) })
+    let mut out = ProgramHeader::default();
+    // SAFETY: see the head of this file.
+    let status = unsafe { xmas_elf_segment(input.as_ptr(), input.len(), header, index, &mut out) };
+    answered(status, out)
 }
 
+/// The program headers from index `first` on, up to the number of segments or the first that is refused. Where they
+/// end before that number, `segment` at the next index says why. The call is refused with `NoRecord`.
+pub(crate) fn segments(input: &[u8], header: &Header, first: u64, out: &mut [ProgramHeader]) -> Result<u64, Error> {
+    let mut count = u64::default();
+    // SAFETY: see the head of this file.
+    let status = unsafe { xmas_elf_segments(input.as_ptr(), input.len(), header, first, out.as_mut_ptr(), out.len(),
+        &mut count) };
+    answered(status, count)
+}
+
+/// The range of a segment's data. `NullData` is for type PT_NULL, `InvalidPhType` for a type that this reader does
+/// not know. An empty segment (p_filesz 0) answers offset 0 and size 0, whatever its offset is. The call is refused
+/// with (in the order of the tests) `NoProgramHeaders`, `UnknownClass`, `ShortProgramHeader`, `SmallEntry`,
+/// `InvalidPhType`, `NullData`, `DataRange`.
 pub(crate) fn segment_data(input: &[u8], header: &Header, index: u32) -> Result<Range, Error> {
-    // SAFETY: see above.
-    filled(|out| unsafe { xmas_elf_segment_data(input.as_ptr(), input.len(), header, index, out) })
+    let mut out = Range::default();
+    // SAFETY: see the head of this file.
+    let status = unsafe { xmas_elf_segment_data(input.as_ptr(), input.len(), header, index, &mut out) };
+    answered(status, out)
 }
 
+/// The symbol at an index of a section of type SHT_SYMTAB or SHT_DYNSYM; `OtherData` is for other sections. Its name
+/// is a text of the string table that is the section `link`. The call is refused with (in the order of the tests)
+/// `ShortSectionHeader`, `UnknownClass`, `SmallEntry`, `InvalidShType`, `DataRange`, `NotMultiple`, `Note32`,
+/// `ShortData`, `OtherData`, `NoRecord`.
 pub(crate) fn symbol(input: &[u8], header: &Header, section: u64, index: u64) -> Result<Entry, Error> {
-    // SAFETY: see above.
-    filled(|out| unsafe { xmas_elf_symbol(input.as_ptr(), input.len(), header, section, index, out) })
+    let mut out = Entry::default();
+    // SAFETY: see the head of this file.
+    let status = unsafe { xmas_elf_symbol(input.as_ptr(), input.len(), header, section, index, &mut out) };
+    answered(status, out)
 }
 
-// How many records a call put to the front of its slice.
-fn counted(call: impl FnOnce(*mut u64) -> u32) -> Result<usize, Error> {
-    filled(call).map(|count| count as usize)
+/// The symbols from index `first` on of a section. The call is refused with (in the order of the tests)
+/// `ShortSectionHeader`, `UnknownClass`, `SmallEntry`, `InvalidShType`, `DataRange`, `NotMultiple`, `Note32`,
+/// `ShortData`, `OtherData`, `NoRecord`.
+pub(crate) fn symbols(input: &[u8], header: &Header, section: u64, first: u64,
+    out: &mut [Entry]) -> Result<u64, Error> {
+    let mut count = u64::default();
+    // SAFETY: see the head of this file.
+    let status = unsafe { xmas_elf_symbols(input.as_ptr(), input.len(), header, section, first, out.as_mut_ptr(),
+        out.len(), &mut count) };
+    answered(status, count)
 }
 
-pub(crate) fn sections(input: &[u8], header: &Header, first: u64, out: &mut [SectionHeader]) -> Result<usize, Error> {
-    // SAFETY: see above; of `out` as many records are written as it has, at most.
-    counted(|count| unsafe { xmas_elf_sections(input.as_ptr(), input.len(), header, first, out.as_mut_ptr(), out.len(), count) })
+/// The ranges of the names of these symbols, each with a status of its own: the texts at each symbol's `name` in the
+/// string table that the section is linked to. The call gives as many names as `symbols` gives symbols. The call is
+/// refused with (in the order of the tests) `ShortSectionHeader`, `UnknownClass`, `SmallEntry`, `InvalidShType`,
+/// `DataRange`, `NotMultiple`, `Note32`, `ShortData`, `OtherData`, `NoRecord`. Each record is refused with (in the
+/// order of the tests) `ShortSectionHeader`, `InvalidShType`, `NullData`, `DataRange`, `TextStart`, `TextEnd`,
+/// `TextUtf8`.
+pub(crate) fn symbol_names(input: &[u8], header: &Header, section: u64, first: u64,
+    out: &mut [Name]) -> Result<u64, Error> {
+    let mut count = u64::default();
+    // SAFETY: see the head of this file.
+    let status = unsafe { xmas_elf_symbol_names(input.as_ptr(), input.len(), header, section, first, out.as_mut_ptr(),
+        out.len(), &mut count) };
+    answered(status, count)
 }
 
-pub(crate) fn section_names(input: &[u8], header: &Header, first: u64, out: &mut [Name]) -> Result<usize, Error> {
-    // SAFETY: see above; of `out` as many records are written as it has, at most.
-    counted(|count| unsafe { xmas_elf_section_names(input.as_ptr(), input.len(), header, first, out.as_mut_ptr(), out.len(), count) })
-}
-
-pub(crate) fn symbols(input: &[u8], header: &Header, section: u64, first: u64, out: &mut [Entry]) -> Result<usize, Error> {
-    // SAFETY: see above; of `out` as many records are written as it has, at most.
-    counted(|count| unsafe { xmas_elf_symbols(input.as_ptr(), input.len(), header, section, first, out.as_mut_ptr(), out.len(), count) })
-}
-
-pub(crate) fn symbol_names(input: &[u8], header: &Header, section: u64, first: u64, out: &mut [Name]) -> Result<usize, Error> {
-    // SAFETY: see above; of `out` as many records are written as it has, at most.
-    counted(|count| unsafe { xmas_elf_symbol_names(input.as_ptr(), input.len(), header, section, first, out.as_mut_ptr(), out.len(), count) })
-}
-
+/// The relocation at an index of a section of type SHT_REL or SHT_RELA; `OtherData` is for other sections. The call
+/// is refused with (in the order of the tests) `ShortSectionHeader`, `UnknownClass`, `SmallEntry`, `InvalidShType`,
+/// `DataRange`, `NotMultiple`, `Note32`, `ShortData`, `OtherData`, `NoRecord`.
 pub(crate) fn relocation(input: &[u8], header: &Header, section: u64, index: u64) -> Result<Relocation, Error> {
-    // SAFETY: see above.
-    filled(|out| unsafe { xmas_elf_relocation(input.as_ptr(), input.len(), header, section, index, out) })
+    let mut out = Relocation::default();
+    // SAFETY: see the head of this file.
+    let status = unsafe { xmas_elf_relocation(input.as_ptr(), input.len(), header, section, index, &mut out) };
+    answered(status, out)
 }
 
+/// The relocations from index `first` on of a section. The call is refused with (in the order of the tests)
+/// `ShortSectionHeader`, `UnknownClass`, `SmallEntry`, `InvalidShType`, `DataRange`, `NotMultiple`, `Note32`,
+/// `ShortData`, `OtherData`, `NoRecord`.
+pub(crate) fn relocations(input: &[u8], header: &Header, section: u64, first: u64,
+    out: &mut [Relocation]) -> Result<u64, Error> {
+    let mut count = u64::default();
+    // SAFETY: see the head of this file.
+    let status = unsafe { xmas_elf_relocations(input.as_ptr(), input.len(), header, section, first, out.as_mut_ptr(),
+        out.len(), &mut count) };
+    answered(status, count)
+}
+
+/// The addresses in the packed relative relocations of a section of type 19 (SHT_RELR) from index `first` on: those
+/// of the words to which the load address is added. Each call reads the words from the first on, so give much room.
+/// The call is refused with (in the order of the tests) `ShortSectionHeader`, `UnknownClass`, `SmallEntry`,
+/// `OtherData`, `DataRange`, `LinkNotMultiple`, `NoRecord`.
+pub(crate) fn packed_relocations(input: &[u8], header: &Header, section: u64, first: u64,
+    out: &mut [u64]) -> Result<u64, Error> {
+    let mut count = u64::default();
+    // SAFETY: see the head of this file.
+    let status = unsafe { xmas_elf_packed_relocations(input.as_ptr(), input.len(), header, section, first,
+        out.as_mut_ptr(), out.len(), &mut count) };
+    answered(status, count)
+}
+
+/// The dynamic entry at an index of a section of type SHT_DYNAMIC, also after the entry with tag 0; `OtherData` is
+/// for other sections. The call is refused with (in the order of the tests) `ShortSectionHeader`, `UnknownClass`,
+/// `SmallEntry`, `InvalidShType`, `DataRange`, `NotMultiple`, `Note32`, `ShortData`, `OtherData`, `NoRecord`.
 pub(crate) fn dynamic(input: &[u8], header: &Header, section: u64, index: u64) -> Result<Dynamic, Error> {
-    // SAFETY: see above.
-    filled(|out| unsafe { xmas_elf_dynamic(input.as_ptr(), input.len(), header, section, index, out) })
+    let mut out = Dynamic::default();
+    // SAFETY: see the head of this file.
+    let status = unsafe { xmas_elf_dynamic(input.as_ptr(), input.len(), header, section, index, &mut out) };
+    answered(status, out)
 }
 
+/// The dynamic entries from index `first` on of a section, also those after the entry with tag 0. The call is refused
+/// with (in the order of the tests) `ShortSectionHeader`, `UnknownClass`, `SmallEntry`, `InvalidShType`, `DataRange`,
+/// `NotMultiple`, `Note32`, `ShortData`, `OtherData`, `NoRecord`.
+pub(crate) fn dynamics(input: &[u8], header: &Header, section: u64, first: u64,
+    out: &mut [Dynamic]) -> Result<u64, Error> {
+    let mut count = u64::default();
+    // SAFETY: see the head of this file.
+    let status = unsafe { xmas_elf_dynamics(input.as_ptr(), input.len(), header, section, first, out.as_mut_ptr(),
+        out.len(), &mut count) };
+    answered(status, count)
+}
+
+/// The first note of a range, by the alignment of its section or segment (8, and else 4). `NoRecord` is for an empty
+/// range, `LinkShortNote` for one that holds no whole note. The call is refused with (in the order of the tests)
+/// `DataRange`, `NoRecord`, `LinkShortNote`.
 pub(crate) fn note(input: &[u8], header: &Header, part: &Range, align: u64) -> Result<NoteRange, Error> {
-    // SAFETY: see above.
-    filled(|out| unsafe { xmas_elf_note(input.as_ptr(), input.len(), header, part, align, out) })
+    let mut out = NoteRange::default();
+    // SAFETY: see the head of this file.
+    let status = unsafe { xmas_elf_note(input.as_ptr(), input.len(), header, part, align, &mut out) };
+    answered(status, out)
 }
 
+/// The range of the build id, of a file of either class: the description of the first note of section
+/// `.note.gnu.build-id`. `NotFound` is for a file without this section, and for a first note that is not of type 3
+/// with name `GNU`. The call is refused with (in the order of the tests) `NotFound`, `DataRange`, `NoRecord`,
+/// `LinkShortNote`.
 pub(crate) fn build_id(input: &[u8], header: &Header) -> Result<Range, Error> {
-    // SAFETY: see above.
-    filled(|out| unsafe { xmas_elf_build_id(input.as_ptr(), input.len(), header, out) })
+    let mut out = Range::default();
+    // SAFETY: see the head of this file.
+    let status = unsafe { xmas_elf_build_id(input.as_ptr(), input.len(), header, &mut out) };
+    answered(status, out)
 }
 
+/// The range of the file bytes for addresses `address .. address + count`: those of the first PT_LOAD segment that
+/// has them all. No section header is needed. Of a segment without file bytes the offset is 0. The call is refused
+/// with (in the order of the tests) `LinkAddress`, `DataRange`.
 pub(crate) fn bytes_at(input: &[u8], header: &Header, address: u64, count: u64) -> Result<Range, Error> {
-    // SAFETY: see above.
-    filled(|out| unsafe { xmas_elf_bytes_at(input.as_ptr(), input.len(), header, address, count, out) })
+    let mut out = Range::default();
+    // SAFETY: see the head of this file.
+    let status = unsafe { xmas_elf_bytes_at(input.as_ptr(), input.len(), header, address, count, &mut out) };
+    answered(status, out)
 }
 
-pub(crate) fn look_up(input: &[u8], header: &Header, section: u64, name: &str) -> Result<LookUp, Error> {
-    // SAFETY: see above.
-    filled(|out| unsafe { xmas_elf_look_up(input.as_ptr(), input.len(), header, section, name.as_ptr(), name.len(), out) })
+/// The range of the text that the first dynamic entry with a tag names: for tag 14 (DT_SONAME) the name of the
+/// library, for 29 (DT_RUNPATH) and 15 (DT_RPATH) the folders where the dynamic linker looks for libraries. The
+/// entries are those of the first segment of type PT_DYNAMIC before the entry with tag 0, so no section header is
+/// needed. `NotFound` is for a tag that no entry has. The call is refused with (in the order of the tests)
+/// `LinkNoDynamic`, `DataRange`, `NotMultiple`, `NotFound`, `LinkNoEntry`, `LinkAddress`, `TextStart`, `TextEnd`,
+/// `TextUtf8`.
+pub(crate) fn dynamic_text(input: &[u8], header: &Header, tag: u64) -> Result<Range, Error> {
+    let mut out = Range::default();
+    // SAFETY: see the head of this file.
+    let status = unsafe { xmas_elf_dynamic_text(input.as_ptr(), input.len(), header, tag, &mut out) };
+    answered(status, out)
 }
 
+/// The ranges of the names of the libraries that the file needs (DT_NEEDED), each with a status of its own, in the
+/// order of the entries of `dynamic_text`. Index `first` counts libraries. Each call reads the entries from the first
+/// on, so give room for all where a file may have many. The call is refused with (in the order of the tests)
+/// `LinkNoDynamic`, `DataRange`, `NotMultiple`, `NoRecord`. Each record is refused with (in the order of the tests)
+/// `LinkNoEntry`, `LinkAddress`, `DataRange`, `TextStart`, `TextEnd`, `TextUtf8`.
+pub(crate) fn needed(input: &[u8], header: &Header, first: u64, out: &mut [Name]) -> Result<u64, Error> {
+    let mut count = u64::default();
+    // SAFETY: see the head of this file.
+    let status = unsafe { xmas_elf_needed(input.as_ptr(), input.len(), header, first, out.as_mut_ptr(), out.len(),
+        &mut count) };
+    answered(status, count)
+}
+
+/// Looks a name up in the hash table that is a section of type SHT_HASH, among the symbols of the section that it is
+/// linked to: the first symbol on the chain of the name, defined or not. That no symbol is found is no refusal. A
+/// table that `check_hash` did not pass may be refused or miss a symbol; the look-up reads no more chain entries than
+/// the table has. Names are those in section `.dynstr`, and of symbols of a section of type SHT_SYMTAB in `.strtab`;
+/// in an undamaged file that is the string table that the symbols are linked to. The call is refused with (in the
+/// order of the tests) `TextUtf8`, `ShortSectionHeader`, `UnknownClass`, `SmallEntry`, `InvalidShType`, `DataRange`,
+/// `NotMultiple`, `Note32`, `ShortData`, `OtherData`, `HashData`, `ChainIndex`, `SymbolIndex`, `ChainSum`,
+/// `HashCycle`.
+pub(crate) fn look_up(input: &[u8], header: &Header, section: u64, name: &[u8]) -> Result<LookUp, Error> {
+    let mut out = LookUp::default();
+    // SAFETY: see the head of this file.
+    let status = unsafe { xmas_elf_look_up(input.as_ptr(), input.len(), header, section, name.as_ptr(), name.len(),
+        &mut out) };
+    answered(status, out)
+}
+
+/// Looks many names up in one call, each a range of the bytes `names`: as many as there are ranges, and as `out` has
+/// room for. Each answer is that of `look_up` for the name; `DataRange` is for a range that passes the end of
+/// `names`. The table and its symbols are read once, so this is faster for many names. `names` may be another file,
+/// and the ranges those of the names of its symbols. Each record is refused with (in the order of the tests)
+/// `DataRange`, `TextUtf8`, `ShortSectionHeader`, `UnknownClass`, `SmallEntry`, `InvalidShType`, `NotMultiple`,
+/// `Note32`, `ShortData`, `OtherData`, `HashData`, `ChainIndex`, `SymbolIndex`, `ChainSum`, `HashCycle`.
+pub(crate) fn look_ups(input: &[u8], header: &Header, section: u64, names: &[u8], ranges: &[Range],
+    out: &mut [Answer]) {
+    // SAFETY: see the head of this file.
+    unsafe { xmas_elf_look_ups(input.as_ptr(), input.len(), header, section, names.as_ptr(), names.len(),
+        ranges.as_ptr(), ranges.len(), out.as_mut_ptr(), out.len()) }
+}
+
+/// Checks a hash table of type SHT_HASH: where it is OK, no look-up is refused for the table, and each finds a symbol
+/// where one that is not local has the name. Call it once before many look-ups. A table that was made to be slow
+/// takes a few nanoseconds times the product of its buckets and chains. The call is refused with (in the order of the
+/// tests) `ShortSectionHeader`, `UnknownClass`, `SmallEntry`, `InvalidShType`, `DataRange`, `NotMultiple`, `Note32`,
+/// `ShortData`, `OtherData`, `HashData`, `ChainIndex`, `SymbolIndex`, `ChainSum`, `HashCycle`, `HashMissing`.
 pub(crate) fn check_hash(input: &[u8], header: &Header, section: u64) -> Result<(), Error> {
-    // SAFETY: see above.
-    checked(unsafe { xmas_elf_check_hash(input.as_ptr(), input.len(), header, section) })
+    // SAFETY: see the head of this file.
+    let status = unsafe { xmas_elf_check_hash(input.as_ptr(), input.len(), header, section) };
+    answered(status, ())
 }
 
-pub(crate) fn gnu_look_up(input: &[u8], header: &Header, section: u64, name: &str) -> Result<LookUp, Error> {
-    // SAFETY: see above.
-    filled(|out| unsafe { xmas_elf_gnu_look_up(input.as_ptr(), input.len(), header, section, name.as_ptr(), name.len(), out) })
+/// Looks a name up in GNU's hash table, a section of type 0x6ffffff6 (SHT_GNU_HASH), which holds the symbols from its
+/// first on that are defined and not local; else as `look_up`. The call is refused with (in the order of the tests)
+/// `TextUtf8`, `ShortSectionHeader`, `UnknownClass`, `SmallEntry`, `OtherData`, `DataRange`, `LinkShortTable`,
+/// `LinkBloomCount`, `InvalidShType`, `NotMultiple`, `Note32`, `ShortData`, `LinkChainIndex`, `LinkSymbolIndex`,
+/// `LinkChainData`.
+pub(crate) fn gnu_look_up(input: &[u8], header: &Header, section: u64, name: &[u8]) -> Result<LookUp, Error> {
+    let mut out = LookUp::default();
+    // SAFETY: see the head of this file.
+    let status = unsafe { xmas_elf_gnu_look_up(input.as_ptr(), input.len(), header, section, name.as_ptr(),
+        name.len(), &mut out) };
+    answered(status, out)
 }
 
-pub(crate) fn look_ups(input: &[u8], header: &Header, section: u64, names: &[u8], ranges: &[Range], out: &mut [Answer]) {
-    // SAFETY: see above; of `out` as many records are written as it has, at most.
-    unsafe {
-        xmas_elf_look_ups(input.as_ptr(), input.len(), header, section, names.as_ptr(), names.len(), ranges.as_ptr(), ranges.len(), out.as_mut_ptr(), out.len());
-    }
+/// Looks many names up in GNU's hash table in one call, as `look_ups` does. Each record is refused with (in the order
+/// of the tests) `DataRange`, `TextUtf8`, `ShortSectionHeader`, `UnknownClass`, `SmallEntry`, `OtherData`,
+/// `LinkShortTable`, `LinkBloomCount`, `InvalidShType`, `NotMultiple`, `Note32`, `ShortData`, `LinkChainIndex`,
+/// `LinkSymbolIndex`, `LinkChainData`.
+pub(crate) fn gnu_look_ups(input: &[u8], header: &Header, section: u64, names: &[u8], ranges: &[Range],
+    out: &mut [Answer]) {
+    // SAFETY: see the head of this file.
+    unsafe { xmas_elf_gnu_look_ups(input.as_ptr(), input.len(), header, section, names.as_ptr(), names.len(),
+        ranges.as_ptr(), ranges.len(), out.as_mut_ptr(), out.len()) }
 }
 
-pub(crate) fn gnu_look_ups(input: &[u8], header: &Header, section: u64, names: &[u8], ranges: &[Range], out: &mut [Answer]) {
-    // SAFETY: see above; of `out` as many records are written as it has, at most.
-    unsafe {
-        xmas_elf_gnu_look_ups(input.as_ptr(), input.len(), header, section, names.as_ptr(), names.len(), ranges.as_ptr(), ranges.len(), out.as_mut_ptr(), out.len());
-    }
-}
-
+/// Checks GNU's hash table, in one pass over the table and one over the symbols and their names: where it is OK, no
+/// look-up is refused for the table, and each finds a symbol where one from the table's first on that is defined and
+/// not local has the name. The call is refused with (in the order of the tests) `ShortSectionHeader`, `UnknownClass`,
+/// `SmallEntry`, `OtherData`, `DataRange`, `LinkShortTable`, `LinkBloomCount`, `InvalidShType`, `NotMultiple`,
+/// `Note32`, `ShortData`, `LinkChainIndex`, `LinkSymbolIndex`, `LinkChainData`, `LinkMissing`.
 pub(crate) fn check_gnu_hash(input: &[u8], header: &Header, section: u64) -> Result<(), Error> {
-    // SAFETY: see above.
-    checked(unsafe { xmas_elf_check_gnu_hash(input.as_ptr(), input.len(), header, section) })
+    // SAFETY: see the head of this file.
+    let status = unsafe { xmas_elf_check_gnu_hash(input.as_ptr(), input.len(), header, section) };
+    answered(status, ())
 }
 
-// How many bytes the text of a status has, as much of which as fits is put to the front of `out`.
+/// Writes the text of a status to the front of `out`, as much as fits, and answers the size of the whole text in
+/// bytes. The text is ASCII without a zero byte at its end. A status that is no refusal, such as 0, has an empty
+/// text.
 pub(crate) fn message(status: u32, out: &mut [u8]) -> usize {
-    // SAFETY: see above; of `out` as many bytes are written as it has, at most.
+    // SAFETY: see the head of this file.
     unsafe { xmas_elf_message(status, out.as_mut_ptr(), out.len()) }
 }

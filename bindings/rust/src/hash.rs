@@ -1,10 +1,7 @@
 //! Look-ups of symbols by their names.
 
+use crate::constants::{SHT_GNU_HASH, SHT_HASH};
 use crate::{ffi, Answer, ByteRange, ElfFile, Error, LookUp, SectionHeader, Symbol};
-
-// The types of the sections with the two kinds of tables (SHT_HASH and SHT_GNU_HASH).
-const HASH: u32 = 5;
-const GNU_HASH: u32 = 0x6fff_fff6;
 
 /// A section that is a hash table of symbols: the gABI's, or GNU's.
 ///
@@ -20,8 +17,8 @@ pub struct HashTable<'f, 'a> {
 
 impl<'f, 'a> HashTable<'f, 'a> {
     pub(crate) fn new(file: &'f ElfFile<'a>, section: u64, header: &SectionHeader) -> Option<HashTable<'f, 'a>> {
-        let gnu = header.type_ == GNU_HASH;
-        (gnu || header.type_ == HASH).then_some(HashTable { file, section, link: u64::from(header.link), gnu })
+        let gnu = header.type_ == SHT_GNU_HASH;
+        (gnu || header.type_ == SHT_HASH).then_some(HashTable { file, section, link: u64::from(header.link), gnu })
     }
 
     /// Whether it is GNU's.
@@ -44,9 +41,9 @@ impl<'f, 'a> HashTable<'f, 'a> {
     pub fn look_up_counted(&self, name: &str) -> Result<LookUp, Error> {
         let (input, header) = (self.file.input, &self.file.header);
         if self.gnu {
-            ffi::gnu_look_up(input, header, self.section, name)
+            ffi::gnu_look_up(input, header, self.section, name.as_bytes())
         } else {
-            ffi::look_up(input, header, self.section, name)
+            ffi::look_up(input, header, self.section, name.as_bytes())
         }
     }
 

@@ -1,8 +1,8 @@
 //! Sections, segments and notes, each with the file that it belongs to.
 
 use crate::batch::Batch;
-use crate::ffi::{self, Range};
-use crate::{Dynamic, ElfFile, Entry, Error, HashTable, Name, ProgramHeader, Relocation, SectionHeader, Symbols};
+use crate::ffi;
+use crate::{ByteRange, Dynamic, ElfFile, Entry, Error, HashTable, Name, ProgramHeader, Relocation, SectionHeader, Symbol, Symbols};
 use core::ops::Deref;
 
 /// A section; the fields of its header are its own.
@@ -45,7 +45,7 @@ impl<'f, 'a> Section<'f, 'a> {
         Ok(self.file.bytes(self.data_range()?))
     }
 
-    fn data_range(&self) -> Result<Range, Error> {
+    fn data_range(&self) -> Result<ByteRange, Error> {
         ffi::section_data(self.file.input, &self.file.header, self.index)
     }
 
@@ -54,16 +54,21 @@ impl<'f, 'a> Section<'f, 'a> {
         Symbols::new(self.file, self.index, u64::from(self.header.link))
     }
 
+    /// The symbol at an index; refused where the section has none there.
+    pub fn symbol(&self, index: u64) -> Result<Symbol<'a>, Error> {
+        Symbol::at(self.file, self.index, u64::from(self.header.link), index)
+    }
+
     /// Puts the symbols from an index on to the front of `out`, as many as it has room for or all that follow, and
     /// says how many. Refused where there is none at that index. It costs less than the iterator.
     pub fn symbols_from(&self, first: u64, out: &mut [Entry]) -> Result<usize, Error> {
-        ffi::symbols(self.file.input, &self.file.header, self.index, first, out)
+        ffi::symbols(self.file.input, &self.file.header, self.index, first, out).map(|count| count as usize)
     }
 
     /// Puts where the names of the symbols from an index on stand to the front of `out`, as many as `symbols_from` gives,
     /// and says how many. It costs less than a call of `name` for each.
     pub fn symbol_names_from(&self, first: u64, out: &mut [Name]) -> Result<usize, Error> {
-        ffi::symbol_names(self.file.input, &self.file.header, self.index, first, out)
+        ffi::symbol_names(self.file.input, &self.file.header, self.index, first, out).map(|count| count as usize)
     }
 
     /// The hash table that the section is by its type.
@@ -74,13 +79,46 @@ impl<'f, 'a> Section<'f, 'a> {
     /// The relocations of the section; none where it holds others.
     pub fn relocations(&self) -> impl Iterator<Item = Relocation> + 'f {
         let (file, section) = (self.file, self.index);
-        (0u64..).map_while(move |index| ffi::relocation(file.input, &file.header, section, index).ok())
+        Batch::<Relocation, 64>::items(move |first, out| ffi::relocations(file.input, &file.header, section, first, out))
+    }
+
+    /// The relocation at an index; refused where the section has none there.
+    pub fn relocation(&self, index: u64) -> Result<Relocation, Error> {
+        ffi::relocation(self.file.input, &self.file.header, self.index, index)
+    }
+
+    /// Puts the relocations from an index on to the front of `out`, as many as it has room for or all that follow, and
+    /// says how many. Refused where there is none at that index.
+    pub fn relocations_from(&self, first: u64, out: &mut [Relocation]) -> Result<usize, Error> {
+        ffi::relocations(self.file.input, &self.file.header, self.index, first, out).map(|count| count as usize)
+    }
+
+    /// The addresses in the packed relative relocations of the section; none where it is of another type than SHT_RELR (19).
+    pub fn packed_relocations(&self) -> impl Iterator<Item = u64> + 'f {
+        let (file, section) = (self.file, self.index);
+        Batch::<u64, 64>::items(move |first, out| ffi::packed_relocations(file.input, &file.header, section, first, out))
     }
 
     /// The dynamic entries of the section, those behind the entry of tag 0 too; none where it holds others.
     pub fn dynamic(&self) -> impl Iterator<Item = Dynamic> + 'f {
         let (file, section) = (self.file, self.index);
-        (0u64..).map_while(move |index| ffi::dynamic(file.input, &file.header, section, index).ok())
+        Batch::<Dynamic, 32>::items(move |first, out| ffi::dynamics(file.input, &file.header, section, first, out))
+    }
+
+    /// The dynamic entry at an index; refused where the section has none there.
+    pub fn dynamic_entry(&self, index: u64) -> Result<Dynamic, Error> {
+        ffi::dynamic(self.file.input, &self.file.header, self.index, index)
+    }
+
+    /// Puts the dynamic entries from an index on to the front of `out`, as many as it has room for or all that follow,
+    /// and says how many. Refused where there is none at that index.
+    pub fn dynamic_from(&self, first: u64, out: &mut [Dynamic]) -> Result<usize, Error> {
+        ffi::dynamics(self.file.input, &self.file.header, self.index, first, out).map(|count| count as usize)
+    }
+
+    /// The text that begins at an index of the data of the section, in bytes, as of a string table.
+    pub fn text(&self, index: u64) -> Result<&'a str, Error> {
+        Ok(self.file.text(ffi::section_text(self.file.input, &self.file.header, self.index, index)?))
     }
 
     /// The notes that the data of the section is.
@@ -135,7 +173,7 @@ impl<'f, 'a> Segment<'f, 'a> {
         Ok(self.file.bytes(self.data_range()?))
     }
 
-    fn data_range(&self) -> Result<Range, Error> {
+    fn data_range(&self) -> Result<ByteRange, Error> {
         ffi::segment_data(self.file.input, &self.file.header, self.index)
     }
 
@@ -161,7 +199,7 @@ pub struct Note<'a> {
 #[derive(Clone, Copy)]
 pub struct Notes<'f, 'a> {
     file: &'f ElfFile<'a>,
-    rest: Range,
+    rest: ByteRange,
     align: u64,
 }
 
@@ -177,7 +215,7 @@ impl<'a> Iterator for Notes<'_, 'a> {
             }
             Err(Error::NoRecord) => None,
             Err(error) => {
-                self.rest = Range::default();
+                self.rest = ByteRange::default();
                 Some(Err(error))
             }
         }

@@ -1,8 +1,11 @@
 //! A reader of ELF files that lie in a byte slice, over the proved static library `elf_c`.
 //!
-//! Every slice and text is a part of the input. No call allocates, panics or fails otherwise, whatever the bytes
-//! are. Up to the edge of the archive every answer is proved; this crate, which slices the input at the ranges
-//! that the archive answers, is tested.
+//! Every slice and text is a part of the input. No call panics or fails otherwise, whatever the bytes are, and none but
+//! [`ElfFile::symbol_map`] allocates. Up to the edge of the archive every answer is proved; this crate, which slices the
+//! input at the ranges that the archive answers, is tested.
+//!
+//! Numbers of headers, symbols and entries are fields, with the names of the standard in [`constants`]; `get_type` and
+//! its like give them as enums.
 //!
 //! ```
 //! # fn main() -> Result<(), xmas_elf_proved::Error> {
@@ -21,22 +24,42 @@
 #![deny(unsafe_op_in_unsafe_fn)]
 #![warn(missing_docs)]
 
+#[cfg(feature = "alloc")]
+extern crate alloc;
+
 mod batch;
+#[cfg(test)]
+mod calls;
+pub mod constants;
 mod error;
 // The calls of the archive, and nothing else: slices and texts are taken by safe code.
 #[allow(unsafe_code)]
 mod ffi;
 mod hash;
+pub mod header;
 mod items;
 mod message;
+pub mod program;
+mod ranges;
+mod records;
+pub mod sections;
+#[cfg(feature = "alloc")]
+mod symbol_map;
+pub mod symbol_table;
 mod symbols;
+#[cfg(test)]
+mod tests;
 
+use batch::Batch;
+use constants::{DT_RPATH, DT_RUNPATH, DT_SONAME};
 pub use error::Error;
-pub use ffi::{Answer, Dynamic, Entry, Header, LookUp, Name, ProgramHeader, Relocation, SectionHeader};
-pub use ffi::Range as ByteRange;
 pub use hash::HashTable;
 pub use items::{Note, Notes, Section, Sections, Segment};
 pub use message::Message;
+pub use records::Range as ByteRange;
+pub use records::{Answer, Dynamic, Entry, Header, LookUp, Name, ProgramHeader, Relocation, SectionHeader};
+#[cfg(feature = "alloc")]
+pub use symbol_map::SymbolMap;
 pub use symbols::{Symbol, Symbols};
 
 /// An ELF file: its bytes, and its header.
@@ -74,12 +97,12 @@ impl<'a> ElfFile<'a> {
 
     /// How many sections the file has.
     pub fn section_count(&self) -> u64 {
-        ffi::counts(self.input, &self.header).sections
+        ffi::counts(self.input, &self.header).map_or(0, |counts| counts.sections)
     }
 
     /// How many segments the file has.
     pub fn segment_count(&self) -> u32 {
-        ffi::counts(self.input, &self.header).segments
+        ffi::counts(self.input, &self.header).map_or(0, |counts| counts.segments)
     }
 
     /// The section at an index.
@@ -95,14 +118,14 @@ impl<'a> ElfFile<'a> {
     /// Puts the section headers from an index on to the front of `out`, as many as it has room for or all that follow, and
     /// says how many. Refused where `sections` has none at that index.
     pub fn sections_from(&self, first: u64, out: &mut [SectionHeader]) -> Result<usize, Error> {
-        ffi::sections(self.input, &self.header, first, out)
+        ffi::sections(self.input, &self.header, first, out).map(|count| count as usize)
     }
 
     /// Puts where the names of the sections from an index on stand to the front of `out`, as many as it has room for or
     /// all that follow, and says how many. Refused where `sections` has none at that index. It costs less than a call
     /// of `name` for each.
     pub fn section_names_from(&self, first: u64, out: &mut [Name]) -> Result<usize, Error> {
-        ffi::section_names(self.input, &self.header, first, out)
+        ffi::section_names(self.input, &self.header, first, out).map(|count| count as usize)
     }
 
     /// The text where a name stands.
@@ -123,6 +146,16 @@ impl<'a> ElfFile<'a> {
         None
     }
 
+    /// The header of the first section with this name: one call, where `section_by_name` reads the names of the sections.
+    pub fn section_header_by_name(&self, name: &str) -> Result<SectionHeader, Error> {
+        ffi::find_section(self.input, &self.header, name.as_bytes())
+    }
+
+    /// The index of the section with the names of sections; refused where the file names none.
+    pub fn names_index(&self) -> Result<u32, Error> {
+        ffi::names_index(self.input, &self.header)
+    }
+
     /// The segment at an index.
     pub fn segment(&self, index: u32) -> Result<Segment<'_, 'a>, Error> {
         Ok(Segment { file: self, index, header: ffi::segment(self.input, &self.header, index)? })
@@ -130,7 +163,44 @@ impl<'a> ElfFile<'a> {
 
     /// The segments in order, up to their count or the first that is refused.
     pub fn segments(&self) -> impl Iterator<Item = Segment<'_, 'a>> + '_ {
-        (0..self.segment_count()).map_while(|index| self.segment(index).ok())
+        let headers = Batch::<ProgramHeader, 8>::items(|first, out| ffi::segments(self.input, &self.header, first, out));
+        (0u32..).zip(headers).map(|(index, header)| Segment { file: self, index, header })
+    }
+
+    /// Puts the program headers from an index on to the front of `out`, as many as it has room for or all that follow, and
+    /// says how many. Refused where `segments` has none at that index.
+    pub fn segments_from(&self, first: u64, out: &mut [ProgramHeader]) -> Result<usize, Error> {
+        ffi::segments(self.input, &self.header, first, out).map(|count| count as usize)
+    }
+
+    /// The names of the libraries that the file needs, in the order of the dynamic entries (DT_NEEDED); none where the
+    /// dynamic segment is missing or refused. It needs no section header.
+    pub fn needed(&self) -> impl Iterator<Item = Result<&'a str, Error>> + '_ {
+        let names = Batch::<Name, 64>::items(|first, out| ffi::needed(self.input, &self.header, first, out));
+        names.map(|name| self.name_of(&name))
+    }
+
+    /// The name of the file as a library (DT_SONAME), if it has one. It needs no section header.
+    pub fn soname(&self) -> Result<Option<&'a str>, Error> {
+        self.dynamic_text(DT_SONAME)
+    }
+
+    /// The folders where the dynamic linker looks for the libraries that the file needs (DT_RUNPATH, or else DT_RPATH), if
+    /// it names any. It needs no section header.
+    pub fn run_path(&self) -> Result<Option<&'a str>, Error> {
+        match self.dynamic_text(DT_RUNPATH)? {
+            Some(folders) => Ok(Some(folders)),
+            None => self.dynamic_text(DT_RPATH),
+        }
+    }
+
+    // The text that the first dynamic entry with a tag names, if there is one.
+    fn dynamic_text(&self, tag: u64) -> Result<Option<&'a str>, Error> {
+        match ffi::dynamic_text(self.input, &self.header, tag) {
+            Ok(range) => Ok(Some(self.text(range))),
+            Err(Error::NotFound | Error::LinkNoDynamic) => Ok(None),
+            Err(error) => Err(error),
+        }
     }
 
     /// The build id, of a file of either class: the description of the first note of section
@@ -151,11 +221,22 @@ impl<'a> ElfFile<'a> {
         first(true).or_else(|| first(false))
     }
 
-    pub(crate) fn bytes(&self, range: ffi::Range) -> &'a [u8] {
+    /// The functions and objects of the file by their addresses. It allocates 32 bytes for each of them.
+    #[cfg(feature = "alloc")]
+    pub fn symbol_map(&self) -> SymbolMap<'_, 'a> {
+        SymbolMap::new(self)
+    }
+
+    pub(crate) fn bytes(&self, range: ByteRange) -> &'a [u8] {
         range.bytes_in(self.input)
     }
 
-    pub(crate) fn text(&self, range: ffi::Range) -> &'a str {
+    pub(crate) fn text(&self, range: ByteRange) -> &'a str {
         range.text_in(self.input)
     }
 }
+
+// The program of the README is built and run as a test.
+#[cfg(all(doctest, feature = "alloc"))]
+#[doc = include_str!("../README.md")]
+struct Readme;

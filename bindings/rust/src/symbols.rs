@@ -1,8 +1,8 @@
 //! The symbols of a section.
 
 use crate::batch::Batch;
-use crate::ffi::{self, Range};
-use crate::{ElfFile, Entry, Error};
+use crate::ffi;
+use crate::{ByteRange, ElfFile, Entry, Error};
 use core::ops::Deref;
 
 // The data of a string table.
@@ -50,21 +50,12 @@ impl<'a> Symbol<'a> {
     }
 
     /// Where the name stands in the string table that the symbol's section is linked to; refused as `name` is.
-    pub fn name_range(&self) -> Result<Range, Error> {
+    pub fn name_range(&self) -> Result<ByteRange, Error> {
         let strings = self.strings?;
-        let whole = Range { offset: 0, size: strings.len() as u64 };
+        let whole = ByteRange { offset: 0, size: strings.len() as u64 };
         ffi::text(strings, &whole, u64::from(self.entry.name))
     }
 
-    /// How files share the symbol.
-    pub fn binding(&self) -> u8 {
-        self.entry.info / 16
-    }
-
-    /// What the symbol stands for.
-    pub fn kind(&self) -> u8 {
-        self.entry.info % 16
-    }
 }
 
 /// The symbols of a section in order, which it asks the archive for by many at once.

@@ -1,6 +1,6 @@
 //! Damaged files: every call returns, and each part that it gives lies in the input.
 
-use xmas_elf_proved::{Answer, ByteRange, ElfFile, Entry, Error, HashTable, Name, Section, SectionHeader};
+use xmas_elf_proved::{Answer, ByteRange, Dynamic, ElfFile, Entry, Error, HashTable, Name, ProgramHeader, Relocation, Section, SectionHeader};
 
 // A stream of numbers (Marsaglia's xorshift of 64 bits), the same in each run.
 struct Numbers(u64);
@@ -65,6 +65,35 @@ fn visit_symbol_names(file: &ElfFile<'_>, section: &Section<'_, '_>) {
     }
 }
 
+// Relocations, dynamic entries and segments by many at once, as each by itself.
+fn visit_batches(file: &ElfFile<'_>, section: &Section<'_, '_>) {
+    let (mut relocations, mut tags) = ([Relocation::default(); 7], [Dynamic::default(); 7]);
+    for (place, one) in section.relocations().take(200).enumerate() {
+        assert_eq!(section.relocation(place as u64), Ok(one));
+    }
+    for (place, one) in section.dynamic().take(200).enumerate() {
+        assert_eq!(section.dynamic_entry(place as u64), Ok(one));
+    }
+    let count = section.relocations_from(3, &mut relocations).unwrap_or(0);
+    assert!(section.relocations().skip(3).take(7).eq(relocations[..count].iter().copied()));
+    let count = section.dynamic_from(3, &mut tags).unwrap_or(0);
+    assert!(section.dynamic().skip(3).take(7).eq(tags[..count].iter().copied()));
+    let text = section.text(1);
+    assert!(text.map_or(true, |text| lies_in(file.input(), text.as_bytes())));
+}
+
+// The texts of the dynamic segment lie in the input; segments by many at once are as each by itself.
+fn visit_segments(file: &ElfFile<'_>) {
+    for name in file.needed().take(200).chain([file.soname(), file.run_path()].into_iter().filter_map(Result::transpose)) {
+        assert!(name.map_or(true, |name| lies_in(file.input(), name.as_bytes())));
+    }
+    let read = (0..file.segment_count()).map_while(|index| file.segment(index).ok()).take(200);
+    assert!(read.map(|one| *one).eq(file.segments().take(200).map(|one| *one)));
+    let mut headers = [ProgramHeader::default(); 3];
+    let count = file.segments_from(1, &mut headers).unwrap_or(0);
+    assert!(file.segments().skip(1).take(3).map(|one| *one).eq(headers[..count].iter().copied()));
+}
+
 fn visit_section(input: &[u8], section: &Section<'_, '_>) -> usize {
     let mut found = 0;
     for symbol in section.symbols().take(200) {
@@ -97,14 +126,43 @@ fn visit_section(input: &[u8], section: &Section<'_, '_>) -> usize {
     found
 }
 
+// A symbol that the map finds has the address.
+#[cfg(feature = "alloc")]
+fn visit_symbol_map(file: &ElfFile<'_>) {
+    let map = file.symbol_map();
+    for symbol in file.sections().take(200).flat_map(|section| section.symbols().take(20)) {
+        for address in [symbol.value, symbol.value.wrapping_add(symbol.size), u64::MAX] {
+            assert!(map.get(address).map_or(true, |found| found.value <= address && address - found.value < found.size.max(1)));
+        }
+    }
+}
+
+// The first fault of a header whose class is known, by its numbers.
+fn header_fault(file: &ElfFile<'_>) -> Result<(), Error> {
+    let header = file.header();
+    let ends = |offset: u64, size: u16, count: u64| u128::from(offset) + u128::from(size) * u128::from(count) <= file.input().len() as u128;
+    let tests = [
+        (header.header_size == if file.is_64() { 64 } else { 52 }, Error::HeaderSize),
+        (header.header_version != 0, Error::NoVersion),
+        (header.encoding != 0, Error::NoDataFormat),
+        (ends(header.ph_offset, header.ph_entry_size, file.segment_count().into()), Error::PhTableRange),
+        (ends(header.sh_offset, header.sh_entry_size, file.section_count()), Error::ShTableRange),
+    ];
+    tests.into_iter().try_for_each(|(passes, fault)| if passes { Ok(()) } else { Err(fault) })
+}
+
 fn visit(input: &[u8]) -> usize {
     let Ok(file) = ElfFile::new(input) else {
         return 0;
     };
-    let _checked = file.check_header();
+    assert_eq!(file.check_header(), header_fault(&file));
     visit_section_names(&file);
     file.sections().take(200).for_each(|section| visit_symbol_names(&file, &section));
+    file.sections().take(200).for_each(|section| visit_batches(&file, &section));
+    visit_segments(&file);
     assert!(file.build_id().map_or(true, |id| lies_in(input, id)));
+    #[cfg(feature = "alloc")]
+    visit_symbol_map(&file);
     let segments = file.segments().take(200).map(|segment| {
         assert!(segment.data().map_or(true, |data| lies_in(input, data)));
         for count in [0, 1, segment.file_size, u64::MAX] {

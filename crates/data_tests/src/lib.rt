@@ -1,4 +1,4 @@
-//! Tests of the data of sections and segments, and of build ids and links.
+//! Tests of program headers, of files with more entries than 16 bits count, and of data, build ids and links.
 #![tactic(auto)]
 
 #[cfg(test)]

@@ -4,4 +4,6 @@
 mod data;
 mod extensions;
 mod records;
+mod segments;
 mod want;
+mod wide;

@@ -1,4 +1,4 @@
--- How `number` meets the numbers of `byteorder`.
+-- How `number` relates to the numbers of `byteorder`.
 use Rattle.std.proofs.Common.{◌≡◌, ℕ, zero, suc, ◌+◌, ◌*◌, ◌^◌, ◌-◌, List, length, length-drop, take, drop, slice_index, refl, sym, ap, ◌∙◌, arith, add-suc, add-zero}
 use Rattle.std.proofs.Math.Nat.{pow-succ'}
 use Rattle.std.proofs.lemmas.List.{get_or-drop, take_all}
@@ -6,7 +6,7 @@ use Rattle.byteorder.specs.Endian.{big_from, little_from}
 use Rattle.elf_base.specs.declared.bytes.Order.TheVariants.{Little, Big}
 use Rattle.elf_base.specs.Number.{little_sum, big_sum, number}
 
--- the numbers of `byteorder` on a rest are those at its place
+-- the number that `byteorder` reads in the bytes from a place on is the one that it reads at that place
 little_from-drop : (w i a : ℕ) (xs : List ℕ) → little_from i w (drop a xs) ≡ little_from (a + i) w xs
 little_from-drop zero i a xs = refl
 little_from-drop (suc w) i a xs =
@@ -39,7 +39,7 @@ unfolding big_sum
 big_sum-from zero a xs = refl
 big_sum-from (suc w) a xs = ap (λ n. slice_index xs a * 256 ^ w + n) (big_sum-from w (suc a) xs)
 
--- `&xs[a..]`
+-- `&xs[a..]` has the bytes from a on
 pub rest : (a : ℕ) (xs : List ℕ) → take (length xs - a) (drop a xs) ≡ drop a xs
 rest a xs = let h = length-drop a xs in take_all (length xs - a) (drop a xs) (omega arith)
 

@@ -1,4 +1,4 @@
--- What `{:?}` writes of bytes.
+-- What `{:?}` writes for bytes.
 use Rattle.std.proofs.Common.{◌≡◌, ℕ, List, [], ◌∷◌, Option, Some, refl, ap, ◌∙◌, codes, decimal}
 use Rattle.std.specs.Fmt.{debug_list, debug_items, comma_space, option_append}
 use Rattle.std.proofs.Output.{then_text_assoc}

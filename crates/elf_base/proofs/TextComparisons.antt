@@ -9,12 +9,12 @@ use Rattle.elf_base.specs.Text.{IsText}
 use Rattle.elf_base.specs.TextCompared.{FrontCompared, HasZero, SameBelow, DiffersAt, TextCompared}
 use Rattle.elf_base.proofs.Numbers.{rest}
 
--- a search for a zero byte that found none
+-- if a search found no zero byte, the text contains none
 pub has_no_zero : (text : List ℕ) (r : Option ℕ) → IsFirstByte (is_byte 0) text r → is_some r ≡ false → HasZero text → ⊥
 has_no_zero text None found none (k, below, is) = found k (omega arith) below (eq-eqb (slice_index text k) 0 is)
 has_no_zero text (Some k) found none has = cc
 
--- what follows the zero byte does not matter up to it
+-- a text and a zero byte have the same bytes whatever follows
 same_front : (text after : List ℕ) (k : ℕ) → k < length (text ++ (0 ∷ [])) → slice_index (text ++ (0 ∷ after)) k ≡ slice_index (text ++ (0 ∷ [])) k
 same_front [] after zero below = refl
 same_front [] after (suc k) below = absurd (omega arith)
@@ -25,14 +25,14 @@ length_front : (text after : List ℕ) → length (text ++ (0 ∷ [])) ≤ lengt
 length_front [] after = omega arith
 length_front (x ∷ text) after = let h = length_front text after in omega (arith, h)
 
--- bytes that differ from a text and a zero byte don't begin with them
+-- bytes that differ from a text and a zero byte do not begin with them
 differs_before : (ys text after : List ℕ) (k count : ℕ) → DiffersAt ys (text ++ (0 ∷ [])) k count → ys ≡ text ++ (0 ∷ after) → ⊥
 differs_before ys text after k count stop begins =
     let long : k < length ys = let h = length_front text after in let e = ap length begins in let low = stop.below in omega (arith, h, e, low) in
     let same : slice_index ys k ≡ slice_index (text ++ (0 ∷ [])) k = ap (λ l. slice_index l k) begins ∙ same_front text after k stop.below in
     elim stop.differs as (λ s. ⊥) [ inl short ↦ (let e = short.0 in omega (arith, e, long)) | inr other ↦ other.1 same ]
 
--- bytes whose front is a text, with a zero byte behind it
+-- bytes that begin with a text and have a zero byte after it
 zero_behind : (ys text : List ℕ) → length text < length ys → take (length text) ys ≡ text → slice_index ys (length text) ≡ 0 → ys ≡ text ++ (0 ∷ drop (suc (length text)) ys)
 zero_behind ys text long front ends =
     let cut : drop (length text) ys ≡ 0 ∷ drop (suc (length text)) ys = drop-cons ys (length text) 0 long ∙ ap (λ b. b ∷ drop (suc (length text)) ys) ends in
@@ -72,8 +72,8 @@ pub answers : (bytes : List ℕ) (start : ℕ) (text : List ℕ) (b : Bool) (cou
 answers bytes start text b count there utf8 none front =
     at_rest bytes start text b count there utf8 none (subst (λ ys. FrontCompared ys text b count) (rest start bytes) front)
 
--- where a text and a zero byte stand at the front of `&bytes[start..]`, the text stands at `start` unless
--- it has a zero byte
+-- if `text` and a zero byte are at the front of `&bytes[start..]`, the text at `start` is `text`, unless
+-- `text` contains a zero byte
 stands_by : (bytes : List ℕ) (start : ℕ) (text : List ℕ) (none : Bool) (zero_at : Option ℕ) → IsUtf8 text → drop start bytes ≡ text ++ (0 ∷ drop (suc (length text)) (drop start bytes)) → IsFirstByte (is_byte 0) text zero_at → is_some zero_at ≡ not none → IsTrue none ↔ IsText bytes start text
 stands_by bytes start text true None utf8 begins first is_none = (
   (λ _. record {

@@ -1,16 +1,16 @@
--- Where a text stands: the bytes of its length from its start on are its own.
+-- The byte range of a text.
 use Rattle.std.proofs.Common.{◌≡◌, ℕ, ◌+◌, ◌<◌, ◌≤◌, List, ◌∷◌, length, length-append, length-drop, drop, take, ap, ◌∙◌, arith}
 use Rattle.std.proofs.lemmas.List.{take-append-le, take_all}
 use Rattle.elf_base.specs.Text.{IsText}
 
--- as many bytes as the text has, from its start on, are the text
+-- the bytes from the start of a text, of the text's length, are the text
 pub text_taken : (bytes : List ℕ) (start : ℕ) (text : List ℕ) (n : ℕ) → IsText bytes start text → n ≡ length text → take n (drop start bytes) ≡ text
 text_taken bytes start text n is count =
     let few : n ≤ length text = omega arith in
     let all : length text ≤ n = omega arith in
     ap (take n) is.ended.begins ∙ (take-append-le n text (0 ∷ is.ended.after) few ∙ take_all n text all)
 
--- its end lies before that of the bytes
+-- a text ends before the end of the bytes
 pub text_ends : (bytes : List ℕ) (start : ℕ) (text : List ℕ) (n : ℕ) → IsText bytes start text → n ≡ length text → start + n < length bytes
 text_ends bytes start text n is count =
     let whole = ap length is.ended.begins in

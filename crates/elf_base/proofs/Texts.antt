@@ -1,4 +1,4 @@
--- Texts that a zero byte ends.
+-- Texts ended by a zero byte.
 use Rattle.std.proofs.Common.{◌≡◌, ◌≢◌, ℕ, suc, ◌+◌, ◌-◌, ◌≤◌, ◌<◌, Bool, true, false, ltb, eqb, None, Some, Ok, Err, List, [], ◌∷◌, ◌++◌, length, length-drop, length-append, take, drop, get_or, slice_index, refl, sym, ap, ◌∙◌, subst, arith}
 use Rattle.std.proofs.Math.Seq.{drop-cons, get_or-append_seam}
 use Rattle.std.proofs.lemmas.List.{get_or-drop, get_or-take, length-take-le, take-append-drop}
@@ -11,7 +11,7 @@ use Rattle.elf_base.specs.declared.error.ElfError.TheVariants.{TextStart, TextEn
 use Rattle.elf_base.specs.Text.{EndsInZero, IsText, NoZeroFrom, TextRefused, before_zero, text_of}
 use Rattle.elf_base.proofs.Numbers.{rest}
 
--- a search of `&bytes[start..]` that found no zero
+-- a search of `&bytes[start..]` that found no zero byte
 pub no_zero_from : (bytes : List ℕ) (start : ℕ) → start ≤ length bytes → Nowhere (Passes (is_byte 0) (take (length bytes - start) (drop start bytes))) 0 (length (take (length bytes - start) (drop start bytes))) → NoZeroFrom bytes start
 no_zero_from bytes start fits none k low high is =
     let P : List ℕ → Type 0 = λ ys. Nowhere (Passes (is_byte 0) ys) 0 (length ys) in
@@ -21,7 +21,7 @@ no_zero_from bytes start fits none k low high is =
     get_or-drop start bytes (k - start) 0 ∙ ap (slice_index bytes) (omega arith) ∙ is in
     nowhere (k - start) (omega arith) (omega arith) (eq-eqb (slice_index (drop start bytes) (k - start)) 0 here)
 
--- a search of bytes that found the first zero at `end`
+-- a search of bytes that found the first zero byte at `end`
 zero_at : (ys : List ℕ) (end : ℕ) → NoneBefore (Passes (is_byte 0) ys) 0 (length ys) end → Passes (is_byte 0) ys end → ys ≡ take end ys ++ (0 ∷ drop (suc end) ys)
 zero_at ys end found passes =
     let high = found.high in
@@ -35,7 +35,7 @@ zero_first ys end found k below is =
     let same : slice_index (take end ys) k ≡ slice_index ys k = get_or-take end ys k 0 (omega arith) in
     found.before k (omega arith) (omega arith) (eq-eqb (slice_index ys k) 0 (sym same ∙ is))
 
--- a search of `&bytes[start..]` that found the first zero at `end`
+-- a search of `&bytes[start..]` that found the first zero byte at `end`
 pub ends_in_zero : (bytes : List ℕ) (start end : ℕ) → NoneBefore (Passes (is_byte 0) (take (length bytes - start) (drop start bytes))) 0 (length (take (length bytes - start) (drop start bytes))) end → Passes (is_byte 0) (take (length bytes - start) (drop start bytes)) end → EndsInZero bytes start (take end (take (length bytes - start) (drop start bytes)))
 ends_in_zero bytes start end found passes =
     let ys = take (length bytes - start) (drop start bytes) in
@@ -45,7 +45,7 @@ ends_in_zero bytes start end found passes =
       no_zero = zero_first ys end found;
     }
 
--- the bytes before the first zero are the only ones
+-- two texts without a zero byte, each followed by one at the front of equal bytes, are equal
 one_front : (t u r s : List ℕ) → t ++ (0 ∷ r) ≡ u ++ (0 ∷ s) → ((k : ℕ) → k < length t → slice_index t k ≢ 0) → ((k : ℕ) → k < length u → slice_index u k ≢ 0) → t ≡ u
 one_front [] [] r s e ht hu = refl
 one_front [] (y ∷ u) r s e ht hu = let h : y ≡ 0 = cc in absurd (hu 0 (omega arith) h)
@@ -56,21 +56,21 @@ one_front (x ∷ t) (y ∷ u) r s e ht hu =
     let same : t ≡ u = one_front t u r s tail (λ k h. ht (suc k) (omega arith)) (λ k h. hu (suc k) (omega arith)) in
     cc
 
--- there is at most one text at a place
+-- at most one text begins at a place
 one_ending : (bytes : List ℕ) (start : ℕ) (t u : List ℕ) → EndsInZero bytes start t → EndsInZero bytes start u → t ≡ u
 one_ending bytes start t u a b = one_front t u a.after b.after (sym a.begins ∙ b.begins) a.no_zero b.no_zero
 
 pub one_text : (bytes : List ℕ) (start : ℕ) (t u : List ℕ) → IsText bytes start t → IsText bytes start u → t ≡ u
 one_text bytes start t u a b = one_ending bytes start t u a.ended b.ended
 
--- where there is a text its zero byte stands
+-- the zero byte after a text is within the bytes
 zero_stands : (bytes : List ℕ) (start : ℕ) (t : List ℕ) → EndsInZero bytes start t → (start + length t < length bytes) × (slice_index bytes (start + length t) ≡ 0)
 zero_stands bytes start t a =
     let len : length (drop start bytes) ≡ length t + suc (length a.after) = ap length a.begins ∙ length-append t (0 ∷ a.after) in
     let all = length-drop start bytes in
     (omega arith, sym (get_or-drop start bytes (length t) 0) ∙ ap (λ l. slice_index l (length t)) a.begins ∙ get_or-append_seam t 0 a.after 0)
 
--- where a text is refused there is none
+-- if a text is refused, there is none
 refused_none : (bytes : List ℕ) (start : ℕ) (e : ElfError) (t : List ℕ) → TextRefused bytes start e → IsText bytes start t → ⊥
 refused_none bytes start TextStart t refused is =
     let z = (zero_stands bytes start t is.ended).0 in omega arith
@@ -82,7 +82,7 @@ refused_none bytes start TextUtf8 t refused is =
     refused.2 (subst IsUtf8 same is.utf8)
 refused_none bytes start _ t refused is = refused
 
--- what stands before the zero byte that ends a text is the text
+-- the bytes before the zero byte that ends a text are the text
 before_zero-append : (t r : List ℕ) → ((k : ℕ) → k < length t → slice_index t k ≢ 0) → before_zero (t ++ (0 ∷ r)) ≡ Some t
 before_zero-append [] r no_zero = refl
 before_zero-append (x ∷ t) r no_zero =
@@ -97,7 +97,7 @@ before_zero-none (x ∷ xs) no_zero =
     let here : eqb x 0 ≡ false = ne_eqb x 0 (no_zero 0 (omega arith)) in
     rw (here, later) refl
 
--- bytes that end in a zero byte
+-- the bytes before the first zero byte, of bytes with a text at `start`
 before_zero-ended : (bytes : List ℕ) (start : ℕ) (t : List ℕ) → EndsInZero bytes start t → before_zero (drop start bytes) ≡ Some t
 before_zero-ended bytes start t ended = ap before_zero ended.begins ∙ before_zero-append t ended.after ended.no_zero
 
@@ -105,7 +105,7 @@ not_utf8 : (t : List ℕ) (b : Bool) → is_utf8 t ≡ b → (IsUtf8 t → ⊥) 
 not_utf8 t true e never = absurd (never (IsUtf8-from_is_utf8 t e))
 not_utf8 t false e never = e
 
--- where there is a text, that is what is computed
+-- if there is a text at `start`, `text_of` is that text
 pub text_of-text : (bytes : List ℕ) (start : ℕ) (t : List ℕ) → IsText bytes start t → text_of bytes start ≡ Ok t
 unfolding text_of
 text_of-text bytes start t is =
@@ -115,7 +115,7 @@ text_of-text bytes start t is =
     let utf8 : is_utf8 t ≡ true = is_utf8-from_IsUtf8 t is.utf8 in
     rw (low, before, utf8) refl
 
--- where a text is refused, so is what is computed
+-- if the text at `start` is refused, `text_of` is that error
 pub text_of-refused : (bytes : List ℕ) (start : ℕ) (e : ElfError) → TextRefused bytes start e → text_of bytes start ≡ Err e
 unfolding text_of
 text_of-refused bytes start TextStart refused =
@@ -136,7 +136,7 @@ text_of-refused bytes start TextUtf8 refused =
     rw (low, before, utf8) refl
 text_of-refused bytes start _ refused = absurd refused
 
--- what is known of an answer, by the text that it is
+-- what follows from a result that is a text
 pub record TextAnswers (bytes : List ℕ) (start : ℕ) (s : List ℕ) : Type 0 where
   pub text : IsText bytes start s
   pub only : (t : List ℕ) → IsText bytes start t → s ≡ t
@@ -152,7 +152,7 @@ text_answers bytes start s is =
       refuses = λ e refused. refused_none bytes start e s refused is;
     }
 
--- and by the refusal that it is
+-- what follows from a result that is an error
 pub record RefusalAnswers (bytes : List ℕ) (start : ℕ) (e : ElfError) : Type 0 where
   pub only : (t : List ℕ) → IsText bytes start t → ⊥
   pub refused : TextRefused bytes start e

@@ -1,27 +1,87 @@
--- Which bytes are accepted as a file, and what its header is (gABI, "ELF Header").
-use Rattle.std.specs.Prelude.{◌≡◌, ℕ, ◌≤◌, ◌==◌, ◌||◌, ◌⊎◌, not, nat_eq, nat_lt, List, [], ◌∷◌, length, slice_range, Result, if◌then◌else◌}
-use lib.Pointwise.{pointwise}
-use Rattle.elf_base.specs.Number.{byte_at}
-use Rattle.elf_base.specs.Refusal.{unless}
-use Rattle.elf_base.specs.HeaderNumbers.{class_number, encoding_number, order_of}
+-- The layout of an ELF header (gABI, "ELF Header": Elf32_Ehdr and Elf64_Ehdr).
+-- The bytes that are accepted as a file, and their header (gABI, "ELF Header").
+use Rattle.std.specs.Prelude.{ℕ, ◌+◌, List, slice_range, ◌≡◌, ◌≤◌, ◌==◌, ◌||◌, ◌⊎◌, not, nat_eq, nat_lt, [], ◌∷◌, length, Result, if◌then◌else◌}
+use Rattle.elf_base.specs.Number.{number, byte_at}
+use Rattle.elf_base.specs.HeaderNumbers.{class_raw, encoding_raw, machine_raw, os_abi_raw, type_raw, version_raw, class_number, encoding_number, order_of}
 use Rattle.elf_base.specs.declared.bytes.Order.{Order}
-use Rattle.elf_base.specs.HeaderLayout.{header_pt1, header_pt2_32, header_pt2_64}
-use Rattle.elf_base.specs.declared.error.ElfError.{ElfError}
-use Rattle.elf_base.specs.declared.error.ElfError.TheVariants as error
-use Rattle.elf_base.specs.declared.header.Header.{Header}
+use Rattle.elf_base.specs.declared.header.HeaderPt1.{HeaderPt1}
+use Rattle.elf_base.specs.declared.header.HeaderPt2_.{HeaderPt2_}
 use Rattle.elf_base.specs.declared.header.HeaderPt2.{HeaderPt2}
 use Rattle.elf_base.specs.declared.header.HeaderPt2.TheVariants.{Header32, Header64}
+use Rattle.elf_base.specs.Refusal.{unless}
+use Rattle.elf_base.specs.declared.error.ElfError.{ElfError}
+use Rattle.elf_base.specs.declared.header.Header.{Header}
+use lib.Pointwise.{pointwise}
+use Rattle.elf_base.specs.declared.error.ElfError.TheVariants as error
 
--- what every file begins with (EI_MAG0 to EI_MAG3): 0x7f and `ELF`
+-- e_ident: the first 16 bytes of every file
+abbrev pub header_pt1 : List ℕ → HeaderPt1
+header_pt1 bytes = record {
+  magic = slice_range bytes 0 4;
+  class = class_raw (byte_at 4 bytes);
+  encoding = encoding_raw (byte_at 5 bytes);
+  version = version_raw (byte_at 6 bytes);
+  os_abi = os_abi_raw (byte_at 7 bytes);
+  abi_version = byte_at 8 bytes;
+  padding = slice_range bytes 9 16;
+}
+
+-- the next 36 bytes of class 32; `place` is 16 in a file
+abbrev pub header_pt2_32 : Order → ℕ → List ℕ → HeaderPt2_ ℕ
+header_pt2_32 order place bytes = record {
+  type_ = type_raw (number order 2 place bytes);
+  machine = machine_raw (number order 2 (place + 2) bytes);
+  version = number order 4 (place + 4) bytes;
+  entry_point = number order 4 (place + 8) bytes;
+  ph_offset = number order 4 (place + 12) bytes;
+  sh_offset = number order 4 (place + 16) bytes;
+  flags = number order 4 (place + 20) bytes;
+  header_size = number order 2 (place + 24) bytes;
+  ph_entry_size = number order 2 (place + 26) bytes;
+  ph_count = number order 2 (place + 28) bytes;
+  sh_entry_size = number order 2 (place + 30) bytes;
+  sh_count = number order 2 (place + 32) bytes;
+  sh_str_index = number order 2 (place + 34) bytes;
+}
+
+-- the next 48 bytes of class 64; `place` is 16 in a file
+abbrev pub header_pt2_64 : Order → ℕ → List ℕ → HeaderPt2_ ℕ
+header_pt2_64 order place bytes = record {
+  type_ = type_raw (number order 2 place bytes);
+  machine = machine_raw (number order 2 (place + 2) bytes);
+  version = number order 4 (place + 4) bytes;
+  entry_point = number order 8 (place + 8) bytes;
+  ph_offset = number order 8 (place + 16) bytes;
+  sh_offset = number order 8 (place + 24) bytes;
+  flags = number order 4 (place + 32) bytes;
+  header_size = number order 2 (place + 36) bytes;
+  ph_entry_size = number order 2 (place + 38) bytes;
+  ph_count = number order 2 (place + 40) bytes;
+  sh_entry_size = number order 2 (place + 42) bytes;
+  sh_count = number order 2 (place + 44) bytes;
+  sh_str_index = number order 2 (place + 46) bytes;
+}
+
+-- the fields of part 2, of either class
+abbrev pub header_fields : HeaderPt2 → HeaderPt2_ ℕ
+header_fields (Header32 part) = part
+header_fields (Header64 part) = part
+
+-- the size of part 2 in bytes
+abbrev pub pt2_size : HeaderPt2 → ℕ
+pt2_size (Header32 part) = 36
+pt2_size (Header64 part) = 48
+
+-- the first four bytes of every file (EI_MAG0 to EI_MAG3): 0x7f and `ELF`
 abbrev pub magic_number : List ℕ
 magic_number = 0x7f ∷ 0x45 ∷ 0x4c ∷ 0x46 ∷ []
 
--- the bytes begin with the magic number, and have a class and the length of its headers
+-- the bytes begin with the magic number, and have a valid class and at least the size of its header
 pub record IsAccepted (bytes : List ℕ) : Type 0 where
   pub magic : slice_range bytes 0 4 ≡ magic_number
   pub class : ((byte_at 4 bytes ≡ 1) × (52 ≤ length bytes)) ⊎ ((byte_at 4 bytes ≡ 2) × (64 ≤ length bytes))
 
--- part 2, its width by the class
+-- part 2, in the layout of the class
 abbrev pub pt2_record : ℕ → Order → List ℕ → HeaderPt2
 pt2_record class order bytes =
     if class == 1 then Header32 (header_pt2_32 order 16 bytes) else Header64 (header_pt2_64 order 16 bytes)
@@ -30,7 +90,7 @@ pt2_record class order bytes =
 abbrev pub header_pt2 : List ℕ → HeaderPt2
 header_pt2 bytes = pt2_record (byte_at 4 bytes) (order_of (byte_at 5 bytes)) bytes
 
--- the header at the front of some bytes
+-- the header at the start of the bytes
 abbrev pub file_header : List ℕ → Header
 file_header bytes = record { pt1 = header_pt1 bytes; pt2 = header_pt2 bytes }
 
@@ -38,7 +98,7 @@ file_header bytes = record { pt1 = header_pt1 bytes; pt2 = header_pt2 bytes }
 abbrev pub file_class : Header → ℕ
 file_class header = class_number header.pt1.class
 
--- the order of a file's numbers
+-- the byte order of a file
 abbrev pub file_order : Header → Order
 file_order header = order_of (encoding_number header.pt1.encoding)
 

@@ -1,8 +1,8 @@
--- How an ELF header is printed (this project's own, after the Rust crate).
+-- The printed form of an ELF header (this project's own, after the Rust crate).
 use Rattle.std.specs.Prelude.{ℕ, List, [], ◌∷◌, ◌++◌, codes, decimal}
 use Rattle.elf_base.specs.Printed.{numbered, bytes_text, field_line, joined}
 use Rattle.elf_base.specs.HeaderNumbers.{class_number, class_of, encoding_number, encoding_of, machine_number, machine_of, os_abi_number, os_abi_of, type_number, type_of, version_number, version_of}
-use Rattle.elf_base.specs.HeaderLayout.{header_fields}
+use Rattle.elf_base.specs.FileHeader.{header_fields}
 use Rattle.elf_base.specs.declared.header.numbers.Class.{Class}
 use Rattle.elf_base.specs.declared.header.numbers.Class.TheVariants as class
 use Rattle.elf_base.specs.declared.header.numbers.Data.{Data}
@@ -19,27 +19,27 @@ use Rattle.elf_base.specs.declared.header.HeaderPt1.{HeaderPt1}
 use Rattle.elf_base.specs.declared.header.HeaderPt2_.{HeaderPt2_}
 use Rattle.elf_base.specs.declared.header.Header.{Header}
 
--- what EI_CLASS means, by name
+-- the name of a class (EI_CLASS)
 abbrev pub class_text : Class → List ℕ
 class_text class.None = codes "None"
 class_text class.ThirtyTwo = codes "ThirtyTwo"
 class_text class.SixtyFour = codes "SixtyFour"
 class_text (class.Other n) = numbered (codes "Other") n
 
--- EI_DATA
+-- the name of a data encoding (EI_DATA)
 abbrev pub encoding_text : Data → List ℕ
 encoding_text encoding.None = codes "None"
 encoding_text encoding.LittleEndian = codes "LittleEndian"
 encoding_text encoding.BigEndian = codes "BigEndian"
 encoding_text (encoding.Other n) = numbered (codes "Other") n
 
--- EI_VERSION
+-- the name of a version (EI_VERSION)
 abbrev pub version_text : Version → List ℕ
 version_text version.None = codes "None"
 version_text version.Current = codes "Current"
 version_text (version.Other n) = numbered (codes "Other") n
 
--- EI_OSABI
+-- the name of an ABI (EI_OSABI)
 abbrev pub os_abi_text : OsAbi → List ℕ
 os_abi_text os_abi.SystemV = codes "SystemV"
 os_abi_text os_abi.HpUx = codes "HpUx"
@@ -53,7 +53,7 @@ os_abi_text os_abi.OpenBSD = codes "OpenBSD"
 os_abi_text os_abi.OpenVMS = codes "OpenVMS"
 os_abi_text (os_abi.Other n) = numbered (codes "Other") n
 
--- e_type
+-- the name of an object file type (e_type)
 abbrev pub type_text : the_type.Type → List ℕ
 type_text kind.None = codes "None"
 type_text kind.Relocatable = codes "Relocatable"
@@ -62,7 +62,7 @@ type_text kind.SharedObject = codes "SharedObject"
 type_text kind.Core = codes "Core"
 type_text (kind.ProcessorSpecific n) = numbered (codes "ProcessorSpecific") n
 
--- e_machine
+-- the name of an architecture (e_machine)
 abbrev pub machine_text : Machine → List ℕ
 machine_text machine.None = codes "None"
 machine_text machine.Sparc = codes "Sparc"
@@ -90,7 +90,7 @@ first_part_text part = joined (
     ∷ field_line (codes "padding") (bytes_text part.padding)
     ∷ [])
 
--- part 2, of either width
+-- part 2, of either class
 abbrev pub second_part_text : HeaderPt2_ ℕ → List ℕ
 second_part_text part = joined (
     field_line (codes "type") (type_text (type_of (type_number part.type_)))

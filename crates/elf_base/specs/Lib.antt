@@ -1,9 +1,7 @@
 pub mod Number
 pub mod Refusal
 pub mod Message
-pub mod Named
 pub mod HeaderNumbers
-pub mod HeaderLayout
 pub mod FileHeader
 pub mod Printed
 pub mod HeaderText

@@ -1,62 +1,69 @@
--- The text of each refusal (this project's own; the words of the Rust crate where it has them).
+-- The number of each error, which never changes, and its text (this project's own; the words of the Rust crate
+-- where it has them).
 use Rattle.std.specs.Prelude.{ℕ, List, codes}
 use Rattle.elf_base.specs.declared.error.ElfError.{ElfError}
 use Rattle.elf_base.specs.declared.error.ElfError.TheVariants.{ShortPart1, NoMagic, InvalidClass, ShortHeaders, ReservedIndex, ShortSectionHeader, UnknownClass, SmallEntry, NoProgramHeaders, ShortProgramHeader, InvalidShType, NullName, ShortSectionOffset, TextStart, TextEnd, TextUtf8, NullData, DataRange, NotMultiple, ShortData, Note32, NoteName, NoteDesc, NoStrtab, StrtabType, NoDynstr, InvalidPhType, InvalidTag, InvalidValue, InvalidPtr, InvalidBinding, InvalidSymbolType, ReservedSymbolIndex, NoShIndex, ExpectedShIndex, SymbolIndex, WideIndex, BadMagic, HeaderSize, NoClass, ClassMismatch, NoVersion, NoDataFormat, PhTableRange, ShTableRange, PhSizeMismatch, EntryPointRange, ShLibUsed, BadAlign, BucketIndex, ChainIndex, ChainSum, HashData, HashCycle, HashMissing}
 
--- the message
+-- the number and the text of an error
+abbrev pub row_of : ElfError → ℕ × List ℕ
+row_of ShortPart1 = (1, codes "File is shorter than the first ELF header part")
+row_of NoMagic = (2, codes "Did not find ELF magic number")
+row_of InvalidClass = (3, codes "Invalid ELF class")
+row_of ShortHeaders = (4, codes "File is shorter than ELF headers")
+row_of ReservedIndex = (5, codes "Attempt to get section for a reserved index")
+row_of ShortSectionHeader = (6, codes "File is shorter than section header offset")
+row_of UnknownClass = (7, codes "Unknown ELF class")
+row_of SmallEntry = (8, codes "Entry size is smaller than the record")
+row_of NoProgramHeaders = (9, codes "There are no program headers in this file")
+row_of ShortProgramHeader = (10, codes "File is shorter than program header offset")
+row_of InvalidShType = (11, codes "Invalid sh type")
+row_of NullName = (12, codes "Attempt to get name of null section")
+row_of ShortSectionOffset = (13, codes "File is shorter than section offset")
+row_of TextStart = (14, codes "Text starts past the end of its data")
+row_of TextEnd = (15, codes "Text has no terminating zero")
+row_of TextUtf8 = (16, codes "Text is not valid UTF-8")
+row_of NullData = (17, codes "Attempt to get data of a null header")
+row_of DataRange = (18, codes "Data is out of range")
+row_of NotMultiple = (19, codes "Data is not a whole number of records")
+row_of ShortData = (20, codes "Data is too short")
+row_of Note32 = (21, codes "32-bit binaries not implemented")
+row_of NoteName = (22, codes "Note name does not match its size")
+row_of NoteDesc = (23, codes "Note description is out of range")
+row_of NoStrtab = (24, codes "no .strtab section")
+row_of StrtabType = (25, codes "expected .strtab to be StrTab")
+row_of NoDynstr = (26, codes "no .dynstr section")
+row_of InvalidPhType = (27, codes "Invalid type")
+row_of InvalidTag = (28, codes "Invalid tag value")
+row_of InvalidValue = (29, codes "Invalid value")
+row_of InvalidPtr = (30, codes "Invalid ptr")
+row_of InvalidBinding = (31, codes "Invalid value for binding")
+row_of InvalidSymbolType = (32, codes "Invalid value for type")
+row_of ReservedSymbolIndex = (33, codes "Reserved section header index")
+row_of NoShIndex = (34, codes "no .symtab_shndx section")
+row_of ExpectedShIndex = (35, codes "Expected SymTabShIndex")
+row_of SymbolIndex = (36, codes "Symbol index is out of range")
+row_of WideIndex = (37, codes "Section index does not fit in 16 bits")
+row_of BadMagic = (38, codes "bad magic number")
+row_of HeaderSize = (39, codes "header_size does not match size of header")
+row_of NoClass = (40, codes "No class")
+row_of ClassMismatch = (41, codes "Mismatch between specified and actual class")
+row_of NoVersion = (42, codes "no version")
+row_of NoDataFormat = (43, codes "no data format")
+row_of PhTableRange = (44, codes "program header table out of range")
+row_of ShTableRange = (45, codes "section header table out of range")
+row_of PhSizeMismatch = (46, codes "program header size mismatch")
+row_of EntryPointRange = (47, codes "entry point out of range")
+row_of ShLibUsed = (48, codes "Shouldn't use ShLib")
+row_of BadAlign = (49, codes "Invalid combination of virtual_addr, offset, and align")
+row_of BucketIndex = (50, codes "Bucket index is out of range")
+row_of ChainIndex = (51, codes "Chain index is out of range")
+row_of ChainSum = (52, codes "Chain position does not fit in 32 bits")
+row_of HashData = (53, codes "Hash table data is too short")
+row_of HashCycle = (54, codes "Hash chain never ends")
+row_of HashMissing = (55, codes "Symbol is missing from the hash table")
+
+abbrev pub error_number : ElfError → ℕ
+error_number error = (row_of error).0
+
 abbrev pub message_of : ElfError → List ℕ
-message_of ShortPart1 = codes "File is shorter than the first ELF header part"
-message_of NoMagic = codes "Did not find ELF magic number"
-message_of InvalidClass = codes "Invalid ELF class"
-message_of ShortHeaders = codes "File is shorter than ELF headers"
-message_of ReservedIndex = codes "Attempt to get section for a reserved index"
-message_of ShortSectionHeader = codes "File is shorter than section header offset"
-message_of UnknownClass = codes "Unknown ELF class"
-message_of SmallEntry = codes "Entry size is smaller than the record"
-message_of NoProgramHeaders = codes "There are no program headers in this file"
-message_of ShortProgramHeader = codes "File is shorter than program header offset"
-message_of InvalidShType = codes "Invalid sh type"
-message_of NullName = codes "Attempt to get name of null section"
-message_of ShortSectionOffset = codes "File is shorter than section offset"
-message_of TextStart = codes "Text starts past the end of its data"
-message_of TextEnd = codes "Text has no terminating zero"
-message_of TextUtf8 = codes "Text is not valid UTF-8"
-message_of NullData = codes "Attempt to get data of a null header"
-message_of DataRange = codes "Data is out of range"
-message_of NotMultiple = codes "Data is not a whole number of records"
-message_of ShortData = codes "Data is too short"
-message_of Note32 = codes "32-bit binaries not implemented"
-message_of NoteName = codes "Note name does not match its size"
-message_of NoteDesc = codes "Note description is out of range"
-message_of NoStrtab = codes "no .strtab section"
-message_of StrtabType = codes "expected .strtab to be StrTab"
-message_of NoDynstr = codes "no .dynstr section"
-message_of InvalidPhType = codes "Invalid type"
-message_of InvalidTag = codes "Invalid tag value"
-message_of InvalidValue = codes "Invalid value"
-message_of InvalidPtr = codes "Invalid ptr"
-message_of InvalidBinding = codes "Invalid value for binding"
-message_of InvalidSymbolType = codes "Invalid value for type"
-message_of ReservedSymbolIndex = codes "Reserved section header index"
-message_of NoShIndex = codes "no .symtab_shndx section"
-message_of ExpectedShIndex = codes "Expected SymTabShIndex"
-message_of SymbolIndex = codes "Symbol index is out of range"
-message_of WideIndex = codes "Section index does not fit in 16 bits"
-message_of BadMagic = codes "bad magic number"
-message_of HeaderSize = codes "header_size does not match size of header"
-message_of NoClass = codes "No class"
-message_of ClassMismatch = codes "Mismatch between specified and actual class"
-message_of NoVersion = codes "no version"
-message_of NoDataFormat = codes "no data format"
-message_of PhTableRange = codes "program header table out of range"
-message_of ShTableRange = codes "section header table out of range"
-message_of PhSizeMismatch = codes "program header size mismatch"
-message_of EntryPointRange = codes "entry point out of range"
-message_of ShLibUsed = codes "Shouldn't use ShLib"
-message_of BadAlign = codes "Invalid combination of virtual_addr, offset, and align"
-message_of BucketIndex = codes "Bucket index is out of range"
-message_of ChainIndex = codes "Chain index is out of range"
-message_of ChainSum = codes "Chain position does not fit in 32 bits"
-message_of HashData = codes "Hash table data is too short"
-message_of HashCycle = codes "Hash chain never ends"
-message_of HashMissing = codes "Symbol is missing from the hash table"
+message_of error = (row_of error).1

@@ -1,5 +1,6 @@
--- Numbers in bytes (gABI, "ELF Header", data encoding: ELFDATA2LSB and ELFDATA2MSB).
-use Rattle.std.specs.Prelude.{ℕ, zero, suc, ◌+◌, ◌*◌, ◌^◌, List, slice_index}
+-- Numbers in bytes (gABI, "ELF Header", data encoding: ELFDATA2LSB and ELFDATA2MSB), and tables of named
+-- numbers (this project's own).
+use Rattle.std.specs.Prelude.{ℕ, zero, suc, ◌+◌, ◌*◌, ◌^◌, List, slice_index, ◌==◌, [], ◌∷◌, if◌then◌else◌}
 use Rattle.elf_base.specs.declared.bytes.Order.{Order}
 use Rattle.elf_base.specs.declared.bytes.Order.TheVariants.{Little, Big}
 
@@ -15,11 +16,16 @@ big_sum zero place bytes = 0
 big_sum (suc width) place bytes =
     slice_index bytes place * 256 ^ width + big_sum width (suc place) bytes
 
--- the number of `width` bytes from `place` on
+-- the unsigned number in the `width` bytes from `place` on
 unfoldable pub number : Order → ℕ → ℕ → List ℕ → ℕ
 number Little width place bytes = little_sum width place bytes
 number Big width place bytes = big_sum width place bytes
 
--- the number of one byte, which is the same in both orders
+-- the number in one byte, which is the same in both byte orders
 abbrev pub byte_at : ℕ → List ℕ → ℕ
 byte_at place bytes = slice_index bytes place
+
+-- the name of a number in a table, or what `other` makes of a number without a row
+abbrev pub named_or : {A : Type 0} → (ℕ → A) → List (ℕ × A) → ℕ → A
+named_or other [] n = other n
+named_or other (row ∷ rows) n = if n == row.0 then row.1 else named_or other rows n

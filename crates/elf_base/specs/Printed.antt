@@ -1,4 +1,4 @@
--- Printed forms that several items share (this project's own).
+-- Printed forms shared by several items (this project's own).
 use Rattle.std.specs.Prelude.{ℕ, true, false, List, [], ◌∷◌, ◌++◌, ◌-◌, Option, Some, Result, Ok, Err, codes, decimal, length, replicate}
 use Rattle.std.specs.Fmt.{◌++?◌, digits}
 use Rattle.elf_base.specs.Message.{message_of}
@@ -12,11 +12,11 @@ numbered name n = name ++ (codes "(" ++ (decimal n ++ codes ")"))
 abbrev pub hex_text : ℕ → List ℕ
 hex_text n = codes "0x" ++ digits 16 false n
 
--- the same with capital letters, as `0x7F`
+-- a number in hexadecimal with capital letters, as `0x7F`
 abbrev pub upper_hex_text : ℕ → List ℕ
 upper_hex_text n = codes "0x" ++ digits 16 true n
 
--- the bytes behind the first one, each after a comma and a space
+-- the bytes after the first one, each after a comma and a space
 abbrev pub more_bytes : List ℕ → List ℕ
 more_bytes [] = codes "]"
 more_bytes (b ∷ bs) = codes ", " ++ (decimal b ++ more_bytes bs)
@@ -31,7 +31,7 @@ abbrev pub result_text : {T : Type 0} → (T → List ℕ) → Result T ElfError
 result_text text (Ok value) = codes "Ok(" ++ (text value ++ codes ")")
 result_text text (Err error) = codes "Err(\"" ++ (message_of error ++ codes "\")")
 
--- the same, where the text of the value may be unknown
+-- a result, where the text of its value may be unknown
 abbrev pub printed_result : {T : Type 0} → (T → Option (List ℕ)) → Result T ElfError → Option (List ℕ)
 printed_result text (Ok value) = Some (codes "Ok(") ++? text value ++? Some (codes ")")
 printed_result text (Err error) = Some (codes "Err(\"" ++ (message_of error ++ codes "\")"))
@@ -41,7 +41,7 @@ unfoldable pub field_line : List ℕ → List ℕ → List ℕ
 field_line label value = codes "    " ++ (label ++ (codes ":"
     ++ (replicate (17 - length label) 32 ++ (value ++ codes "\n"))))
 
--- lines, one after another
+-- the lines, concatenated
 abbrev pub joined : List (List ℕ) → List ℕ
 joined [] = []
 joined (line ∷ []) = line

@@ -1,4 +1,4 @@
-//! Numbers and records in bytes, in a chosen order.
+//! Numbers and records in bytes, in a given byte order.
 
 ghost use Rattle.std.specs.Prelude.{◌≡◌, ◌+◌, ◌≤◌, length, slice_index};
 ghost use Rattle.elf_base.specs.Number.{number};
@@ -12,7 +12,7 @@ pub use crate::bytes::table::{Table, TableIter};
 pub use crate::bytes::text::{stands_at, text_at, text_is, text_range};
 use byteorder::{BigEndian, ByteOrder, LittleEndian};
 
-/// The order of a number's bytes (gABI, "ELF Header", EI_DATA).
+/// The byte order of numbers (gABI, "ELF Header", EI_DATA).
 #[derive(Clone, Copy, Debug, PartialEq, Eq)]
 pub enum Order {
     /// `ELFDATA2LSB`: the least significant byte comes first.
@@ -21,7 +21,7 @@ pub enum Order {
     Big,
 }
 
-/// The number of the two bytes from `place` on.
+/// Reads the 16-bit unsigned number in the two bytes from `place` on.
 #[inline(always)]
 pub fn read_u16(bytes: &[u8], place: usize, order: Order) -> u16
     requires { place + 2 ≤ length bytes.now }
@@ -33,7 +33,7 @@ pub fn read_u16(bytes: &[u8], place: usize, order: Order) -> u16
     }
 }
 
-/// The number of the four bytes from `place` on.
+/// Reads the 32-bit unsigned number in the four bytes from `place` on.
 #[inline(always)]
 pub fn read_u32(bytes: &[u8], place: usize, order: Order) -> u32
     requires { place + 4 ≤ length bytes.now }
@@ -45,7 +45,7 @@ pub fn read_u32(bytes: &[u8], place: usize, order: Order) -> u32
     }
 }
 
-/// The number of the eight bytes from `place` on.
+/// Reads the 64-bit unsigned number in the eight bytes from `place` on.
 #[inline(always)]
 pub fn read_u64(bytes: &[u8], place: usize, order: Order) -> u64
     requires { place + 8 ≤ length bytes.now }

@@ -1,4 +1,4 @@
-//! Why a file, or a part of it, is refused.
+//! The error type of the ELF reader.
 
 ghost use Rattle.std.specs.Prelude.{◌≡◌, Some};
 ghost use Rattle.elf_base.specs.Message.{message_of};
@@ -6,124 +6,125 @@ ghost use Rattle.elf_base.specs.Message.{message_of};
 use std::error::Error;
 use std::fmt;
 
-/// Why an input, or a part of it, is refused. Each refusal has one text; which calls of `xmas_elf`
-/// answer it stands in `docs/API.md`.
+/// Why a file, or a part of it, is refused. Each error has one text and a number that never
+/// changes, the status in `elf_c`; `docs/API.md` lists the calls of `xmas_elf` that return it.
 #[derive(Clone, Copy, Debug, PartialEq, Eq)]
 pub enum ElfError {
     /// The input has fewer than 16 bytes.
-    ShortPart1,
+    ShortPart1 = 1,
     /// The input does not begin with `MAGIC`.
-    NoMagic,
+    NoMagic = 2,
     /// The class of the input is neither 1 nor 2.
-    InvalidClass,
+    InvalidClass = 3,
     /// The input ends before the ELF header of its class does.
-    ShortHeaders,
-    /// A section index of 16 bits from 0xff00 on, which names no section by itself.
-    ReservedIndex,
-    /// An entry of the section header table passes the end of the input.
-    ShortSectionHeader,
+    ShortHeaders = 4,
+    /// A section index of 16 bits is 0xff00 or more, which is reserved.
+    ReservedIndex = 5,
+    /// An entry of the section header table extends past the end of the input.
+    ShortSectionHeader = 6,
     /// The class of the header is neither 1 nor 2.
-    UnknownClass,
-    /// The entries of a header table are smaller than the record that they hold.
-    SmallEntry,
+    UnknownClass = 7,
+    /// The entry size of a header table is smaller than a header.
+    SmallEntry = 8,
     /// No program header has this index.
-    NoProgramHeaders,
-    /// An entry of the program header table passes the end of the input.
-    ShortProgramHeader,
-    /// The type of a section is not in the table of section types.
-    InvalidShType,
+    NoProgramHeaders = 9,
+    /// An entry of the program header table extends past the end of the input.
+    ShortProgramHeader = 10,
+    /// The type of a section is unknown.
+    InvalidShType = 11,
     /// A section of type Null has no name.
-    NullName,
-    /// The section that holds the names begins past the end of the input.
-    ShortSectionOffset,
-    /// A text would begin past the end of its data.
-    TextStart,
-    /// No zero byte ends a text in its data.
-    TextEnd,
+    NullName = 12,
+    /// The section that contains the names begins past the end of the input.
+    ShortSectionOffset = 13,
+    /// A text begins past the end of its data.
+    TextStart = 14,
+    /// No zero byte ends a text within its data.
+    TextEnd = 15,
     /// The bytes of a text are not UTF-8.
-    TextUtf8,
+    TextUtf8 = 16,
     /// A section or segment of type Null has no data.
-    NullData,
-    /// The data of a section or segment passes the end of the input.
-    DataRange,
-    /// The length of a table is no multiple of the size of its records.
-    NotMultiple,
-    /// Data is shorter than what it begins with.
-    ShortData,
-    /// Notes of class 32 are not read.
-    Note32,
-    /// The name of a note has another length than the note says.
-    NoteName,
-    /// The description of a note passes the end of its data.
-    NoteDesc,
+    NullData = 17,
+    /// The data of a section or segment extends past the end of the input.
+    DataRange = 18,
+    /// The length of a table is not a multiple of the size of its records.
+    NotMultiple = 19,
+    /// Data is shorter than the header or number at its start.
+    ShortData = 20,
+    /// Notes of class 32 are not supported.
+    Note32 = 21,
+    /// The name of a note does not have the length that the note's header says.
+    NoteName = 22,
+    /// The description of a note extends past the end of its data.
+    NoteDesc = 23,
     /// No section is named `.strtab`.
-    NoStrtab,
-    /// The section `.strtab` is of another type than StrTab.
-    StrtabType,
+    NoStrtab = 24,
+    /// The type of the section `.strtab` is not StrTab.
+    StrtabType = 25,
     /// No section is named `.dynstr`.
-    NoDynstr,
-    /// The type of a segment is not in the table of segment types.
-    InvalidPhType,
-    /// A tag of the dynamic section is not in the table of tags.
-    InvalidTag,
+    NoDynstr = 26,
+    /// The type of a segment is unknown.
+    InvalidPhType = 27,
+    /// The tag of a dynamic entry is unknown.
+    InvalidTag = 28,
     /// A dynamic entry with this tag has no value.
-    InvalidValue,
+    InvalidValue = 29,
     /// A dynamic entry with this tag has no pointer.
-    InvalidPtr,
-    /// The binding of a symbol is not in the table of bindings.
-    InvalidBinding,
-    /// The type of a symbol is not in the table of symbol types.
-    InvalidSymbolType,
+    InvalidPtr = 30,
+    /// The binding of a symbol is unknown.
+    InvalidBinding = 31,
+    /// The type of a symbol is unknown.
+    InvalidSymbolType = 32,
     /// The section index of a symbol is reserved, and names no section.
-    ReservedSymbolIndex,
+    ReservedSymbolIndex = 33,
     /// No section is named `.symtab_shndx`.
-    NoShIndex,
-    /// The section `.symtab_shndx` is of another type than SymTabShIndex.
-    ExpectedShIndex,
-    /// An index of a symbol is not below the number of symbols, or of words in `.symtab_shndx`.
-    SymbolIndex,
-    /// A section index does not fit in 16 bits. No call answers it, since wide indices are read.
-    WideIndex,
+    NoShIndex = 34,
+    /// The type of the section `.symtab_shndx` is not SymTabShIndex.
+    ExpectedShIndex = 35,
+    /// A symbol index is not below the number of symbols, or of words in `.symtab_shndx`.
+    SymbolIndex = 36,
+    /// A section index does not fit in 16 bits. No call returns it, since larger indices are
+    /// supported.
+    WideIndex = 37,
     /// The header does not begin with `MAGIC`.
-    BadMagic,
-    /// The header says another size of itself than that of its two parts.
-    HeaderSize,
+    BadMagic = 38,
+    /// The header size in the header is not the size of its two parts.
+    HeaderSize = 39,
     /// The class of the header is 0.
-    NoClass,
+    NoClass = 40,
     /// The class of the header is not that of its second part.
-    ClassMismatch,
+    ClassMismatch = 41,
     /// The version of the header is 0.
-    NoVersion,
+    NoVersion = 42,
     /// The data byte of the header is 0.
-    NoDataFormat,
-    /// The program header table passes the end of the input.
-    PhTableRange,
-    /// The section header table passes the end of the input.
-    ShTableRange,
-    /// The entries of the program header table have another size than the record.
-    PhSizeMismatch,
+    NoDataFormat = 43,
+    /// The program header table extends past the end of the input.
+    PhTableRange = 44,
+    /// The section header table extends past the end of the input.
+    ShTableRange = 45,
+    /// The entry size of the program header table is not the size of a program header.
+    PhSizeMismatch = 46,
     /// A segment does not end before the end of the input.
-    EntryPointRange,
-    /// A segment is of type ShLib, whose meaning is open.
-    ShLibUsed,
+    EntryPointRange = 47,
+    /// A segment has type ShLib, which is reserved.
+    ShLibUsed = 48,
     /// The address and the offset of a segment differ modulo its alignment.
-    BadAlign,
+    BadAlign = 49,
     /// A bucket index is not below the number of buckets.
-    BucketIndex,
+    BucketIndex = 50,
     /// A chain index is not below the number of chains.
-    ChainIndex,
-    /// The number of buckets and a chain's index add up to 2 to the 32 or more.
-    ChainSum,
-    /// A word of a hash table does not lie whole in its data.
-    HashData,
-    /// A chain of a hash table never comes to an end.
-    HashCycle,
-    /// A symbol is not on the chain that its name leads to.
-    HashMissing,
+    ChainIndex = 51,
+    /// The sum of the number of buckets and a chain index does not fit in 32 bits.
+    ChainSum = 52,
+    /// A word of a hash table extends past the end of its data.
+    HashData = 53,
+    /// A chain of a hash table never ends.
+    HashCycle = 54,
+    /// A symbol is not in the chain that its name selects.
+    HashMissing = 55,
 }
 
 impl ElfError {
-    /// The text of the refusal.
+    /// The text of the error.
     pub fn message(&self) -> &'static str
         ensures { result.now ≡ message_of self.now }
     {

@@ -2,9 +2,9 @@
 
 ghost use Rattle.std.specs.Prelude.{◌≡◌, ◌↔◌, ◌==◌, ◌||◌, [], ◌∷◌, IfOk, IsOk, if◌then◌else◌};
 ghost use Rattle.std.specs.Prelude.{length, nat_lt, not};
-ghost use Rattle.elf_base.specs.FileHeader.{IsAccepted, file_header, header_of, pt2_record};
+ghost use Rattle.elf_base.specs.FileHeader.{IsAccepted, file_header, header_fields, header_of};
+ghost use Rattle.elf_base.specs.FileHeader.{pt2_record, pt2_size};
 ghost use Rattle.elf_base.specs.Refusal.{unless};
-ghost use Rattle.elf_base.specs.HeaderLayout.{header_fields, pt2_size};
 ghost use Rattle.elf_base.specs.HeaderNumbers.{class_number, class_of, encoding_number};
 ghost use Rattle.elf_base.specs.HeaderNumbers.{encoding_of, order_of, os_abi_number, os_abi_of};
 ghost use Rattle.elf_base.specs.HeaderNumbers.{version_number, version_of};
@@ -26,9 +26,9 @@ pub const MAGIC: [u8; 4] = [0x7f, b'E', b'L', b'F'];
 /// The ELF header of a file, in two parts (gABI, "ELF Header").
 #[derive(Clone, Copy, Debug)]
 pub struct Header {
-    /// What lies the same way in every file.
+    /// The part that has one layout in both classes.
     pub pt1: HeaderPt1,
-    /// What follows, its width by the class of the file.
+    /// The rest, in the layout of the file's class.
     pub pt2: HeaderPt2,
 }
 
@@ -37,21 +37,21 @@ pub struct Header {
 pub struct HeaderPt1 {
     /// `MAGIC` in every accepted file.
     pub magic: [u8; 4],
-    /// How wide the addresses and offsets of the file are.
+    /// The class: the width of addresses and offsets.
     pub class: Class_,
-    /// The encoding of the numbers of the file (the call `data` says what it means).
+    /// The data encoding, whose meaning `data` returns.
     pub encoding: Data_,
     /// The version of the header.
     pub version: Version_,
     /// The operating system whose extensions the file uses.
     pub os_abi: OsAbi_,
-    /// The version of those extensions.
+    /// The version of the ABI that `os_abi` names.
     pub abi_version: u8,
-    /// Bytes without a meaning.
+    /// Padding, without a meaning.
     pub padding: [u8; 7],
 }
 
-/// The part of the header that follows the first 16 bytes, of either width (gABI, "ELF Header").
+/// The part of the header after the first 16 bytes, of either class (gABI, "ELF Header").
 #[derive(Clone, Copy, Debug)]
 pub enum HeaderPt2 {
     /// The 36 bytes of class 32.
@@ -63,44 +63,45 @@ pub enum HeaderPt2 {
 /// Part 2 with addresses and offsets of type `P` (gABI, "ELF Header", Elf32_Ehdr and Elf64_Ehdr).
 #[derive(Clone, Copy, Debug)]
 pub struct HeaderPt2_<P> {
-    /// What the file is for.
+    /// The object file type.
     pub type_: Type_,
-    /// The processor that the file is for.
+    /// The processor architecture.
     pub machine: Machine_,
     /// The version of the file.
     pub version: u32,
-    /// The address at which a program begins to run, or 0.
+    /// The virtual address of the entry point, or 0.
     pub entry_point: P,
-    /// Where the program header table lies, in bytes from the start of the file, or 0.
+    /// The file offset of the program header table in bytes, or 0.
     pub ph_offset: P,
-    /// Where the section header table lies, in bytes from the start of the file, or 0.
+    /// The file offset of the section header table in bytes, or 0.
     pub sh_offset: P,
-    /// Flags of the processor.
+    /// Processor-specific flags.
     pub flags: u32,
-    /// How many bytes the ELF header has, as it says itself.
+    /// The size of the ELF header in bytes, as the header says.
     pub header_size: u16,
-    /// How many bytes one entry of the program header table has.
+    /// The size of an entry of the program header table in bytes.
     pub ph_entry_size: u16,
-    /// How many entries the program header table has; 0xffff where section header 0 says it.
+    /// The number of entries of the program header table; 0xffff if section header 0 has the
+    /// number.
     pub ph_count: u16,
-    /// How many bytes one entry of the section header table has.
+    /// The size of an entry of the section header table in bytes.
     pub sh_entry_size: u16,
-    /// How many entries the section header table has; 0 where section header 0 says it.
+    /// The number of entries of the section header table; 0 if section header 0 has the number.
     pub sh_count: u16,
-    /// The index of the section that holds the names of the sections; 0xffff where section header 0
-    /// says it.
+    /// The index of the section that contains the section names; 0xffff if section header 0 has the
+    /// index.
     pub sh_str_index: u16,
 }
 
 impl HeaderPt1 {
-    /// How wide the addresses and offsets of the file are.
+    /// The class: the width of addresses and offsets.
     pub fn class(&self) -> Class
         ensures { result ≡ class_of (class_number self.now.class) }
     {
         self.class.as_class()
     }
 
-    /// The encoding of the numbers of the file.
+    /// The data encoding: the byte order of the file.
     pub fn data(&self) -> Data
         ensures { result ≡ encoding_of (encoding_number self.now.encoding) }
     {
@@ -123,7 +124,7 @@ impl HeaderPt1 {
 }
 
 impl HeaderPt2 {
-    /// How many bytes this part has: 36 or 48.
+    /// The size of this part in bytes: 36 or 48.
     pub fn size(&self) -> usize
         ensures { result ≡ pt2_size self.now }
     {
@@ -133,7 +134,7 @@ impl HeaderPt2 {
         }
     }
 
-    /// What the file is for.
+    /// The object file type.
     pub fn type_(&self) -> Type_
         ensures { result ≡ (header_fields self.now).type_ }
     {
@@ -143,7 +144,7 @@ impl HeaderPt2 {
         }
     }
 
-    /// The processor that the file is for.
+    /// The processor architecture.
     pub fn machine(&self) -> Machine_
         ensures { result ≡ (header_fields self.now).machine }
     {
@@ -163,7 +164,7 @@ impl HeaderPt2 {
         }
     }
 
-    /// How many bytes the ELF header has, as it says itself.
+    /// The size of the ELF header in bytes, as the header says.
     pub fn header_size(&self) -> u16
         ensures { result ≡ (header_fields self.now).header_size }
     {
@@ -173,7 +174,7 @@ impl HeaderPt2 {
         }
     }
 
-    /// The address at which a program begins to run, or 0.
+    /// The virtual address of the entry point, or 0.
     pub fn entry_point(&self) -> u64
         ensures { result ≡ (header_fields self.now).entry_point }
     {
@@ -183,7 +184,7 @@ impl HeaderPt2 {
         }
     }
 
-    /// Where the program header table lies, in bytes from the start of the file, or 0.
+    /// The file offset of the program header table in bytes, or 0.
     pub fn ph_offset(&self) -> u64
         ensures { result ≡ (header_fields self.now).ph_offset }
     {
@@ -193,7 +194,7 @@ impl HeaderPt2 {
         }
     }
 
-    /// Where the section header table lies, in bytes from the start of the file, or 0.
+    /// The file offset of the section header table in bytes, or 0.
     pub fn sh_offset(&self) -> u64
         ensures { result ≡ (header_fields self.now).sh_offset }
     {
@@ -203,7 +204,7 @@ impl HeaderPt2 {
         }
     }
 
-    /// How many bytes one entry of the program header table has.
+    /// The size of an entry of the program header table in bytes.
     pub fn ph_entry_size(&self) -> u16
         ensures { result ≡ (header_fields self.now).ph_entry_size }
     {
@@ -213,7 +214,8 @@ impl HeaderPt2 {
         }
     }
 
-    /// How many entries the program header table has; 0xffff where section header 0 says it.
+    /// The number of entries of the program header table; 0xffff if section header 0 has the
+    /// number.
     pub fn ph_count(&self) -> u16
         ensures { result ≡ (header_fields self.now).ph_count }
     {
@@ -223,7 +225,7 @@ impl HeaderPt2 {
         }
     }
 
-    /// How many bytes one entry of the section header table has.
+    /// The size of an entry of the section header table in bytes.
     pub fn sh_entry_size(&self) -> u16
         ensures { result ≡ (header_fields self.now).sh_entry_size }
     {
@@ -233,7 +235,7 @@ impl HeaderPt2 {
         }
     }
 
-    /// How many entries the section header table has; 0 where section header 0 says it.
+    /// The number of entries of the section header table; 0 if section header 0 has the number.
     pub fn sh_count(&self) -> u16
         ensures { result ≡ (header_fields self.now).sh_count }
     {
@@ -243,8 +245,8 @@ impl HeaderPt2 {
         }
     }
 
-    /// The index of the section that holds the names of the sections; 0xffff where section header 0
-    /// says it.
+    /// The index of the section that contains the section names; 0xffff if section header 0 has the
+    /// index.
     pub fn sh_str_index(&self) -> u16
         ensures { result ≡ (header_fields self.now).sh_str_index }
     {
@@ -255,7 +257,7 @@ impl HeaderPt2 {
     }
 }
 
-/// The order of a file's numbers, by its data byte: big-endian for 2, else little-endian.
+/// The byte order for a data encoding: big-endian for 2, little-endian for any other number.
 #[inline(always)]
 pub fn byte_order(encoding: Data_) -> Order
     ensures { result ≡ order_of (encoding_number encoding) }
@@ -266,10 +268,10 @@ pub fn byte_order(encoding: Data_) -> Order
     }
 }
 
-/// The header of the file that these bytes are.
+/// Reads the ELF header at the start of `input`.
 ///
-/// Refused with `ShortPart1` below 16 bytes, `NoMagic` where they don't begin with `MAGIC`,
-/// `InvalidClass` where the class is neither 1 nor 2, and `ShortHeaders` where the bytes end before
+/// Errors: `ShortPart1` if there are fewer than 16 bytes, `NoMagic` if they do not begin with
+/// `MAGIC`, `InvalidClass` if the class is neither 1 nor 2, `ShortHeaders` if the input ends before
 /// the header of that class does.
 #[tactic(auto, unfolding(crate::specs::FileHeader::header_of))]
 #[inline(always)]
@@ -285,7 +287,7 @@ pub fn parse_header(input: &[u8]) -> Result<Header, ElfError>
     if pt1.magic != MAGIC {
         return Err(ElfError::NoMagic);
     }
-    // One choice of the order for all fields.
+    // The byte order is chosen once for all fields.
     let pt2 = match byte_order(pt1.encoding) {
         Order::Little => read_pt2(input, pt1.class, Order::Little)?,
         Order::Big => read_pt2(input, pt1.class, Order::Big)?,
@@ -293,7 +295,7 @@ pub fn parse_header(input: &[u8]) -> Result<Header, ElfError>
     Ok(Header { pt1, pt2 })
 }
 
-// Part 2, its width by the class.
+// Part 2, in the layout of the class.
 #[inline(always)]
 fn read_pt2(input: &[u8], class: Class_, order: Order) -> Result<HeaderPt2, ElfError>
     ensures { result ≡ unless (

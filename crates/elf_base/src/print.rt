@@ -1,4 +1,4 @@
-//! Printed forms that the items of several crates share.
+//! Printed forms shared by several crates.
 
 ghost use Rattle.std.specs.Prelude.{◌≡◌, Some, option_map, replicate};
 ghost use Rattle.elf_base.specs.Printed.{bytes_text, field_line, hex_text, printed_result};
@@ -7,7 +7,7 @@ use crate::ElfError;
 use std::fmt;
 use std::fmt::Display;
 
-/// A line of a printed header: four spaces, the label with its colon,
+/// A line of a printed header: four spaces, the label and a colon,
 /// spaces up to the value's column, the value.
 #[derive(Clone, Copy, Debug)]
 pub struct Field<'a, T>(pub &'a str, pub T);
@@ -21,7 +21,7 @@ impl<T: Display> Display for Field<'_, T> {
     }
 }
 
-// So many spaces.
+// A number of spaces.
 #[derive(Clone, Copy)]
 struct Spaces(usize);
 

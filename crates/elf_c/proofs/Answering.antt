@@ -1,4 +1,4 @@
--- Answers of look-ups put to a slice one after the other.
+-- Answers of look-ups, stored in a slice one after the other.
 use Rattle.std.proofs.Common.{◌≡◌, ◌<◌, ◌≤◌, ◌+◌, ℕ, ◌⊎◌, ⊎_elim, inl, inr, List, length, Some, Result, Ok, Err, MatchResult, refl, sym, ap, subst, ◌∙◌, arith}
 use Rattle.std.proofs.lemmas.Bool.{cases_order}
 use Rattle.std.proofs.lemmas.List.{length-set}
@@ -16,17 +16,17 @@ use Rattle.elf_c.specs.declared.status.Refusal.{Refusal}
 use Rattle.elf_c.specs.declared.status.Refusal.TheVariants.{Elf}
 use Rattle.elf_c.proofs.Batches.{put_elsewhere, put_there}
 
-ok_is_no_error : {A : Type 0} (value : A) (why : Refusal) → Ok value ≡ Err why → ⊥
+pub ok_is_no_error : {A : Type 0} (value : A) (why : Refusal) → Ok value ≡ Err why → ⊥
 ok_is_no_error value why same = cc
 
--- the same refusal of another call
+-- two errors of the same result are equal
 same_refusal : {A : Type 0} (one other : Refusal) (answer : Result A Refusal) → answer ≡ Err one → answer ≡ Err other → one ≡ other
 same_refusal one other answer is also = cc
 
-again : {A B : Type 0} (one other : Refusal) (found : Result A Refusal) (answer : Result B Refusal) → found ≡ Err one → found ≡ Err other → answer ≡ Err one → answer ≡ Err other
+pub again : {A B : Type 0} (one other : Refusal) (found : Result A Refusal) (answer : Result B Refusal) → found ≡ Err one → found ≡ Err other → answer ≡ Err one → answer ≡ Err other
 again one other found answer is also says = says ∙ ap (λ r. Err r) (same_refusal one other found is also)
 
--- with the name that was found, an answer is P of it; where none was, it says why
+-- if a name was found, the result satisfies P for it; otherwise the result is the error
 named_by : {A : Type 0} (P : List ℕ → Result A Refusal → Type 0) (name : List ℕ) (found : Result (Bor (List ℕ)) Refusal) (answer : Result A Refusal) → IfUtf8 IsNamed name found → MatchResult found (λ text. P text.now answer) (λ why. answer ≡ Err why) → IfUtf8 P name answer
 named_by P name (Ok text) answer is says = (λ utf8. subst (λ n. P n answer) (is.0 utf8) says, λ not. absurd (ok_is_no_error text (Elf TextUtf8) (is.1 not)))
 named_by P name (Err why) answer is says = (λ utf8. elim (is.0 utf8) [ ], λ not. again why (Elf TextUtf8) (Err why) answer refl (is.1 not) says)
@@ -42,7 +42,7 @@ named {A} P names range found answer = by_range (range_of names range.offset ran
     by_range (Ok name) is says = named_by P name found answer is says
     by_range (Err error) is says = refused error found is says
 
--- the places below `place` are answered, and the others are as they were
+-- the answers below `place` are stored, and the other items are unchanged
 pub record AreSoFar (P : List ℕ → Result LookUp Refusal → Type 0) (names : List ℕ) (ranges : List Range) (old : List Answer) (place : ℕ) (new : List Answer) : Type 0 where
   pub long : length new ≡ length old
   pub each : (k : ℕ) (range : Range) → slice_get ranges k ≡ Some range → k < place → (answer : Result LookUp Refusal) × IsForRange P names range answer × (slice_get new k ≡ Some (answered answer))
@@ -51,7 +51,7 @@ pub record AreSoFar (P : List ℕ → Result LookUp Refusal → Type 0) (names :
 pub none_yet : (P : List ℕ → Result LookUp Refusal → Type 0) (names : List ℕ) (ranges : List Range) (old : List Answer) → AreSoFar P names ranges old 0 old
 none_yet P names ranges old = record { long = refl; each = λ k range at below. absurd (omega (arith, below)); rest = λ k above. refl }
 
--- with the next answer put, one place more is answered
+-- after one more answer is stored, the answers below the next place are stored
 pub one_more : (P : List ℕ → Result LookUp Refusal → Type 0) (names : List ℕ) (ranges : List Range) (old : List Answer) (place : ℕ) (new : List Answer) (range : Range) (answer : Result LookUp Refusal) (put : Answer) → place < length new → slice_get ranges place ≡ Some range → IsForRange P names range answer → put ≡ answered answer → AreSoFar P names ranges old place new → AreSoFar P names ranges old (place + 1) (slice_set new place put)
 one_more P names ranges old place new range answer put below at is says so_far = subst (λ x. AreSoFar P names ranges old (place + 1) (slice_set new place x)) (sym says) (record {
   long = length-set new place (answered answer) ∙ so_far.long;
@@ -79,7 +79,7 @@ one_more P names ranges old place new range answer put below at is says so_far =
     each : (k : ℕ) (one : Range) → slice_get ranges k ≡ Some one → k < place + 1 → (found : Result LookUp Refusal) × IsForRange P names one found × (slice_get (slice_set new place (answered answer)) k ≡ Some (answered found))
     each k one here under = by_order k one here (order k under)
 
--- as many as there are ranges, and room
+-- all answers are stored, for the ranges that have room in the slice
 pub all_answered : (P : List ℕ → Result LookUp Refusal → Type 0) (names : List ℕ) (ranges : List Range) (old : List Answer) (count : ℕ) (new : List Answer) → ((k : ℕ) → k < length ranges → k < length old → k < count) → count ≤ length ranges → AreSoFar P names ranges old count new → AreAnswered P names ranges old new
 all_answered P names ranges old count new whole within so_far = record {
   long = so_far.long;
@@ -87,7 +87,7 @@ all_answered P names ranges old count new whole within so_far = record {
   rest = λ k above. so_far.rest k (omega (arith, within, above));
 }
 
--- what is said of each name by one property is said by any that follows from it
+-- a property of each answer implies any property that follows from it
 pub answered_so : (P Q : List ℕ → Result LookUp Refusal → Type 0) (names : List ℕ) (ranges : List Range) (old new : List Answer) → ((name : List ℕ) (answer : Result LookUp Refusal) → P name answer → Q name answer) → AreAnswered P names ranges old new → AreAnswered Q names ranges old new
 answered_so P Q names ranges old new to is = record {
   long = is.long;
@@ -99,6 +99,6 @@ answered_so P Q names ranges old new to is = record {
     by_range range answer (Ok name) is = to name answer is
     by_range range answer (Err error) is = is
 
--- what is said of each name by what was found is said by what is found there
+-- a property by the found value is a property by the value that it equals
 pub by_found : {A : Type 0} (P : A → List ℕ → Result LookUp Refusal → Type 0) (found known : A) (names : List ℕ) (ranges : List Range) (old new : List Answer) → found ≡ known → AreAnswered (IfUtf8 (P known)) names ranges old new → AreAnswered (IfUtf8 (P found)) names ranges old new
 by_found P found known names ranges old new same is = subst (λ x. AreAnswered (IfUtf8 (P x)) names ranges old new) (sym same) is

@@ -1,4 +1,4 @@
--- Records put to a slice one after the other.
+-- Records stored in a slice one after the other.
 use Rattle.std.proofs.Common.{◌≡◌, ◌≢◌, ◌<◌, ◌≤◌, ◌+◌, ◌-◌, ℕ, zero, suc, ◌⊎◌, ⊎_elim, inl, inr, List, [], ◌∷◌, length, Some, Result, Ok, Err, refl, sym, ap, ◌∙◌, arith}
 use Rattle.std.proofs.lemmas.Bool.{cases_order}
 use Rattle.std.proofs.lemmas.List.{length-set}
@@ -9,7 +9,7 @@ use Rattle.elf_c.specs.Records.{found_in, taken_for}
 use Rattle.elf_c.specs.declared.status.Refusal.{Refusal}
 use Rattle.elf_c.specs.declared.status.Refusal.TheVariants.{NoRecord}
 
--- what is put at a place stands there, and everything else as it was
+-- the stored item is at its index, and all other items are unchanged
 pub put_there : {T : Type 0} (xs : List T) (i : ℕ) (x : T) → i < length xs → slice_get (slice_set xs i x) i ≡ Some x
 put_there [] i x below = absurd (omega (arith, below))
 put_there (y ∷ xs) zero x below = refl
@@ -22,7 +22,7 @@ put_elsewhere (y ∷ xs) zero (suc j) x other = refl
 put_elsewhere (y ∷ xs) (suc i) zero x other = refl
 put_elsewhere (y ∷ xs) (suc i) (suc j) x other = put_elsewhere xs i j x (λ same. other (ap suc same))
 
--- the places below `place` are filled, and the others are as they were
+-- the records below `place` are stored, and the other items are unchanged
 abbrev pub IsFilled : {T : Type 0} → (ℕ → Result T Refusal) → ℕ → List T → ℕ → List T → Type 0
 IsFilled item first old place new = (length new ≡ length old)
     × ((k : ℕ) → k < place → found_in (λ x. x) new k ≡ item (first + k))
@@ -31,7 +31,7 @@ IsFilled item first old place new = (length new ≡ length old)
 pub filled_none : {T : Type 0} (item : ℕ → Result T Refusal) (first : ℕ) (old : List T) → IsFilled item first old 0 old
 filled_none item first old = (refl, λ k below. absurd (omega (arith, below)), λ k above. refl)
 
--- with the next record put, one place more is filled
+-- after one more record is stored, the records below the next place are stored
 pub filled_more : {T : Type 0} (item : ℕ → Result T Refusal) (first : ℕ) (old : List T) (place : ℕ) (new : List T) (x : T) → place < length new → item (first + place) ≡ Ok x → IsFilled item first old place new → IsFilled item first old (place + 1) (slice_set new place x)
 filled_more {T} item first old place new x below is filled = (length-set new place x ∙ filled.0, each, rest)
   where
@@ -48,7 +48,7 @@ filled_more {T} item first old place new x below is filled = (length-set new pla
     rest : (k : ℕ) → place + 1 ≤ k → slice_get (slice_set new place x) k ≡ slice_get old k
     rest k above = put_elsewhere new place k x (λ same. absurd (omega (arith, above, same))) ∙ filled.2 k (omega (arith, above))
 
--- as many as there is room for, or all that follow
+-- the number of records is that of all, or of those that have room
 pub filled_all : {A T : Type 0} (value : A → T) (items : List A) (first : ℕ) (old : List T) (count : ℕ) (new : List T) → first < length items → count ≡ min (length items - first) (length old) → IsFilled (found_in value items) first old count new → IsBatch (found_in value items) first old count new
 filled_all {A} {T} value items first old count new more is filled = record {
   long = filled.0;

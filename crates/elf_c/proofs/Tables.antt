@@ -1,53 +1,50 @@
--- What is said of the hash table that a section holds is said by the section's index.
-use Rattle.std.proofs.Common.{◌≡◌, ℕ, Result, Ok, Err, MatchResult, refl, sym, subst, inl, inr}
+-- From the hash table and the linked data that were found in sections to the index of the section.
+use Rattle.std.proofs.Common.{◌≡◌, ℕ, Result, Ok, Err, MatchResult, refl, sym, subst, ap, ◌∙◌}
 use Rattle.elf_base.specs.declared.error.ElfError.{ElfError}
-use Rattle.elf_linking.specs.declared.gnu_hash.GnuHashTable.{GnuHashTable}
-use Rattle.xmas_elf.specs.Content.{Content, hash_table}
+use Rattle.elf_linking.specs.declared.any_table.AnyTable.{AnyTable}
+use Rattle.xmas_elf.specs.Content.{Content}
 use Rattle.xmas_elf.specs.ReportHash.{content_at}
-use Rattle.xmas_elf.specs.HashTable.{hash_data, hash_order}
-use Rattle.xmas_elf.specs.SectionContent.{section_content_of}
+use Rattle.xmas_elf.specs.SectionContent.{section_content}
 use Rattle.xmas_elf.specs.SectionHeader.{section_fields, section_of}
-use Rattle.xmas_elf.specs.declared.ElfFile.{ElfFile}
-use Rattle.xmas_elf.specs.declared.hash.HashTable.{HashTable}
-use Rattle.xmas_elf.specs.declared.sections.section_header.SectionHeader.{SectionHeader}
-use Rattle.elf_c.specs.GnuLookup as gnu
-use Rattle.elf_c.specs.Lookup.{OfTable, WithTable}
+use Rattle.xmas_elf.specs.Types.{ElfFile, SectionData, SectionHeader}
+use Rattle.elf_c.specs.HashTables.{HoldsWith, IsTableOf, WithTable}
+use Rattle.elf_c.specs.declared.hash_tables.Kind.{Kind}
 use Rattle.elf_c.specs.declared.status.Refusal.{Refusal}
 use Rattle.elf_c.specs.declared.status.Refusal.TheVariants.{Elf}
+use Rattle.elf_c.proofs.Answering.{again, ok_is_no_error}
 
-pub with_table : {A : Type 0} (file : ElfFile) (index : ℕ) (P : HashTable → Result Content ElfError → Result A Refusal → Type 0) (answer : Result A Refusal) (section : SectionHeader) (table : HashTable) (link : ℕ)
-    → section_of file index ≡ Ok section → section_content_of file section ≡ Ok (hash_table (hash_order table) (hash_data table))
-    → link ≡ (section_fields section).link → P table (content_at file link) answer → WithTable file index P answer
-with_table {A} file index P answer section table link at holds same is =
-    subst (λ found. MatchResult found (λ one. MatchResult (section_content_of file one)
-    (λ content. OfTable (λ held. P held (content_at file (section_fields one).link)) content answer) (λ error. answer ≡ Err (Elf error)))
-    (λ error. answer ≡ Err (Elf error))) (sym at) inner
+-- the table in a section and the data of the linked section are the result
+pub found_both : (kind : Kind) (file : ElfFile) (index : ℕ) (section : SectionHeader) (table : AnyTable) (linked : SectionData) (link : ℕ)
+    → section_of file index ≡ Ok section → IsTableOf kind file section (Ok table)
+    → link ≡ (section_fields section).link → content_at file link ≡ Ok (section_content linked)
+    → WithTable kind file index HoldsWith (Ok (table, linked))
+found_both kind file index section table linked link at is same holds =
+    rw at (Ok table, is, (refl, subst (λ l. content_at file l ≡ Ok (section_content linked)) same holds))
+
+-- the result satisfies P for the table and the data that were found, or is their error
+abbrev pub FromFound : {A : Type 0} → (AnyTable → Result Content ElfError → Result A Refusal → Type 0) → Result (AnyTable × SectionData) Refusal → Result A Refusal → Type 0
+FromFound P found answer =
+    MatchResult found (λ pair. P pair.0 (Ok (section_content pair.1)) answer) (λ why. answer ≡ Err why)
+
+-- then it satisfies P by the index of the section
+pub with_found : {A : Type 0} (kind : Kind) (file : ElfFile) (index : ℕ) (P : AnyTable → Result Content ElfError → Result A Refusal → Type 0) (found : Result (AnyTable × SectionData) Refusal) (answer : Result A Refusal)
+    → ((table : AnyTable) (error : ElfError) → answer ≡ Err (Elf error) → P table (Err error) answer)
+    → WithTable kind file index HoldsWith found → FromFound P found answer → WithTable kind file index P answer
+with_found {A} kind file index P found answer refused holds from = by_section (section_of file index) holds
   where
-    here : OfTable (λ held. P held (content_at file (section_fields section).link)) (hash_table (hash_order table) (hash_data table)) answer
-    here = (table, refl, refl, subst (λ number. P table (content_at file number) answer) same is)
+    error_of : (given : Result (AnyTable × SectionData) Refusal) (why : Refusal) → given ≡ Err why → FromFound P given answer → answer ≡ Err why
+    error_of (Ok pair) why same says = absurd (ok_is_no_error pair why same)
+    error_of (Err other) why same says = again other why (Err other) answer refl same says
 
-    inner : MatchResult (section_content_of file section)
-        (λ content. OfTable (λ held. P held (content_at file (section_fields section).link)) content answer) (λ error. answer ≡ Err (Elf error))
-    inner = subst (λ found. MatchResult found (λ content. OfTable (λ held. P held (content_at file (section_fields section).link)) content answer) (λ error. answer ≡ Err (Elf error))) (sym holds) here
+    linked : (given : Result (AnyTable × SectionData) Refusal) (table : AnyTable) (content : Result Content ElfError) → HoldsWith table content given → FromFound P given answer → P table content answer
+    linked (Ok pair) table content is says = subst (λ one. P one content answer) is.0 (subst (λ one. P pair.0 one answer) (sym is.1) says)
+    linked (Err why) table content is says = subst (λ one. P table one answer) (sym is.1) (refused table is.0 (says ∙ ap (λ one. Err one) is.2))
 
-pub with_gnu_table : {A : Type 0} (file : ElfFile) (index : ℕ) (P : GnuHashTable → Result Content ElfError → Result A Refusal → Type 0) (answer : Result A Refusal) (section : SectionHeader) (table : GnuHashTable) (link : ℕ)
-    → section_of file index ≡ Ok section → gnu.IsTableIn file section table
-    → link ≡ (section_fields section).link → P table (content_at file link) answer → gnu.WithTable file index P answer
-with_gnu_table {A} file index P answer section table link at holds same is =
-    subst (λ found. MatchResult found (λ one. gnu.OfTable file P one answer) (λ error. answer ≡ Err (Elf error))) (sym at)
-    (inl (table, holds, subst (λ number. P table (content_at file number) answer) same is))
+    by_table : (given : Result AnyTable Refusal) (content : Result Content ElfError) → MatchResult given (λ table. HoldsWith table content found) (λ why. found ≡ Err why) → MatchResult given (λ table. P table content answer) (λ why. answer ≡ Err why)
+    by_table (Ok table) content is = linked found table content is from
+    by_table (Err why) content is = error_of found why is from
 
--- and where there is no such section or table
-pub without_section : {A : Type 0} (file : ElfFile) (index : ℕ) (P : HashTable → Result Content ElfError → Result A Refusal → Type 0) (error : ElfError) (answer : Result A Refusal) → section_of file index ≡ Err error → answer ≡ Err (Elf error) → WithTable file index P answer
-without_section file index P error answer none says = rw none says
-
-pub with_content : {A : Type 0} (file : ElfFile) (index : ℕ) (P : HashTable → Result Content ElfError → Result A Refusal → Type 0) (section : SectionHeader) (answer : Result A Refusal) → section_of file index ≡ Ok section
-    → MatchResult (section_content_of file section) (λ content. OfTable (λ held. P held (content_at file (section_fields section).link)) content answer) (λ error. answer ≡ Err (Elf error))
-    → WithTable file index P answer
-with_content file index P section answer at says = rw at says
-
-pub without_gnu_section : {A : Type 0} (file : ElfFile) (index : ℕ) (P : GnuHashTable → Result Content ElfError → Result A Refusal → Type 0) (error : ElfError) (answer : Result A Refusal) → section_of file index ≡ Err error → answer ≡ Err (Elf error) → gnu.WithTable file index P answer
-without_gnu_section file index P error answer none says = rw none says
-
-pub without_gnu_table : {A : Type 0} (file : ElfFile) (index : ℕ) (P : GnuHashTable → Result Content ElfError → Result A Refusal → Type 0) (section : SectionHeader) (why : Refusal) (answer : Result A Refusal) → section_of file index ≡ Ok section → gnu.NoTableIn file section why → answer ≡ Err why → gnu.WithTable file index P answer
-without_gnu_table file index P section why answer at none says = rw at (inr (why, none, says))
+    by_section : (given : Result SectionHeader ElfError) → MatchResult given (λ section. (table : Result AnyTable Refusal) × IsTableOf kind file section table × MatchResult table (λ one. HoldsWith one (content_at file (section_fields section).link) found) (λ why. found ≡ Err why)) (λ error. found ≡ Err (Elf error))
+        → MatchResult given (λ section. (table : Result AnyTable Refusal) × IsTableOf kind file section table × MatchResult table (λ one. P one (content_at file (section_fields section).link) answer) (λ why. answer ≡ Err why)) (λ error. answer ≡ Err (Elf error))
+    by_section (Ok section) is = (is.0, is.1, by_table is.0 (content_at file (section_fields section).link) is.2)
+    by_section (Err error) is = error_of found (Elf error) is from

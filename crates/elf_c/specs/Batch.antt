@@ -1,11 +1,11 @@
--- Many records by one call (this project's own).
+-- Many records in one call (this project's own).
 use Rattle.std.specs.Prelude.{◌≡◌, ◌<◌, ◌≤◌, ◌+◌, ◌⊎◌, ℕ, List, length, slice_get, Result, Ok, Err}
 use Rattle.elf_c.specs.Records.{found_in}
 use Rattle.elf_c.specs.declared.status.Refusal.{Refusal}
 use Rattle.elf_c.specs.declared.status.Refusal.TheVariants.{NoRecord}
 
--- `count` records from index `first` on were put to the front of `old`, which then is `new`: as many as there
--- is room for, or all that follow. `item` gives the record at an index, or why there is none.
+-- `count` records from index `first` on were stored at the front of `old`, which is then `new`: as many as
+-- there is room for, or all. `item` is the record at an index, or why there is none.
 pub record IsBatch {T : Type 0} (item : ℕ → Result T Refusal) (first : ℕ) (old : List T) (count : ℕ) (new : List T) : Type 0 where
   pub long : length new ≡ length old
   pub fits : count ≤ length old
@@ -13,7 +13,7 @@ pub record IsBatch {T : Type 0} (item : ℕ → Result T Refusal) (first : ℕ) 
   pub rest : (k : ℕ) → count ≤ k → slice_get new k ≡ slice_get old k
   pub full : (count ≡ length old) ⊎ (item (first + count) ≡ Err NoRecord)
 
--- the answer of a call that is asked for a batch: refused as the first record is, with nothing put
+-- the result of a call for many records: if there is none at `first`, the error for it, and nothing is stored
 abbrev pub FillsBy : {T : Type 0} → (ℕ → Result T Refusal) → ℕ → List T → Result T Refusal → Result ℕ Refusal → List T → Type 0
 FillsBy item first old (Err why) (Err error) new = (error ≡ why) × (new ≡ old)
 FillsBy item first old (Ok _) (Ok count) new = IsBatch item first old count new

@@ -1,7 +1,7 @@
--- The note that a part of the input begins with, as the list of notes has it (gABI, "Note Section").
+-- The note at the start of a part of the input, as in the list of notes (gABI, "Note Section").
 use Rattle.std.specs.Prelude.{ℕ, ◌+◌, ◌-◌, ◌==◌, nat_le, List, length, Result, Ok, Err, if◌then◌else◌}
 use Rattle.elf_base.specs.declared.bytes.Order.{Order}
-use Rattle.elf_linking.specs.Notes.{begins_with_note, desc_size, desc_start, name_size, next_note, type_number}
+use Rattle.elf_linking.specs.Notes.{begins_with_note, desc_size, desc_start, name_size, next_note, type_word}
 use Rattle.elf_linking.specs.declared.error.LinkError.TheVariants.{ShortNote}
 use Rattle.xmas_elf.specs.Ranges.{range_of}
 use Rattle.elf_c.specs.Records.{range_at}
@@ -11,7 +11,7 @@ use Rattle.elf_c.specs.declared.notes.NoteRange.{NoteRange}
 use Rattle.elf_c.specs.declared.status.Refusal.{Refusal}
 use Rattle.elf_c.specs.declared.status.Refusal.TheVariants.{Link, NoRecord}
 
--- where the parts of the note stand that bytes begin with, which stand at `start`, and what is left
+-- the ranges of the parts of the note at the start of the bytes, which begin at `start`, and of the rest
 abbrev pub note_parts_at : ℕ → ℕ → Order → List ℕ → NoteRange
 note_parts_at start align order bytes =
     let after = next_note align order bytes in
@@ -19,15 +19,15 @@ note_parts_at start align order bytes =
       name = range_at (start + 12) (name_size order bytes);
       desc = range_at (start + desc_start align order bytes) (desc_size order bytes);
       rest = range_at (start + next) (length bytes - next);
-      type_ = type_number order bytes;
+      type_ = type_word order bytes;
     }
 
--- the same, or why there is no note
+-- the ranges of the first note and of the rest, or why there is no note
 abbrev pub note_at : ℕ → ℕ → Order → List ℕ → Result NoteRange Refusal
 note_at start align order bytes = if length bytes == 0 then Err NoRecord
     else (if begins_with_note align order bytes then Ok (note_parts_at start align order bytes)
     else Err (Link ShortNote))
 
--- the note that a part of the input begins with
+-- the note at the start of a part of the input
 abbrev pub note_in : List ℕ → Order → Range → ℕ → Result NoteRange Refusal
 note_in input order part align = and_so (range_of input part.offset part.size) (note_at part.offset align order)

@@ -3,12 +3,14 @@ pub mod Parsed
 pub mod Records
 pub mod Symbols
 pub mod Relocations
+pub mod PackedRelocations
 pub mod Dynamics
 pub mod FirstNote
 pub mod Texts
 pub mod BuildId
 pub mod Addresses
+pub mod DynamicTexts
 pub mod Batch
+pub mod HashTables
 pub mod Lookup
 pub mod LookUps
-pub mod GnuLookup

@@ -1,8 +1,7 @@
--- The header of a file as numbers, and the file that such numbers and the input are (gABI, "ELF Header").
+-- The header of a file as numbers, and the file of such numbers and an input (gABI, "ELF Header").
 use Rattle.std.specs.Prelude.{ℕ, List, ◌==◌, ◌&&◌, ◌^◌, nat_lt, Bool, if◌then◌else◌}
 use Rattle.std.specs.Borrow.{Bor}
-use Rattle.elf_base.specs.FileHeader.{magic_number}
-use Rattle.elf_base.specs.HeaderLayout.{header_fields}
+use Rattle.elf_base.specs.FileHeader.{header_fields, magic_number}
 use Rattle.elf_base.specs.HeaderNumbers.{class_number, class_raw, encoding_number, encoding_raw, machine_number, machine_raw, os_abi_number, os_abi_raw, type_number, type_raw, version_number, version_raw}
 use Rattle.elf_base.specs.declared.header.Header.{Header}
 use Rattle.elf_base.specs.declared.header.HeaderPt1.{HeaderPt1}
@@ -11,7 +10,7 @@ use Rattle.elf_base.specs.declared.header.HeaderPt2.TheVariants.{Header32, Heade
 use Rattle.xmas_elf.specs.declared.ElfFile.{ElfFile}
 use Rattle.elf_c.specs.declared.file.Parsed.{Parsed}
 
--- what a header says, in numbers
+-- the numbers of a header
 abbrev pub numbers_of : Header → Parsed
 numbers_of header = let part = header_fields header.pt2 in record {
   entry_point = part.entry_point;
@@ -35,7 +34,7 @@ numbers_of header = let part = header_fields header.pt2 in record {
   padding = header.pt1.padding;
 }
 
--- part 1 of a header with these numbers, which begins as every file does
+-- part 1 of a header with these numbers, with the magic number
 abbrev pub part_1 : Parsed → HeaderPt1
 part_1 numbers = record {
   magic = magic_number;
@@ -47,7 +46,7 @@ part_1 numbers = record {
   padding = numbers.padding;
 }
 
--- part 2 with these numbers, but for its address and offsets
+-- part 2 with these numbers, except for its address and offsets
 abbrev pub part_2_with : {P : Type 0} → Parsed → P → P → P → HeaderPt2_ P
 part_2_with numbers entry_point ph_offset sh_offset = record {
   type_ = type_raw numbers.type_;
@@ -65,11 +64,11 @@ part_2_with numbers entry_point ph_offset sh_offset = record {
   sh_str_index = numbers.sh_str_index;
 }
 
--- part 2 with these numbers, of either width
+-- part 2 with these numbers, of either class
 abbrev pub part_2 : Parsed → HeaderPt2_ ℕ
 part_2 numbers = part_2_with numbers numbers.entry_point numbers.ph_offset numbers.sh_offset
 
--- the numbers are those of class 32, and fit into its fields
+-- the numbers are those of class 32, and fit in its fields
 abbrev pub is_narrow : Parsed → Bool
 is_narrow numbers = numbers.class == 1 && (nat_lt numbers.entry_point (2 ^ 32)
     && (nat_lt numbers.ph_offset (2 ^ 32) && nat_lt numbers.sh_offset (2 ^ 32)))

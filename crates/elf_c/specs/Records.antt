@@ -1,6 +1,7 @@
--- The records that the exports fill, by what the library says (this project's own).
+-- The records that the exports fill, by the values of the library (this project's own).
 use Rattle.std.specs.Prelude.{ℕ, ◌+◌, ◌-◌, ◌==◌, nat_lt, List, [], ◌∷◌, length, slice_get, Option, None, Some, Result, Ok, Err, if◌then◌else◌}
 use Rattle.std.specs.Str.{is_utf8}
+use Rattle.elf_base.specs.Message.{error_number}
 use Rattle.elf_base.specs.Refusal.{and_then, unless}
 use Rattle.elf_base.specs.Text.{text_of}
 use Rattle.elf_base.specs.declared.error.ElfError.{ElfError}
@@ -8,14 +9,12 @@ use Rattle.elf_base.specs.declared.error.ElfError.TheVariants.{NullName, ShortSe
 use Rattle.elf_records.specs.ProgramNumbers.{ph_type_number}
 use Rattle.elf_records.specs.SectionNumbers.{is_sh_type}
 use Rattle.elf_records.specs.declared.sections.ShType.TheVariants.{Null}
-use Rattle.xmas_elf.specs.Counts.{program_count_of, section_count_of}
+use Rattle.xmas_elf.specs.SectionHeader.{program_count_of, section_count_of, section_fields, section_of, section_type}
 use Rattle.xmas_elf.specs.NameTable.{names_section_of, section_named}
 use Rattle.xmas_elf.specs.Ranges.{range_of}
 use Rattle.xmas_elf.specs.SectionData.{section_data_of}
-use Rattle.xmas_elf.specs.SectionHeader.{section_fields, section_type}
-use Rattle.xmas_elf.specs.SegmentData.{segment_data_of}
+use Rattle.xmas_elf.specs.ProgramHeader.{segment_data_of}
 use Rattle.xmas_elf.specs.Types.{ElfFile, ProgramHeader64, SectionHeader}
-use Rattle.elf_c.specs.Status.{error_number}
 use Rattle.elf_c.specs.declared.file.Counts.{Counts}
 use Rattle.elf_c.specs.declared.names.Name.{Name}
 use Rattle.elf_c.specs.declared.names.Range.{Range}
@@ -24,7 +23,7 @@ use Rattle.elf_c.specs.declared.segments.Segment.{Segment}
 use Rattle.elf_c.specs.declared.status.Refusal.{Refusal}
 use Rattle.elf_c.specs.declared.status.Refusal.TheVariants.{NoRecord, NotFound}
 
--- what the item at an index is taken for, or that there is none
+-- the record of the item at an index, or that there is none
 abbrev pub taken_for : {A T : Type 0} → (A → T) → Option A → Result T Refusal
 taken_for value None = Err NoRecord
 taken_for value (Some item) = Ok (value item)
@@ -32,15 +31,15 @@ taken_for value (Some item) = Ok (value item)
 abbrev pub found_in : {A T : Type 0} → (A → T) → List A → ℕ → Result T Refusal
 found_in value items index = taken_for value (slice_get items index)
 
--- how many sections and segments a file has
+-- the number of sections and segments of a file
 abbrev pub counts_of : ElfFile → Counts
 counts_of file = record { sections = section_count_of file; segments = program_count_of file }
 
--- as many bytes of the input from a place on
+-- the byte range at an offset, of a size
 abbrev pub range_at : ℕ → ℕ → Range
 range_at offset size = record { offset = offset; size = size }
 
--- what a section header says
+-- the numbers of a section header
 abbrev pub section_record : SectionHeader → Section
 section_record section = let fields = section_fields section in record {
   flags = fields.flags;
@@ -55,21 +54,21 @@ section_record section = let fields = section_fields section in record {
   info = fields.info;
 }
 
--- what was found among sections
+-- the record of a section that was found
 abbrev pub section_found : Option SectionHeader → Result Section Refusal
 section_found None = Err NotFound
 section_found (Some section) = Ok (section_record section)
 
--- the first section with a name; a name is UTF-8
+-- the first section with a name, which must be UTF-8
 abbrev pub found_section : ElfFile → List ℕ → Result Section Refusal
 found_section file name = if is_utf8 name then section_found (section_named file name) else Err NotFound
 
--- where the data of a section stands, or why it has none
+-- the range of a section's data, or why it has none
 abbrev pub section_range : ElfFile → SectionHeader → Result Range ElfError
 section_range file section = and_then (section_data_of file section)
     (λ _. Ok (range_at (section_fields section).offset (section_fields section).size))
 
--- what a program header says
+-- the numbers of a program header
 abbrev pub segment_record : ProgramHeader64 → Segment
 segment_record segment = record {
   offset = segment.offset;
@@ -82,33 +81,37 @@ segment_record segment = record {
   flags = segment.flags.0;
 }
 
--- where the data of a segment stands, or why it has none: an empty one at place 0
+-- the range of a segment's data, or why it has none: for an empty one the empty range at 0
 abbrev pub segment_range : ElfFile → ProgramHeader64 → Result Range ElfError
 segment_range file segment = and_then (segment_data_of file segment)
     (λ _. Ok (range_at (if segment.file_size == 0 then 0 else segment.offset) segment.file_size))
 
--- where the text at an index of a part of the input stands, or why there is none
+-- the range of the text at an index of a part of the input, or why there is none
 abbrev pub text_range : List ℕ → Range → ℕ → Result Range ElfError
 text_range input part index = and_then (range_of input part.offset part.size) (λ bytes.
     and_then (text_of bytes index) (λ text. Ok (range_at (part.offset + index) (length text))))
 
--- where the name table stands, or why there is none: from the offset of its section to the end of the input
+-- the range of the text at an index of the data of a section, or why there is none
+abbrev pub section_text_of : ElfFile → ℕ → ℕ → Result Range ElfError
+section_text_of file section index = and_then (and_then (section_of file section) (section_range file))
+    (λ part. text_range file.input.now part index)
+
+-- the range of the name table, or why there is none: from the offset of its section to the end of the input
 abbrev pub names_range : ElfFile → Result Range ElfError
 names_range file = and_then (names_section_of file) (λ section. unless (
     (nat_lt (length file.input.now) (section_fields section).offset, ShortSectionOffset)
     ∷ []) (range_at (section_fields section).offset (length file.input.now - (section_fields section).offset)))
 
--- where the name of a section stands by where the name table does, or why it has none: there, at the section's
--- index
+-- the range of a section's name by that of the name table, or why it has none: at the section's index there
 abbrev pub name_range_by : List ℕ → Result Range ElfError → SectionHeader → Result Range ElfError
 name_range_by input names section = and_then (section_type section) (λ kind. if is_sh_type Null kind then Err NullName
     else and_then names (λ part. text_range input part (section_fields section).name))
 
--- the same by the name table of the file
+-- the range of a section's name by the name table of the file
 abbrev pub name_range : ElfFile → SectionHeader → Result Range ElfError
 name_range file section = name_range_by file.input.now (names_range file) section
 
--- where a name stands with its status: an empty range at 0 where it is refused
+-- the range of a name with its status: the empty range at 0 if there is an error
 abbrev pub name_answer : Result Range ElfError → Name
 name_answer (Ok range) = record { range = range; status = 0 }
 name_answer (Err error) = record { range = range_at 0 0; status = error_number error }

@@ -1,4 +1,4 @@
--- The relocations of a section, in numbers (gABI, "Relocation").
+-- The relocations of a section, as numbers (gABI, "Relocation").
 use Rattle.std.specs.Prelude.{ℕ, Result, Err}
 use Rattle.elf_base.specs.Table.{records}
 use Rattle.elf_records.specs.Relocations as relocation
@@ -7,11 +7,11 @@ use Rattle.elf_records.specs.declared.sections.relocations.Rela.{Rela}
 use Rattle.xmas_elf.specs.Content as kind
 use Rattle.xmas_elf.specs.Content.{Content, table_of}
 use Rattle.elf_c.specs.Records.{found_in}
-use Rattle.elf_c.specs.declared.records.Relocation.{Relocation}
+use Rattle.elf_c.specs.declared.relocations.Relocation.{Relocation}
 use Rattle.elf_c.specs.declared.status.Refusal.{Refusal}
 use Rattle.elf_c.specs.declared.status.Refusal.TheVariants.{OtherData}
 
--- what a relocation with an addend says, where `symbol` and `type_` take its info apart
+-- the numbers of a relocation with an addend, where `symbol` and `type_` decode its info
 abbrev pub rela_record : (ℕ → ℕ) → (ℕ → ℕ) → Rela ℕ → Relocation
 rela_record symbol type_ rela = record {
   offset = relocation.rela_offset rela;
@@ -21,7 +21,7 @@ rela_record symbol type_ rela = record {
   has_addend = 1;
 }
 
--- what one without says
+-- the numbers of a relocation without an addend
 abbrev pub rel_record : (ℕ → ℕ) → (ℕ → ℕ) → Rel ℕ → Relocation
 rel_record symbol type_ rel = record {
   offset = relocation.rel_offset rel;
@@ -31,7 +31,7 @@ rel_record symbol type_ rel = record {
   has_addend = 0;
 }
 
--- the relocation at an index of what a section holds, or why there is none
+-- the relocation at an index of the contents of a section, or why there is none
 abbrev pub relocation_in : ℕ → Content → Result Relocation Refusal
 relocation_in index (table_of kind.rela_32 order bytes) =
     found_in (rela_record relocation.symbol_in_32 relocation.type_in_32) (records 12 (relocation.rela_32 order) bytes) index

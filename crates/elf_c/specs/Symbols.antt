@@ -1,4 +1,4 @@
--- The symbols of a section, in numbers (gABI, "Symbol Table").
+-- The symbols of a section, as numbers (gABI, "Symbol Table").
 use Rattle.std.specs.Prelude.{ℕ, List, Result, Err}
 use Rattle.elf_base.specs.Refusal.{and_then}
 use Rattle.elf_base.specs.Table.{records}
@@ -17,7 +17,7 @@ use Rattle.elf_c.specs.declared.status.Refusal.{Refusal}
 use Rattle.elf_c.specs.declared.status.Refusal.TheVariants.{OtherData}
 use Rattle.elf_c.specs.declared.symbols.Symbol.{Symbol}
 
--- what a symbol says
+-- the numbers of a symbol
 abbrev pub symbol_record : SymbolFields → Symbol
 symbol_record fields = record {
   value = fields.value;
@@ -28,7 +28,7 @@ symbol_record fields = record {
   other = fields.other;
 }
 
--- the symbol at an index of what a section holds, taken for a value, or why there is none
+-- the value of the symbol at an index of the contents of a section, or why there is none
 abbrev pub symbol_at : {T : Type 0} → (SymbolFields → T) → ℕ → Content → Result T Refusal
 symbol_at value index (table_of symbols_32 order bytes) =
     found_in (λ e. value (entry_32_fields e)) (records 16 (entry_32 order) bytes) index
@@ -40,19 +40,19 @@ symbol_at value index (table_of dyn_symbols_64 order bytes) =
     found_in (λ e. value (dyn_entry_64_fields e)) (records 24 (dyn_entry_64 order) bytes) index
 symbol_at value index _ = Err OtherData
 
--- the numbers of that symbol
+-- the numbers of the symbol at an index of the contents of a section
 abbrev pub symbol_in : ℕ → Content → Result Symbol Refusal
 symbol_in index content = symbol_at symbol_record index content
 
--- where the string table stands that a section is linked to, or why it can't be read (sh_link)
+-- the range of the string table that a section links to, or why it can't be read (sh_link)
 abbrev pub linked_range : ElfFile → SectionHeader → Result Range ElfError
 linked_range file section = and_then (section_of file (section_fields section).link) (section_range file)
 
--- where the name of a symbol stands in such a table, or why there is none
+-- the range of a symbol's name in such a table, or why there is none
 abbrev pub symbol_name : List ℕ → Result Range ElfError → SymbolFields → Name
 symbol_name input strings fields = name_answer (and_then strings (λ part. text_range input part fields.name))
 
--- where the name of the symbol at an index of the section at an index stands
+-- the range of the name of the symbol at an index of the section at an index
 abbrev pub symbol_name_at : ElfFile → ℕ → ℕ → Result Name Refusal
 symbol_name_at file section index = and_so (section_of file section) (λ header.
     and_so (section_content_of file header) (symbol_at (symbol_name file.input.now (linked_range file header)) index))

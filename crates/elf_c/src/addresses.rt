@@ -1,4 +1,4 @@
-//! The bytes of the file at addresses of its loaded segments (gABI, "Program Header": PT_LOAD).
+//! The file bytes at addresses of the loaded segments (gABI, "Program Header": PT_LOAD).
 
 ghost use Rattle.std.specs.Prelude.{◌≡◌};
 ghost use Rattle.elf_c.specs.Addresses.{range_at_address};
@@ -12,10 +12,10 @@ use elf_linking::LinkError;
 use elf_linking::view::segment_at;
 use xmas_elf::ElfFile;
 
-// Where the bytes at so many addresses from one on stand.
-// Those of an empty segment are the empty range at 0.
-#[tactic(auto, unfolding(xmas_elf::specs::SegmentData::segment_data_of, elf_linking::specs::Loaded::holder_of))]
-fn range_at(file: &ElfFile<'_>, address: u64, count: u64) -> Result<Range, Refusal>
+// The range of the file bytes for `address .. address + count`.
+// For an empty segment it is the empty range at 0.
+#[tactic(auto, unfolding(xmas_elf::specs::ProgramHeader::segment_data_of, elf_linking::specs::Loaded::segment_at_of))]
+pub(crate) fn range_at(file: &ElfFile<'_>, address: u64, count: u64) -> Result<Range, Refusal>
     ensures { result ≡ range_at_address file.now address count }
 {
     let Some(program) = segment_at(file, address, count) else {
@@ -29,8 +29,8 @@ fn range_at(file: &ElfFile<'_>, address: u64, count: u64) -> Result<Range, Refus
     })
 }
 
-/// Where in the input the bytes stand that the file has for `count` addresses from `address` on:
-/// those that `elf_linking::view::bytes_at` lends, and refused as that is.
+/// The input range of the file bytes for `address .. address + count`: those that
+/// `elf_linking::view::bytes_at` returns, with the same errors.
 #[unsafe(no_mangle)]
 pub extern "C" fn xmas_elf_bytes_at(
     input: &[u8],

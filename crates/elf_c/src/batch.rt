@@ -1,17 +1,18 @@
-//! Many records by one call (this project's own).
+//! Many records in one call (this project's own).
 
-ghost use Rattle.std.specs.Prelude.{◌≡◌, ◌<◌, ℕ, List, Ok, Result, length};
+ghost use Rattle.std.specs.Prelude.{◌≡◌, ◌<◌, ℕ, List, Ok, Result, drop, length};
+ghost use Rattle.std.specs.Iterator.{YieldsFirst};
 ghost use Rattle.elf_c.specs.Batch.{Fills};
 ghost use Rattle.elf_c.specs.Records.{found_in};
 
 use crate::status::Refusal;
 
-/// Items in order, and the record that is put to a slice for each.
+/// Items in order, with a record to store for each.
 pub(crate) trait Records: Copy {
-    /// What the file has.
+    /// An item of the file.
     type Item;
 
-    /// What is put to a slice for it.
+    /// The record to store for an item.
     type Record: Copy;
 
     /// The items in order.
@@ -20,18 +21,18 @@ pub(crate) trait Records: Copy {
     /// The record of an item.
     ghost record_of: { Self → Self.Item → Self.Record };
 
-    /// How many they are.
+    /// The number of items.
     fn count(&self) -> usize
         ensures { result ≡ length (items self.now) };
 
-    /// The record of the item at an index, which is below their number.
+    /// The record of the item at `index`, which is below the number of items.
     fn record(&self, index: usize) -> Self::Record
         requires { index < length (items self.now) }
         ensures { found_in (record_of self.now) (items self.now) index ≡ Ok result };
 }
 
-// Puts the records of the items from an index on to the front of `out`, and says how many. It owns
-// what it reads them from, so that nothing of that is read again after a record is written.
+// Stores the records of the items from index `first` on in `out`, and returns their number. It owns
+// the items, so that nothing is read from them again after a record is written.
 pub(crate) fn fill<R: Records>(
     records: R,
     first: u64,
@@ -49,4 +50,54 @@ pub(crate) fn fill<R: Records>(
         out[place] = records.record(first + place);
     }
     Ok(count as u64)
+}
+
+/// Records in order, which can be read in that order only.
+pub(crate) trait Sequence {
+    /// A record.
+    type Record: Copy;
+
+    /// The remaining records.
+    ghost left: { Self → List Self.Record };
+
+    /// The first remaining record.
+    fn next(&mut self) -> Option<Self::Record>
+        ensures { YieldsFirst left self.old result self.new };
+}
+
+// Leaves out the first `count` records.
+#[tactic(auto, using(crate::proofs::InOrder::skipped_all, crate::proofs::InOrder::skipped_more))]
+fn skip<S: Sequence>(records: &mut S, count: u64)
+    ensures { S.left records.new ≡ drop count (S.left records.old) }
+{
+    for _place in 0..count {
+        if records.next().is_none() {
+            return;
+        }
+    }
+}
+
+// Stores the records from index `first` on in `out`, and returns their number.
+#[tactic(auto, using(crate::proofs::InOrder::stored_none, crate::proofs::InOrder::stored_more, crate::proofs::InOrder::stored_full, crate::proofs::InOrder::stored_all, crate::proofs::InOrder::none_stored, crate::proofs::InOrder::yielded))]
+pub(crate) fn fill_in_order<S: Sequence + Drop>(
+    mut records: S,
+    first: u64,
+    out: &mut [S::Record],
+) -> Result<u64, Refusal>
+    ensures { Fills (found_in (λ one. one) (S.left records))
+        first out.old result out.new }
+{
+    skip(&mut records, first);
+    let mut next = records.next();
+    if next.is_none() {
+        return Err(Refusal::NoRecord);
+    }
+    for place in 0..out.len() {
+        let Some(record) = next else {
+            return Ok(place as u64);
+        };
+        out[place] = record;
+        next = records.next();
+    }
+    Ok(out.len() as u64)
 }

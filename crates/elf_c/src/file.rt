@@ -1,14 +1,13 @@
-//! A file: its header as numbers, and how many sections and segments it has.
+//! A file: its header as numbers, and the number of its sections and segments.
 
 ghost use Rattle.std.specs.Prelude.{◌≡◌, Ok};
-ghost use Rattle.elf_base.specs.FileHeader.{header_of};
-ghost use Rattle.elf_base.specs.HeaderLayout.{header_fields};
+ghost use Rattle.elf_base.specs.FileHeader.{header_fields, header_of};
 ghost use Rattle.elf_base.specs.Refusal.{and_then};
 ghost use Rattle.elf_c.specs.Parsed.{file_of, numbers_of, part_1, part_2_with};
 ghost use Rattle.elf_c.specs.Records.{counts_of};
 ghost use Rattle.elf_c.specs.Status.{Gives};
 ghost use Rattle.xmas_elf.specs.Checks.{header_check};
-ghost use Rattle.xmas_elf.specs.Counts.{shstr_index_of};
+ghost use Rattle.xmas_elf.specs.SectionHeader.{shstr_index_of};
 
 use crate::status::give;
 use elf_base::ElfError;
@@ -18,54 +17,54 @@ use elf_base::header::{
 };
 use xmas_elf::ElfFile;
 
-/// The ELF header of a file, in numbers (gABI, "ELF Header").
+/// The ELF header of a file, as numbers (gABI, "ELF Header").
 ///
-/// `xmas_elf_open` fills it, and the calls for parts of the file take it:
-/// so the header is read once.
+/// `xmas_elf_open` fills it, and the calls for parts of the file take it,
+/// so that the header is read once.
 #[repr(C)]
 #[derive(Clone, Copy, Debug)]
 pub struct Parsed {
-    /// The address at which a program begins to run, or 0.
+    /// The virtual address of the entry point, or 0.
     pub entry_point: u64,
-    /// Where the program header table lies, in bytes from the start of the file, or 0.
+    /// The file offset of the program header table in bytes, or 0.
     pub ph_offset: u64,
-    /// Where the section header table lies, in bytes from the start of the file, or 0.
+    /// The file offset of the section header table in bytes, or 0.
     pub sh_offset: u64,
     /// The version of the file.
     pub version: u32,
-    /// Flags of the processor.
+    /// Processor-specific flags.
     pub flags: u32,
-    /// What the file is for.
+    /// The object file type.
     pub type_: u16,
-    /// The processor that the file is for.
+    /// The processor architecture.
     pub machine: u16,
-    /// How many bytes the ELF header has, as it says itself.
+    /// The size of the ELF header in bytes, as the header says.
     pub header_size: u16,
-    /// How many bytes one entry of the program header table has.
+    /// The size of an entry of the program header table in bytes.
     pub ph_entry_size: u16,
-    /// How many entries the program header table has, or 0xffff.
+    /// The number of entries of the program header table, or 0xffff.
     pub ph_count: u16,
-    /// How many bytes one entry of the section header table has.
+    /// The size of an entry of the section header table in bytes.
     pub sh_entry_size: u16,
-    /// How many entries the section header table has, or 0.
+    /// The number of entries of the section header table, or 0.
     pub sh_count: u16,
-    /// The index of the section that holds the names of the sections, or 0xffff.
+    /// The index of the section that contains the section names, or 0xffff.
     pub sh_str_index: u16,
     /// 1 for class 32, 2 for class 64.
     pub class: u8,
-    /// 2 for big-endian numbers; else they are little-endian.
+    /// 2 for big-endian, any other number for little-endian.
     pub encoding: u8,
     /// The version of the header.
     pub header_version: u8,
     /// The operating system whose extensions the file uses.
     pub os_abi: u8,
-    /// The version of those extensions.
+    /// The version of the ABI that `os_abi` names.
     pub abi_version: u8,
-    /// Bytes without a meaning.
+    /// Padding, without a meaning.
     pub padding: [u8; 7],
 }
 
-/// How many sections and segments a file has.
+/// The number of sections and segments of a file.
 #[repr(C)]
 #[derive(Clone, Copy, Debug)]
 pub struct Counts {
@@ -121,7 +120,7 @@ impl Parsed {
         }
     }
 
-    // Part 2 with these three addresses and offsets.
+    // Part 2 with this address and these offsets.
     #[inline(always)]
     fn second_part<P>(&self, entry_point: P, ph_offset: P, sh_offset: P) -> HeaderPt2_<P>
         ensures { result ≡ part_2_with self.now entry_point ph_offset sh_offset }
@@ -143,7 +142,7 @@ impl Parsed {
         }
     }
 
-    /// The file of these bytes whose header has these numbers.
+    /// The file in `input` whose header has these numbers.
     #[inline(always)]
     pub(crate) fn file<'a>(&self, input: &'a [u8]) -> ElfFile<'a>
         ensures { result ≡ file_of input.entry self.now }
@@ -169,7 +168,7 @@ impl Parsed {
     }
 }
 
-// Flags of the processor, of either width.
+// The processor-specific flags, of either class.
 #[inline(always)]
 fn processor_flags(part: &HeaderPt2) -> u32
     ensures { result ≡ (header_fields part.now).flags }
@@ -189,7 +188,7 @@ fn read_header(input: &[u8]) -> Result<Parsed, ElfError>
     Ok(Parsed::of(&file.header))
 }
 
-/// The header of the file that these bytes are. Refused as `ElfFile::new` is.
+/// The header of the file in `input`; the errors are those of `ElfFile::new`.
 #[unsafe(no_mangle)]
 pub extern "C" fn xmas_elf_open(input: &[u8], out: &mut Parsed) -> u32
     ensures { Gives (and_then (header_of input.now) (λ header. Ok (numbers_of header)))
@@ -198,7 +197,7 @@ pub extern "C" fn xmas_elf_open(input: &[u8], out: &mut Parsed) -> u32
     give(read_header(input), out)
 }
 
-/// How many sections and segments the file has; it is never refused.
+/// The number of sections and segments of the file; there are no errors.
 #[unsafe(no_mangle)]
 pub extern "C" fn xmas_elf_counts(input: &[u8], header: &Parsed, out: &mut Counts) -> u32
     ensures { Gives (Ok (counts_of (file_of input.entry header.now))) out.old result out.new }
@@ -211,7 +210,8 @@ pub extern "C" fn xmas_elf_counts(input: &[u8], header: &Parsed, out: &mut Count
     give(Ok::<Counts, ElfError>(counts), out)
 }
 
-/// The index of the section that holds the names. Refused as `ElfFile::shstr_index` is.
+/// The index of the section that contains the section names; the errors are those of
+/// `ElfFile::shstr_index`.
 #[unsafe(no_mangle)]
 pub extern "C" fn xmas_elf_names_index(input: &[u8], header: &Parsed, out: &mut u32) -> u32
     ensures { Gives (shstr_index_of (file_of input.entry header.now)) out.old result out.new }
@@ -219,7 +219,7 @@ pub extern "C" fn xmas_elf_names_index(input: &[u8], header: &Parsed, out: &mut 
     give(header.file(input).shstr_index(), out)
 }
 
-/// Whether the header makes sense over the input: the answer of `header::sanity_check`.
+/// Checks the header against the input; the errors are those of `header::sanity_check`.
 #[unsafe(no_mangle)]
 pub extern "C" fn xmas_elf_check_header(input: &[u8], header: &Parsed) -> u32
     ensures { Gives (header_check (file_of input.entry header.now)) tt result tt }

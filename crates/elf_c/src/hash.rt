@@ -1,50 +1,49 @@
-//! Look-ups by the gABI's hash tables, and their check (gABI, "Hash Table").
+//! Look-ups in the hash tables of sections, and their check (gABI, "Hash Table"; the convention of
+//! GNU binutils and glibc).
 
-ghost use Rattle.std.specs.Prelude.{◌≡◌, Err, IfSome, MatchResult, Ok, Result, true};
+ghost use Rattle.std.specs.Prelude.{◌≡◌, IfSome, MatchResult, Ok, Result, true};
+ghost use Rattle.elf_c.specs.HashTables.{WithTable};
 ghost use Rattle.elf_c.specs.Lookup.{ChecksWith, IsChecked, IsLookUp, IsLookUpBy, LooksAmong};
-ghost use Rattle.elf_c.specs.Lookup.{WithTable, look_up_answer, looked_up};
+ghost use Rattle.elf_c.specs.Lookup.{look_up_answer, looked_up};
 ghost use Rattle.elf_c.specs.LookUps.{AreAnswered, IfUtf8, IsForRange};
 ghost use Rattle.elf_c.specs.Parsed.{file_of};
 ghost use Rattle.elf_c.specs.Status.{GivesHere};
 ghost use Rattle.elf_c.specs.declared.hash.LookUp.{LookUp};
+ghost use Rattle.elf_c.specs.declared.hash_tables.Kind.TheVariants.{Gnu, Sysv};
 ghost use Rattle.elf_c.specs.declared.status.Refusal.{Refusal};
-ghost use Rattle.elf_c.specs.declared.status.Refusal.TheVariants.{Elf};
-ghost use Rattle.xmas_elf.specs.ReportHash.{content_at};
 ghost use Rattle.xmas_elf.specs.SectionContent.{section_content};
-ghost use Rattle.xmas_elf.specs.SymbolName.{HoldsNames};
+ghost use Rattle.xmas_elf.specs.SymbolTable.{table_symbols};
 ghost use Rattle.xmas_elf.specs.Symbols.{symbols_of};
 
 use crate::file::Parsed;
+use crate::hash_tables::{Kind, table_at};
 use crate::look_ups::{Answer, name_at, refuse_all};
 use crate::names::Range;
 use crate::status::{Refusal, give};
 use elf_base::ElfError;
+use elf_linking::{AnyTable, LinkError};
 use std::str::from_utf8;
 use xmas_elf::ElfFile;
 use xmas_elf::bytes::{Record, Table};
-use xmas_elf::hash::HashTable;
 use xmas_elf::sections::SectionData;
-use xmas_elf::symbol_table::Entry;
+use xmas_elf::symbol_table::{Entry, SymbolTable};
 
-// What the names of symbols stand in, as `Entry::string_table` answers.
-pub(crate) type Strings<'a> = Option<Result<&'a [u8], ElfError>>;
-
-/// What a look-up says, in numbers.
+/// The result of a look-up, as numbers.
 #[repr(C)]
 #[derive(Clone, Copy, Debug)]
 pub struct LookUp {
-    /// 1 where a symbol is found, and else 0.
+    /// 1 if a symbol is found, otherwise 0.
     pub found: u32,
     /// The index of the symbol, or 0.
     pub index: u32,
-    /// How many entries of the table the look-up came by.
+    /// The number of table entries that the look-up visited.
     pub looked_at: u32,
 }
 
 impl LookUp {
-    // What a look-up says that finds this symbol, or none.
+    // The numbers of the symbol that a look-up found, if any.
     #[inline(always)]
-    pub(crate) fn of<E: Copy>(found: Option<(u32, E)>, looked_at: u32) -> LookUp
+    fn of<E: Copy>(found: Option<(u32, E)>, looked_at: u32) -> LookUp
         ensures { result ≡ looked_up found looked_at }
     {
         match found {
@@ -62,43 +61,31 @@ impl LookUp {
     }
 }
 
-// What the section at an index holds.
-#[inline(always)]
-pub(crate) fn data_at<'a>(file: &ElfFile<'a>, section: u32) -> Result<SectionData<'a>, ElfError>
-    ensures { MatchResult result (λ held. content_at file.now section ≡ Ok (section_content held))
-        (λ error. content_at file.now section ≡ Err error) }
-{
-    file.section_header_at(u64::from(section))?.get_data(file)
-}
-
-// What a look-up says, in numbers.
+// The result of a look-up, as numbers.
 #[inline(always)]
 fn said<E: Copy>(
-    found: Result<Option<(u32, E)>, ElfError>,
+    found: Result<Option<(u32, E)>, LinkError>,
     looked_at: u32,
 ) -> Result<LookUp, Refusal>
-    ensures { result ≡ look_up_answer Elf found looked_at }
+    ensures { result ≡ look_up_answer found looked_at }
 {
     match found {
         Ok(found) => Ok(LookUp::of(found, looked_at)),
-        Err(error) => Err(Refusal::Elf(error)),
+        Err(error) => Err(Refusal::Link(error)),
     }
 }
 
-// The answer of a look-up for a name among symbols.
+// Looks a name up among symbols.
 fn look_up<E: Entry + Record>(
-    table: &HashTable<'_>,
+    table: &AnyTable<'_>,
     name: &str,
-    symbols: &Table<'_, E>,
-    file: &ElfFile<'_>,
+    symbols: &SymbolTable<'_, E>,
 ) -> Result<LookUp, Refusal>
-    ensures { IsLookUp table.now name.now
-        (symbols_of E.fields E.text_in symbols.now file.now) result }
+    ensures { IsLookUp table.now name.now (table_symbols symbols.now) result }
 {
     let (found, looked_at) = table.lookup_counted(
         name,
         symbols,
-        file,
         |_| -> bool
             ensures { result ≡ true }
         { true },
@@ -106,77 +93,65 @@ fn look_up<E: Entry + Record>(
     said(found, looked_at)
 }
 
-// The same by the string table of the symbols.
-fn look_up_by_strings<E: Entry + Record>(
-    table: &HashTable<'_>,
+// Looks a name up among the symbols of a table of this file.
+fn look_up_of<E: Entry + Record>(
+    table: &AnyTable<'_>,
     name: &str,
-    strings: Strings<'_>,
     symbols: &Table<'_, E>,
     file: &ElfFile<'_>,
 ) -> Result<LookUp, Refusal>
-    requires { IfSome strings (HoldsNames E.fields (λ e. E.text_in e file.now)) }
-    ensures { IsLookUp table.now name.now
-        (symbols_of E.fields E.text_in symbols.now file.now) result }
+    ensures { IsLookUp table.now name.now (symbols_of E.fields E.text_in symbols.now file.now)
+        result }
 {
-    let (found, looked_at) = table.lookup_counted_in(
-        name,
-        strings,
-        symbols,
-        file,
-        |_| -> bool
-            ensures { result ≡ true }
-        { true },
-    );
-    said(found, looked_at)
+    look_up(table, name, &SymbolTable::new(*symbols, file))
 }
 
-// The same among the symbols that the section at an index holds.
+// Looks a name up among the symbols in the data of a section.
 fn look_up_among(
-    table: &HashTable<'_>,
+    table: &AnyTable<'_>,
     name: &str,
-    section: u32,
+    linked: &SectionData<'_>,
     file: &ElfFile<'_>,
 ) -> Result<LookUp, Refusal>
-    ensures { LooksAmong file.now name.now table.now (content_at file.now section) result }
+    ensures { LooksAmong file.now name.now table.now (Ok (section_content linked.now)) result }
 {
-    match file.section_header_at(u64::from(section))?.get_data(file)? {
-        SectionData::SymbolTable32(symbols) => look_up(table, name, &symbols, file),
-        SectionData::SymbolTable64(symbols) => look_up(table, name, &symbols, file),
-        SectionData::DynSymbolTable32(symbols) => look_up(table, name, &symbols, file),
-        SectionData::DynSymbolTable64(symbols) => look_up(table, name, &symbols, file),
+    match linked {
+        SectionData::SymbolTable32(symbols) => look_up_of(table, name, symbols, file),
+        SectionData::SymbolTable64(symbols) => look_up_of(table, name, symbols, file),
+        SectionData::DynSymbolTable32(symbols) => look_up_of(table, name, symbols, file),
+        SectionData::DynSymbolTable64(symbols) => look_up_of(table, name, symbols, file),
         _ => Err(Refusal::OtherData),
     }
 }
 
-// The answer by the table that is the section at an index.
-fn look_up_in(file: &ElfFile<'_>, section: u64, name: &str) -> Result<LookUp, Refusal>
-    ensures { WithTable file.now section (LooksAmong file.now name.now) result }
+// Looks a name up in the hash table in the section at an index.
+fn look_up_in(kind: Kind, file: &ElfFile<'_>, section: u64, name: &str) -> Result<LookUp, Refusal>
+    ensures { WithTable kind file.now section (LooksAmong file.now name.now) result }
 {
-    let found = file.section_header_at(section)?;
-    match found.get_data(file)? {
-        SectionData::HashTable(table) => look_up_among(&table, name, found.link(), file),
-        _ => Err(Refusal::OtherData),
+    match table_at(kind, file, section) {
+        Ok((table, linked)) => look_up_among(&table, name, &linked, file),
+        Err(refusal) => Err(refusal),
     }
 }
 
-// The same for a name in bytes.
-fn look_up_by(file: &ElfFile<'_>, section: u64, name: &[u8]) -> Result<LookUp, Refusal>
-    ensures { IsLookUpBy file.now section name.now result }
+// Looks up a name in bytes, which may not be UTF-8.
+fn look_up_by(kind: Kind, file: &ElfFile<'_>, section: u64, name: &[u8]) -> Result<LookUp, Refusal>
+    ensures { IsLookUpBy kind file.now section name.now result }
 {
     match from_utf8(name) {
-        Ok(name) => look_up_in(file, section, name),
+        Ok(name) => look_up_in(kind, file, section, name),
         Err(_) => Err(Refusal::Elf(ElfError::TextUtf8)),
     }
 }
 
-/// The symbol with a name, by the hash table that is the section at an index, among the symbols
-/// that this section is linked to (sh_link): the answer of `HashTable::lookup_counted` with a
-/// test that passes all.
+/// The symbol with a name, in the hash table of the ELF standard in the section at an index, among
+/// the symbols that this section is linked to (sh_link): the result of
+/// `HashTable::lookup_counted` with a test that passes every symbol.
 ///
-/// Refused with `TextUtf8` where the name isn't UTF-8; as `ElfFile::section_header_at` and
-/// `SectionHeader::get_data` of the section, with `OtherData` where it holds no hash table; in the
-/// same way of the linked section, which is to hold symbols; and as the look-up is, which is never
-/// so where `xmas_elf_check_hash` is OK.
+/// Errors: `TextUtf8` if the name is not UTF-8; those of `ElfFile::section_header_at` and
+/// `SectionHeader::get_data` for the section, `OtherData` if it holds no hash table; the same for
+/// the linked section, `OtherData` if it holds no symbols; those of the look-up, of which there are
+/// none if `xmas_elf_check_hash` returns OK.
 #[unsafe(no_mangle)]
 pub extern "C" fn xmas_elf_look_up(
     input: &[u8],
@@ -186,34 +161,79 @@ pub extern "C" fn xmas_elf_look_up(
     out: &mut LookUp,
 ) -> u32
     ensures { (answer : Result LookUp Refusal)
-        × IsLookUpBy (file_of input.entry header.now) section name.now answer
+        × IsLookUpBy Sysv (file_of input.entry header.now) section name.now answer
         × GivesHere answer out.old result out.new }
 {
-    give(look_up_by(&header.file(input), section, name), out)
+    give(
+        look_up_by(Kind::Sysv, &header.file(input), section, name),
+        out,
+    )
 }
 
-// The same for the name that is a range of some bytes.
+/// The symbol with a name, in the GNU hash table in the section at an index, among the symbols that
+/// this section is linked to (sh_link): the result of `GnuHashTable::lookup_counted` with a test
+/// that passes every symbol.
+///
+/// Errors: `TextUtf8` if the name is not UTF-8; those of `ElfFile::section_header_at` for the
+/// section, `OtherData` if it is of another type than 0x6ffffff6, those of
+/// `SectionHeader::raw_data` and `GnuHashTable::read`; those of `section_header_at` and `get_data`
+/// for the linked section, `OtherData` if it holds no symbols; those of the look-up, of which there
+/// are none if `xmas_elf_check_gnu_hash` returns OK.
+#[unsafe(no_mangle)]
+pub extern "C" fn xmas_elf_gnu_look_up(
+    input: &[u8],
+    header: &Parsed,
+    section: u64,
+    name: &[u8],
+    out: &mut LookUp,
+) -> u32
+    ensures { (answer : Result LookUp Refusal)
+        × IsLookUpBy Gnu (file_of input.entry header.now) section name.now answer
+        × GivesHere answer out.old result out.new }
+{
+    give(
+        look_up_by(Kind::Gnu, &header.file(input), section, name),
+        out,
+    )
+}
+
+// Looks up the name in a range of `names`.
 fn look_up_at<E: Entry + Record>(
-    table: &HashTable<'_>,
+    table: &AnyTable<'_>,
     names: &[u8],
     range: &Range,
-    strings: Strings<'_>,
-    symbols: &Table<'_, E>,
-    file: &ElfFile<'_>,
+    symbols: &SymbolTable<'_, E>,
 ) -> Result<LookUp, Refusal>
-    requires { IfSome strings (HoldsNames E.fields (λ e. E.text_in e file.now)) }
-    ensures { let all = symbols_of E.fields E.text_in symbols.now file.now in
+    ensures { let all = table_symbols symbols.now in
         IsForRange (IfUtf8 (λ name. IsLookUp table.now name all)) names.now range.now result }
 {
     match name_at(names, range) {
-        Ok(name) => look_up_by_strings(table, name, strings, symbols, file),
+        Ok(name) => look_up(table, name, symbols),
         Err(refusal) => Err(refusal),
     }
 }
 
-// The answers of look-ups among symbols, each for the name that is a range of some bytes.
+// Stores the results of look-ups among symbols, each for the name in a range of `names`.
 fn look_ups<E: Entry + Record>(
-    table: &HashTable<'_>,
+    table: &AnyTable<'_>,
+    names: &[u8],
+    ranges: &[Range],
+    symbols: &SymbolTable<'_, E>,
+    out: &mut [Answer],
+)
+    ensures { let all = table_symbols symbols.now in
+        AreAnswered (IfUtf8 (λ name. IsLookUp table.now name all))
+        names.now ranges.now out.old out.new }
+{
+    let count = ranges.len().min(out.len());
+    for place in 0..count {
+        out[place] = Answer::of(look_up_at(table, names, &ranges[place], symbols));
+    }
+}
+
+// Stores the results of look-ups among the symbols of a table of this file.
+fn look_ups_of<E: Entry + Record>(
+    table: &AnyTable<'_>,
     names: &[u8],
     ranges: &[Range],
     symbols: &Table<'_, E>,
@@ -224,63 +244,52 @@ fn look_ups<E: Entry + Record>(
         AreAnswered (IfUtf8 (λ name. IsLookUp table.now name all))
         names.now ranges.now out.old out.new }
 {
-    let strings = E::string_table(file);
-    let count = ranges.len().min(out.len());
-    for place in 0..count {
-        out[place] = Answer::of(look_up_at(table, names, &ranges[place], strings, symbols, file));
-    }
+    look_ups(table, names, ranges, &SymbolTable::new(*symbols, file), out);
 }
 
-// The same among the symbols that the section at an index holds.
+// Stores the results of look-ups among the symbols in the data of a section.
 fn look_ups_among(
-    table: &HashTable<'_>,
+    table: &AnyTable<'_>,
     names: &[u8],
     ranges: &[Range],
-    section: u32,
+    linked: &SectionData<'_>,
     file: &ElfFile<'_>,
     out: &mut [Answer],
 )
-    ensures { AreAnswered
-        (IfUtf8 (λ name. LooksAmong file.now name table.now (content_at file.now section)))
+    ensures { let content = section_content linked.now in AreAnswered
+        (IfUtf8 (λ name. LooksAmong file.now name table.now (Ok content)))
         names.now ranges.now out.old out.new }
 {
-    let held = match data_at(file, section) {
-        Ok(held) => held,
-        Err(error) => return refuse_all(names, ranges, Refusal::Elf(error), out),
-    };
-    match held {
-        SectionData::SymbolTable32(all) => look_ups(table, names, ranges, &all, file, out),
-        SectionData::SymbolTable64(all) => look_ups(table, names, ranges, &all, file, out),
-        SectionData::DynSymbolTable32(all) => look_ups(table, names, ranges, &all, file, out),
-        SectionData::DynSymbolTable64(all) => look_ups(table, names, ranges, &all, file, out),
+    match linked {
+        SectionData::SymbolTable32(all) => look_ups_of(table, names, ranges, all, file, out),
+        SectionData::SymbolTable64(all) => look_ups_of(table, names, ranges, all, file, out),
+        SectionData::DynSymbolTable32(all) => look_ups_of(table, names, ranges, all, file, out),
+        SectionData::DynSymbolTable64(all) => look_ups_of(table, names, ranges, all, file, out),
         _ => refuse_all(names, ranges, Refusal::OtherData, out),
     }
 }
 
-// The same by the table that is the section at an index.
-fn look_ups_in(file: &ElfFile<'_>, section: u64, names: &[u8], ranges: &[Range], out: &mut [Answer])
-    ensures { AreAnswered (IsLookUpBy file.now section) names.now ranges.now out.old out.new }
+// Stores the results of look-ups in the hash table in the section at an index.
+fn look_ups_in(
+    kind: Kind,
+    file: &ElfFile<'_>,
+    section: u64,
+    names: &[u8],
+    ranges: &[Range],
+    out: &mut [Answer],
+)
+    ensures { AreAnswered (IsLookUpBy kind file.now section) names.now ranges.now out.old out.new }
 {
-    let found = match file.section_header_at(section) {
-        Ok(found) => found,
-        Err(error) => return refuse_all(names, ranges, Refusal::Elf(error), out),
-    };
-    let held = match found.get_data(file) {
-        Ok(held) => held,
-        Err(error) => return refuse_all(names, ranges, Refusal::Elf(error), out),
-    };
-    match held {
-        SectionData::HashTable(table) => {
-            look_ups_among(&table, names, ranges, found.link(), file, out)
-        }
-        _ => refuse_all(names, ranges, Refusal::OtherData, out),
+    match table_at(kind, file, section) {
+        Ok((table, linked)) => look_ups_among(&table, names, ranges, &linked, file, out),
+        Err(refusal) => refuse_all(names, ranges, refusal, out),
     }
 }
 
-/// Many look-ups by the hash table that is the section at an index, each for the name that is
-/// a range of `names`: as many as there are ranges, and as `out` has room for. Each answer is
-/// that of `xmas_elf_look_up` for the name, with its status; `DataRange` where the range
-/// passes the end of `names`.
+/// Many look-ups in the hash table of the ELF standard in the section at an index, each for the
+/// name in a range of `names`: as many as there are ranges, and as fit in `out`. Each result is
+/// that of `xmas_elf_look_up` for the name, with its status; `DataRange` if the range passes the
+/// end of `names`.
 ///
 /// The table, its symbols and their string table are found once for all of them.
 #[unsafe(no_mangle)]
@@ -292,60 +301,100 @@ pub extern "C" fn xmas_elf_look_ups(
     ranges: &[Range],
     out: &mut [Answer],
 )
-    ensures { AreAnswered (IsLookUpBy (file_of input.entry header.now) section)
+    ensures { AreAnswered (IsLookUpBy Sysv (file_of input.entry header.now) section)
         names.now ranges.now out.old out.new }
 {
-    look_ups_in(&header.file(input), section, names, ranges, out);
+    look_ups_in(Kind::Sysv, &header.file(input), section, names, ranges, out);
 }
 
-// The answer of the check with symbols.
-fn check<E: Entry + Record>(
-    table: &HashTable<'_>,
+/// Many look-ups in the GNU hash table in the section at an index, each for the name in a range of
+/// `names`: as many as there are ranges, and as fit in `out`. Each result is that of
+/// `xmas_elf_gnu_look_up` for the name, with its status; `DataRange` if the range passes the end of
+/// `names`.
+///
+/// The table, its symbols and their string table are found once for all of them.
+#[unsafe(no_mangle)]
+pub extern "C" fn xmas_elf_gnu_look_ups(
+    input: &[u8],
+    header: &Parsed,
+    section: u64,
+    names: &[u8],
+    ranges: &[Range],
+    out: &mut [Answer],
+)
+    ensures { AreAnswered (IsLookUpBy Gnu (file_of input.entry header.now) section)
+        names.now ranges.now out.old out.new }
+{
+    look_ups_in(Kind::Gnu, &header.file(input), section, names, ranges, out);
+}
+
+// Checks a table with the symbols of a table of this file.
+fn check_of<E: Entry + Record>(
+    table: &AnyTable<'_>,
     symbols: &Table<'_, E>,
     file: &ElfFile<'_>,
 ) -> Result<(), Refusal>
     ensures { IsChecked table.now (symbols_of E.fields E.text_in symbols.now file.now) result }
 {
-    match table.check(symbols, file) {
+    match table.check(&SymbolTable::new(*symbols, file)) {
         Ok(()) => Ok(()),
-        Err(error) => Err(Refusal::Elf(error)),
+        Err(error) => Err(Refusal::Link(error)),
     }
 }
 
-// The same with the symbols that the section at an index holds.
-fn check_with(table: &HashTable<'_>, section: u32, file: &ElfFile<'_>) -> Result<(), Refusal>
-    ensures { ChecksWith file.now table.now (content_at file.now section) result }
+// Checks a table with the symbols in the data of a section.
+fn check_with(
+    table: &AnyTable<'_>,
+    linked: &SectionData<'_>,
+    file: &ElfFile<'_>,
+) -> Result<(), Refusal>
+    ensures { ChecksWith file.now table.now (Ok (section_content linked.now)) result }
 {
-    match file.section_header_at(u64::from(section))?.get_data(file)? {
-        SectionData::SymbolTable32(symbols) => check(table, &symbols, file),
-        SectionData::SymbolTable64(symbols) => check(table, &symbols, file),
-        SectionData::DynSymbolTable32(symbols) => check(table, &symbols, file),
-        SectionData::DynSymbolTable64(symbols) => check(table, &symbols, file),
+    match linked {
+        SectionData::SymbolTable32(symbols) => check_of(table, symbols, file),
+        SectionData::SymbolTable64(symbols) => check_of(table, symbols, file),
+        SectionData::DynSymbolTable32(symbols) => check_of(table, symbols, file),
+        SectionData::DynSymbolTable64(symbols) => check_of(table, symbols, file),
         _ => Err(Refusal::OtherData),
     }
 }
 
-// The answer of the check of the table that is the section at an index.
-fn check_in(file: &ElfFile<'_>, section: u64) -> Result<(), Refusal>
-    ensures { WithTable file.now section (ChecksWith file.now) result }
+// Checks the hash table in the section at an index.
+fn check_in(kind: Kind, file: &ElfFile<'_>, section: u64) -> Result<(), Refusal>
+    ensures { WithTable kind file.now section (ChecksWith file.now) result }
 {
-    let found = file.section_header_at(section)?;
-    match found.get_data(file)? {
-        SectionData::HashTable(table) => check_with(&table, found.link(), file),
-        _ => Err(Refusal::OtherData),
+    match table_at(kind, file, section) {
+        Ok((table, linked)) => check_with(&table, &linked, file),
+        Err(refusal) => Err(refusal),
     }
 }
 
-/// Whether look-ups by the hash table that is the section at an index find each symbol that they
-/// should: the answer of `HashTable::check`, whose cost is said there.
+/// Whether look-ups in the hash table of the ELF standard in the section at an index find each
+/// symbol that they should: the result of `HashTable::check`, which states the cost.
 ///
-/// Refused as `xmas_elf_look_up` for want of a table or symbols, and as the check is.
+/// Errors: those of `xmas_elf_look_up` if there is no table or no symbols, and those of the check.
 #[unsafe(no_mangle)]
 pub extern "C" fn xmas_elf_check_hash(input: &[u8], header: &Parsed, section: u64) -> u32
     ensures { (answer : Result (Unit {0}) Refusal)
-        × WithTable (file_of input.entry header.now) section
+        × WithTable Sysv (file_of input.entry header.now) section
         (ChecksWith (file_of input.entry header.now)) answer
         × GivesHere answer tt result tt }
 {
-    give(check_in(&header.file(input), section), &mut ())
+    give(check_in(Kind::Sysv, &header.file(input), section), &mut ())
+}
+
+/// Whether look-ups in the GNU hash table in the section at an index find each symbol that they
+/// should: the result of `GnuHashTable::check`, in one pass over the table and one over the symbols
+/// and their names.
+///
+/// Errors: those of `xmas_elf_gnu_look_up` if there is no table or no symbols, and those of the
+/// check.
+#[unsafe(no_mangle)]
+pub extern "C" fn xmas_elf_check_gnu_hash(input: &[u8], header: &Parsed, section: u64) -> u32
+    ensures { (answer : Result (Unit {0}) Refusal)
+        × WithTable Gnu (file_of input.entry header.now) section
+        (ChecksWith (file_of input.entry header.now)) answer
+        × GivesHere answer tt result tt }
+{
+    give(check_in(Kind::Gnu, &header.file(input), section), &mut ())
 }

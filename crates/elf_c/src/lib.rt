@@ -1,25 +1,26 @@
-//! The ELF reader for C and for all that calls C:
-//! a static library whose exports answer by numbers alone.
+//! The ELF reader for C, and for all languages that call C:
+//! a static library whose exports return numbers only.
 //!
-//! Each export takes the bytes of a file as a slice, and what `xmas_elf_open` said of its
-//! header. It answers by a status and fills a record of numbers and of ranges of the input
-//! where the status is 0. None keeps anything, takes memory or wants anything of what it is
-//! given; `status` numbers the refusals, and `message` has their texts. The C declarations
-//! are `bindings/include/xmas_elf.h`.
+//! Each export takes the bytes of a file as a slice, and the header that `xmas_elf_open` read. It
+//! returns a status, and fills a record of numbers and of input ranges if the status is 0. No
+//! export keeps anything, allocates memory or requires anything of its arguments. `status` numbers
+//! the errors, and `message` has their texts. The C declarations are `bindings/include/xmas_elf.h`.
 #![tactic(auto)]
 
 pub mod addresses;
 mod batch;
 pub mod build_id;
 pub mod dynamic;
+pub mod dynamic_texts;
 pub mod file;
-pub mod gnu_hash;
 pub mod hash;
+mod hash_tables;
 pub mod look_ups;
 pub mod message;
 pub mod names;
 pub mod notes;
-pub mod records;
+pub mod packed_relocations;
+pub mod relocations;
 pub mod sections;
 pub mod segments;
 pub mod status;

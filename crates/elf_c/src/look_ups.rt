@@ -1,4 +1,4 @@
-//! Many look-ups by one call (this project's own).
+//! Many look-ups in one call (this project's own).
 
 ghost use Rattle.std.specs.Prelude.{◌≡◌, Err, IsOkAnd};
 ghost use Rattle.elf_c.specs.LookUps.{AreAnswered, IfUtf8, IsForRange, IsNamed, answered};
@@ -9,22 +9,22 @@ use crate::status::{Numbered, OK, Refusal};
 use elf_base::ElfError;
 use std::str::from_utf8;
 
-/// What one look-up of many says, in numbers.
+/// The result of one of many look-ups, as numbers.
 #[repr(C)]
 #[derive(Clone, Copy, Debug)]
 pub struct Answer {
-    /// 0, or the number of the refusal of this look-up; the numbers behind it are then 0.
+    /// 0, or the number of the error of this look-up; the other fields are then 0.
     pub status: u32,
-    /// 1 where a symbol is found, and else 0.
+    /// 1 if a symbol is found, otherwise 0.
     pub found: u32,
     /// The index of the symbol, or 0.
     pub index: u32,
-    /// How many entries of the table the look-up came by.
+    /// The number of table entries that the look-up visited.
     pub looked_at: u32,
 }
 
 impl Answer {
-    // What a look-up says, or why it is refused.
+    // The answer for the result of a look-up.
     #[inline(always)]
     pub(crate) fn of(answer: Result<LookUp, Refusal>) -> Answer
         ensures { result ≡ answered answer }
@@ -46,7 +46,7 @@ impl Answer {
     }
 }
 
-// The name that is a range of some bytes.
+// The name in a range of `names`.
 #[inline(always)]
 pub(crate) fn name_at<'a>(names: &'a [u8], range: &Range) -> Result<&'a str, Refusal>
     ensures { IsForRange (IfUtf8 IsNamed) names.now range.now result }
@@ -57,7 +57,7 @@ pub(crate) fn name_at<'a>(names: &'a [u8], range: &Range) -> Result<&'a str, Ref
     }
 }
 
-// The refusal of a look-up whose name is a range of some bytes, so far as that can be read.
+// `refusal`, unless the name itself cannot be read.
 fn refuse(names: &[u8], range: &Range, refusal: Refusal) -> Result<LookUp, Refusal>
     ensures { IsForRange (IfUtf8 (λ _ answer. answer ≡ Err refusal)) names.now range.now result }
 {
@@ -67,7 +67,7 @@ fn refuse(names: &[u8], range: &Range, refusal: Refusal) -> Result<LookUp, Refus
     }
 }
 
-// Refuses each of the look-ups.
+// Stores the error for each of the look-ups.
 pub(crate) fn refuse_all(names: &[u8], ranges: &[Range], refusal: Refusal, out: &mut [Answer])
     ensures { AreAnswered (IfUtf8 (λ _ answer. answer ≡ Err refusal))
         names.now ranges.now out.old out.new }

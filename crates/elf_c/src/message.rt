@@ -1,115 +1,89 @@
 //! The texts of the statuses.
 
-ghost use Rattle.std.specs.Prelude.{◌≡◌, length};
-ghost use Rattle.elf_c.specs.Status.{refusal_number};
-ghost use Rattle.elf_c.specs.Texts.{elf_error_with, link_error_with, refusal_message};
-ghost use Rattle.elf_c.specs.Texts.{refusal_with, text_with, written};
+ghost use Rattle.std.specs.Prelude.{◌≡◌, ℕ, List, Some, length};
+ghost use Rattle.elf_c.specs.Status.{refusal_message, refusal_number};
+ghost use Rattle.elf_c.specs.Texts.{HasNumber, IsStatusText, error_within, written};
 ghost use Rattle.elf_c.specs.declared.status.Refusal.{Refusal};
 
 use crate::status::Refusal;
 use elf_base::ElfError;
 use elf_linking::LinkError;
 
-// The refusal of `xmas_elf` with a number.
-#[tactic(auto, unfolding(crate::specs::Texts::elf_error_with))]
-fn elf_error_with(number: u32) -> Option<ElfError>
-    ensures { result ≡ elf_error_with number }
-{
-    match number {
-        1 => Some(ElfError::ShortPart1),
-        2 => Some(ElfError::NoMagic),
-        3 => Some(ElfError::InvalidClass),
-        4 => Some(ElfError::ShortHeaders),
-        5 => Some(ElfError::ReservedIndex),
-        6 => Some(ElfError::ShortSectionHeader),
-        7 => Some(ElfError::UnknownClass),
-        8 => Some(ElfError::SmallEntry),
-        9 => Some(ElfError::NoProgramHeaders),
-        10 => Some(ElfError::ShortProgramHeader),
-        11 => Some(ElfError::InvalidShType),
-        12 => Some(ElfError::NullName),
-        13 => Some(ElfError::ShortSectionOffset),
-        14 => Some(ElfError::TextStart),
-        15 => Some(ElfError::TextEnd),
-        16 => Some(ElfError::TextUtf8),
-        17 => Some(ElfError::NullData),
-        18 => Some(ElfError::DataRange),
-        19 => Some(ElfError::NotMultiple),
-        20 => Some(ElfError::ShortData),
-        21 => Some(ElfError::Note32),
-        22 => Some(ElfError::NoteName),
-        23 => Some(ElfError::NoteDesc),
-        24 => Some(ElfError::NoStrtab),
-        25 => Some(ElfError::StrtabType),
-        26 => Some(ElfError::NoDynstr),
-        27 => Some(ElfError::InvalidPhType),
-        28 => Some(ElfError::InvalidTag),
-        29 => Some(ElfError::InvalidValue),
-        30 => Some(ElfError::InvalidPtr),
-        31 => Some(ElfError::InvalidBinding),
-        32 => Some(ElfError::InvalidSymbolType),
-        33 => Some(ElfError::ReservedSymbolIndex),
-        34 => Some(ElfError::NoShIndex),
-        35 => Some(ElfError::ExpectedShIndex),
-        36 => Some(ElfError::SymbolIndex),
-        37 => Some(ElfError::WideIndex),
-        38 => Some(ElfError::BadMagic),
-        39 => Some(ElfError::HeaderSize),
-        40 => Some(ElfError::NoClass),
-        41 => Some(ElfError::ClassMismatch),
-        42 => Some(ElfError::NoVersion),
-        43 => Some(ElfError::NoDataFormat),
-        44 => Some(ElfError::PhTableRange),
-        45 => Some(ElfError::ShTableRange),
-        46 => Some(ElfError::PhSizeMismatch),
-        47 => Some(ElfError::EntryPointRange),
-        48 => Some(ElfError::ShLibUsed),
-        49 => Some(ElfError::BadAlign),
-        50 => Some(ElfError::BucketIndex),
-        51 => Some(ElfError::ChainIndex),
-        52 => Some(ElfError::ChainSum),
-        53 => Some(ElfError::HashData),
-        54 => Some(ElfError::HashCycle),
-        55 => Some(ElfError::HashMissing),
-        _ => None,
-    }
-}
-
-// That of `elf_linking`, but for those that are of `xmas_elf`.
-#[tactic(auto, unfolding(crate::specs::Texts::link_error_with))]
-fn link_error_with(number: u32) -> Option<LinkError>
-    ensures { result ≡ link_error_with number }
-{
-    match number {
-        101 => Some(LinkError::ShortTable),
-        102 => Some(LinkError::UnknownClass),
-        103 => Some(LinkError::BloomCount),
-        104 => Some(LinkError::BucketIndex),
-        105 => Some(LinkError::ChainIndex),
-        106 => Some(LinkError::ChainData),
-        107 => Some(LinkError::SymbolIndex),
-        108 => Some(LinkError::Missing),
-        109 => Some(LinkError::NoDynamic),
-        110 => Some(LinkError::NoEntry),
-        111 => Some(LinkError::Address),
-        112 => Some(LinkError::ShortNote),
-        113 => Some(LinkError::NotMultiple),
-        _ => None,
-    }
-}
-
-// The refusal with a number.
-#[tactic(auto, unfolding(crate::specs::Texts::refusal_with))]
+// The error with a number; `Refusal::Elf` for an error that `elf_linking` passes on, too.
 fn refusal_with(number: u32) -> Option<Refusal>
-    ensures { result ≡ refusal_with number }
+    ensures found { HasNumber number result }
+    ensures only { (refusal : Refusal) → refusal_number refusal ≡ number
+        → result ≡ Some (error_within refusal) }
 {
-    if let Some(error) = elf_error_with(number) {
-        return Some(Refusal::Elf(error));
-    }
-    if let Some(error) = link_error_with(number) {
-        return Some(Refusal::Link(error));
-    }
     match number {
+        1 => Some(Refusal::Elf(ElfError::ShortPart1)),
+        2 => Some(Refusal::Elf(ElfError::NoMagic)),
+        3 => Some(Refusal::Elf(ElfError::InvalidClass)),
+        4 => Some(Refusal::Elf(ElfError::ShortHeaders)),
+        5 => Some(Refusal::Elf(ElfError::ReservedIndex)),
+        6 => Some(Refusal::Elf(ElfError::ShortSectionHeader)),
+        7 => Some(Refusal::Elf(ElfError::UnknownClass)),
+        8 => Some(Refusal::Elf(ElfError::SmallEntry)),
+        9 => Some(Refusal::Elf(ElfError::NoProgramHeaders)),
+        10 => Some(Refusal::Elf(ElfError::ShortProgramHeader)),
+        11 => Some(Refusal::Elf(ElfError::InvalidShType)),
+        12 => Some(Refusal::Elf(ElfError::NullName)),
+        13 => Some(Refusal::Elf(ElfError::ShortSectionOffset)),
+        14 => Some(Refusal::Elf(ElfError::TextStart)),
+        15 => Some(Refusal::Elf(ElfError::TextEnd)),
+        16 => Some(Refusal::Elf(ElfError::TextUtf8)),
+        17 => Some(Refusal::Elf(ElfError::NullData)),
+        18 => Some(Refusal::Elf(ElfError::DataRange)),
+        19 => Some(Refusal::Elf(ElfError::NotMultiple)),
+        20 => Some(Refusal::Elf(ElfError::ShortData)),
+        21 => Some(Refusal::Elf(ElfError::Note32)),
+        22 => Some(Refusal::Elf(ElfError::NoteName)),
+        23 => Some(Refusal::Elf(ElfError::NoteDesc)),
+        24 => Some(Refusal::Elf(ElfError::NoStrtab)),
+        25 => Some(Refusal::Elf(ElfError::StrtabType)),
+        26 => Some(Refusal::Elf(ElfError::NoDynstr)),
+        27 => Some(Refusal::Elf(ElfError::InvalidPhType)),
+        28 => Some(Refusal::Elf(ElfError::InvalidTag)),
+        29 => Some(Refusal::Elf(ElfError::InvalidValue)),
+        30 => Some(Refusal::Elf(ElfError::InvalidPtr)),
+        31 => Some(Refusal::Elf(ElfError::InvalidBinding)),
+        32 => Some(Refusal::Elf(ElfError::InvalidSymbolType)),
+        33 => Some(Refusal::Elf(ElfError::ReservedSymbolIndex)),
+        34 => Some(Refusal::Elf(ElfError::NoShIndex)),
+        35 => Some(Refusal::Elf(ElfError::ExpectedShIndex)),
+        36 => Some(Refusal::Elf(ElfError::SymbolIndex)),
+        37 => Some(Refusal::Elf(ElfError::WideIndex)),
+        38 => Some(Refusal::Elf(ElfError::BadMagic)),
+        39 => Some(Refusal::Elf(ElfError::HeaderSize)),
+        40 => Some(Refusal::Elf(ElfError::NoClass)),
+        41 => Some(Refusal::Elf(ElfError::ClassMismatch)),
+        42 => Some(Refusal::Elf(ElfError::NoVersion)),
+        43 => Some(Refusal::Elf(ElfError::NoDataFormat)),
+        44 => Some(Refusal::Elf(ElfError::PhTableRange)),
+        45 => Some(Refusal::Elf(ElfError::ShTableRange)),
+        46 => Some(Refusal::Elf(ElfError::PhSizeMismatch)),
+        47 => Some(Refusal::Elf(ElfError::EntryPointRange)),
+        48 => Some(Refusal::Elf(ElfError::ShLibUsed)),
+        49 => Some(Refusal::Elf(ElfError::BadAlign)),
+        50 => Some(Refusal::Elf(ElfError::BucketIndex)),
+        51 => Some(Refusal::Elf(ElfError::ChainIndex)),
+        52 => Some(Refusal::Elf(ElfError::ChainSum)),
+        53 => Some(Refusal::Elf(ElfError::HashData)),
+        54 => Some(Refusal::Elf(ElfError::HashCycle)),
+        55 => Some(Refusal::Elf(ElfError::HashMissing)),
+        101 => Some(Refusal::Link(LinkError::ShortTable)),
+        102 => Some(Refusal::Link(LinkError::UnknownClass)),
+        103 => Some(Refusal::Link(LinkError::BloomCount)),
+        104 => Some(Refusal::Link(LinkError::BucketIndex)),
+        105 => Some(Refusal::Link(LinkError::ChainIndex)),
+        106 => Some(Refusal::Link(LinkError::ChainData)),
+        107 => Some(Refusal::Link(LinkError::SymbolIndex)),
+        108 => Some(Refusal::Link(LinkError::Missing)),
+        109 => Some(Refusal::Link(LinkError::NoDynamic)),
+        110 => Some(Refusal::Link(LinkError::NoEntry)),
+        111 => Some(Refusal::Link(LinkError::Address)),
+        112 => Some(Refusal::Link(LinkError::ShortNote)),
+        113 => Some(Refusal::Link(LinkError::NotMultiple)),
         201 => Some(Refusal::OtherData),
         202 => Some(Refusal::NoRecord),
         203 => Some(Refusal::NotFound),
@@ -118,7 +92,7 @@ fn refusal_with(number: u32) -> Option<Refusal>
 }
 
 impl Refusal {
-    /// The text of the refusal: that of the error, where it is one of a library.
+    /// The text of the error; for an error of a library, its text.
     pub fn message(&self) -> &'static str
         ensures { result.now ≡ refusal_message self.now }
     {
@@ -132,9 +106,11 @@ impl Refusal {
     }
 }
 
-// The text of a status, of no bytes where no refusal has it.
+// The text of a status, which is empty if no error has it.
 fn text_with(status: u32) -> &'static str
-    ensures { result.now ≡ text_with status }
+    ensures text { IsStatusText status result.now }
+    ensures means { (refusal : Refusal) → refusal_number refusal ≡ status
+        → result.now ≡ refusal_message refusal }
 {
     match refusal_with(status) {
         Some(refusal) => refusal.message(),
@@ -142,7 +118,7 @@ fn text_with(status: u32) -> &'static str
     }
 }
 
-// Puts as much of a text as fits to the front of `out`, and says how many bytes the text has.
+// Writes as much of a text as fits to the start of `out`, and returns the length of the text.
 fn put(text: &str, out: &mut [u8]) -> usize
     ensures size { result ≡ length text.now }
     ensures text { out.new ≡ written text.now out.old }
@@ -153,13 +129,13 @@ fn put(text: &str, out: &mut [u8]) -> usize
     text.len()
 }
 
-/// Writes the text of a status to the front of `out`, as much as fits, and answers how many bytes
-/// the text has. It is ASCII, with no zero byte behind it. A status that is no refusal's, as 0,
-/// has a text of no bytes.
+/// Writes the text of a status to the start of `out`, as much as fits, and returns the length of
+/// the text in bytes. It is ASCII, without a zero byte at its end. A status that is not an error,
+/// such as 0, has an empty text.
 #[unsafe(no_mangle)]
 pub extern "C" fn xmas_elf_message(status: u32, out: &mut [u8]) -> usize
-    ensures size { result ≡ length (text_with status) }
-    ensures text { out.new ≡ written (text_with status) out.old }
+    ensures text { (text : List ℕ) × IsStatusText status text × (result ≡ length text)
+        × (out.new ≡ written text out.old) }
     ensures means { (refusal : Refusal) → refusal_number refusal ≡ status
         → (result ≡ length (refusal_message refusal))
         × (out.new ≡ written (refusal_message refusal) out.old) }

@@ -1,4 +1,4 @@
-//! Ranges of the input, and the texts there (gABI, "String Table").
+//! Input ranges, and their texts (gABI, "String Table").
 
 ghost use Rattle.std.specs.Prelude.{◌≡◌, ◌+◌, ◌≤◌, ℕ, IfOk, Result, length};
 ghost use Rattle.elf_base.specs.Lent.{Answers};
@@ -6,44 +6,44 @@ ghost use Rattle.elf_base.specs.Refusal.{and_then};
 ghost use Rattle.elf_c.specs.Batch.{Fills};
 ghost use Rattle.elf_c.specs.Parsed.{file_of};
 ghost use Rattle.elf_c.specs.Records.{found_in, name_answer, name_range};
-ghost use Rattle.elf_c.specs.Records.{name_range_by, names_range, text_range};
+ghost use Rattle.elf_c.specs.Records.{name_range_by, names_range, section_text_of, text_range};
 ghost use Rattle.elf_c.specs.Status.{Gives, GivesHere};
 ghost use Rattle.elf_c.specs.declared.status.Refusal.{Refusal};
 ghost use Rattle.xmas_elf.specs.Ranges.{range_of};
-ghost use Rattle.xmas_elf.specs.SectionHeader.{section_of};
-ghost use Rattle.xmas_elf.specs.SectionList.{section_list};
+ghost use Rattle.xmas_elf.specs.SectionHeader.{section_list, section_of};
 ghost use Rattle.xmas_elf.specs.SectionTable.{table_sections};
 
 use crate::batch::{Records, fill};
 use crate::file::Parsed;
+use crate::sections::data_at;
 use crate::status::{Numbered, OK, Refusal, give};
 use elf_base::ElfError;
 use elf_base::bytes::text_at;
 use xmas_elf::ElfFile;
 use xmas_elf::sections::{SectionHeader, SectionTable, ShType};
 
-/// As many bytes of the input from a place on.
+/// A byte range of the input.
 #[repr(C)]
 #[derive(Clone, Copy, Debug)]
 pub struct Range {
-    /// The place of the first byte, in bytes from the start of the input.
+    /// The offset of the first byte, from the start of the input.
     pub offset: u64,
-    /// How many bytes they are.
+    /// The number of bytes.
     pub size: u64,
 }
 
-/// Where one name of many stands.
+/// The range of one of many names.
 #[repr(C)]
 #[derive(Clone, Copy, Debug)]
 pub struct Name {
-    /// The bytes of the name, without the zero byte behind it; empty and at 0 where it is refused.
+    /// The range of the name, without its zero byte; empty and at 0 if there is an error.
     pub range: Range,
-    /// 0, or the number of the refusal of this name.
+    /// 0, or the number of the error for this name.
     pub status: u32,
 }
 
 impl Name {
-    // Where a name stands, or why it has none.
+    // The record for the range of a name, or for its error.
     #[inline(always)]
     pub(crate) fn of(answer: Result<Range, ElfError>) -> Name
         ensures { result ≡ name_answer answer }
@@ -73,7 +73,7 @@ pub(crate) fn bytes_in<'a>(input: &'a [u8], part: &Range) -> Result<&'a [u8], El
     Ok(&input[start..start + size])
 }
 
-// Where the text at an index of a range stands.
+// The range of the text at an index of a range.
 #[inline(always)]
 pub(crate) fn text_in(input: &[u8], part: &Range, index: u64) -> Result<Range, ElfError>
     ensures { result ≡ text_range input.now part.now index }
@@ -86,11 +86,10 @@ pub(crate) fn text_in(input: &[u8], part: &Range, index: u64) -> Result<Range, E
     })
 }
 
-/// Where in the input the text at an index of a range stands, in bytes from the start of the range:
-/// up to the next zero byte of the range.
+/// The input range of the text at byte `index` of a range, up to the next zero byte of the range.
 ///
-/// Refused with `DataRange` where the range passes the end of the input,
-/// and as `bytes::text_at` is.
+/// Errors: `DataRange` if the range extends past the end of the input;
+/// those of `bytes::text_at`.
 #[unsafe(no_mangle)]
 pub extern "C" fn xmas_elf_text(input: &[u8], part: &Range, index: u64, out: &mut Range) -> u32
     ensures { Gives (text_range input.now part.now index) out.old result out.new }
@@ -98,7 +97,7 @@ pub extern "C" fn xmas_elf_text(input: &[u8], part: &Range, index: u64, out: &mu
     give(text_in(input, part, index), out)
 }
 
-// Where the name table stands.
+// The range of the name table.
 #[tactic(auto, unfolding(xmas_elf::specs::NameTable::names_section_of))]
 #[inline(always)]
 fn names_in(file: &ElfFile<'_>) -> Result<Range, ElfError>
@@ -116,10 +115,11 @@ fn names_in(file: &ElfFile<'_>) -> Result<Range, ElfError>
     })
 }
 
-/// Where the name table stands, in which the names of sections are:
-/// to be taken once for many names.
+/// The range of the name table, which contains the names of sections;
+/// one call is enough for many names.
 ///
-/// It goes on to the end of the input. Refused as `ElfFile::get_shstr` is for want of a table.
+/// It extends to the end of the input. The errors are those of `ElfFile::get_shstr` for a missing
+/// table.
 #[unsafe(no_mangle)]
 pub extern "C" fn xmas_elf_names(input: &[u8], header: &Parsed, out: &mut Range) -> u32
     ensures { Gives (names_range (file_of input.entry header.now)) out.old result out.new }
@@ -127,7 +127,7 @@ pub extern "C" fn xmas_elf_names(input: &[u8], header: &Parsed, out: &mut Range)
     give(names_in(&header.file(input)), out)
 }
 
-// Where the name of a section stands, by where the name table does.
+// The range of a section's name, by that of the name table.
 #[inline(always)]
 fn name_of(
     input: &[u8],
@@ -142,7 +142,7 @@ fn name_of(
     }
 }
 
-// Where the name of the section at an index stands.
+// The range of the name of the section at an index.
 #[inline(always)]
 fn name_at(file: &ElfFile<'_>, index: u64) -> Result<Range, ElfError>
     ensures { result ≡ and_then (section_of file.now index) (name_range file.now) }
@@ -151,8 +151,8 @@ fn name_at(file: &ElfFile<'_>, index: u64) -> Result<Range, ElfError>
     name_of(file.input, names_in(file), &section)
 }
 
-/// Where in the input the name of the section at an index stands. Refused as
-/// `ElfFile::section_header_at` and as `SectionHeader::get_name`.
+/// The input range of the name of the section at an index. The errors are those of
+/// `ElfFile::section_header_at` and `SectionHeader::get_name`.
 #[unsafe(no_mangle)]
 pub extern "C" fn xmas_elf_section_name(
     input: &[u8],
@@ -166,7 +166,7 @@ pub extern "C" fn xmas_elf_section_name(
     give(name_at(&header.file(input), index), out)
 }
 
-// The sections of a table, and where the table of their names stands.
+// The sections of a table, and the range of the table of their names.
 #[derive(Clone, Copy)]
 struct SectionNames<'b, 'a> {
     sections: SectionTable<'b, 'a>,
@@ -198,13 +198,12 @@ impl Records for SectionNames<'_, '_> {
     }
 }
 
-/// Where the names of the sections from index `first` on stand, each as by `xmas_elf_section_name`
-/// and with a status of its own: as many as `out` has room for, or all that follow. Their number
-/// goes to `count`; what of `out` is behind them stays. They are those of the sections that
-/// `xmas_elf_sections` gives.
+/// The ranges of the names of the sections from index `first` on, each as in
+/// `xmas_elf_section_name` and with its own status: as many as fit in `out`, or all. `count` is set
+/// to their number; the rest of `out` is unchanged. The sections are those of `xmas_elf_sections`.
 ///
-/// Refused with `NoRecord` where there is no section at `first`;
-/// `out` and `count` then stay as they were.
+/// Error: `NoRecord` if there is no section at `first`;
+/// `out` and `count` are then unchanged.
 #[unsafe(no_mangle)]
 pub extern "C" fn xmas_elf_section_names(
     input: &[u8],
@@ -226,4 +225,30 @@ pub extern "C" fn xmas_elf_section_names(
         input,
     };
     give(fill(names, first, out), count)
+}
+
+// The range of the text at an index of the data of a section.
+#[inline(always)]
+fn text_of_section(file: &ElfFile<'_>, section: u64, index: u64) -> Result<Range, ElfError>
+    ensures { result ≡ section_text_of file.now section index }
+{
+    text_in(file.input, &data_at(file, section)?, index)
+}
+
+/// The input range of the text at byte `index` of the data of the section at index `section`, such
+/// as a symbol's name in the section that the section of symbols links to (sh_link).
+///
+/// Errors: those of `xmas_elf_section_data`; those of `bytes::text_at`.
+#[unsafe(no_mangle)]
+pub extern "C" fn xmas_elf_section_text(
+    input: &[u8],
+    header: &Parsed,
+    section: u64,
+    index: u64,
+    out: &mut Range,
+) -> u32
+    ensures { Gives (section_text_of (file_of input.entry header.now) section index)
+        out.old result out.new }
+{
+    give(text_of_section(&header.file(input), section, index), out)
 }

@@ -13,21 +13,21 @@ use elf_base::bytes::{Order, read_u32};
 use elf_base::header::{Data_, byte_order};
 use elf_linking::LinkError;
 
-/// A note, and where the next one begins.
+/// A note, and the range after it.
 #[repr(C)]
 #[derive(Clone, Copy, Debug)]
 pub struct NoteRange {
-    /// The name, as many bytes as the note says: with the zero byte that ends it.
+    /// The name, as long as the note says, including the zero byte at its end.
     pub name: Range,
     /// The description.
     pub desc: Range,
-    /// What follows the note and its padding: the next notes.
+    /// The bytes after the note and its padding, where the next note begins.
     pub rest: Range,
-    /// What the description means, by the name.
+    /// The type of the note, whose meaning depends on the name.
     pub type_: u32,
 }
 
-// The next multiple of a step from here on: of 8 where the alignment is 8, and else of 4.
+// `place`, rounded up to a multiple of 8 if the alignment is 8, otherwise of 4.
 #[tactic(auto, unfolding(elf_linking::specs::Notes::next_step))]
 #[inline(always)]
 fn next_step(align: u64, place: u64) -> u64
@@ -42,7 +42,7 @@ fn next_step(align: u64, place: u64) -> u64
     }
 }
 
-// The note at the front of these bytes, which stand at `start`.
+// The note at the start of these bytes, which begin at `start` in the input.
 pub(crate) fn first_note(
     bytes: &[u8],
     start: u64,
@@ -84,7 +84,7 @@ pub(crate) fn first_note(
     })
 }
 
-// The note at the front of a range.
+// The note at the start of a range.
 #[inline(always)]
 fn note_in(input: &[u8], header: &Parsed, part: &Range, align: u64) -> Result<NoteRange, Refusal>
     ensures { result ≡ note_in input.now (order_of header.now.encoding) part.now align }
@@ -95,11 +95,11 @@ fn note_in(input: &[u8], header: &Parsed, part: &Range, align: u64) -> Result<No
     first_note(bytes, part.offset, order, align)
 }
 
-/// The note that a range begins with, and the range of what follows it: as
-/// `elf_linking::notes::Notes` gives its next item, by the alignment of the section or segment.
+/// The note at the start of a range, and the range of the bytes after it: the next item of
+/// `elf_linking::notes::Notes`, with the alignment of the section or segment.
 ///
-/// Refused with `DataRange` where the range passes the end of the input, with `NoRecord` where it
-/// is empty, and with `ShortNote` where it holds no whole note.
+/// Errors: `DataRange` if the range extends past the end of the input; `NoRecord` if it is empty;
+/// `ShortNote` if it does not contain a whole note.
 #[unsafe(no_mangle)]
 pub extern "C" fn xmas_elf_note(
     input: &[u8],

@@ -7,8 +7,7 @@ ghost use Rattle.elf_c.specs.Parsed.{file_of};
 ghost use Rattle.elf_c.specs.Records.{found_in, found_section, section_range, section_record};
 ghost use Rattle.elf_c.specs.Status.{Gives, GivesHere};
 ghost use Rattle.elf_c.specs.declared.status.Refusal.{Refusal};
-ghost use Rattle.xmas_elf.specs.SectionHeader.{section_of};
-ghost use Rattle.xmas_elf.specs.SectionList.{section_list};
+ghost use Rattle.xmas_elf.specs.SectionHeader.{section_list, section_of};
 ghost use Rattle.xmas_elf.specs.SectionTable.{table_sections};
 
 use crate::batch::{Records, fill};
@@ -20,29 +19,29 @@ use std::str::from_utf8;
 use xmas_elf::ElfFile;
 use xmas_elf::sections::{SectionHeader, SectionTable};
 
-/// A section header, in numbers.
+/// A section header, as numbers.
 #[repr(C)]
 #[derive(Clone, Copy, Debug)]
 pub struct Section {
     /// The flags of the section.
     pub flags: u64,
-    /// The address of the section in memory, or 0.
+    /// The virtual address of the section, or 0.
     pub address: u64,
-    /// Where the section's data lies, in bytes from the start of the file.
+    /// The file offset of the section in bytes.
     pub offset: u64,
-    /// How many bytes the section has.
+    /// The size of the section in bytes.
     pub size: u64,
     /// The alignment of the section's address, in bytes.
     pub align: u64,
-    /// How many bytes an entry of the section has, or 0.
+    /// The size of an entry of the section in bytes, or 0.
     pub entry_size: u64,
-    /// The index of the section's name in the name table, in bytes.
+    /// The offset of the section's name in the name table, in bytes.
     pub name: u32,
-    /// What the section holds.
+    /// The type of the section.
     pub type_: u32,
-    /// The index of a section that this one is linked to, if its type has one.
+    /// The index of a section that this one links to, for the types that have one.
     pub link: u32,
-    /// More about the section, as its type has it.
+    /// Extra information, which depends on the type of the section.
     pub info: u32,
 }
 
@@ -76,7 +75,7 @@ fn section_at(file: &ElfFile<'_>, index: u64) -> Result<Section, ElfError>
     Ok(Section::of(&file.section_header_at(index)?))
 }
 
-/// The section header at an index. Refused as `ElfFile::section_header_at` is.
+/// The section header at an index; the errors are those of `ElfFile::section_header_at`.
 #[unsafe(no_mangle)]
 pub extern "C" fn xmas_elf_section(
     input: &[u8],
@@ -113,12 +112,12 @@ impl Records for SectionTable<'_, '_> {
     }
 }
 
-/// The section headers from index `first` on, each as by `xmas_elf_section`: as many as `out` has
-/// room for, or all that follow, up to the count of sections or the first that is refused. Their
-/// number goes to `count`; what of `out` is behind them stays.
+/// The section headers from index `first` on, each as in `xmas_elf_section`: as many as fit in
+/// `out`, or all, up to the number of sections or the first error. `count` is set to their number;
+/// the rest of `out` is unchanged.
 ///
-/// Refused with `NoRecord` where there is none at `first`;
-/// `out` and `count` then stay as they were.
+/// Error: `NoRecord` if there is none at `first`;
+/// `out` and `count` are then unchanged.
 #[unsafe(no_mangle)]
 pub extern "C" fn xmas_elf_sections(
     input: &[u8],
@@ -136,7 +135,7 @@ pub extern "C" fn xmas_elf_sections(
     give(fill(file.section_table(), first, out), count)
 }
 
-// Where the data of the section at an index stands.
+// The range of the data of the section at an index.
 #[inline(always)]
 pub(crate) fn data_at(file: &ElfFile<'_>, index: u64) -> Result<Range, ElfError>
     ensures { result ≡ and_then (section_of file.now index) (section_range file.now) }
@@ -148,8 +147,8 @@ pub(crate) fn data_at(file: &ElfFile<'_>, index: u64) -> Result<Range, ElfError>
     })
 }
 
-/// Where in the input the data of the section at an index stands. Refused as
-/// `ElfFile::section_header_at` and as `SectionHeader::file_range`.
+/// The input range of the data of the section at an index. The errors are those of
+/// `ElfFile::section_header_at` and `SectionHeader::file_range`.
 #[unsafe(no_mangle)]
 pub extern "C" fn xmas_elf_section_data(
     input: &[u8],
@@ -178,8 +177,8 @@ fn section_with_name(file: &ElfFile<'_>, name: &[u8]) -> Result<Section, Refusal
     }
 }
 
-/// The first section with a name, as by `ElfFile::find_section_by_name`. Refused with `NotFound`
-/// where none has it, as where it isn't UTF-8.
+/// The first section with a name, as in `ElfFile::find_section_by_name`. `NotFound` if no section
+/// has it, or if it isn't UTF-8.
 #[unsafe(no_mangle)]
 pub extern "C" fn xmas_elf_find_section(
     input: &[u8],

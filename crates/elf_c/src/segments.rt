@@ -1,43 +1,47 @@
 //! The segments of a file (gABI, "Program Header").
 
-ghost use Rattle.std.specs.Prelude.{◌≡◌, Ok};
+ghost use Rattle.std.specs.Prelude.{◌≡◌, ℕ, Ok, Result};
 ghost use Rattle.elf_base.specs.Refusal.{and_then};
+ghost use Rattle.elf_c.specs.Batch.{Fills};
 ghost use Rattle.elf_c.specs.Parsed.{file_of};
-ghost use Rattle.elf_c.specs.Records.{segment_range, segment_record};
-ghost use Rattle.elf_c.specs.Status.{Gives};
+ghost use Rattle.elf_c.specs.Records.{found_in, segment_range, segment_record};
+ghost use Rattle.elf_c.specs.Status.{Gives, GivesHere};
+ghost use Rattle.elf_c.specs.declared.status.Refusal.{Refusal};
 ghost use Rattle.elf_records.specs.ProgramNumbers.{ph_type_number};
-ghost use Rattle.xmas_elf.specs.ProgramHeader.{program_fields, program_of};
+ghost use Rattle.xmas_elf.specs.ProgramHeader.{program_fields, program_list, program_of};
+ghost use Rattle.xmas_elf.specs.ProgramTable.{table_program_headers};
 
+use crate::batch::{Records, fill};
 use crate::file::Parsed;
 use crate::names::Range;
-use crate::status::give;
+use crate::status::{Refusal, give};
 use elf_base::ElfError;
 use xmas_elf::ElfFile;
-use xmas_elf::program::ProgramHeader;
+use xmas_elf::program::{ProgramHeader, ProgramTable};
 
-/// A program header, in numbers.
+/// A program header, as numbers.
 #[repr(C)]
 #[derive(Clone, Copy, Debug)]
 pub struct Segment {
-    /// Where the segment's data lies, in bytes from the start of the file.
+    /// The file offset of the segment in bytes.
     pub offset: u64,
-    /// The address of the segment in memory.
+    /// The virtual address of the segment.
     pub virtual_addr: u64,
-    /// The physical address of the segment, where that matters.
+    /// The physical address of the segment, where that is relevant.
     pub physical_addr: u64,
-    /// How many bytes the segment has in the file.
+    /// The size of the segment in the file, in bytes.
     pub file_size: u64,
-    /// How many bytes the segment has in memory.
+    /// The size of the segment in memory, in bytes.
     pub mem_size: u64,
     /// The alignment of the segment in memory and in the file, in bytes; 0 and 1 mean none.
     pub align: u64,
-    /// What the segment is.
+    /// The type of the segment.
     pub type_: u32,
-    /// What may be done with the segment's memory.
+    /// The permissions of the segment.
     pub flags: u32,
 }
 
-// What the segment is, as a number, of either width.
+// The type of the segment as a number, of either class.
 #[inline(always)]
 fn type_number(program: &ProgramHeader) -> u32
     ensures { result ≡ ph_type_number (program_fields program.now).type_ }
@@ -76,7 +80,7 @@ fn segment_at(file: &ElfFile<'_>, index: u32) -> Result<Segment, ElfError>
     Ok(Segment::of(&file.program_header_at(index)?))
 }
 
-/// The program header at an index. Refused as `ElfFile::program_header_at` is.
+/// The program header at an index; the errors are those of `ElfFile::program_header_at`.
 #[unsafe(no_mangle)]
 pub extern "C" fn xmas_elf_segment(
     input: &[u8],
@@ -90,8 +94,55 @@ pub extern "C" fn xmas_elf_segment(
     give(segment_at(&header.file(input), index), out)
 }
 
-// Where the data of the segment at an index stands. An empty segment is the empty range at 0.
-#[tactic(auto, unfolding(xmas_elf::specs::SegmentData::segment_data_of))]
+impl Records for ProgramTable<'_, '_> {
+    type Item = ProgramHeader;
+
+    type Record = Segment;
+
+    ghost items = { table_program_headers };
+
+    ghost record_of = { λ _ program. segment_record (program_fields program) };
+
+    #[inline(always)]
+    fn count(&self) -> usize {
+        self.len()
+    }
+
+    #[inline(always)]
+    fn record(&self, index: usize) -> Segment {
+        match self.get(index) {
+            Some(program) => Segment::of(&program),
+            None => unreachable!(),
+        }
+    }
+}
+
+/// The program headers from index `first` on, each as in `xmas_elf_segment`: as many as fit in
+/// `out`, or all, up to the number of segments or the first error. `count` is set to their number;
+/// the rest of `out` is unchanged.
+///
+/// Error: `NoRecord` if there is none at `first`;
+/// `out` and `count` are then unchanged.
+#[unsafe(no_mangle)]
+pub extern "C" fn xmas_elf_segments(
+    input: &[u8],
+    header: &Parsed,
+    first: u64,
+    out: &mut [Segment],
+    count: &mut u64,
+) -> u32
+    ensures { (answer : Result ℕ Refusal)
+        × Fills (found_in (λ program. segment_record (program_fields program))
+        (program_list (file_of input.entry header.now))) first out.old answer out.new
+        × GivesHere answer count.old result count.new }
+{
+    let file = header.file(input);
+    give(fill(file.program_table(), first, out), count)
+}
+
+// The range of the data of the segment at an index. For an empty segment it is the empty range at
+// 0.
+#[tactic(auto, unfolding(xmas_elf::specs::ProgramHeader::segment_data_of))]
 #[inline(always)]
 fn data_at(file: &ElfFile<'_>, index: u32) -> Result<Range, ElfError>
     ensures { result ≡ and_then (program_of file.now index)
@@ -104,8 +155,8 @@ fn data_at(file: &ElfFile<'_>, index: u32) -> Result<Range, ElfError>
     Ok(Range { offset, size })
 }
 
-/// Where in the input the data of the segment at an index stands. Refused as
-/// `ElfFile::program_header_at` and as `ProgramHeader::file_range`.
+/// The input range of the data of the segment at an index. The errors are those of
+/// `ElfFile::program_header_at` and `ProgramHeader::file_range`.
 #[unsafe(no_mangle)]
 pub extern "C" fn xmas_elf_segment_data(
     input: &[u8],

@@ -1,25 +1,27 @@
-//! The statuses of the exports: 0, or the number of a refusal.
+//! The statuses of the exports: 0, or the number of an error.
 
 ghost use Rattle.std.specs.Prelude.{◌≡◌, ℕ};
-ghost use Rattle.elf_c.specs.Status.{GivesBy, error_number, link_number, refusal_number};
+ghost use Rattle.elf_base.specs.Message.{error_number};
+ghost use Rattle.elf_linking.specs.Message.{link_number};
+ghost use Rattle.elf_c.specs.Status.{GivesBy, refusal_number};
 ghost use Rattle.elf_c.specs.declared.status.Refusal.TheVariants.{Elf, Link};
 
 use elf_base::ElfError;
 use elf_linking::LinkError;
 
-/// The status of a call that is not refused.
+/// The status of a successful call.
 pub const OK: u32 = 0;
 
-/// Why an export refuses.
+/// The error of an export.
 #[derive(Clone, Copy, Debug)]
 pub enum Refusal {
-    /// A call of `xmas_elf` refuses, and this is why.
+    /// An error of `xmas_elf`.
     Elf(ElfError),
-    /// A call of `elf_linking` refuses, and this is why.
+    /// An error of `elf_linking`.
     Link(LinkError),
-    /// A section holds other data than what is asked for.
+    /// A section contains other data than requested.
     OtherData,
-    /// A table has no record with this index.
+    /// A table has no record at this index.
     NoRecord,
     /// Nothing has this name.
     NotFound,
@@ -41,7 +43,7 @@ impl From<LinkError> for Refusal {
     }
 }
 
-/// What has a number of its own. It never changes: a new refusal gets a new number.
+/// An error with a number. Numbers never change: a new error gets a new number.
 pub(crate) trait Numbered {
     ghost number_of: { Self → ℕ };
 
@@ -53,63 +55,7 @@ impl Numbered for ElfError {
     ghost number_of = { error_number };
 
     fn number(self) -> u32 {
-        match self {
-            ElfError::ShortPart1 => 1,
-            ElfError::NoMagic => 2,
-            ElfError::InvalidClass => 3,
-            ElfError::ShortHeaders => 4,
-            ElfError::ReservedIndex => 5,
-            ElfError::ShortSectionHeader => 6,
-            ElfError::UnknownClass => 7,
-            ElfError::SmallEntry => 8,
-            ElfError::NoProgramHeaders => 9,
-            ElfError::ShortProgramHeader => 10,
-            ElfError::InvalidShType => 11,
-            ElfError::NullName => 12,
-            ElfError::ShortSectionOffset => 13,
-            ElfError::TextStart => 14,
-            ElfError::TextEnd => 15,
-            ElfError::TextUtf8 => 16,
-            ElfError::NullData => 17,
-            ElfError::DataRange => 18,
-            ElfError::NotMultiple => 19,
-            ElfError::ShortData => 20,
-            ElfError::Note32 => 21,
-            ElfError::NoteName => 22,
-            ElfError::NoteDesc => 23,
-            ElfError::NoStrtab => 24,
-            ElfError::StrtabType => 25,
-            ElfError::NoDynstr => 26,
-            ElfError::InvalidPhType => 27,
-            ElfError::InvalidTag => 28,
-            ElfError::InvalidValue => 29,
-            ElfError::InvalidPtr => 30,
-            ElfError::InvalidBinding => 31,
-            ElfError::InvalidSymbolType => 32,
-            ElfError::ReservedSymbolIndex => 33,
-            ElfError::NoShIndex => 34,
-            ElfError::ExpectedShIndex => 35,
-            ElfError::SymbolIndex => 36,
-            ElfError::WideIndex => 37,
-            ElfError::BadMagic => 38,
-            ElfError::HeaderSize => 39,
-            ElfError::NoClass => 40,
-            ElfError::ClassMismatch => 41,
-            ElfError::NoVersion => 42,
-            ElfError::NoDataFormat => 43,
-            ElfError::PhTableRange => 44,
-            ElfError::ShTableRange => 45,
-            ElfError::PhSizeMismatch => 46,
-            ElfError::EntryPointRange => 47,
-            ElfError::ShLibUsed => 48,
-            ElfError::BadAlign => 49,
-            ElfError::BucketIndex => 50,
-            ElfError::ChainIndex => 51,
-            ElfError::ChainSum => 52,
-            ElfError::HashData => 53,
-            ElfError::HashCycle => 54,
-            ElfError::HashMissing => 55,
-        }
+        self as u32
     }
 }
 
@@ -150,7 +96,8 @@ impl Numbered for Refusal {
     }
 }
 
-/// Hands an answer over: the value goes to `out` and the status is 0, or `out` stays as it was.
+/// Stores a result: the value in `out` and status 0, or the number of the error, with `out`
+/// unchanged.
 #[inline(always)]
 pub(crate) fn give<T: Copy, E: Numbered>(answer: Result<T, E>, out: &mut T) -> u32
     ensures { GivesBy E.number_of answer out.old result out.new }

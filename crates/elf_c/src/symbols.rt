@@ -23,21 +23,22 @@ use xmas_elf::bytes::{Record, Table};
 use xmas_elf::sections::SectionData;
 use xmas_elf::symbol_table::Entry;
 
-/// A symbol, in numbers.
+/// A symbol, as numbers.
 #[repr(C)]
 #[derive(Clone, Copy, Debug)]
 pub struct Symbol {
-    /// The symbol's address or offset, as the type of the file and the section have it.
+    /// The value of the symbol: an address or an offset, depending on the types of the file and the
+    /// section.
     pub value: u64,
-    /// How many bytes what it stands for has, or 0.
+    /// The size of the symbol's object in bytes, or 0.
     pub size: u64,
-    /// The index of the symbol's name in its string table, in bytes; 0 if it has none.
+    /// The offset of the symbol's name in its string table, in bytes; 0 if it has none.
     pub name: u32,
-    /// The index of the section that the symbol belongs to, or one with a meaning of its own.
+    /// The index of the symbol's section, or a reserved index.
     pub shndx: u16,
-    /// The symbol's binding, times 16, and its type.
+    /// The binding of the symbol, times 16, plus its type.
     pub info: u8,
-    /// Who sees the symbol: its remainder by 4.
+    /// The visibility of the symbol, in the low two bits.
     pub other: u8,
 }
 
@@ -84,11 +85,11 @@ fn symbol_of_section(file: &ElfFile<'_>, section: u64, index: u64) -> Result<Sym
     }
 }
 
-/// The symbol at an index of the section at an index. Its name is a text, by `xmas_elf_text`, of
-/// the data of the section that this one is linked to (sh_link).
+/// The symbol at index `index` of the section at index `section`. Its name is a text, in
+/// `xmas_elf_text`, in the data of the section that this one links to (sh_link).
 ///
-/// Refused as `ElfFile::section_header_at` and `SectionHeader::get_data`, with `OtherData` where
-/// the section holds no symbols, and with `NoRecord` where it has none with this index.
+/// Errors: those of `ElfFile::section_header_at` and `SectionHeader::get_data`; `OtherData` if the
+/// section does not contain symbols; `NoRecord` if it has no symbol at that index.
 #[unsafe(no_mangle)]
 pub extern "C" fn xmas_elf_symbol(
     input: &[u8],
@@ -127,7 +128,7 @@ impl<E: Entry + Record> Records for Table<'_, E> {
     }
 }
 
-// Puts the symbols of a section from an index on to the front of `out`, and says how many.
+// Stores the symbols of a section from an index on in `out`, and returns their number.
 fn fill_from_section(
     file: &ElfFile<'_>,
     section: u64,
@@ -146,11 +147,10 @@ fn fill_from_section(
     }
 }
 
-/// The symbols from index `first` on of the section at an index, each as by `xmas_elf_symbol`:
-/// as many as `out` has room for, or all that follow. Their number goes to `count`; what of
-/// `out` is behind them stays.
+/// The symbols from index `first` on of the section at an index, each as in `xmas_elf_symbol`: as
+/// many as fit in `out`, or all. `count` is set to their number; the rest of `out` is unchanged.
 ///
-/// Refused as `xmas_elf_symbol` is at `first`; `out` and `count` then stay as they were.
+/// The errors are those of `xmas_elf_symbol` at `first`; `out` and `count` are then unchanged.
 #[unsafe(no_mangle)]
 pub extern "C" fn xmas_elf_symbols(
     input: &[u8],
@@ -172,7 +172,7 @@ pub extern "C" fn xmas_elf_symbols(
     )
 }
 
-// The symbols of a table, and where the string table of their names stands.
+// The symbols of a table, and the range of the string table of their names.
 #[derive(Clone, Copy)]
 struct SymbolNames<'a, E: Record> {
     symbols: Table<'a, E>,
@@ -204,7 +204,7 @@ impl<E: Entry + Record> Records for SymbolNames<'_, E> {
     }
 }
 
-// Where the name of a symbol stands, by where the string table does.
+// The range of a symbol's name, by that of the string table.
 #[inline(always)]
 fn name_at<E: Entry>(
     input: &[u8],
@@ -217,8 +217,8 @@ fn name_at<E: Entry>(
     text_in(input, &strings?, u64::from(entry.name()))
 }
 
-// Puts the names of the symbols of a table from an index on to the front
-// of `out`, and says how many.
+// Stores the names of the symbols of a table from an index on in `out`,
+// and returns their number.
 #[inline(always)]
 fn names<E: Entry + Record>(
     table: &Table<'_, E>,
@@ -239,7 +239,7 @@ fn names<E: Entry + Record>(
     fill(names, first, out)
 }
 
-// The same of the symbols of a section.
+// Stores the names of the symbols of a section from an index on in `out`, and returns their number.
 fn fill_names(
     file: &ElfFile<'_>,
     section: u64,
@@ -259,13 +259,14 @@ fn fill_names(
     }
 }
 
-/// Where the names of the symbols from index `first` on of the section at an index stand, each with
-/// a status of its own: as many as `out` has room for, or all that follow. Their number goes to
-/// `count`; what of `out` is behind them stays.
+/// The ranges of the names of the symbols from index `first` on of the section at an index, each
+/// with its own status: as many as fit in `out`, or all. `count` is set to their number; the rest
+/// of `out` is unchanged.
 ///
-/// Each is the text, by `xmas_elf_text`, at the symbol's `name` in the data of the section that
-/// this one is linked to (sh_link), or refused as that data is by `xmas_elf_section_data`. The call
-/// is refused as `xmas_elf_symbol` is at `first`; `out` and `count` then stay as they were.
+/// Each is the text, as in `xmas_elf_text`, at the symbol's `name` in the data of the section that
+/// this one links to (sh_link), with the errors of `xmas_elf_section_data` for that data. The
+/// errors of the call are those of `xmas_elf_symbol` at `first`; `out` and `count` are then
+/// unchanged.
 #[unsafe(no_mangle)]
 pub extern "C" fn xmas_elf_symbol_names(
     input: &[u8],

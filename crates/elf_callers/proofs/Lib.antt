@@ -1,5 +1,3 @@
 pub mod Sizes
-pub mod Shapes
-pub mod SegmentShapes
-pub mod Totals
 pub mod Steps
+pub mod Totals

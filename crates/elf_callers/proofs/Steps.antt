@@ -1,12 +1,9 @@
 -- What one call of `next` of an iterator over headers gives: the header at its index, which is below the count.
 use Rattle.std.proofs.Common.{◌≡◌, ℕ, zero, suc, ◌+◌, ◌-◌, ◌<◌, List, ◌∷◌, Option, None, Some, Result, Ok, IfSome, arith}
-use Rattle.xmas_elf.specs.Counts.{program_count_of, section_count_of}
+use Rattle.xmas_elf.specs.SectionHeader.{SectionStep, program_count_of, section_count_of, section_of}
 use Rattle.xmas_elf.specs.ElfError.{ElfError}
 use Rattle.xmas_elf.specs.HeaderTable.{header_rest, headers_from}
-use Rattle.xmas_elf.specs.ProgramHeader.{program_of}
-use Rattle.xmas_elf.specs.ProgramList.{ProgramStep}
-use Rattle.xmas_elf.specs.SectionHeader.{section_of}
-use Rattle.xmas_elf.specs.SectionList.{SectionStep}
+use Rattle.xmas_elf.specs.ProgramHeader.{ProgramStep, program_of}
 use Rattle.xmas_elf.specs.declared.program.ProgramIter.{ProgramIter}
 use Rattle.xmas_elf.specs.declared.program.program_header.ProgramHeader.{ProgramHeader}
 use Rattle.xmas_elf.specs.declared.sections.SectionIter.{SectionIter}

@@ -6,9 +6,9 @@ use Rattle.std.specs.List.{AllWithin}
 use Rattle.xmas_elf.specs.Content.{Content, symbols_32, symbols_64, table_of}
 use Rattle.xmas_elf.specs.NameTable.{section_named}
 use Rattle.xmas_elf.specs.SectionContent.{section_content_of}
-use Rattle.xmas_elf.specs.Symbol.{SymbolFields, symbol_type}
+use Rattle.xmas_elf.specs.Symbol.{SymbolFields, Symbols, symbol_type}
 use Rattle.xmas_elf.specs.SymbolType.TheVariants.{Func}
-use Rattle.xmas_elf.specs.Symbols.{Symbols, symbols_in_32, symbols_in_64}
+use Rattle.xmas_elf.specs.Symbols.{symbols_in_32, symbols_in_64}
 use Rattle.xmas_elf.specs.Types.{ElfError, ElfFile}
 
 -- the range of this function symbol holds the address

@@ -7,7 +7,8 @@ use Rattle.xmas_elf.specs.HashTable.{hash_data, hash_order}
 use Rattle.xmas_elf.specs.NameTable.{section_named}
 use Rattle.xmas_elf.specs.SectionContent.{section_content_of}
 use Rattle.xmas_elf.specs.SectionHeader.{section_fields}
-use Rattle.xmas_elf.specs.Symbols.{IsGlobal, Symbols, dyn_symbols_in_64}
+use Rattle.xmas_elf.specs.Symbol.{IsGlobal, Symbols}
+use Rattle.xmas_elf.specs.Symbols.{dyn_symbols_in_64}
 use Rattle.xmas_elf.specs.Types.{DynEntry64, ElfError, ElfFile, HashTable, Order, SectionHeader, ShortData}
 
 -- the order and the bytes of a hash table, if that is what a section has

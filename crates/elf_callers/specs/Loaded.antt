@@ -4,11 +4,9 @@ use Rattle.std.specs.Prelude.{◌≡◌, ℕ, ◌≤◌, Bool, List, IsTrue, All
 use Rattle.elf_callers.specs.declared.callers.loader.LoadError.{LoadError}
 use Rattle.elf_callers.specs.declared.callers.loader.LoadError.TheVariants.{Header, OutOfMemory, Range, Size}
 use Rattle.elf_callers.specs.declared.callers.loader.Piece.{Piece}
-use Rattle.xmas_elf.specs.Counts.{program_count_of}
-use Rattle.xmas_elf.specs.ProgramHeader.{program_fields, segment_type}
-use Rattle.xmas_elf.specs.ProgramList.{program_list}
+use Rattle.xmas_elf.specs.SectionHeader.{program_count_of}
+use Rattle.xmas_elf.specs.ProgramHeader.{HasSegmentData, program_fields, program_list, segment_type}
 use Rattle.xmas_elf.specs.ProgramNumbers.{has_ph_type}
-use Rattle.xmas_elf.specs.SegmentData.{HasSegmentData}
 use Rattle.xmas_elf.specs.SegmentType.TheVariants.{Load}
 use Rattle.xmas_elf.specs.Types.{ElfFile, ProgramHeader}
 

@@ -8,8 +8,7 @@ use Rattle.xmas_elf.specs.FileHeader.{header_of}
 use Rattle.xmas_elf.specs.NameTable.{shstr_of}
 use Rattle.xmas_elf.specs.Refusal.{and_then, unless}
 use Rattle.xmas_elf.specs.StringTables.{string_of}
-use Rattle.xmas_elf.specs.Symbol.{entry_64, entry_64_fields}
-use Rattle.xmas_elf.specs.Symbols.{Symbols}
+use Rattle.xmas_elf.specs.Symbol.{Symbols, entry_64, entry_64_fields}
 use Rattle.xmas_elf.specs.Types.{ElfError, Order}
 
 -- how many bytes a text has, and 0 where there is none

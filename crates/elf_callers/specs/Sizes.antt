@@ -6,8 +6,7 @@ use Rattle.std.specs.Int.Bits.{bit_and}
 use Rattle.elf_callers.specs.declared.callers.size_report.SizeKind.{SizeKind}
 use Rattle.elf_callers.specs.declared.callers.size_report.SizeKind.TheVariants.{Code, Constants, Initialised, ZeroInitialised, Other}
 use Rattle.elf_callers.specs.declared.callers.size_report.SizeReport.{SizeReport}
-use Rattle.xmas_elf.specs.SectionHeader.{section_fields, section_type}
-use Rattle.xmas_elf.specs.SectionList.{section_list}
+use Rattle.xmas_elf.specs.SectionHeader.{section_fields, section_list, section_type}
 use Rattle.xmas_elf.specs.SectionNumbers.{has_sh_type}
 use Rattle.xmas_elf.specs.ShType.TheVariants.{NoBits, Null}
 use Rattle.xmas_elf.specs.Types.{ElfFile, SHF_ALLOC, SHF_EXECINSTR, SHF_WRITE, SectionHeader}

@@ -2,8 +2,7 @@
 use Rattle.std.specs.Prelude.{◌≡◌, ℕ, Bool, IsTrue, Err, if◌then◌else◌}
 use Rattle.elf_callers.specs.Totals.{IsFirstWithout, IsTotal}
 use Rattle.xmas_elf.specs.SectionData.{HasSectionData, section_data_of}
-use Rattle.xmas_elf.specs.SectionHeader.{section_fields, section_type}
-use Rattle.xmas_elf.specs.SectionList.{section_list}
+use Rattle.xmas_elf.specs.SectionHeader.{section_fields, section_list, section_type}
 use Rattle.xmas_elf.specs.SectionNumbers.{has_sh_type}
 use Rattle.xmas_elf.specs.ShType.TheVariants.{StrTab}
 use Rattle.xmas_elf.specs.Types.{ElfError, ElfFile, SectionHeader}

@@ -3,63 +3,46 @@
 
 ghost use Rattle.std.specs.Prelude.{◌≡◌, ◌≢◌, ◌+◌, ◌↔◌, ◌≤◌, ◌<◌, ◌==◌};
 ghost use Rattle.std.specs.Prelude.{Err, IfErr, IfOk, IsOk, IsOkAnd, IsTrue, List, MatchOption};
-ghost use Rattle.std.specs.Prelude.{MatchResult, None, Ok, Some, count_by, length, ℕ};
+ghost use Rattle.std.specs.Prelude.{MatchResult, Ok, count_by, length, ℕ};
 ghost use Rattle.std.specs.List.{AllWithin, HoldsAt};
 ghost use Rattle.std.specs.Borrow.{Bor};
 ghost use Rattle.std.specs.Result.{result_ok};
-ghost use Rattle.elf_callers.specs.Instructions.{instructions_in};
 ghost use Rattle.elf_callers.specs.Names.{name_in_bytes, text_length};
 ghost use Rattle.elf_callers.specs.StringBytes.{IsStringRefused, IsStringTotal};
 ghost use Rattle.elf_callers.specs.StringBytes.{LiesThere, string_size};
 ghost use Rattle.xmas_elf.specs.Checks.{header_check};
-ghost use Rattle.xmas_elf.specs.Counts.{section_count_of};
-ghost use Rattle.xmas_elf.specs.FileHeader.{IsAccepted, file_class, file_order, header_of};
-ghost use Rattle.xmas_elf.specs.HeaderLayout.{header_fields};
+ghost use Rattle.xmas_elf.specs.SectionHeader.{HasSectionHeader, section_by_u16, section_count_of};
+ghost use Rattle.xmas_elf.specs.SectionHeader.{section_fields, section_header_size, section_list};
+ghost use Rattle.xmas_elf.specs.SectionHeader.{section_of, section_place, section_type};
+ghost use Rattle.xmas_elf.specs.FileHeader.{IsAccepted, file_class, file_order, header_fields};
+ghost use Rattle.xmas_elf.specs.FileHeader.{header_of};
 ghost use Rattle.xmas_elf.specs.HeaderTable.{IsLongest};
 ghost use Rattle.xmas_elf.specs.Lent.{Answers};
-ghost use Rattle.xmas_elf.specs.NameTable.{Bears, IsFirstNamed, IsNameTable};
+ghost use Rattle.xmas_elf.specs.NameTable.{HasName, IsFirstNamed, IsNameTable};
 ghost use Rattle.xmas_elf.specs.NameTable.{name_of as section_name_of, shstr_of};
 ghost use Rattle.xmas_elf.specs.Number.{byte_at, number};
-ghost use Rattle.xmas_elf.specs.ProgramHeader.{program_fields, program_by_u16};
-ghost use Rattle.xmas_elf.specs.ProgramList.{program_list};
+ghost use Rattle.xmas_elf.specs.ProgramHeader.{HasSegmentData, program_by_u16, program_fields};
+ghost use Rattle.xmas_elf.specs.ProgramHeader.{program_list, segment_data_of};
 ghost use Rattle.xmas_elf.specs.SectionData.{HasSectionData, section_data_of};
-ghost use Rattle.xmas_elf.specs.SectionHeader.{HasSectionHeader, section_fields};
-ghost use Rattle.xmas_elf.specs.SectionHeader.{section_by_u16, section_header_size};
-ghost use Rattle.xmas_elf.specs.SectionHeader.{section_of, section_place, section_type};
-ghost use Rattle.xmas_elf.specs.SectionList.{section_list};
-ghost use Rattle.xmas_elf.specs.SegmentData.{HasSegmentData, segment_data_of};
 ghost use Rattle.xmas_elf.specs.Text.{IsText};
 ghost use Rattle.xmas_elf.specs.Types.{ElfFile, SectionHeader};
 
 pub mod accepted;
 pub mod backtrace;
-pub mod clones;
-pub mod contents;
-pub mod copies;
 pub mod data;
-pub mod enums;
-pub mod equality;
 pub mod first;
 pub mod hash;
 pub mod header_tables;
 pub mod indices;
-pub mod laws;
 pub mod lent;
 pub mod loader;
 pub mod lookups;
 pub mod names;
 pub mod notes;
 pub mod opened;
-pub mod parts;
-pub mod printed;
-pub mod refusals;
-pub mod reports;
 pub mod size_report;
-pub mod sound;
 pub mod steps;
 pub mod symbols;
-pub mod tables;
-pub mod values;
 
 use std::alloc::{AllocError, Global};
 use xmas_elf::program::{ProgramHeader, ProgramHeader64};
@@ -174,14 +157,6 @@ pub fn is_whole(file: &ElfFile<'_>, section: SectionHeader) -> bool
     section.raw_data(file).is_ok()
 }
 
-/// Whether a section of type Null has data, which it never has.
-pub fn null_has_data(file: &ElfFile<'_>, section: SectionHeader) -> bool
-    requires { section_type section ≡ Ok ShType.Null }
-    ensures { ¬ IsTrue result }
-{
-    section.raw_data(file).is_ok()
-}
-
 /// How many bytes the data of a segment has: as many as its header says; or why its header can't be
 /// read, or it has no data.
 pub fn segment_data_len(file: &ElfFile<'_>, index: u16) -> Result<usize, ElfError>
@@ -218,7 +193,7 @@ pub fn checked_section_count(file: &ElfFile<'_>) -> Result<usize, ElfError>
 pub fn named_section(file: &ElfFile<'_>, name: &str) -> Option<SectionHeader>
     ensures { MatchOption result
         ((i : ℕ) (section : SectionHeader) → i < length (section_list file.now)
-        → section_of file.now i ≡ Ok section → ¬ Bears file.now section name.now)
+        → section_of file.now i ≡ Ok section → ¬ HasName file.now section name.now)
         (λ section. (i : ℕ) × IsFirstNamed file.now name.now i section) }
 {
     file.find_section_by_name(name)
@@ -284,20 +259,6 @@ fn string_len(file: &ElfFile<'_>, section: &SectionHeader) -> Result<u64, ElfErr
     match section.get_type() {
         Ok(ShType::StrTab) => Ok(section.raw_data(file)?.len() as u64),
         _ => Ok(0),
-    }
-}
-
-/// The instructions of a program, which live as long as its bytes; none where the file doesn't hold
-/// them.
-pub fn text_section(input: &[u8]) -> Option<&[u8]>
-    ensures { MatchOption result (instructions_in input.entry ≡ None)
-        (λ bytes. instructions_in input.entry ≡ Some bytes.now) }
-{
-    let file = ElfFile::new(input).ok()?;
-    let section = file.find_section_by_name(".text")?;
-    match section.get_type() {
-        Ok(ShType::ProgBits) => section.raw_data(&file).ok(),
-        _ => None,
     }
 }
 

@@ -2,7 +2,5 @@
 #![tactic(auto)]
 
 pub mod callers;
-pub mod constants;
 pub mod own;
 pub mod recipes;
-pub mod tiny;

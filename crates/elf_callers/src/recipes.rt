@@ -1,23 +1,24 @@
 //! Recipes: what the page for new users quotes. Each is proved not to panic. Those for the
 //! segment of an address and for the instructions say in a contract what they answer; the
-//! others carry no claim.
+//! others carry no claim. All read files of both classes but `print_build_id` and `first_symbols`,
+//! which read those of class 64. `tools/recipes.py` compares what they print with `readelf`.
 
 ghost use Rattle.std.specs.Prelude.{◌↔◌, IfNone, IfSome, IsTrue, codes, ℕ};
 ghost use Rattle.elf_callers.specs.LoadedAt.{IsLoadedAt};
 ghost use Rattle.xmas_elf.specs.First.{FindsFirst};
 ghost use Rattle.xmas_elf.specs.NameTable.{IsFirstNamed, section_named};
-ghost use Rattle.xmas_elf.specs.ProgramList.{program_list};
+ghost use Rattle.xmas_elf.specs.ProgramHeader.{program_list};
 ghost use Rattle.xmas_elf.specs.SectionData.{HasSectionData, IsSectionData};
 ghost use Rattle.xmas_elf.specs.Types.{SectionHeader};
 
 use std::io;
 use std::io::Write;
-use xmas_elf::bytes::{Table, text_at};
-use xmas_elf::dynamic::Tag;
+use xmas_elf::bytes::{Record, Table, text_at};
+use xmas_elf::dynamic::{Dynamic, Tag};
 use xmas_elf::program::{ProgramHeader, SegmentData, Type};
-use xmas_elf::sections::{SectionData, SectionHeader};
+use xmas_elf::sections::{Rel, Rela, SectionData, SectionHeader};
 use xmas_elf::symbol_table::{Entry, Entry64};
-use xmas_elf::{ElfFile, Extensions};
+use xmas_elf::{ElfFile, Extensions, P32, P64};
 
 /// Prints each section's index, size in bytes and name.
 pub fn print_sections<W: Write>(file: &ElfFile<'_>, out: &mut W) -> io::Result<()> {
@@ -28,14 +29,61 @@ pub fn print_sections<W: Write>(file: &ElfFile<'_>, out: &mut W) -> io::Result<(
     Ok(())
 }
 
+/// Prints the value, the size in bytes and the name of each symbol of a table.
+pub fn print_symbol_table<E: Entry + Record, W: Write>(
+    file: &ElfFile<'_>,
+    symbols: Table<'_, E>,
+    out: &mut W,
+) -> io::Result<()> {
+    for symbol in symbols {
+        let name = symbol.get_name(file).unwrap_or("?");
+        writeln!(out, "{:x} {} {}", symbol.value(), symbol.size(), name)?;
+    }
+    Ok(())
+}
+
 /// Prints each symbol's value, size in bytes and name.
 pub fn print_symbols<W: Write>(file: &ElfFile<'_>, out: &mut W) -> io::Result<()> {
     for section in file.section_iter() {
-        if let Ok(SectionData::SymbolTable64(symbols)) = section.get_data(file) {
-            for symbol in symbols {
-                let name = symbol.get_name(file).unwrap_or("?");
-                writeln!(out, "{:x} {} {}", symbol.value(), symbol.size(), name)?;
-            }
+        match section.get_data(file) {
+            Ok(SectionData::SymbolTable32(symbols)) => print_symbol_table(file, symbols, out)?,
+            Ok(SectionData::SymbolTable64(symbols)) => print_symbol_table(file, symbols, out)?,
+            _ => {}
+        }
+    }
+    Ok(())
+}
+
+// The names of the shared libraries in a dynamic section of class 32.
+fn print_needed_32<W: Write>(
+    file: &ElfFile<'_>,
+    entries: Table<'_, Dynamic<P32>>,
+    out: &mut W,
+) -> io::Result<()> {
+    for entry in entries {
+        if entry.get_tag() == Ok(Tag::Needed) {
+            let index = entry.get_val().ok();
+            let name = index.and_then(|index| file.get_dyn_string(index).ok());
+            writeln!(out, "{}", name.unwrap_or("?"))?;
+        }
+    }
+    Ok(())
+}
+
+// The names of the shared libraries in a dynamic section of class 64.
+fn print_needed_64<W: Write>(
+    file: &ElfFile<'_>,
+    entries: Table<'_, Dynamic<P64>>,
+    out: &mut W,
+) -> io::Result<()> {
+    for entry in entries {
+        if entry.get_tag() == Ok(Tag::Needed) {
+            let index = entry
+                .get_val()
+                .ok()
+                .and_then(|value| u32::try_from(value).ok());
+            let name = index.and_then(|index| file.get_dyn_string(index).ok());
+            writeln!(out, "{}", name.unwrap_or("?"))?;
         }
     }
     Ok(())
@@ -46,19 +94,11 @@ pub fn print_needed<W: Write>(file: &ElfFile<'_>, out: &mut W) -> io::Result<()>
     let Some(section) = file.find_section_by_name(".dynamic") else {
         return Ok(());
     };
-    if let Ok(SectionData::Dynamic64(entries)) = section.get_data(file) {
-        for entry in entries {
-            if entry.get_tag() == Ok(Tag::Needed) {
-                let index = entry
-                    .get_val()
-                    .ok()
-                    .and_then(|value| u32::try_from(value).ok());
-                let name = index.and_then(|index| file.get_dyn_string(index).ok());
-                writeln!(out, "{}", name.unwrap_or("?"))?;
-            }
-        }
+    match section.get_data(file) {
+        Ok(SectionData::Dynamic32(entries)) => print_needed_32(file, entries, out),
+        Ok(SectionData::Dynamic64(entries)) => print_needed_64(file, entries, out),
+        _ => Ok(()),
     }
-    Ok(())
 }
 
 /// Prints the build id in hexadecimal, if the file has one.
@@ -72,32 +112,90 @@ pub fn print_build_id<W: Write>(file: &ElfFile<'_>, out: &mut W) -> io::Result<(
     Ok(())
 }
 
-/// Prints each relocation's offset, type, symbol and addend.
+/// The name of the symbol at an index of the symbol table that a section links to.
+pub fn linked_name<'a>(file: &ElfFile<'a>, section: &SectionHeader, index: u32) -> Option<&'a str> {
+    let linked = file.section_header_at(u64::from(section.link())).ok()?;
+    let index = index as usize;
+    match linked.get_data(file).ok()? {
+        SectionData::SymbolTable32(symbols) => symbols.get(index)?.get_name(file).ok(),
+        SectionData::SymbolTable64(symbols) => symbols.get(index)?.get_name(file).ok(),
+        SectionData::DynSymbolTable32(symbols) => symbols.get(index)?.get_name(file).ok(),
+        SectionData::DynSymbolTable64(symbols) => symbols.get(index)?.get_name(file).ok(),
+        _ => None,
+    }
+}
+
+// The lines of relocations of class 32 with addends.
+fn print_rela_32<W: Write>(
+    file: &ElfFile<'_>,
+    section: &SectionHeader,
+    relocations: Table<'_, Rela<P32>>,
+    out: &mut W,
+) -> io::Result<()> {
+    for relocation in relocations {
+        let name = linked_name(file, section, relocation.get_symbol_table_index()).unwrap_or("?");
+        let (offset, kind) = (relocation.get_offset(), relocation.get_type());
+        let addend = relocation.get_addend().cast_signed();
+        writeln!(out, "{:x} {} {} {}", offset, kind, name, addend)?;
+    }
+    Ok(())
+}
+
+// The lines of relocations of class 64 with addends.
+fn print_rela_64<W: Write>(
+    file: &ElfFile<'_>,
+    section: &SectionHeader,
+    relocations: Table<'_, Rela<P64>>,
+    out: &mut W,
+) -> io::Result<()> {
+    for relocation in relocations {
+        let name = linked_name(file, section, relocation.get_symbol_table_index()).unwrap_or("?");
+        let (offset, kind) = (relocation.get_offset(), relocation.get_type());
+        let addend = relocation.get_addend().cast_signed();
+        writeln!(out, "{:x} {} {} {}", offset, kind, name, addend)?;
+    }
+    Ok(())
+}
+
+// The lines of relocations of class 32 without addends.
+fn print_rel_32<W: Write>(
+    file: &ElfFile<'_>,
+    section: &SectionHeader,
+    relocations: Table<'_, Rel<P32>>,
+    out: &mut W,
+) -> io::Result<()> {
+    for relocation in relocations {
+        let name = linked_name(file, section, relocation.get_symbol_table_index()).unwrap_or("?");
+        let (offset, kind) = (relocation.get_offset(), relocation.get_type());
+        writeln!(out, "{:x} {} {}", offset, kind, name)?;
+    }
+    Ok(())
+}
+
+// The lines of relocations of class 64 without addends.
+fn print_rel_64<W: Write>(
+    file: &ElfFile<'_>,
+    section: &SectionHeader,
+    relocations: Table<'_, Rel<P64>>,
+    out: &mut W,
+) -> io::Result<()> {
+    for relocation in relocations {
+        let name = linked_name(file, section, relocation.get_symbol_table_index()).unwrap_or("?");
+        let (offset, kind) = (relocation.get_offset(), relocation.get_type());
+        writeln!(out, "{:x} {} {}", offset, kind, name)?;
+    }
+    Ok(())
+}
+
+/// Prints each relocation's offset, type and symbol, and its addend where the section has addends.
 pub fn print_relocations<W: Write>(file: &ElfFile<'_>, out: &mut W) -> io::Result<()> {
     for section in file.section_iter() {
-        let Ok(SectionData::Rela64(relocations)) = section.get_data(file) else {
-            continue;
-        };
-        let linked = file.section_header_at(u64::from(section.link()));
-        let Ok(SectionData::SymbolTable64(symbols)) = linked.and_then(|linked| linked.get_data(
-            file,
-        )) else {
-            continue;
-        };
-        for relocation in relocations {
-            let symbol = symbols.get(relocation.get_symbol_table_index() as usize);
-            let name = symbol.and_then(|symbol| symbol.get_name(file).ok());
-            let addend = relocation.get_addend().cast_signed();
-            let offset = relocation.get_offset();
-            let kind = relocation.get_type();
-            writeln!(
-                out,
-                "{:x} {} {} {}",
-                offset,
-                kind,
-                name.unwrap_or("?"),
-                addend
-            )?;
+        match section.get_data(file) {
+            Ok(SectionData::Rela32(table)) => print_rela_32(file, &section, table, out)?,
+            Ok(SectionData::Rela64(table)) => print_rela_64(file, &section, table, out)?,
+            Ok(SectionData::Rel32(table)) => print_rel_32(file, &section, table, out)?,
+            Ok(SectionData::Rel64(table)) => print_rel_64(file, &section, table, out)?,
+            _ => {}
         }
     }
     Ok(())
@@ -142,24 +240,61 @@ pub fn text_at_address<'a>(file: &ElfFile<'a>, address: u64, index: u64) -> Opti
     text_at(program.raw_data(file).ok()?, usize::try_from(place).ok()?).ok()
 }
 
+// The names of the shared libraries in a dynamic segment of class 32.
+fn print_needed_at_32<W: Write>(
+    file: &ElfFile<'_>,
+    entries: Table<'_, Dynamic<P32>>,
+    out: &mut W,
+) -> io::Result<()> {
+    let strings = entries
+        .iter()
+        .find(|entry| entry.get_tag() == Ok(Tag::StrTab))
+        .and_then(|entry| entry.get_ptr().ok());
+    for entry in entries {
+        if entry.get_tag() == Ok(Tag::Needed) {
+            let name = match (strings, entry.get_val()) {
+                (Some(address), Ok(index)) => text_at_address(
+                    file,
+                    u64::from(address),
+                    u64::from(index),
+                ),
+                _ => None,
+            };
+            writeln!(out, "{}", name.unwrap_or("?"))?;
+        }
+    }
+    Ok(())
+}
+
+// The names of the shared libraries in a dynamic segment of class 64.
+fn print_needed_at_64<W: Write>(
+    file: &ElfFile<'_>,
+    entries: Table<'_, Dynamic<P64>>,
+    out: &mut W,
+) -> io::Result<()> {
+    let strings = entries
+        .iter()
+        .find(|entry| entry.get_tag() == Ok(Tag::StrTab))
+        .and_then(|entry| entry.get_ptr().ok());
+    for entry in entries {
+        if entry.get_tag() == Ok(Tag::Needed) {
+            let name = match (strings, entry.get_val()) {
+                (Some(address), Ok(index)) => text_at_address(file, address, index),
+                _ => None,
+            };
+            writeln!(out, "{}", name.unwrap_or("?"))?;
+        }
+    }
+    Ok(())
+}
+
 /// Prints the names of the shared libraries that the file needs, by its segments alone.
 pub fn print_needed_by_segments<W: Write>(file: &ElfFile<'_>, out: &mut W) -> io::Result<()> {
     for program in file.program_iter() {
-        let Ok(SegmentData::Dynamic64(entries)) = program.get_data(file) else {
-            continue;
-        };
-        let strings = entries
-            .iter()
-            .find(|entry| entry.get_tag() == Ok(Tag::StrTab))
-            .and_then(|entry| entry.get_ptr().ok());
-        for entry in entries {
-            if entry.get_tag() == Ok(Tag::Needed) {
-                let name = match (strings, entry.get_val()) {
-                    (Some(address), Ok(index)) => text_at_address(file, address, index),
-                    _ => None,
-                };
-                writeln!(out, "{}", name.unwrap_or("?"))?;
-            }
+        match program.get_data(file) {
+            Ok(SegmentData::Dynamic32(entries)) => print_needed_at_32(file, entries, out)?,
+            Ok(SegmentData::Dynamic64(entries)) => print_needed_at_64(file, entries, out)?,
+            _ => {}
         }
     }
     Ok(())

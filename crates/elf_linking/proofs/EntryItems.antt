@@ -1,11 +1,12 @@
--- The entries that an iterator has left, one by one.
-use Rattle.std.proofs.Common.{◌≡◌, ◌≢◌, ℕ, Bool, true, false, List, [], ◌∷◌, None, Some, if◌then◌else◌, refl, sym, ap, ◌∙◌}
+-- The remaining entries of an iterator, one by one.
+use Rattle.std.proofs.Common.{◌≡◌, ◌≢◌, ℕ, ◌==◌, ◌<◌, ◌≤◌, suc, length, arith, Bool, true, false, List, [], ◌∷◌, None, Some, if◌then◌else◌, refl, sym, ap, ◌∙◌}
 use Rattle.std.proofs.lemmas.Bool.{eq-eqb, ne_eqb}
 use Rattle.std.specs.List.{find}
-use Rattle.elf_linking.specs.DynamicEntries.{entries_left, has_tag, pairs_left, until_null}
+use Rattle.elf_linking.specs.DynamicView.{entries_left, has_tag, pairs_left, until_null}
 use Rattle.elf_linking.proofs.Firsts.{find_hit, find_none, find_other}
 use Rattle.elf_linking.specs.declared.view.entries.DynamicEntries.{DynamicEntries}
 use Rattle.elf_linking.specs.declared.view.entry.DynamicEntry.{DynamicEntry}
+use Rattle.elf_linking.specs.declared.view.tags.TheConstants.{DT_NULL}
 
 pub left_ended : (iter : DynamicEntries) → iter.ended ≡ true → entries_left iter ≡ []
 left_ended iter is = rw is refl
@@ -17,20 +18,20 @@ left_none iter is = by_end iter.ended
     by_end true = refl
     by_end false = ap until_null is
 
-pub left_null : (iter : DynamicEntries) (entry : DynamicEntry ℕ) (others : List (DynamicEntry ℕ)) → pairs_left iter.rest ≡ entry ∷ others → entry.tag ≡ 0 → entries_left iter ≡ []
+pub left_null : (iter : DynamicEntries) (entry : DynamicEntry ℕ) (others : List (DynamicEntry ℕ)) → pairs_left iter.rest ≡ entry ∷ others → entry.tag ≡ DT_NULL → entries_left iter ≡ []
 left_null iter entry others is null = by_end iter.ended
   where
     by_end : (b : Bool) → (if b then [] else until_null (pairs_left iter.rest)) ≡ []
     by_end true = refl
-    by_end false = ap until_null is ∙ rw (eq-eqb entry.tag 0 null) refl
+    by_end false = ap until_null is ∙ rw (eq-eqb entry.tag DT_NULL null) refl
 
-pub left_first : (iter : DynamicEntries) (entry : DynamicEntry ℕ) (others : List (DynamicEntry ℕ)) → iter.ended ≡ false → pairs_left iter.rest ≡ entry ∷ others → entry.tag ≢ 0 → entries_left iter ≡ entry ∷ until_null others
-left_first iter entry others going is other = rw going (ap until_null is ∙ rw (ne_eqb entry.tag 0 other) refl)
+pub left_first : (iter : DynamicEntries) (entry : DynamicEntry ℕ) (others : List (DynamicEntry ℕ)) → iter.ended ≡ false → pairs_left iter.rest ≡ entry ∷ others → entry.tag ≢ DT_NULL → entries_left iter ≡ entry ∷ until_null others
+left_first iter entry others going is other = rw going (ap until_null is ∙ rw (ne_eqb entry.tag DT_NULL other) refl)
 
 pub left_going : (iter : DynamicEntries) → iter.ended ≡ false → entries_left iter ≡ until_null (pairs_left iter.rest)
 left_going iter going = rw going refl
 
--- an entry that is read of narrow numbers
+-- an entry of class 32, with its numbers as 64-bit numbers
 pub widened : (entry : DynamicEntry ℕ) (entries others : List (DynamicEntry ℕ)) (tag number : ℕ) → entries ≡ entry ∷ others → tag ≡ entry.tag → number ≡ entry.number → entries ≡ record { tag = tag; number = number } ∷ others
 widened entry entries others tag number is same_tag same_number = is ∙ sym (rw (same_tag, same_number) refl)
 
@@ -43,3 +44,15 @@ number_hit tag entries others entry is same = find_hit (has_tag tag) entries oth
 
 pub number_other : (tag : ℕ) (entries others : List (DynamicEntry ℕ)) (entry : DynamicEntry ℕ) → entries ≡ entry ∷ others → entry.tag ≢ tag → find (has_tag tag) entries ≡ find (has_tag tag) others
 number_other tag entries others entry is other = find_other (has_tag tag) entries others entry is (ne_eqb entry.tag tag other)
+
+-- the entries before the first with tag Null are no more than all entries
+few_by : (b : Bool) (entry : DynamicEntry ℕ) (before entries : List (DynamicEntry ℕ)) → length before ≤ length entries → length (if b then [] else entry ∷ before) ≤ suc (length entries)
+few_by true entry before entries few = omega arith
+few_by false entry before entries few = omega (arith, few)
+
+until_null_few : (entries : List (DynamicEntry ℕ)) → length (until_null entries) ≤ length entries
+until_null_few [] = omega arith
+until_null_few (entry ∷ entries) = few_by (entry.tag == DT_NULL) entry (until_null entries) entries (until_null_few entries)
+
+pub until_null_fits : (entries : List (DynamicEntry ℕ)) (bound : ℕ) → length entries < bound → length (until_null entries) < bound
+until_null_fits entries bound fits = let few = until_null_few entries in omega (arith, few, fits)

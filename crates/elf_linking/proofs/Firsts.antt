@@ -1,4 +1,4 @@
--- The first element of a list that passes a test, item by item.
+-- The first item of a list that passes a test, item by item.
 use Rattle.std.proofs.Common.{◌≡◌, ℕ, zero, suc, ◌<◌, Bool, true, false, List, [], ◌∷◌, length, Some, None, if◌then◌else◌, refl, ap, ◌∙◌, subst, arith}
 use Rattle.std.specs.List.{AllWithin, HoldsAt, find}
 
@@ -11,11 +11,11 @@ find_hit test items others x is hit = ap (find test) is ∙ rw hit refl
 pub find_other : {X : Type 0} (test : X → Bool) (items others : List X) (x : X) → items ≡ x ∷ others → test x ≡ false → find test items ≡ find test others
 find_other test items others x is miss = ap (find test) is ∙ rw miss refl
 
--- of the elements below a position none passes
+-- no item below an index passes the test
 abbrev pub NonePasses : {X : Type 0} → (X → Bool) → List X → ℕ → Type 0
 NonePasses test items high = AllWithin (λ item. test item ≡ false) items 0 high
 
--- the one that is found stands at a position before which none passes
+-- the found item is at an index before which no item passes
 pub record IsFound {X : Type 0} (test : X → Bool) (items : List X) (x : X) : Type 0 where
   pub position : ℕ
   pub below : position < length items
@@ -49,7 +49,7 @@ pub found_in : {X : Type 0} (test : X → Bool) (items : List X) (x : X) → fin
 found_in test [] x is = cc
 found_in test (y ∷ others) x is = found_first test y x others (test y) refl (found_in test others x) is
 
--- where none is found none passes
+-- if a search finds nothing, no item passes
 none_first : {X : Type 0} (test : X → Bool) (y : X) (others : List X) (b : Bool) → test y ≡ b → (find test others ≡ None → NonePasses test others (length others)) → (if b then Some y else find test others) ≡ None → NonePasses test (y ∷ others) (suc (length others))
 none_first test y others true passes later is = cc
 none_first test y others false fails later is = one_more test y others (length others) fails (later is)

@@ -1,4 +1,4 @@
--- What passes the check of a GNU hash table, and what doesn't.
+-- Which GNU hash tables pass their check.
 use Rattle.std.proofs.Common.{◌≡◌, ◌≢◌, ◌<◌, ◌/◌, ℕ, ◌⊎◌, inl, inr, List, Some, None, Result, Err, slice_get, refl, ap, subst, arith}
 use Rattle.std.proofs.lemmas.Bool.{cases_order}
 use Rattle.std.specs.Prelude.{IsOk}
@@ -7,7 +7,7 @@ use Rattle.elf_linking.specs.GoodGnu.{IsAtFault, IsBucketGood, IsCheck, IsExport
 use Rattle.elf_linking.specs.declared.error.LinkError.{LinkError}
 use Rattle.elf_linking.specs.declared.gnu_hash.GnuHashTable.{GnuHashTable}
 use Rattle.elf_linking.proofs.Runs.{cut_once, ends_cut}
-use Rattle.xmas_elf.specs.Symbols.{Symbols}
+use Rattle.xmas_elf.specs.Symbol.{Symbols}
 
 module _ {E : Type 0} (table : GnuHashTable) (symbols : List E) where
   -- a good bucket is not at fault
@@ -17,7 +17,7 @@ module _ {E : Type 0} (table : GnuHashTable) (symbols : List E) where
   not_at_fault k _ (inr (begins, ends)) (too_early above early) = omega arith
   not_at_fault k _ (inr (begins, ends)) (cut error above begins' c) = ends_cut table symbols (bucket_word table k) error ends c
 
-  -- a bucket has one fault
+  -- a bucket has only one error
   pub fault_once : (k : ℕ) (one other : LinkError) → IsAtFault table symbols k one → IsAtFault table symbols k other → one ≡ other
   fault_once k _ _ (too_early above early) (too_early above' early') = refl
   fault_once k _ _ (too_early above early) (cut error above' begins c) = absurd (omega arith)
@@ -25,7 +25,7 @@ module _ {E : Type 0} (table : GnuHashTable) (symbols : List E) where
   fault_once k _ _ (cut one above begins c) (cut other above' begins' d) = cut_once table symbols (bucket_word table k) one other c d
 
 module _ {E : Type 0} (table : GnuHashTable) (symbols : Symbols E) where
-  -- the symbol at i is held, if the table is to hold it
+  -- the symbol at i is found, if it is exported
   abbrev pub Held : ℕ → Type 0
   Held i = (e : E) (name : List ℕ) → IsExported table symbols i e name → IsHeld table symbols.items name i
 
@@ -38,7 +38,7 @@ module _ {E : Type 0} (table : GnuHashTable) (symbols : Symbols E) where
       let same : e ≡ d = cc in
       reached name (subst (λ x. (symbols.fields x).info / 16 ≢ 0) same exported.global.binding) (subst (λ x. (symbols.fields x).shndx ≢ 0) same exported.defined) (subst (λ x. symbols.text x ≡ Some name) same exported.global.named)
 
-  -- the check answers Ok exactly on a good table
+  -- the result of the check is Ok exactly for a good table
   pub ok_is_good : (r : Result (Unit {0}) LinkError) → IsCheck table symbols r → IsOk r → IsGood table symbols
   ok_is_good _ (good h) ok = h
   ok_is_good _ (faulty k error below before fault) ok = absurd (cc)
@@ -49,7 +49,7 @@ module _ {E : Type 0} (table : GnuHashTable) (symbols : Symbols E) where
   good_is_ok _ (faulty k error below before fault) sound = absurd (not_at_fault table symbols.items k error (sound.buckets k below) fault)
   good_is_ok _ (missing i d name all exported lost) sound = absurd (lost (sound.holds i d name exported))
 
-  -- the check has one answer
+  -- the check has only one result
   pub check_once : (a b : Result (Unit {0}) LinkError) → IsCheck table symbols a → IsCheck table symbols b → a ≡ b
   check_once _ _ (good h) (good h') = refl
   check_once _ _ (good h) (faulty k error below before fault) = absurd (not_at_fault table symbols.items k error (h.buckets k below) fault)

@@ -1,10 +1,9 @@
--- How many symbols a GNU hash table is for, run by run.
+-- The number of symbols of a GNU hash table, run by run.
 use Rattle.std.proofs.Common.{◌≡◌, ◌≢◌, ◌+◌, ◌<◌, ◌≤◌, ℕ, ◌⊎◌, inl, inr, Result, Ok, Err, refl, sym, ap, ◌∙◌, subst, arith, below_more}
 use Rattle.std.proofs.lemmas.Bool.{cases_lt, cases_order, le-ltb}
 use Rattle.std.specs.Prelude.{IfOk, if◌then◌else◌, nat_lt, Bool, true, false, length}
-use Rattle.elf_linking.specs.GnuCount.{CountStops, CountsFrom, GoesTo, IsAboveRuns, IsCount, IsLastRun, IsReached, counted, ended, no_run, refused, too_long}
-use Rattle.elf_linking.specs.GnuHash.{HasChain, bucket_word, chain_of, chain_place, chain_word, first_symbol_of, gnu_data}
-use Rattle.elf_linking.specs.Run.{EndsRun}
+use Rattle.elf_linking.specs.DynamicTables.{CountStops, CountsFrom, GoesTo, IsAboveRuns, IsGnuCount, IsLastRun, IsReachedByRun, counted, ended, no_run, refused, too_long}
+use Rattle.elf_linking.specs.GnuHash.{EndsRun, HasChain, bucket_word, chain_of, chain_place, chain_word, first_symbol_of, gnu_data}
 use Rattle.elf_linking.specs.declared.error.LinkError.{LinkError}
 use Rattle.elf_linking.specs.declared.error.LinkError.TheVariants.{ChainData, ChainIndex}
 use Rattle.elf_linking.specs.declared.gnu_hash.GnuHashTable.{GnuHashTable}
@@ -14,13 +13,13 @@ pub record LastRunBelow (table : GnuHashTable) (n from : ℕ) : Type 0 where
   pub each : (k : ℕ) → k < n → bucket_word table k ≤ from
   pub begins : from ≢ 0 → (k : ℕ) × (k < n) × (bucket_word table k ≡ from)
 
--- where neither condition holds, nothing is refused
+-- if neither condition holds, there is no error
 unrefused : (a b : Bool) (word : ℕ) (error : LinkError) → a ≡ false → b ≡ false → (if a then Err ChainIndex else (if b then Err ChainData else Ok word)) ≡ Err error → ⊥
 unrefused false false word error e f g = cc
 unrefused true b word error e f g = cc
 unrefused false true word error e f g = cc
 
--- a chain word that is there is not refused
+-- a chain word within the data has no error
 there_refused : (table : GnuHashTable) (i : ℕ) (error : LinkError) → HasChain table i → chain_of table i ≡ Err error → ⊥
 unfolding chain_of
 there_refused table i error there =
@@ -28,7 +27,7 @@ there_refused table i error there =
     (le-ltb i (first_symbol_of table) there.0) (le-ltb (length (gnu_data table)) (chain_place table i + 4) there.1)
 
 module _ (table : GnuHashTable) where
-  -- the greatest so far, and with one more bucket
+  -- the greatest index so far, and after one more bucket
   pub last_first : LastRunBelow table 0 0
   last_first = record {
     each = λ k below. absurd (omega arith);
@@ -47,7 +46,7 @@ module _ (table : GnuHashTable) where
     begins = λ some. (n, omega arith, sym is);
   }
 
-  -- at its begin a run has passed no index, and it passes one more
+  -- a run has passed no index at its start, and then one more in each step
   pub goes_first : (from : ℕ) → GoesTo table from from
   goes_first from = record {
     ordered = omega arith;
@@ -66,7 +65,7 @@ module _ (table : GnuHashTable) where
         goes_on = λ k above below. below_more On i (λ j under over. goes.goes_on j over under) (λ _. on) k below above;
       }
 
-  -- a count doesn't go on from where it stops
+  -- a count doesn't continue from where it stops
   stop_passed : (i last : ℕ) (answer : Result ℕ LinkError) → CountStops table i answer → i < last → HasChain table i → (EndsRun table i → ⊥) → (other : Result ℕ LinkError) → CountStops table last other → ⊥
   stop_passed i last _ (ended small word ends) before there on other stop = on ends
   stop_passed i last _ (refused error small is) before there on other stop = there_refused table i error there is
@@ -74,7 +73,7 @@ module _ (table : GnuHashTable) where
   stop_passed i last _ (too_long large) before there on _ (refused error small is) = omega arith
   stop_passed i last _ (too_long large) before there on _ (too_long large') = omega arith
 
-  -- it has one answer there
+  -- a count has only one result where it stops
   stops_once : (i : ℕ) (one other : Result ℕ LinkError) → CountStops table i one → CountStops table i other → one ≡ other
   stops_once i _ _ (ended small word ends) (ended small' word' ends') = refl
   stops_once i _ _ (ended small word ends) (refused error small' is) = absurd (there_refused table i error word is)
@@ -86,7 +85,7 @@ module _ (table : GnuHashTable) where
   stops_once i _ _ (too_long large) (refused error small is) = absurd (omega arith)
   stops_once i _ _ (too_long large) (too_long large') = refl
 
-  -- and so has the count from an index on
+  -- a count from an index on has only one result
   counts_once : (from : ℕ) (one other : Result ℕ LinkError) → CountsFrom table from one → CountsFrom table from other → one ≡ other
   counts_once from one other c d = go (cases_order c.last d.last)
     where
@@ -95,7 +94,7 @@ module _ (table : GnuHashTable) where
       go (inr (inl before)) = absurd (stop_passed c.last d.last one c.stop before (d.goes.words c.last c.goes.ordered before) (d.goes.goes_on c.last c.goes.ordered before) other d.stop)
       go (inr (inr behind)) = absurd (stop_passed d.last c.last other d.stop behind (c.goes.words d.last d.goes.ordered behind) (c.goes.goes_on d.last d.goes.ordered behind) one c.stop)
 
-  -- the greatest begin is one number
+  -- there is only one greatest start of a run
   begins_below : (one other : ℕ) → IsLastRun table one → IsLastRun table other → one ≤ other
   begins_below one other c d = go (cases_lt other one)
     where
@@ -110,21 +109,21 @@ module _ (table : GnuHashTable) where
       let h : one ≤ other = begins_below one other c d in
       let h' : other ≤ one = begins_below other one d c in omega arith
 
-  -- the whole count has one answer
-  pub count_once : (one other : Result ℕ LinkError) → IsCount table one → IsCount table other → one ≡ other
+  -- the whole count has only one result
+  pub count_once : (one other : Result ℕ LinkError) → IsGnuCount table one → IsGnuCount table other → one ≡ other
   count_once _ _ (no_run last) (no_run last') = refl
   count_once _ _ (no_run last) (counted from answer above last' counts) = absurd (let same : 0 ≡ from = last_run_once 0 from last last' in omega arith)
   count_once _ _ (counted from answer above last counts) (no_run last') = absurd (let same : from ≡ 0 = last_run_once from 0 last last' in omega arith)
   count_once _ _ (counted from answer above last counts) (counted from' answer' above' last' counts') =
       counts_once from' answer answer' (subst (λ n. CountsFrom table n answer) (last_run_once from from' last last') counts) counts'
 
-  -- no run reaches what is behind the end of the last
-  none_begins : (i : ℕ) → IsLastRun table 0 → IsReached table i → ⊥
+  -- no run reaches an index after the end of the last
+  none_begins : (i : ℕ) → IsLastRun table 0 → IsReachedByRun table i → ⊥
   none_begins i last reached =
       let h : bucket_word table reached.bucket ≤ 0 = last.each reached.bucket reached.below in
       reached.begins (omega (arith, h))
 
-  behind_end : (from count i : ℕ) → IsLastRun table from → CountsFrom table from (Ok count) → IsReached table i → i < count
+  behind_end : (from count i : ℕ) → IsLastRun table from → CountsFrom table from (Ok count) → IsReachedByRun table i → i < count
   behind_end from count i last counts reached = go (Ok count) refl counts.stop (cases_lt counts.last i)
     where
       go : (answer : Result ℕ LinkError) → answer ≡ Ok count → CountStops table counts.last answer → (counts.last < i) ⊎ (i ≤ counts.last) → i < count
@@ -136,7 +135,7 @@ module _ (table : GnuHashTable) where
       go _ is (refused error small lacks) side = absurd (cc)
       go _ is (too_long large) side = absurd (cc)
 
-  pub count_above : (answer : Result ℕ LinkError) → IsCount table answer → IfOk answer (IsAboveRuns table)
+  pub count_above : (answer : Result ℕ LinkError) → IsGnuCount table answer → IfOk answer (IsAboveRuns table)
   count_above _ (no_run last) = λ i reached. absurd (none_begins i last reached)
   count_above (Ok count) (counted from _ above last counts) = λ i reached. behind_end from count i last counts reached
   count_above (Err error) (counted from _ above last counts) = tt

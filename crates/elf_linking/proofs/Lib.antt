@@ -15,3 +15,7 @@ pub mod EntryItems
 pub mod NeededItems
 pub mod LinkedNames
 pub mod ViewTables
+pub mod SymbolCounts
+pub mod Classes
+pub mod BuildIdSearch
+pub mod AnyTables

@@ -1,4 +1,4 @@
--- What is found of the string table of the dynamic segment holds the names that are the texts there.
+-- The string table of the dynamic segment contains the names of the symbols.
 use Rattle.std.proofs.Common.{◌≡◌, ℕ, List, Result, Ok, Err, Bor}
 use Rattle.std.specs.Result.{result_ok}
 use Rattle.elf_base.specs.Lent.{Answers}

@@ -1,25 +1,25 @@
--- One look-up has one answer; and on a good table it is never refused and finds what must be found.
+-- A look-up has only one result; in a good table it has no error and finds what must be found.
 use Rattle.std.proofs.Common.{◌≡◌, ◌≢◌, ◌%◌, ◌<◌, ◌≤◌, ℕ, ◌⊎◌, inl, inr, Bool, true, false, List, Option, Some, None, Result, refl, subst, arith}
 use Rattle.std.proofs.Math.Dec.{eqb}
 use Rattle.std.proofs.lemmas.Bool.{cases_order, eqb-false}
 use Rattle.std.specs.Prelude.{◌||◌, not, if◌then◌else◌}
-use Rattle.elf_linking.specs.GnuHash.{bucket_count_of, bucket_word, first_symbol_of, may_hold, start_at, start_of}
+use Rattle.elf_linking.specs.GnuHash.{EndsRun, bucket_count_of, bucket_word, first_symbol_of, may_hold, start_at, start_of}
 use Rattle.elf_linking.specs.GnuHashNumber.{gnu_hash_number}
 use Rattle.elf_linking.specs.GoodGnu.{AreGoodBelow, Ends, FindsAll, IsBucketGood, IsExported, IsGood, IsHeld}
-use Rattle.elf_linking.specs.Run.{EndsRun, IsHit, Looks, LooksFrom, NoHit, Run, Stops, ended, found, goes, no_run, refused, too_early}
+use Rattle.elf_linking.specs.Run.{IsHit, Looks, LooksFrom, NoHit, Run, Stops, ended, found, goes, no_run, refused, too_early}
 use Rattle.elf_linking.specs.declared.error.LinkError.{LinkError}
 use Rattle.elf_linking.specs.declared.gnu_hash.GnuHashTable.{GnuHashTable}
 use Rattle.elf_linking.proofs.Runs.{ends_cut, looks_from_once}
-use Rattle.xmas_elf.specs.Symbols.{Symbols}
+use Rattle.xmas_elf.specs.Symbol.{Symbols}
 
--- what is chosen is the word, where there are buckets and it is not 0
+-- the chosen word is that of the bucket, if there are buckets and it is not 0
 picked : (a b z : Bool) (word from : ℕ) → (if a || not b then None else (if z then None else Some word)) ≡ Some from → (a ≡ false) × (z ≡ false) × (word ≡ from)
 picked true b z word from e = absurd (cc)
 picked false true true word from e = absurd (cc)
 picked false true false word from e = (refl, refl, cc)
 picked false false z word from e = absurd (cc)
 
--- where a look-up begins, it begins at the word of a bucket, which is not 0
+-- a look-up begins at the word of a bucket, which is not 0
 pub start_bucket : (table : GnuHashTable) (h from : ℕ) → start_at table h ≡ Some from → (bucket_count_of table ≢ 0) × (bucket_word table (h % bucket_count_of table) ≡ from) × (0 < from)
 unfolding start_at
 start_bucket table h from starts =
@@ -29,7 +29,7 @@ start_bucket table h from starts =
     (eqb-false (bucket_count_of table) 0 some, same, omega arith)
 
 module _ {E : Type 0} (P : E → Type 0) (table : GnuHashTable) (symbols : List E) (name : List ℕ) where
-  -- one look-up has one answer, and looks at one number of chain words
+  -- a look-up has only one result and one number of chain words
   pub looks_once : (a b : Result (Option (ℕ × E)) LinkError) (n m : ℕ) → Looks P table symbols name a n → Looks P table symbols name b m → (a ≡ b) × (n ≡ m)
   looks_once _ _ _ _ (no_run none) (no_run none') = (refl, refl)
   looks_once _ _ _ _ (no_run none) (too_early from starts early) = absurd (cc)
@@ -47,11 +47,11 @@ module _ {E : Type 0} (P : E → Type 0) (table : GnuHashTable) (symbols : List 
       looks_from_once table symbols P (gnu_hash_number name) from' n m a b moved looks'
 
 module _ {E : Type 0} (P : E → Type 0) (table : GnuHashTable) (symbols : List E) (name : List ℕ) where
-  -- a look-up by the hash number of the name is one for the name
+  -- a look-up by the hash number of the name is a look-up for the name
   pub goes_by : (h from n : ℕ) (a : Result (Option (ℕ × E)) LinkError) → h ≡ gnu_hash_number name → start_of table name ≡ Some from → first_symbol_of table ≤ from → LooksFrom P h table symbols from a n → Looks P table symbols name a n
   goes_by h from n a same starts begins looks = goes from n a starts begins (subst (λ x. LooksFrom P x table symbols from a n) same looks)
 
--- where the buckets are good, a look-up begins at the first symbol or later, on a run that ends
+-- if the buckets are good, a look-up begins at the first symbol or later, on a run that ends
 pub start_ends : {E : Type 0} (table : GnuHashTable) (symbols : List E) (h from : ℕ) → AreGoodBelow table symbols (bucket_count_of table) → start_at table h ≡ Some from → (0 < from) × (first_symbol_of table ≤ from) × Ends table symbols from
 start_ends {E} table symbols h from good starts =
     let (some, same, above) = start_bucket table h from starts in
@@ -64,7 +64,7 @@ start_ends {E} table symbols h from good starts =
     go same above (inr (begins, ends)) = (above, omega arith, subst (λ x. Ends table symbols x) same ends)
 
 module _ {E : Type 0} (P : E → Type 0) (table : GnuHashTable) (symbols : Symbols E) (name : List ℕ) where
-  -- what a look-up passes over without a hit is no symbol that it is to find
+  -- a symbol that a look-up passes without a hit is not one that it must find
   missed_all : (from last : ℕ) → start_of table name ≡ Some from → IsGood table symbols → Run table symbols.items from last → NoHit P (gnu_hash_number name) table symbols.items from last → EndsRun table last → ((e : E) → IsHit P (gnu_hash_number name) table symbols.items last e → ⊥) → (i : ℕ) (e : E) → IsExported table symbols i e name → P e → ⊥
   missed_all from last starts good run missed ends none i e exported holds = go (cases_order i last)
     where
@@ -85,7 +85,7 @@ module _ {E : Type 0} (P : E → Type 0) (table : GnuHashTable) (symbols : Symbo
       go (inr (inl before)) = missed i e here.ordered before hit
       go (inr (inr behind)) = here.goes_on last run.ordered behind ends
 
-  -- at a stop of a run that ends, the answer is the right one
+  -- at a stop of a run that ends, the result is the right one
   stop_finds : (from last n : ℕ) (a : Result (Option (ℕ × E)) LinkError) → 0 < from → first_symbol_of table ≤ from → Ends table symbols.items from → start_of table name ≡ Some from → IsGood table symbols → Run table symbols.items from last → NoHit P (gnu_hash_number name) table symbols.items from last → Stops P (gnu_hash_number name) table symbols.items last a n → FindsAll table symbols name P a
   stop_finds from last _ _ above begins run_ends starts good run missed (found e hit) =
       let ordered : from ≤ last = run.ordered in
@@ -95,7 +95,7 @@ module _ {E : Type 0} (P : E → Type 0) (table : GnuHashTable) (symbols : Symbo
   stop_finds from last _ _ above begins run_ends starts good run missed (refused error lacks) =
       ends_cut table symbols.items from error run_ends (record { last = last; run = run; lacks = lacks })
 
-  -- on a good table a look-up is never refused and finds what must be found
+  -- in a good table a look-up has no error and finds what must be found
   pub finds_all : (a : Result (Option (ℕ × E)) LinkError) (n : ℕ) → IsGood table symbols → Looks P table symbols.items name a n → FindsAll table symbols name P a
   finds_all _ _ good (no_run none) = λ (i, e, exported, holds).
       let held : IsHeld table symbols.items name i = good.holds i e name exported in

@@ -1,4 +1,4 @@
--- The addresses of RELR data, word by word.
+-- The addresses in RELR data, word by word.
 use Rattle.std.proofs.Common.{◌≡◌, ◌≢◌, ℕ, suc, ◌+◌, ◌-◌, ◌*◌, ◌%◌, ◌^◌, ◌/◌, ◌≤◌, ◌<◌, ◌==◌, List, [], ◌∷◌, ◌++◌, length, Result, Ok, Err, Bool, true, false, if◌then◌else◌, length-append, mul-suc, lit<, refl, sym, ◌∙◌, subst, arith}
 use Rattle.std.proofs.lemmas.Bool.{eq-eqb, ne_eqb}
 use Rattle.std.proofs.lemmas.List.{length-map}
@@ -14,9 +14,9 @@ use Rattle.elf_base.specs.declared.header.numbers.Class.{Class}
 use Rattle.elf_base.specs.declared.header.numbers.Class.TheVariants.{ThirtyTwo, SixtyFour}
 use Rattle.elf_base.proofs.lemmas.RecordLemmas.{length-records}
 use Rattle.elf_linking.specs.declared.error.LinkError.TheVariants.{NotMultiple}
-use Rattle.elf_linking.specs.Relr.{addresses, addresses_in, addresses_of, marked, marks, place_after, place_behind, relr_of}
+use Rattle.elf_linking.specs.Relr.{addresses, addresses_in, addresses_of, marked, marks, place_after, address_after, relr_of}
 
--- a part of a list is no longer
+-- a sublist is no longer than its list
 by_test : (passes : Bool) (x : ℕ) (one other : List ℕ) → length one ≤ length other → length (if passes then x ∷ one else one) ≤ suc (length other)
 by_test true x one other fewer = omega (arith, fewer)
 by_test false x one other fewer = omega (arith, fewer)
@@ -25,14 +25,14 @@ length_filter_le : (test : ℕ → Bool) (xs : List ℕ) → length (filter test
 length_filter_le test [] = omega arith
 length_filter_le test (x ∷ xs) = by_test (test x) x (filter test xs) xs (length_filter_le test xs)
 
--- no place, no address
+-- a bitmap without remaining bits marks no address
 pub marked_none : (size place bitmap first : ℕ) → marked size place bitmap first 0 ≡ []
 unfolding marked
 marked_none size place bitmap first = refl
 
--- the first place, whose bit is set or isn't
+-- the first bit of a bitmap, which is set or isn't
 pub marked_set : (size place bitmap first count : ℕ) → first < count → bitmap / 2 ^ (first + 1) % 2 ≡ 1
-    → marked size place bitmap first (count - first) ≡ place_behind size place first ∷ marked size place bitmap (first + 1) (count - (first + 1))
+    → marked size place bitmap first (count - first) ≡ address_after size place first ∷ marked size place bitmap (first + 1) (count - (first + 1))
 unfolding marked
 marked_set size place bitmap first count below is =
     let more : count - first ≡ suc (count - (first + 1)) = omega arith in
@@ -47,53 +47,54 @@ marked_unset size place bitmap first count below is =
     let unset : (bit_at bitmap (first + 1) == 1) ≡ _ = ne_eqb (bit_at bitmap (first + 1)) 1 is in
     rw (more, unset) refl
 
--- no words, no addresses
+-- no words have no addresses
 pub addresses_none : (size place : ℕ) → addresses size place [] ≡ []
 unfolding addresses
 addresses_none size place = refl
 
 -- a word that is an address
 pub addresses_even : (size place word : ℕ) (words : List ℕ) → word % 2 ≡ 0
-    → addresses size place (word ∷ words) ≡ word ∷ addresses size (place_behind size word 1) words
+    → addresses size place (word ∷ words) ≡ word ∷ addresses size (address_after size word 1) words
 unfolding addresses
 addresses_even size place word words even =
     let is : (word % 2 == 0) ≡ _ = eq-eqb (word % 2) 0 even in rw is refl
 
 -- a word that is a bitmap
 pub addresses_odd : (size place word : ℕ) (words : List ℕ) → word % 2 ≢ 0
-    → addresses size place (word ∷ words) ≡ marked size place word 0 (marks size) ++ addresses size (place_behind size place (marks size)) words
+    → addresses size place (word ∷ words) ≡ marked size place word 0 (marks size) ++ addresses size (address_after size place (marks size)) words
 unfolding addresses
 addresses_odd size place word words odd =
     let is : (word % 2 == 0) ≡ _ = ne_eqb (word % 2) 0 odd in rw is refl
 
--- what is left where a bitmap has no more to give: nothing, an address, or a bitmap and what is behind it
+-- the remaining addresses when a bitmap is used up: none, those of an address, or those of a bitmap, and of
+-- the words after it
 pub rest_end : (size place : ℕ) (left words : List ℕ) → left ≡ [] → words ≡ [] → left ++ addresses size place words ≡ []
 rest_end size place left words bare none = rw (bare, none) (addresses_none size place)
 
 pub rest_even : (size place word : ℕ) (left words others : List ℕ) → left ≡ [] → words ≡ word ∷ others → word % 2 ≡ 0
-    → left ++ addresses size place words ≡ word ∷ addresses size (place_behind size word 1) others
+    → left ++ addresses size place words ≡ word ∷ addresses size (address_after size word 1) others
 rest_even size place word left words others bare begins even = rw (bare, begins) (addresses_even size place word others even)
 
 pub rest_odd : (size place word : ℕ) (left words others : List ℕ) → left ≡ [] → words ≡ word ∷ others → word % 2 ≢ 0
-    → left ++ addresses size place words ≡ marked size place word 0 (marks size) ++ addresses size (place_behind size place (marks size)) others
+    → left ++ addresses size place words ≡ marked size place word 0 (marks size) ++ addresses size (address_after size place (marks size)) others
 rest_odd size place word left words others bare begins odd = rw (bare, begins) (addresses_odd size place word others odd)
 
--- what is left once a bitmap is taken up
+-- the remaining addresses after a bitmap was read
 taken_up_by : (size place behind word count : ℕ) (left words others whole : List ℕ) → left ++ addresses size place words ≡ whole → left ≡ []
-    → words ≡ word ∷ others → word % 2 ≢ 0 → behind ≡ place_behind size place (marks size) → count ≡ marks size
+    → words ≡ word ∷ others → word % 2 ≢ 0 → behind ≡ address_after size place (marks size) → count ≡ marks size
     → marked size place word 0 count ++ addresses size behind others ≡ whole
 taken_up_by size place behind word count left words others whole before bare begins odd is all =
     rw (is, all) (sym (rest_odd size place word left words others bare begins odd) ∙ before)
 
 pub taken_up : (size size' place place' behind word : ℕ) (left words others whole : List ℕ) → left ++ addresses size place words ≡ whole → left ≡ []
-    → words ≡ word ∷ others → word % 2 ≢ 0 → size' ≡ size → place' ≡ place → behind ≡ place_behind size' place' (marks size')
+    → words ≡ word ∷ others → word % 2 ≢ 0 → size' ≡ size → place' ≡ place → behind ≡ address_after size' place' (marks size')
     → marked size' place' word 0 (marks size' - 0) ++ addresses size' behind others ≡ whole
 taken_up size size' place place' behind word left words others whole before bare begins odd same there is =
     let all : marks size' - 0 ≡ marks size' = omega arith in
     let here : left ++ addresses size' place' words ≡ whole = rw (same, there) before in
     taken_up_by size' place' behind word (marks size' - 0) left words others whole here bare begins odd is all
 
--- what is left at the start
+-- the remaining addresses at the start
 pub starts : (size looked_at : ℕ) (words : List ℕ) (answer : Result (ℕ × List ℕ) LinkError) → answer ≡ Ok (size, words) → looked_at ≡ marks size
     → addresses_in answer ≡ Ok (marked size 0 0 looked_at (marks size - looked_at) ++ addresses size 0 words)
 starts size looked_at words answer is all =
@@ -106,7 +107,7 @@ unfolding marked
 marked_fit size place bitmap first count =
     let test : ℕ → Bool = λ k. bit_at bitmap (k + 1) == 1 in
     let places = range_with_len first count in
-    let mapped = length-map (filter test places) (place_behind size place) in
+    let mapped = length-map (filter test places) (address_after size place) in
     let fewer = length_filter_le test places in
     let all = length-range_with_len first count in
     omega (arith, mapped, fewer, all)
@@ -147,11 +148,11 @@ relr_fits ThirtyTwo order bytes items is = in_bytes 4 order bytes items (length 
 relr_fits SixtyFour order bytes items is = in_bytes 8 order bytes items (length bytes % 8 == 0) (lit< tt) is
 relr_fits _ order bytes items is = cc
 
--- modulo 2 to the 64 and then to the 32
-pub narrow_place : (place count : ℕ) → (place + count * 4) % 2 ^ 64 % 2 ^ 32 ≡ place_behind 4 place count
-unfolding place_behind
+-- a number modulo 2 to the 64 and then modulo 2 to the 32
+pub narrow_place : (place count : ℕ) → (place + count * 4) % 2 ^ 64 % 2 ^ 32 ≡ address_after 4 place count
+unfolding address_after
 narrow_place place count = omega arith
 
-pub wide_place : (place count : ℕ) → (place + count * 8) % 2 ^ 64 ≡ place_behind 8 place count
-unfolding place_behind
+pub wide_place : (place count : ℕ) → (place + count * 8) % 2 ^ 64 ≡ address_after 8 place count
+unfolding address_after
 wide_place place count = refl

@@ -1,15 +1,15 @@
 -- The runs of a GNU hash table, index by index.
 use Rattle.std.proofs.Common.{◌≡◌, ◌+◌, ◌-◌, ◌<◌, ◌≤◌, ℕ, ◌⊎◌, inl, inr, List, Option, Some, Result, Ok, Err, slice_get, length, refl, sym, ap, subst, arith, below_more}
 use Rattle.std.proofs.lemmas.Bool.{cases_lt, cases_order}
-use Rattle.elf_linking.specs.GnuHash.{chain_place, first_symbol_of, gnu_data}
+use Rattle.elf_linking.specs.GnuHash.{EndsRun, chain_place, first_symbol_of, gnu_data}
 use Rattle.elf_linking.specs.GoodGnu.{Ends, IsCut}
-use Rattle.elf_linking.specs.Run.{ComeFrom, EndsRun, IsHit, IsThere, Lacks, LooksFrom, NoHit, Run, Stops, ended, found, no_symbol, no_word, refused, symbol_end}
+use Rattle.elf_linking.specs.Run.{ComeFrom, IsHit, IsThere, Lacks, LooksFrom, NoHit, Run, Stops, ended, found, no_symbol, no_word, refused, symbol_end}
 use Rattle.elf_linking.specs.declared.error.LinkError.{LinkError}
 use Rattle.elf_linking.specs.declared.error.LinkError.TheVariants.{SymbolIndex}
 use Rattle.elf_linking.specs.declared.gnu_hash.GnuHashTable.{GnuHashTable}
 
 module _ {E : Type 0} (table : GnuHashTable) (symbols : List E) where
-  -- at its begin a run has passed no index
+  -- a run has passed no index at its start
   pub run_first : (from : ℕ) → Run table symbols from from
   run_first from = record {
     ordered = omega arith;
@@ -17,7 +17,7 @@ module _ {E : Type 0} (table : GnuHashTable) (symbols : List E) where
     goes_on = λ i above below. absurd (omega arith);
   }
 
-  -- and it passes one more
+  -- a run passes one more index in a step
   pub run_next : (from i : ℕ) → Run table symbols from i → IsThere table symbols i → (EndsRun table i → ⊥) → Run table symbols from (i + 1)
   run_next from i run there on =
       let There : ℕ → Type 0 = λ k. from ≤ k → IsThere table symbols k in
@@ -29,7 +29,7 @@ module _ {E : Type 0} (table : GnuHashTable) (symbols : List E) where
         goes_on = λ k above below. below_more On i (λ j under over. run.goes_on j over under) (λ _. on) k below above;
       }
 
-  -- a run that comes to an index has come to those before it
+  -- a run that comes to an index comes to those before it
   pub run_part : (from i j : ℕ) → Run table symbols from j → from ≤ i → i ≤ j → Run table symbols from i
   run_part from i j run above below = record {
     ordered = above;
@@ -37,19 +37,19 @@ module _ {E : Type 0} (table : GnuHashTable) (symbols : List E) where
     goes_on = λ k over under. run.goes_on k over (omega arith);
   }
 
-  -- where a symbol and a chain word are there, nothing is lacking
+  -- if there are a symbol and a chain word, neither is missing
   pub there_lacks : (i : ℕ) (error : LinkError) → IsThere table symbols i → Lacks table symbols i error → ⊥
   there_lacks i _ there (no_symbol past) = let h : i < symbol_end symbols = there.symbol in omega arith
   there_lacks i _ there (no_word below past) = let h : chain_place table i + 4 ≤ length (gnu_data table) = there.word.1 in omega arith
 
-  -- and what is lacking is one thing
+  -- only one of them is the error at an index
   pub lacks_once : (i : ℕ) (one other : LinkError) → Lacks table symbols i one → Lacks table symbols i other → one ≡ other
   lacks_once i _ _ (no_symbol past) (no_symbol past') = refl
   lacks_once i _ _ (no_symbol past) (no_word below past') = absurd (omega arith)
   lacks_once i _ _ (no_word below past) (no_symbol past') = absurd (omega arith)
   lacks_once i _ _ (no_word below past) (no_word below' past') = refl
 
-  -- a run that ends is not cut
+  -- a run that ends is not cut off
   pub ends_cut : (from : ℕ) (error : LinkError) → Ends table symbols from → IsCut table symbols from error → ⊥
   ends_cut from error e c = go (cases_order e.last c.last)
     where
@@ -58,7 +58,7 @@ module _ {E : Type 0} (table : GnuHashTable) (symbols : List E) where
       go (inr (inl before)) = c.run.goes_on e.last e.run.ordered before e.ends
       go (inr (inr behind)) = there_lacks c.last error (e.run.there c.last c.run.ordered behind) c.lacks
 
-  -- and a run is cut for one reason
+  -- a run is cut off with only one error
   pub cut_once : (from : ℕ) (one other : LinkError) → IsCut table symbols from one → IsCut table symbols from other → one ≡ other
   cut_once from one other c d = go (cases_order c.last d.last)
     where
@@ -67,7 +67,7 @@ module _ {E : Type 0} (table : GnuHashTable) (symbols : List E) where
       go (inr (inl before)) = absurd (there_lacks c.last one (d.run.there c.last c.run.ordered before) c.lacks)
       go (inr (inr behind)) = absurd (there_lacks d.last other (c.run.there d.last d.run.ordered behind) d.lacks)
 
-  -- a run up to the end of what is there, if none of its words ends it
+  -- a run up to the end of the symbols and chain words, if none of its words ends it
   pub run_to : (from last : ℕ) → from ≤ last → ((i : ℕ) → from ≤ i → i < last → IsThere table symbols i) → ((i : ℕ) → from ≤ i → IsThere table symbols i → EndsRun table i → ⊥) → Run table symbols from last
   run_to from last ordered there endless = record {
     ordered = ordered;
@@ -75,7 +75,7 @@ module _ {E : Type 0} (table : GnuHashTable) (symbols : List E) where
     goes_on = λ i above below. endless i above (there i above below);
   }
 
-  -- the runs that come to the first index that is asked for begin there
+  -- the runs that come to the first index of the pass begin there
   pub come_first : (from : ℕ) → ((i : ℕ) → 0 < i → first_symbol_of table ≤ i → from ≤ i) → ComeFrom table symbols from from
   come_first from least = record {
     ordered = omega arith;
@@ -87,7 +87,7 @@ module _ {E : Type 0} (table : GnuHashTable) (symbols : List E) where
       only i positive run (inl before) = let there : IsThere table symbols i = run.there i (omega arith) before in least i positive there.word.0
       only i positive run (inr behind) = behind
 
-  -- those that come to the next go on from this one, or begin there
+  -- the runs that come to the next index come from this one, or begin there
   pub come_on : (from index : ℕ) → ComeFrom table symbols from index → IsThere table symbols index → (EndsRun table index → ⊥) → ComeFrom table symbols from (index + 1)
   come_on from index c there on =
       let ordered : from ≤ index = c.ordered in
@@ -105,7 +105,7 @@ module _ {E : Type 0} (table : GnuHashTable) (symbols : List E) where
       only i positive run (inl behind) = let ordered : from ≤ index = c.ordered in omega arith
       only i positive run (inr before) = c.only i positive (run_part i index (index + 1) run before (omega arith))
 
-  -- and where none goes on, they begin there
+  -- if no run continues, the runs that come to the next index begin there
   pub come_stop : (index : ℕ) → (IsThere table symbols index → (EndsRun table index → ⊥) → ⊥) → ComeFrom table symbols (index + 1) (index + 1)
   come_stop index stops = record {
     ordered = omega arith;
@@ -118,7 +118,7 @@ module _ {E : Type 0} (table : GnuHashTable) (symbols : List E) where
       only i run (inr before) = absurd (stops (run.there index before (omega arith)) (run.goes_on index before (omega arith)))
 
   module _ (P : E → Type 0) (h : ℕ) where
-    -- where there are no more symbols, a look-up is refused
+    -- if there are no more symbols, a look-up is refused
     pub looks_past : (from index n : ℕ) → Run table symbols from index → NoHit P h table symbols from index → symbol_end symbols ≤ index → (from ≤ symbol_end symbols → index ≤ symbol_end symbols) → n ≡ symbol_end symbols - from → LooksFrom P h table symbols from (Err SymbolIndex) n
     looks_past from index n run missed past within counted = go (cases_lt (symbol_end symbols) from)
       where
@@ -142,13 +142,13 @@ module _ {E : Type 0} (table : GnuHashTable) (symbols : List E) where
               counted = omega arith;
             }
 
-    -- a look-up doesn't go on from where it stops
+    -- a look-up doesn't continue from where it stops
     pub stop_passed : (i n : ℕ) (a : Result (Option (ℕ × E)) LinkError) → Stops P h table symbols i a n → IsThere table symbols i → (EndsRun table i → ⊥) → ((e : E) → IsHit P h table symbols i e → ⊥) → ⊥
     stop_passed i _ _ (found e hit) there on no_hit = no_hit e hit
     stop_passed i _ _ (ended there ends none) there' on no_hit = on ends
     stop_passed i _ _ (refused error lacks) there on no_hit = there_lacks i error there lacks
 
-    -- it has one answer there
+    -- a look-up has only one result where it stops
     pub stops_once : (i n m : ℕ) (a b : Result (Option (ℕ × E)) LinkError) → Stops P h table symbols i a n → Stops P h table symbols i b m → (a ≡ b) × (n ≡ m)
     stops_once i _ _ _ _ (found e hit) (found d hit') =
         let one : slice_get symbols i ≡ Some e = hit.symbol in
@@ -164,7 +164,7 @@ module _ {E : Type 0} (table : GnuHashTable) (symbols : List E) where
     stops_once i _ _ _ _ (refused error lacks) (ended there ends none) = absurd (there_lacks i error there lacks)
     stops_once i _ _ _ _ (refused error lacks) (refused error' lacks') = (ap (λ x. Err x) (lacks_once i error error' lacks lacks'), refl)
 
-    -- and so has the look-up from an index on
+    -- a look-up from an index on has only one result
     pub looks_from_once : (from n m : ℕ) (a b : Result (Option (ℕ × E)) LinkError) → LooksFrom P h table symbols from a n → LooksFrom P h table symbols from b m → (a ≡ b) × (n ≡ m)
     looks_from_once from n m a b l k = go (cases_order l.last k.last)
       where

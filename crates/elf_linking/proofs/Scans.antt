@@ -1,12 +1,12 @@
--- A pass over chain words that keeps the index behind the last one that ends a run.
+-- A pass over chain words that keeps the index after the last one that ends a run.
 use Rattle.std.proofs.Common.{◌+◌, ◌<◌, ◌≤◌, ℕ, ◌⊎◌, inl, inr, List, arith, below_more}
 use Rattle.std.proofs.lemmas.Bool.{cases_lt}
-use Rattle.elf_linking.specs.GnuHash.{first_symbol_of}
+use Rattle.elf_linking.specs.GnuHash.{EndsRun, first_symbol_of}
 use Rattle.elf_linking.specs.GoodGnu.{Ends}
-use Rattle.elf_linking.specs.Run.{EndsRun, IsThere}
+use Rattle.elf_linking.specs.Run.{IsThere}
 use Rattle.elf_linking.specs.declared.gnu_hash.GnuHashTable.{GnuHashTable}
 
--- up to an index all is there; runs from before `end` end; and from `end` on no word ends one
+-- all symbols and words up to an index are there; runs from before `end` end; no word from `end` on ends one
 pub record Scanned {E : Type 0} (table : GnuHashTable) (symbols : List E) (end index : ℕ) : Type 0 where
   pub below : end ≤ index
   pub there : (i : ℕ) → first_symbol_of table ≤ i → i < index → IsThere table symbols i

@@ -3,7 +3,7 @@ use Rattle.std.proofs.Common.{◌≡◌, ◌<◌, ◌≤◌, ◌/◌, ◌^◌, �
 use Rattle.std.proofs.Math.Nat.{div-eq_of_lt}
 use Rattle.std.proofs.Math.Pow.{pow_mono}
 
--- a number of 32 bits that is shifted by 32 bits or more
+-- a 32-bit number shifted to the right by 32 bits or more is 0
 pub shifted_out : (a k : ℕ) → a < 2 ^ 32 → 32 ≤ k → a / 2 ^ k ≡ 0
 shifted_out a k below many =
     let least : 2 ^ 32 ≤ 2 ^ k = pow_mono {i = 32} {j = k} many in

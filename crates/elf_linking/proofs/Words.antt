@@ -1,33 +1,33 @@
--- Which chain words of a GNU hash table lie in its data.
+-- Which chain words of a GNU hash table lie within its data.
 use Rattle.std.proofs.Common.{◌≡◌, ◌+◌, ◌-◌, ◌*◌, ◌/◌, ◌<◌, ◌≤◌, ℕ, ◌⊎◌, inl, inr, Bool, true, false, List, Ok, Err, length, refl, sym, subst, arith}
 use Rattle.std.proofs.lemmas.Bool.{cases_lt, le-ltb, ltb-true}
 use Rattle.std.specs.Prelude.{if◌then◌else◌, nat_lt}
 use Rattle.elf_linking.specs.GnuHash.{HasChain, chain_of, chain_place, chain_word, first_symbol_of, gnu_class, gnu_data, gnu_order}
-use Rattle.elf_linking.specs.GnuLayout.{chains_in}
+use Rattle.elf_linking.specs.Layouts.{chains_in}
 use Rattle.elf_linking.specs.Run.{Lacks, no_word, symbol_end}
 use Rattle.elf_linking.specs.declared.error.LinkError.{LinkError}
 use Rattle.elf_linking.specs.declared.error.LinkError.TheVariants.{ChainData, ChainIndex}
 use Rattle.elf_linking.specs.declared.gnu_hash.GnuHashTable.{GnuHashTable}
 
--- of two refusals the first of which doesn't hold, it is the second
+-- of two errors, if the first condition does not hold, it is the second
 second_refused : (a b : Bool) (word : ℕ) (error : LinkError) → (if a then Err ChainIndex else (if b then Err ChainData else Ok word)) ≡ Err error → a ≡ false → (b ≡ true) × (error ≡ ChainData)
 second_refused true b word error e f = absurd (cc)
 second_refused false true word error e f = (refl, cc)
 second_refused false false word error e f = absurd (cc)
 
--- from the first symbol on, a chain word that is refused doesn't lie whole in the data
+-- from the first symbol on, a chain word that is refused extends past the end of the data
 pub chain_refused : {E : Type 0} (table : GnuHashTable) (symbols : List E) (i : ℕ) (error : LinkError) → i < symbol_end symbols → first_symbol_of table ≤ i → chain_of table i ≡ Err error → Lacks table symbols i error
 unfolding chain_of
 chain_refused table symbols i error below begins e =
     let (out, same) = second_refused (nat_lt i (first_symbol_of table)) (nat_lt (length (gnu_data table)) (chain_place table i + 4)) (chain_word table i) error e (le-ltb i (first_symbol_of table) begins) in
     subst (λ x. Lacks table symbols i x) (sym same) (no_word below (ltb-true (length (gnu_data table)) (chain_place table i + 4) out))
 
--- the chain words before one that is there are there
+-- the chain words before a chain word within the data are within the data
 pub chain_before : (table : GnuHashTable) (i j : ℕ) → first_symbol_of table ≤ i → i ≤ j → HasChain table j → HasChain table i
 unfolding chain_place
 chain_before table i j begins ordered (begins', fits) = (begins, omega arith)
 
--- or it isn't there
+-- a chain word lies within the data, or extends past its end
 pub chain_cases : (table : GnuHashTable) (i : ℕ) → first_symbol_of table ≤ i → (HasChain table i → ⊥) → length (gnu_data table) < chain_place table i + 4
 chain_cases table i begins lacks = go (cases_lt (length (gnu_data table)) (chain_place table i + 4))
   where
@@ -35,7 +35,7 @@ chain_cases table i begins lacks = go (cases_lt (length (gnu_data table)) (chain
     go (inl out) = out
     go (inr fits) = absurd (lacks (begins, fits))
 
--- words of four bytes from a place on: the first from one index on that passes the end
+-- words of four bytes from a place on: the first from an index on that extends past the end
 first_past : (len start first from j : ℕ) → first ≤ from → from ≤ j → len < start + 4 * (j - first) + 4 → (last : ℕ) × (from ≤ last) × (last ≤ j) × (len < start + 4 * (last - first) + 4) × ((i : ℕ) → from ≤ i → i < last → start + 4 * (i - first) + 4 ≤ len)
 first_past len start first from j begins ordered out = go (cases_lt len (start + 4 * (from - first) + 4))
   where
@@ -43,7 +43,7 @@ first_past len start first from j begins ordered out = go (cases_lt len (start +
     go (inl past) = (from, omega arith, ordered, past, λ i above below. absurd (omega arith))
     go (inr fits) = (first + (len - start) / 4, omega arith, omega arith, omega arith, λ i above below. omega arith)
 
--- where one isn't there, some index is the first that has none
+-- if a chain word is not within the data, one index is the first without one
 pub chain_end : (table : GnuHashTable) (from j : ℕ) → first_symbol_of table ≤ from → from ≤ j → (HasChain table j → ⊥) → (last : ℕ) × (from ≤ last) × (last ≤ j) × (length (gnu_data table) < chain_place table last + 4) × ((i : ℕ) → from ≤ i → i < last → chain_place table i + 4 ≤ length (gnu_data table))
 unfolding chain_place
 chain_end table from j begins ordered lacks =

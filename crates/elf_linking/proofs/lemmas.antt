@@ -1,1 +1,2 @@
 pub mod GnuTables
+pub mod Looking

@@ -1,5 +1,5 @@
 -- The bytes of a file at addresses of its loaded segments (gABI, "Program Header": PT_LOAD, p_vaddr and
--- p_filesz; that the first segment counts which has all of the bytes is this project's own).
+-- p_filesz; that the first segment with all of the bytes is the one read is this project's own).
 use Rattle.std.specs.Prelude.{◌≡◌, ◌≢◌, ℕ, ◌+◌, ◌-◌, ◌<◌, ◌≤◌, ◌&&◌, nat_le, Bool, List, Option, None, Some, Result, Ok, Err, drop, take, length}
 use Rattle.std.specs.Borrow.{Bor}
 use Rattle.std.specs.List.{find}
@@ -10,88 +10,86 @@ use Rattle.elf_linking.specs.declared.error.LinkError.TheVariants.{Address, Elf}
 use Rattle.elf_records.specs.ProgramNumbers.{has_ph_type}
 use Rattle.elf_records.specs.declared.program.Type.TheVariants.{Load}
 use Rattle.xmas_elf.specs.HeaderTable.{EachBelow}
-use Rattle.xmas_elf.specs.ProgramHeader.{program_fields, program_of, segment_type}
-use Rattle.xmas_elf.specs.ProgramList.{program_list}
-use Rattle.xmas_elf.specs.SegmentData.{segment_data_of}
+use Rattle.xmas_elf.specs.ProgramHeader.{program_fields, program_list, program_of, segment_data_of, segment_type}
 use Rattle.xmas_elf.specs.Types.{ElfFile, ProgramHeader, ProgramHeader64}
 
--- what is lent, by its bytes, or why nothing is
+-- the lent bytes, or the error
 abbrev pub lent : Result (Bor (List ℕ)) LinkError → Result (List ℕ) LinkError
 lent (Ok part) = Ok part.now
 lent (Err error) = Err error
 
--- the segment is loaded, and has in the file the bytes at `count` addresses from `address` on
-pub record IsHolder (address count : ℕ) (segment : ProgramHeader64) : Type 0 where
+-- the segment is loaded, and the file contains its bytes at `address .. address + count`
+pub record HasFileBytes (address count : ℕ) (segment : ProgramHeader64) : Type 0 where
   pub loaded : segment_type segment ≡ Ok Load
   pub begins : segment.virtual_addr ≤ address
   pub ends : address + count ≤ segment.virtual_addr + segment.file_size
 
--- the same as a test
-abbrev pub is_holder : ℕ → ℕ → ProgramHeader → Bool
-is_holder address count program = let segment = program_fields program in
+-- whether a segment is loaded and the file contains its bytes at `address .. address + count`
+abbrev pub has_file_bytes : ℕ → ℕ → ProgramHeader → Bool
+has_file_bytes address count program = let segment = program_fields program in
     has_ph_type Load (segment_type segment) && nat_le segment.virtual_addr address
     && nat_le (address + count) (segment.virtual_addr + segment.file_size)
 
--- of the program headers below an index none is such a segment's
-abbrev pub NoneHolds : ElfFile → ℕ → ℕ → ℕ → Type 0
-NoneHolds file address count high =
-    EachBelow (program_of file) (λ program. ¬ IsHolder address count (program_fields program)) high
+-- no program header below an index is of a loaded segment with these bytes
+abbrev pub NoneHasFileBytes : ElfFile → ℕ → ℕ → ℕ → Type 0
+NoneHasFileBytes file address count high =
+    EachBelow (program_of file) (λ program. ¬ HasFileBytes address count (program_fields program)) high
 
--- the program header is the first such segment's
-pub record IsFirstHolder (file : ElfFile) (address count : ℕ) (program : ProgramHeader) : Type 0 where
+-- the program header is the first of a loaded segment with these bytes
+pub record IsFirstWithBytes (file : ElfFile) (address count : ℕ) (program : ProgramHeader) : Type 0 where
   pub index : ℕ
   pub below : index < length (program_list file)
   pub is_header : program_of file index ≡ Ok program
-  pub holds : IsHolder address count (program_fields program)
-  pub first : NoneHolds file address count index
+  pub holds : HasFileBytes address count (program_fields program)
+  pub first : NoneHasFileBytes file address count index
 
--- the same as it is computed
-unfoldable pub holder_of : ElfFile → ℕ → ℕ → Option ProgramHeader
-holder_of file address count = find (is_holder address count) (program_list file)
+-- the first loaded segment with these bytes, as a function
+unfoldable pub segment_at_of : ElfFile → ℕ → ℕ → Option ProgramHeader
+segment_at_of file address count = find (has_file_bytes address count) (program_list file)
 
--- where in the file the byte at an address is, if it is one of this segment
+-- the file offset of the byte at an address in this segment
 abbrev pub place_of : ProgramHeader64 → ℕ → ℕ
 place_of segment address = segment.offset + (address - segment.virtual_addr)
 
--- `part` are the bytes of the file at `count` addresses from `address` on
+-- `part` are the file bytes for `address .. address + count`
 pub record IsAt (file : ElfFile) (address count : ℕ) (part : List ℕ) : Type 0 where
   pub program : ProgramHeader
-  pub holder : IsFirstHolder file address count program
+  pub holder : IsFirstWithBytes file address count program
   pub count_is : length part ≡ count
   pub bytes_are : part ≡ take count (drop (place_of (program_fields program) address) file.input.now)
 
--- and where they lie in its memory; no bytes lie nowhere
+-- the place of `part` in the memory of the file; no bytes may be anywhere
 pub record LiesAsLoaded (file : ElfFile) (address count : ℕ) (part : Bor (List ℕ)) : Type 0 where
   pub program : ProgramHeader
-  pub holder : IsFirstHolder file address count program
+  pub holder : IsFirstWithBytes file address count program
   pub lies : count ≢ 0 → LiesAt file.input (place_of (program_fields program) address) part
 
--- `count` bytes of a segment's data from place `start` on
+-- `count` bytes of a segment's data from `start` on
 abbrev pub part_of : ℕ → ℕ → Result (List ℕ) ElfError → Result (List ℕ) LinkError
 part_of start count (Ok bytes) = Ok (take count (drop start bytes))
 part_of start count (Err error) = Err (Elf error)
 
--- the bytes at addresses by the segment that has them
-abbrev pub bytes_of_holder : ElfFile → ℕ → ℕ → Option ProgramHeader → Result (List ℕ) LinkError
-bytes_of_holder file address count None = Err Address
-bytes_of_holder file address count (Some program) = let segment = program_fields program in
+-- the bytes at addresses in the segment with these bytes
+abbrev pub bytes_of_segment : ElfFile → ℕ → ℕ → Option ProgramHeader → Result (List ℕ) LinkError
+bytes_of_segment file address count None = Err Address
+bytes_of_segment file address count (Some program) = let segment = program_fields program in
     part_of (address - segment.virtual_addr) count (segment_data_of file segment)
 
--- the bytes at addresses as they are computed, or why there are none
+-- the bytes at addresses, or why there are none, as a function
 unfoldable pub bytes_at_of : ElfFile → ℕ → ℕ → Result (List ℕ) LinkError
-bytes_at_of file address count = bytes_of_holder file address count (holder_of file address count)
+bytes_at_of file address count = bytes_of_segment file address count (segment_at_of file address count)
 
--- the bytes of a segment's data from place `start` on
+-- the bytes of a segment's data from `start` on
 abbrev pub rest_of : ℕ → Result (List ℕ) ElfError → Result (List ℕ) LinkError
 rest_of start (Ok bytes) = Ok (drop start bytes)
 rest_of start (Err error) = Err (Elf error)
 
--- the bytes from an address on by the segment that has one there
-abbrev pub rest_of_holder : ElfFile → ℕ → Option ProgramHeader → Result (List ℕ) LinkError
-rest_of_holder file address None = Err Address
-rest_of_holder file address (Some program) = let segment = program_fields program in
+-- the bytes from an address on in the segment with a byte there
+abbrev pub rest_of_segment : ElfFile → ℕ → Option ProgramHeader → Result (List ℕ) LinkError
+rest_of_segment file address None = Err Address
+rest_of_segment file address (Some program) = let segment = program_fields program in
     rest_of (address - segment.virtual_addr) (segment_data_of file segment)
 
--- the bytes from an address on as they are computed, or why there are none
+-- the bytes from an address on, or why there are none, as a function
 unfoldable pub bytes_from_of : ElfFile → ℕ → Result (List ℕ) LinkError
-bytes_from_of file address = rest_of_holder file address (holder_of file address 1)
+bytes_from_of file address = rest_of_segment file address (segment_at_of file address 1)

@@ -1,6 +1,7 @@
--- Notes, one after the other (gABI, "Note Section"; steps of eight bytes, and that the padding behind
--- the last may be missing, are GNU's).
-use Rattle.std.specs.Prelude.{◌≢◌, ℕ, zero, suc, ◌+◌, ◌*◌, ◌/◌, ◌≤◌, ◌==◌, ◌&&◌, nat_le, Bool, List, [], ◌∷◌, drop, length, take, Result, Ok, Err, if◌then◌else◌}
+-- Notes, one after the other (gABI, "Note Section"; alignment to eight bytes is GNU's, and that the padding
+-- after the last may be missing is this project's own).
+use Rattle.std.specs.Prelude.{◌≡◌, ℕ, zero, suc, ◌+◌, ◌*◌, ◌/◌, ◌<◌, ◌≤◌, ◌==◌, ◌&&◌, min, nat_le, Bool, List, [], ◌∷◌, drop, length, take, Result, Ok, Err, if◌then◌else◌}
+use Rattle.std.specs.Borrow.{Bor}
 use Rattle.elf_base.specs.Number.{number}
 use Rattle.elf_base.specs.declared.bytes.Order.{Order}
 use Rattle.elf_linking.specs.declared.error.LinkError.{LinkError}
@@ -8,22 +9,22 @@ use Rattle.elf_linking.specs.declared.error.LinkError.TheVariants.{ShortNote}
 use Rattle.elf_linking.specs.declared.notes.Note.{Note}
 use Rattle.elf_linking.specs.declared.notes.Notes.{Notes}
 
--- the next multiple of a step from n on: of eight where the alignment is eight, and else of four
+-- n, rounded up to a multiple of eight if the alignment is eight, otherwise of four
 unfoldable pub next_step : ℕ → ℕ → ℕ
 next_step align n = if align == 8 then (n + 7) / 8 * 8 else (n + 3) / 4 * 4
 
--- n_namesz, n_descsz and n_type: the three words that bytes begin with
+-- n_namesz, n_descsz and n_type: the three words at the start of a note
 abbrev pub name_size : Order → List ℕ → ℕ
 name_size order bytes = number order 4 0 bytes
 
 abbrev pub desc_size : Order → List ℕ → ℕ
 desc_size order bytes = number order 4 4 bytes
 
-abbrev pub type_number : Order → List ℕ → ℕ
-type_number order bytes = number order 4 8 bytes
+abbrev pub type_word : Order → List ℕ → ℕ
+type_word order bytes = number order 4 8 bytes
 
--- where the description of the note begins that bytes begin with, where it ends, and where the next
--- note begins
+-- the start and the end of the description in the note at the start of the bytes, and the start of the next
+-- note
 abbrev pub desc_start : ℕ → Order → List ℕ → ℕ
 desc_start align order bytes = next_step align (12 + name_size order bytes)
 
@@ -33,61 +34,71 @@ desc_end align order bytes = desc_start align order bytes + desc_size order byte
 abbrev pub next_note : ℕ → Order → List ℕ → ℕ
 next_note align order bytes = next_step align (desc_end align order bytes)
 
--- bytes begin with a whole note: its words and its description lie in them, and so its name
+-- the bytes begin with a whole note: they contain its words and its description, and so its name
 abbrev pub BeginsWithNote : ℕ → Order → List ℕ → Type 0
 BeginsWithNote align order bytes = (12 ≤ length bytes) × (desc_end align order bytes ≤ length bytes)
 
--- what a note says
+-- the fields of a note: its type, and its name and description with their places in memory
 pub record NoteParts : Type 0 where
   pub type_ : ℕ
-  pub name : List ℕ
-  pub desc : List ℕ
+  pub name : Bor (List ℕ)
+  pub desc : Bor (List ℕ)
 
--- the note that bytes begin with
-abbrev pub first_note : ℕ → Order → List ℕ → NoteParts
+-- the slice of `count` bytes at an offset in another, in the same memory
+abbrev pub slice_at : Bor (List ℕ) → ℕ → ℕ → Bor (List ℕ)
+slice_at whole start count =
+    record { ref_ptr = (whole.ref_ptr.0, whole.ref_ptr.1 + start); now = take count (drop start whole.now) }
+
+-- the note at the start of the bytes
+abbrev pub first_note : ℕ → Order → Bor (List ℕ) → NoteParts
 first_note align order bytes = record {
-  type_ = type_number order bytes;
-  name = take (name_size order bytes) (drop 12 bytes);
-  desc = take (desc_size order bytes) (drop (desc_start align order bytes) bytes);
+  type_ = type_word order bytes.now;
+  name = slice_at bytes 12 (name_size order bytes.now);
+  desc = slice_at bytes (desc_start align order bytes.now) (desc_size order bytes.now);
 }
 
--- `items` are the notes of bytes in order; what is left behind the last whole one, if anything, is the
--- last item, as a fault
-pub data AreNotes (align : ℕ) (order : Order) : List ℕ → List (Result NoteParts LinkError) → Type 0 where
-  at_end : AreNotes align order [] []
-  cut_off : (bytes : List ℕ) → bytes ≢ [] → (¬ BeginsWithNote align order bytes)
+-- the bytes from the next note on; none if the bytes end in the padding of the first
+abbrev pub after_note : ℕ → Order → Bor (List ℕ) → Bor (List ℕ)
+after_note align order bytes = let start = min (next_note align order bytes.now) (length bytes.now) in
+    record { ref_ptr = (bytes.ref_ptr.0, bytes.ref_ptr.1 + start); now = drop start bytes.now }
+
+-- `items` are the notes of the bytes, in order; if bytes remain after the last whole note, the last item is
+-- an error
+pub data AreNotes (align : ℕ) (order : Order) : Bor (List ℕ) → List (Result NoteParts LinkError) → Type 0 where
+  at_end : (bytes : Bor (List ℕ)) → length bytes.now ≡ 0 → AreNotes align order bytes []
+  cut_off : (bytes : Bor (List ℕ)) → 0 < length bytes.now → (¬ BeginsWithNote align order bytes.now)
       → AreNotes align order bytes (Err ShortNote ∷ [])
-  whole : (bytes : List ℕ) (items : List (Result NoteParts LinkError)) → BeginsWithNote align order bytes
-      → AreNotes align order (drop (next_note align order bytes) bytes) items
+  whole : (bytes : Bor (List ℕ)) (items : List (Result NoteParts LinkError))
+      → BeginsWithNote align order bytes.now → AreNotes align order (after_note align order bytes) items
       → AreNotes align order bytes (Ok (first_note align order bytes) ∷ items)
 
--- the same items as they are computed, `count` at most
+-- the notes of the bytes as a function, at most `count`
 abbrev pub begins_with_note : ℕ → Order → List ℕ → Bool
 begins_with_note align order bytes = nat_le 12 (length bytes) && nat_le (desc_end align order bytes) (length bytes)
 
-unfoldable pub notes_within : ℕ → Order → ℕ → List ℕ → List (Result NoteParts LinkError)
+unfoldable pub notes_within : ℕ → Order → ℕ → Bor (List ℕ) → List (Result NoteParts LinkError)
 notes_within align order zero bytes = []
 notes_within align order (suc count) bytes =
-    if length bytes == 0 then []
-    else (if begins_with_note align order bytes
-    then Ok (first_note align order bytes) ∷ notes_within align order count (drop (next_note align order bytes) bytes)
+    if length bytes.now == 0 then []
+    else (if begins_with_note align order bytes.now
+    then Ok (first_note align order bytes) ∷ notes_within align order count (after_note align order bytes)
     else Err ShortNote ∷ [])
 
--- there are no more items than bytes
-abbrev pub notes_of : ℕ → Order → List ℕ → List (Result NoteParts LinkError)
-notes_of align order bytes = notes_within align order (length bytes) bytes
+-- all notes of the bytes, since there are no more items than bytes
+abbrev pub notes_of : ℕ → Order → Bor (List ℕ) → List (Result NoteParts LinkError)
+notes_of align order bytes = notes_within align order (length bytes.now) bytes
 
--- what an item says
+-- the fields of a note, and of an item
 abbrev pub note_parts : Note → NoteParts
-note_parts note = record { type_ = note.type_; name = note.name.now; desc = note.desc.now }
+note_parts note = record { type_ = note.type_; name = note.name; desc = note.desc }
 
 abbrev pub note_item : Result Note LinkError → Result NoteParts LinkError
 note_item (Ok note) = Ok (note_parts note)
 note_item (Err error) = Err error
 
--- the bytes that an iterator has left, how it reads them, and the items that they are
-abbrev pub notes_bytes : Notes → List ℕ
-notes_bytes notes = notes.rest.now
+-- the slice that an iterator has not yet read, its byte order and alignment, and the items in it
+abbrev pub notes_bytes : Notes → Bor (List ℕ)
+notes_bytes notes = notes.rest
 
 abbrev pub notes_order : Notes → Order
 notes_order notes = notes.order

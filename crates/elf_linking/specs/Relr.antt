@@ -1,5 +1,5 @@
--- Relative relocations packed into words (gABI, "Relocation", SHT_RELR): the addresses of the words
--- that a load bias is added to.
+-- Relative relocations packed into words (gABI, "Relocation", SHT_RELR): the addresses of the words to which
+-- the load address is added.
 use Rattle.std.specs.Prelude.{◌≡◌, ℕ, ◌+◌, ◌-◌, ◌*◌, ◌%◌, ◌^◌, ◌==◌, List, [], ◌∷◌, ◌++◌, filter, length, map, Option, Result, Ok, Err, if◌then◌else◌}
 use Rattle.std.specs.Int.{bit_at}
 use Rattle.std.specs.Iterator.{YieldsFirst}
@@ -15,57 +15,57 @@ use Rattle.elf_linking.specs.declared.relr.Relr.{Relr}
 use Rattle.elf_linking.specs.declared.relr.Words.{Words}
 use Rattle.elf_linking.specs.declared.relr.Words.TheVariants.{Narrow, Wide}
 
--- the place `count` words of `size` bytes behind another, modulo 2 to the number of a word's bits
-unfoldable pub place_behind : ℕ → ℕ → ℕ → ℕ
-place_behind size place count = (place + count * size) % 2 ^ (8 * size)
+-- the address `count` words of `size` bytes after another, modulo 2 to the number of a word's bits
+unfoldable pub address_after : ℕ → ℕ → ℕ → ℕ
+address_after size place count = (place + count * size) % 2 ^ (8 * size)
 
--- how many words a bitmap stands for: one for each bit but the lowest
+-- the number of words in a bitmap: one for each bit except the lowest
 abbrev pub marks : ℕ → ℕ
 marks size = 8 * size - 1
 
--- the places, of `count` from `first` on, that a bitmap marks: bit k + 1 stands for the place k words
--- behind `place`
+-- the addresses in a bitmap, of `count` bits from `first` on: bit k + 1 is for the address k words after
+-- `place`
 unfoldable pub marked : ℕ → ℕ → ℕ → ℕ → ℕ → List ℕ
 marked size place bitmap first count =
-    map (place_behind size place) (filter (λ k. bit_at bitmap (k + 1) == 1) (range_with_len first count))
+    map (address_after size place) (filter (λ k. bit_at bitmap (k + 1) == 1) (range_with_len first count))
 
--- the addresses that a word gives at a place: itself if it is even, and else those that it marks
+-- the addresses in a word: the word itself if it is even, otherwise those that it marks from a place on
 abbrev pub addresses_of : ℕ → ℕ → ℕ → List ℕ
 addresses_of size place word = if word % 2 == 0 then word ∷ [] else marked size place word 0 (marks size)
 
--- the place behind what the word stands for
+-- the place after the addresses of a word
 abbrev pub place_after : ℕ → ℕ → ℕ → ℕ
 place_after size place word =
-    if word % 2 == 0 then place_behind size word 1 else place_behind size place (marks size)
+    if word % 2 == 0 then address_after size word 1 else address_after size place (marks size)
 
--- the addresses that words give, of which the first is at a place
+-- the addresses in words, the first of which is read at a place
 unfoldable pub addresses : ℕ → ℕ → List ℕ → List ℕ
 addresses size place [] = []
 addresses size place (word ∷ words) =
     addresses_of size place word ++ addresses size (place_after size place word) words
 
--- the words of bytes that are a whole number of them, with the size of one
+-- the words in bytes that are a whole number of words, with the size of one
 abbrev pub words_in : ℕ → Order → List ℕ → Result (ℕ × List ℕ) LinkError
 words_in size order bytes = if length bytes % size == 0
     then Ok (size, records size (λ word. number order size 0 word) bytes)
     else Err NotMultiple
 
--- those of bytes in a file of a class
+-- the words in the bytes of a file of a class
 abbrev pub words_of : Class → Order → List ℕ → Result (ℕ × List ℕ) LinkError
 words_of ThirtyTwo order bytes = words_in 4 order bytes
 words_of SixtyFour order bytes = words_in 8 order bytes
 words_of _ order bytes = Err UnknownClass
 
--- the addresses that all words give; the first place is 0
+-- the addresses in all words; the first place is 0
 abbrev pub addresses_in : Result (ℕ × List ℕ) LinkError → Result (List ℕ) LinkError
 addresses_in (Ok words) = Ok (addresses words.0 0 words.1)
 addresses_in (Err error) = Err error
 
--- the addresses of bytes in a file of a class, or why there are none
+-- the addresses in the bytes of a file of a class, or why there are none
 abbrev pub relr_of : Class → Order → List ℕ → Result (List ℕ) LinkError
 relr_of class order bytes = addresses_in (words_of class order bytes)
 
--- how many bytes a word has, and the words that an iterator has left
+-- the size of a word in bytes, and the words that an iterator has not yet read
 abbrev pub word_size : Words → ℕ
 word_size (Narrow words) = 4
 word_size (Wide words) = 8
@@ -74,7 +74,7 @@ abbrev pub words_left : Words → List ℕ
 words_left (Narrow words) = table_items (table_rest words)
 words_left (Wide words) = table_items (table_rest words)
 
--- the addresses that it has left: those that the bitmap at hand still marks, and those of the words
+-- the remaining addresses: those in the rest of the current bitmap, and those of the remaining words
 abbrev pub marks_left : Relr → List ℕ
 marks_left iter = let size = word_size iter.words in
     marked size iter.base iter.bitmap iter.looked_at (marks size - iter.looked_at)
@@ -82,7 +82,7 @@ marks_left iter = let size = word_size iter.words in
 abbrev pub relr_rest : Relr → List ℕ
 relr_rest iter = marks_left iter ++ addresses (word_size iter.words) iter.place (words_left iter.words)
 
--- one step along the bitmap at hand, which keeps the words and their place
+-- one step in the current bitmap, which keeps the words and their place
 abbrev pub MarkStep : Relr → Option ℕ → Relr → Type 0
 MarkStep old result new =
     (new.words ≡ old.words) × (new.place ≡ old.place) × YieldsFirst marks_left old result new

@@ -1,13 +1,13 @@
--- The runs of a GNU hash table: which symbols a look-up goes over, where it stops, and with what answer (the
--- convention of GNU binutils and glibc; how a look-up is refused is this project's own).
+-- The runs of a GNU hash table: the symbols that a look-up passes, where it stops, and its result (the
+-- convention of GNU binutils and glibc; the errors of a look-up are this project's own).
 use Rattle.std.specs.Prelude.{◌≡◌, ◌+◌, ◌-◌, ◌/◌, ◌%◌, ◌^◌, ◌<◌, ◌≤◌, ℕ, min, List, Option, Some, None, Result, Ok, Err, slice_get, length}
-use Rattle.elf_linking.specs.GnuHash.{HasChain, chain_place, chain_word, first_symbol_of, gnu_data, start_of}
+use Rattle.elf_linking.specs.GnuHash.{EndsRun, HasChain, chain_place, chain_word, first_symbol_of, gnu_data, start_of}
 use Rattle.elf_linking.specs.GnuHashNumber.{gnu_hash_number}
 use Rattle.elf_linking.specs.declared.error.LinkError.{LinkError}
 use Rattle.elf_linking.specs.declared.error.LinkError.TheVariants.{ChainData, ChainIndex, SymbolIndex}
 use Rattle.elf_linking.specs.declared.gnu_hash.GnuHashTable.{GnuHashTable}
 
--- how many symbols have an index that a table can say
+-- the number of symbols with an index of 32 bits
 abbrev pub symbol_end : {E : Type 0} → List E → ℕ
 symbol_end symbols = min (length symbols) (2 ^ 32)
 
@@ -16,18 +16,14 @@ pub record IsThere {E : Type 0} (table : GnuHashTable) (symbols : List E) (i : �
   pub symbol : i < symbol_end symbols
   pub word : HasChain table i
 
--- or it lacks one of them, the symbol before the chain word
+-- index i has no symbol, or it has no chain word
 pub data Lacks {E : Type 0} (table : GnuHashTable) (symbols : List E) (i : ℕ) : LinkError → Type 0 where
   no_symbol : symbol_end symbols ≤ i → Lacks table symbols i SymbolIndex
   no_word : i < symbol_end symbols → length (gnu_data table) < chain_place table i + 4
       → Lacks table symbols i ChainData
 
--- the chain word of symbol i ends a run
-abbrev pub EndsRun : GnuHashTable → ℕ → Type 0
-EndsRun table i = chain_word table i % 2 ≡ 1
-
--- from index `from` on up to `last`, which is not among them, symbols and chain words are there, and none of
--- the words ends a run
+-- there are symbols and chain words from index `from` up to `last`, which is excluded, and none of the words
+-- ends a run
 pub record Run {E : Type 0} (table : GnuHashTable) (symbols : List E) (from last : ℕ) : Type 0 where
   pub ordered : from ≤ last
   pub there : (i : ℕ) → from ≤ i → i < last → IsThere table symbols i
@@ -39,28 +35,28 @@ pub record ComeFrom {E : Type 0} (table : GnuHashTable) (symbols : List E) (from
   pub come : (i : ℕ) → from ≤ i → i ≤ index → Run table symbols i index
   pub only : (i : ℕ) → 0 < i → Run table symbols i index → from ≤ i
 
--- symbol e at index i is one that a look-up for P by the hash number h finds
+-- a look-up for P by the hash number h finds symbol e at index i
 pub record IsHit {E : Type 0} (P : E → Type 0) (h : ℕ) (table : GnuHashTable) (symbols : List E) (i : ℕ) (e : E) : Type 0 where
   pub there : IsThere table symbols i
   pub symbol : slice_get symbols i ≡ Some e
   pub agrees : chain_word table i / 2 ≡ h / 2
   pub holds : P e
 
--- from one index on up to another, which is not among them, there is none
+-- a look-up finds no symbol from one index up to another, which is excluded
 abbrev pub NoHit : {E : Type 0} → (E → Type 0) → ℕ → GnuHashTable → List E → ℕ → ℕ → Type 0
 NoHit {E} P h table symbols from last =
     (i : ℕ) (e : E) → from ≤ i → i < last → IsHit P h table symbols i e → ⊥
 
--- a look-up for P stops at index i, with an answer and the number of chain words that it looks at there: at a
--- hit, at the end of the run, or where something is lacking
+-- a look-up for P stops at index i, with a result and the number of chain words read there: at a hit, at the
+-- end of the run, or where a symbol or a chain word is missing
 pub data Stops {E : Type 0} (P : E → Type 0) (h : ℕ) (table : GnuHashTable) (symbols : List E) (i : ℕ) : Result (Option (ℕ × E)) LinkError → ℕ → Type 0 where
   found : (e : E) → IsHit P h table symbols i e → Stops P h table symbols i (Ok (Some (i, e))) 1
   ended : IsThere table symbols i → EndsRun table i → ((e : E) → IsHit P h table symbols i e → ⊥)
       → Stops P h table symbols i (Ok None) 1
   refused : (error : LinkError) → Lacks table symbols i error → Stops P h table symbols i (Err error) 0
 
--- the answer of a look-up for P from an index on, and how many chain words it looks at: that of the stop to
--- which its run comes
+-- the result of a look-up for P from an index on, and the number of chain words read: that of the stop that
+-- its run comes to
 pub record LooksFrom {E : Type 0} (P : E → Type 0) (h : ℕ) (table : GnuHashTable) (symbols : List E) (from : ℕ) (answer : Result (Option (ℕ × E)) LinkError) (n : ℕ) : Type 0 where
   pub last : ℕ
   pub here : ℕ
@@ -69,7 +65,7 @@ pub record LooksFrom {E : Type 0} (P : E → Type 0) (h : ℕ) (table : GnuHashT
   pub stop : Stops P h table symbols last answer here
   pub counted : n ≡ last - from + here
 
--- the answer of a look-up for the name and P
+-- the result of a look-up for the name and P, and the number of chain words read
 pub data Looks {E : Type 0} (P : E → Type 0) (table : GnuHashTable) (symbols : List E) (name : List ℕ) : Result (Option (ℕ × E)) LinkError → ℕ → Type 0 where
   no_run : start_of table name ≡ None → Looks P table symbols name (Ok None) 0
   too_early : (from : ℕ) → start_of table name ≡ Some from → from < first_symbol_of table

@@ -1,4 +1,4 @@
-//! Why a part of a file that a dynamic linker reads is refused.
+//! Errors for the parts of a file that a dynamic linker reads.
 
 ghost use Rattle.std.specs.Prelude.{◌≡◌, Some};
 ghost use Rattle.elf_linking.specs.Message.{link_message};
@@ -8,47 +8,47 @@ use elf_base::ElfError;
 use std::error::Error;
 use std::fmt;
 
-/// Why what a dynamic linker reads is refused. Each refusal has one text.
+/// Why a part of a file that a dynamic linker reads is refused. Each error has one text.
 #[derive(Clone, Copy, Debug, PartialEq, Eq)]
 pub enum LinkError {
-    /// A call of `xmas_elf` refuses, and this is why.
+    /// An error of `xmas_elf`.
     Elf(ElfError),
-    /// A GNU hash table has fewer than 16 bytes, or its Bloom words and buckets pass the end of the
-    /// data. Answered by `GnuHashTable::read`.
+    /// A GNU hash table has fewer than 16 bytes, or its Bloom words and buckets extend past the end
+    /// of the data. Returned by `GnuHashTable::read`.
     ShortTable,
-    /// The class is neither 1 nor 2. Answered by `GnuHashTable::read` and `Relr::new`.
+    /// The class is neither 1 nor 2. Returned by `GnuHashTable::read` and `Relr::new`.
     UnknownClass,
-    /// The number of Bloom words of a GNU hash table is not a power of two; 0 is none. Answered by
-    /// `GnuHashTable::read`.
+    /// The number of Bloom words of a GNU hash table is not a power of two; 0 is not one. Returned
+    /// by `GnuHashTable::read`.
     BloomCount,
-    /// An index is not below the number of buckets, or of Bloom words. Answered by
+    /// An index is not below the number of buckets, or of Bloom words. Returned by
     /// `GnuHashTable::get_bucket` and `get_bloom`.
     BucketIndex,
-    /// The index of a symbol is before the first of a GNU hash table. Answered by
+    /// The index of a symbol is before the first of a GNU hash table. Returned by
     /// `GnuHashTable::get_chain`, `lookup`, `lookup_counted`, `check` and `symbol_count`.
     ChainIndex,
-    /// The chain word of a symbol does not lie whole in the data. Answered by
+    /// The chain word of a symbol extends past the end of the data. Returned by
     /// `GnuHashTable::get_chain`, `lookup`, `lookup_counted`, `check` and `symbol_count`.
     ChainData,
     /// The index of a symbol is not below the number of symbols, or does not fit in 32 bits.
-    /// Answered by `GnuHashTable::lookup`, `lookup_counted`, `check` and `symbol_count`.
+    /// Returned by `GnuHashTable::lookup`, `lookup_counted`, `check` and `symbol_count`.
     SymbolIndex,
-    /// A symbol is not where its name leads to. Answered by `GnuHashTable::check`.
+    /// A symbol is not in the chain that its name selects. Returned by `GnuHashTable::check`.
     Missing,
     /// A file has no dynamic segment.
     NoDynamic,
     /// The dynamic segment has no entry with this tag.
     NoEntry,
-    /// An address, or one of the bytes from it on, is in no loaded segment.
+    /// No loaded segment contains an address, or one of the bytes after it.
     Address,
-    /// What is left of a list of notes holds no whole note.
+    /// The rest of a list of notes does not contain a whole note.
     ShortNote,
     /// The data is not a whole number of words.
     NotMultiple,
 }
 
 impl LinkError {
-    /// The text of the refusal: for `Elf` that of the error within.
+    /// The text of the error; for `Elf` that of the inner error.
     pub fn message(&self) -> &'static str
         ensures { result.now ≡ link_message self.now }
     {

@@ -1,26 +1,22 @@
-//! GNU's hash tables of symbols (the convention of GNU binutils and glibc: sections of type
+//! GNU hash tables of symbols (the convention of GNU binutils and glibc: sections of type
 //! 0x6ffffff6, `.gnu.hash`, and the dynamic entry `DT_GNU_HASH`).
 
 ghost use Rattle.std.specs.Prelude.{◌≡◌, ◌↔◌, ◌+◌, ◌*◌, ◌/◌, ◌^◌, ◌==◌, ◌<◌, ◌≤◌};
 ghost use Rattle.std.specs.Prelude.{length, IfOk, IsOk, IsTrue, MatchResult};
 ghost use Rattle.elf_linking.specs.GnuHashNumber.{gnu_hash_number};
-ghost use Rattle.elf_linking.specs.GnuLayout.{IsGnuTable, bloom_count_in, bloom_size};
-ghost use Rattle.elf_linking.specs.GnuLayout.{chains_in, gnu_table_of, is_known};
-ghost use Rattle.std.specs.Int.{bit_at};
+ghost use Rattle.elf_linking.specs.Layouts.{IsGnuTable, bloom_count_in, bloom_size};
+ghost use Rattle.elf_linking.specs.Layouts.{chains_in, gnu_table_of, is_known};
+ghost use Rattle.std.specs.Int.{bit_at, is_power_of_two};
 
 mod check;
 mod count;
 mod lookup;
 
 use crate::LinkError;
-use elf_base::ElfError;
 use elf_base::bytes::{Order, read_u32, read_u64};
 use elf_base::header::Class;
 
-// What `Entry::string_table` answers, once for many names.
-type Strings<'a> = Option<Result<&'a [u8], ElfError>>;
-
-/// The hash number of a name, which leads to its bucket in a GNU hash table.
+/// The hash number of a name, which selects its bucket in a GNU hash table.
 #[tactic(auto, unfolding(crate::specs::GnuHashNumber::gnu_hash_number))]
 pub fn gnu_hash(name: &str) -> u32
     ensures { result ≡ gnu_hash_number name.now }
@@ -32,14 +28,14 @@ pub fn gnu_hash(name: &str) -> u32
     number
 }
 
-// Whether files of a class have such tables.
+// Whether the class is 32 or 64.
 fn is_known(class: Class) -> bool
     ensures { result ≡ is_known class }
 {
     matches!(class, Class::ThirtyTwo | Class::SixtyFour)
 }
 
-// How many bytes a Bloom word has in files of a class.
+// The size of a Bloom word in files of a class, in bytes.
 #[inline(always)]
 fn bloom_size(class: Class) -> usize
     ensures value { result ≡ bloom_size class }
@@ -62,7 +58,7 @@ fn is_set(word: u64, bit: u32) -> bool
     (word >> bit) & 1 == 1
 }
 
-// A hash number shifted to the right, by any number of bits.
+// A hash number, shifted to the right by any number of bits.
 #[tactic(auto, using(crate::proofs::Shifts::shifted_out))]
 #[inline(always)]
 fn shifted(hash: u32, shift: u32) -> u32
@@ -71,18 +67,19 @@ fn shifted(hash: u32, shift: u32) -> u32
     hash.checked_shr(shift).unwrap_or(0)
 }
 
-/// The hash table of the symbols that a file exports: four words, the Bloom words, which
-/// tell of most other names that they aren't there, the buckets, and a chain word for each
-/// symbol from the first on.
+/// The hash table of the symbols that a file exports: four words, the Bloom words, which rule out
+/// most names that are not in the table, the buckets, and a chain word for each symbol from the
+/// first on.
 ///
-/// It is a view: it keeps the data of its section, the class of the file,
-/// and the order of its numbers.
+/// It borrows the data of its section, and has the class and
+/// the byte order of the file.
 #[derive(Clone, Copy, Debug)]
 pub struct GnuHashTable<'a> {
     bytes: &'a [u8],
     class: Class,
     order: Order,
     ghost counted: { 0 < bloom_count_in order bytes.now },
+    ghost power: { IsTrue (is_power_of_two (bloom_count_in order bytes.now)) },
     ghost whole: { chains_in class order bytes.now ≤ length bytes.now },
 }
 
@@ -93,12 +90,12 @@ impl<'a> GnuHashTable<'a> {
     ghost use Rattle.elf_linking.specs.GnuHash.{chain_word, first_symbol_of, gnu_class, gnu_data};
     ghost use Rattle.elf_linking.specs.GnuHash.{gnu_order, may_hold, start_at};
 
-    /// The hash table that these bytes are, up to the end of their section.
+    /// The hash table in `bytes`, which extend to the end of their section.
     ///
-    /// Refused with `UnknownClass`; with `ShortTable` below 16 bytes; with `BloomCount` where the
-    /// number of Bloom words is not a power of two; and with `ShortTable` where they and the
-    /// buckets pass the end of the bytes.
-    #[tactic(auto, unfolding(crate::specs::GnuLayout::gnu_table_of))]
+    /// Errors: `UnknownClass`; `ShortTable` if there are fewer than 16 bytes; `BloomCount` if the
+    /// number of Bloom words is not a power of two; `ShortTable` if they and the buckets extend
+    /// past the end of the bytes.
+    #[tactic(auto, unfolding(crate::specs::Layouts::gnu_table_of))]
     pub fn read(bytes: &'a [u8], class: Class, order: Order) -> Result<GnuHashTable<'a>, LinkError>
         ensures accepts { IsOk result ↔ IsGnuTable class order bytes.now }
         ensures exact { MatchResult result
@@ -127,28 +124,30 @@ impl<'a> GnuHashTable<'a> {
         })
     }
 
-    /// How many buckets it has.
+    /// The number of buckets.
     pub fn bucket_count(&self) -> u32
         ensures { result ≡ bucket_count_of self.now }
     {
         read_u32(self.bytes, 0, self.order)
     }
 
-    /// The index of the first symbol that it is for.
+    /// The index of the first symbol of the table.
     pub fn first_symbol(&self) -> u32
         ensures { result ≡ first_symbol_of self.now }
     {
         read_u32(self.bytes, 4, self.order)
     }
 
-    /// How many Bloom words it has, which is a power of two.
+    /// The number of Bloom words. `read` refuses one that is not a power of two.
     pub fn bloom_count(&self) -> u32
-        ensures { result ≡ bloom_count_of self.now }
+        ensures value { result ≡ bloom_count_of self.now }
+        ensures power { IsTrue (is_power_of_two result) }
     {
         read_u32(self.bytes, 8, self.order)
     }
 
-    /// By how many bits a hash number is shifted to the right for the second bit of a Bloom word.
+    /// The number of bits by which a hash number is shifted to the right for the second bit of a
+    /// Bloom word.
     pub fn bloom_shift(&self) -> u32
         ensures { result ≡ bloom_shift_of self.now }
     {
@@ -157,7 +156,7 @@ impl<'a> GnuHashTable<'a> {
 
     /// A Bloom word, of 32 bits in class 32.
     ///
-    /// Refused with `BucketIndex` where the index isn't below `bloom_count`.
+    /// Error: `BucketIndex` if the index is not below `bloom_count`.
     #[tactic(auto, unfolding(crate::specs::GnuHash::bloom_of))]
     pub fn get_bloom(&self, index: u32) -> Result<u64, LinkError>
         ensures readable { IsOk result ↔ (index < bloom_count_of self.now) }
@@ -170,7 +169,7 @@ impl<'a> GnuHashTable<'a> {
         Ok(self.bloom(index))
     }
 
-    // The Bloom word at an index that is below their number.
+    // The Bloom word at an index below their number.
     #[tactic(auto, unfolding(crate::specs::GnuHash::bloom_word))]
     #[inline(always)]
     fn bloom(&self, index: u32) -> u64
@@ -187,9 +186,9 @@ impl<'a> GnuHashTable<'a> {
         }
     }
 
-    /// The word of a bucket: the index of the first symbol of its run, or 0 where it has none.
+    /// The word of a bucket: the index of the first symbol of its run, or 0 if it has none.
     ///
-    /// Refused with `BucketIndex` where the index isn't below `bucket_count`.
+    /// Error: `BucketIndex` if the index is not below `bucket_count`.
     #[tactic(auto, unfolding(crate::specs::GnuHash::bucket_of))]
     pub fn get_bucket(&self, index: u32) -> Result<u32, LinkError>
         ensures readable { IsOk result ↔ (index < bucket_count_of self.now) }
@@ -202,7 +201,7 @@ impl<'a> GnuHashTable<'a> {
         Ok(self.bucket(index))
     }
 
-    // The word of the bucket at an index that is below their number.
+    // The word of the bucket at an index below their number.
     #[tactic(auto, unfolding(crate::specs::GnuHash::bucket_word))]
     #[inline(always)]
     fn bucket(&self, index: u32) -> u32
@@ -213,11 +212,11 @@ impl<'a> GnuHashTable<'a> {
         read_u32(self.bytes, buckets + 4 * index as usize, self.order)
     }
 
-    /// The chain word of a symbol: the hash number of its name, but for the lowest bit, which is
-    /// set where a run ends.
+    /// The chain word of a symbol: the hash number of its name, except for the lowest bit, which is
+    /// set at the end of a run.
     ///
-    /// Refused with `ChainIndex` below `first_symbol`, and with `ChainData` where the word doesn't
-    /// lie whole in the data.
+    /// Errors: `ChainIndex` if the index is below `first_symbol`; `ChainData` if the word extends
+    /// past the end of the data.
     #[tactic(auto, unfolding(crate::specs::GnuHash::chain_of, crate::specs::GnuHash::chain_word, crate::specs::GnuHash::chain_place))]
     #[inline(always)]
     pub fn get_chain(&self, index: u32) -> Result<u32, LinkError>
@@ -238,7 +237,7 @@ impl<'a> GnuHashTable<'a> {
         Ok(read_u32(self.bytes, place, self.order))
     }
 
-    // Whether a name of this hash number may be in the table, as the Bloom words tell.
+    // Whether a name with this hash number may be in the table, by the Bloom words.
     #[tactic(auto, unfolding(crate::specs::GnuHash::may_hold))]
     #[inline(always)]
     fn may_hold(&self, hash: u32) -> bool
@@ -250,7 +249,7 @@ impl<'a> GnuHashTable<'a> {
         is_set(word, hash % width) && is_set(word, shifted % width)
     }
 
-    // The index of the symbol at which a look-up by this hash number begins, if any.
+    // The index of the first symbol of a look-up by this hash number, if any.
     #[tactic(auto, unfolding(crate::specs::GnuHash::start_at))]
     #[inline(always)]
     fn start(&self, hash: u32) -> Option<u32>

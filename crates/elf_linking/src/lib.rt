@@ -1,10 +1,15 @@
-//! What a dynamic linker reads beside the ELF standard's own tables.
+//! What a dynamic linker reads in addition to the ELF standard's own tables.
 #![tactic(auto)]
 
+mod any_table;
+pub mod build_ids;
 mod error;
 pub mod gnu_hash;
 pub mod notes;
 pub mod relr;
+pub mod sections;
+pub mod values;
 pub mod view;
 
+pub use crate::any_table::AnyTable;
 pub use crate::error::LinkError;

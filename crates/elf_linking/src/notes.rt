@@ -1,28 +1,28 @@
 //! Notes, one after the other (gABI, "Note Section").
 
 ghost use Rattle.std.specs.Prelude.{◌≡◌, ◌+◌, ◌^◌, ◌<◌, ◌≤◌, IfErr, IfOk, IsErrOf, MatchOption};
-ghost use Rattle.std.specs.Prelude.{MatchResult, length, drop, Err, Ok};
+ghost use Rattle.std.specs.Prelude.{MatchResult, length, Err, Ok};
 ghost use Rattle.elf_base.specs.FileHeader.{file_order};
 ghost use Rattle.elf_base.specs.Lent.{Answers, Lends, LendsOnly};
 ghost use Rattle.elf_base.specs.Text.{IsText, TextRefused, text_of};
 ghost use Rattle.elf_base.specs.declared.error.ElfError.{ElfError};
-ghost use Rattle.xmas_elf.specs.ProgramHeader.{program_fields};
+ghost use Rattle.xmas_elf.specs.Place.{LiesAsSection, LiesAsSegment};
+ghost use Rattle.xmas_elf.specs.ProgramHeader.{IsSegmentData, program_fields, segment_data_of};
 ghost use Rattle.xmas_elf.specs.SectionData.{section_data_of};
 ghost use Rattle.xmas_elf.specs.SectionHeader.{section_fields};
-ghost use Rattle.xmas_elf.specs.SegmentData.{segment_data_of};
-ghost use Rattle.elf_linking.specs.Notes.{AreNotes, BeginsWithNote, first_note, next_note};
+ghost use Rattle.elf_linking.specs.Notes.{AreNotes, BeginsWithNote, after_note, first_note};
 ghost use Rattle.elf_linking.specs.Notes.{next_step, note_item, note_parts, notes_align};
 ghost use Rattle.elf_linking.specs.Notes.{notes_bytes, notes_left, notes_order};
 
 use crate::LinkError;
 use elf_base::ElfError;
 use elf_base::bytes::{Order, read_u32, text_at};
-use elf_base::header::byte_order;
 use xmas_elf::ElfFile;
+pub use xmas_elf::NT_GNU_BUILD_ID;
 use xmas_elf::program::ProgramHeader;
 use xmas_elf::sections::SectionHeader;
 
-// How many bytes the three words are that a note begins with.
+// The size of the three words at the start of a note, in bytes.
 const HEADER_SIZE: usize = 12;
 
 /// A note of either class.
@@ -34,46 +34,47 @@ pub struct Note<'a> {
 }
 
 impl<'a> Note<'a> {
-    /// What the description means, by the name.
+    /// The type of the note, whose meaning depends on the name.
     pub fn type_(&self) -> u32
         ensures { result ≡ (note_parts self.now).type_ }
     {
         self.type_
     }
 
-    /// The bytes of the name, as many as the note says: with the zero byte that ends it.
+    /// The bytes of the name, as long as the note says, including the zero byte at its end.
     pub fn name_bytes(&self) -> &'a [u8]
-        ensures { result.now ≡ (note_parts self.now).name }
+        ensures { result ≡ (note_parts self.now).name }
     {
         self.name
     }
 
-    /// The name as a text, without its zero byte: `TextEnd` and `TextUtf8` as `text_at`.
+    /// The name as a text, without its zero byte; the errors are `TextEnd` and `TextUtf8`, as in
+    /// `text_at`.
     ///
-    /// A name of no bytes has no zero byte either, and is refused with `TextEnd`.
+    /// An empty name has no zero byte either, so its error is `TextEnd`.
     pub fn name(&self) -> Result<&'a str, ElfError>
-        ensures text { Lends (IsText (note_parts self.now).name 0) result }
-        ensures only { LendsOnly (IsText (note_parts self.now).name 0) result }
-        ensures refused { IfErr result (TextRefused (note_parts self.now).name 0) }
-        ensures refuses { (why : ElfError) → TextRefused (note_parts self.now).name 0 why
+        ensures text { Lends (IsText (note_parts self.now).name.now 0) result }
+        ensures only { LendsOnly (IsText (note_parts self.now).name.now 0) result }
+        ensures refused { IfErr result (TextRefused (note_parts self.now).name.now 0) }
+        ensures refuses { (why : ElfError) → TextRefused (note_parts self.now).name.now 0 why
             → IsErrOf result why }
-        ensures exact { Answers (text_of (note_parts self.now).name 0) result }
+        ensures exact { Answers (text_of (note_parts self.now).name.now 0) result }
     {
         text_at(self.name, 0)
     }
 
     /// The description.
     pub fn desc(&self) -> &'a [u8]
-        ensures { result.now ≡ (note_parts self.now).desc }
+        ensures { result ≡ (note_parts self.now).desc }
     {
         self.desc
     }
 }
 
-/// The notes of a section or a segment, in order.
+/// An iterator over the notes of a section or a segment.
 ///
-/// The padding behind the last may be missing. Where what is left holds no whole note, the last
-/// item is `ShortNote`; after it, as at the end, only `None` follows.
+/// The padding after the last note may be missing. If the rest of the bytes does not contain a
+/// whole note, the last item is the error `ShortNote`.
 #[derive(Clone, Debug, Drop)]
 pub struct Notes<'a> {
     rest: &'a [u8],
@@ -82,12 +83,12 @@ pub struct Notes<'a> {
 }
 
 impl<'a> Notes<'a> {
-    /// The notes of these bytes, with the alignment of their section or segment: where it is 8,
-    /// names and descriptions are filled up to multiples of 8 bytes, and else of 4.
+    /// The notes in `bytes`, with the alignment of their section or segment: if it is 8, names and
+    /// descriptions are padded to multiples of 8 bytes, otherwise of 4.
     #[tactic(auto, using(crate::proofs::NoteItems::notes_are, crate::proofs::NoteItems::notes_fit))]
     pub fn new(bytes: &'a [u8], order: Order, align: u64) -> Notes<'a>
-        ensures items { AreNotes align order bytes.now (notes_left result) }
-        ensures bytes { notes_bytes result ≡ bytes.now }
+        ensures items { AreNotes align order bytes.entry (notes_left result) }
+        ensures bytes { notes_bytes result ≡ bytes.entry }
         ensures order { notes_order result ≡ order }
         ensures align { notes_align result ≡ align }
         ensures fits { length (notes_left result) ≤ length bytes.now }
@@ -100,7 +101,7 @@ impl<'a> Notes<'a> {
     }
 }
 
-// The next multiple of the step from here on, in bytes.
+// `place`, rounded up to a multiple of 8 or 4 bytes.
 #[tactic(auto, unfolding(crate::specs::Notes::next_step), using(crate::proofs::NoteItems::next_step_above, crate::proofs::NoteItems::next_step_near))]
 fn next_step(align: u64, place: u64) -> u64
     requires { place < 2 ^ 63 }
@@ -114,13 +115,13 @@ fn next_step(align: u64, place: u64) -> u64
     }
 }
 
-// The note that the bytes begin with, and the bytes from the next note on.
+// The note at the start of `bytes`, and the bytes from the next note on.
 fn split_first<'a>(bytes: &'a [u8], order: Order, align: u64) -> Option<(Note<'a>, &'a [u8])>
     ensures { MatchOption result
         (¬ BeginsWithNote align order bytes.now)
         (λ split. BeginsWithNote align order bytes.now
-        × (note_parts split.0 ≡ first_note align order bytes.now)
-        × (split.1.now ≡ drop (next_note align order bytes.now) bytes.now)) }
+        × (note_parts split.0 ≡ first_note align order bytes.entry)
+        × (split.1 ≡ after_note align order bytes.entry)) }
 {
     if bytes.len() < HEADER_SIZE {
         return None;
@@ -168,18 +169,19 @@ impl<'a> Iterator for Notes<'a> {
     }
 }
 
-/// The notes of a section, by the order of the file and the alignment of the section.
-/// The section's type isn't asked.
+/// The notes of a section of any type, in the byte order of the file and with the alignment of the
+/// section.
 ///
-/// Refused as `SectionHeader::raw_data` is.
+/// The errors are those of `SectionHeader::raw_data`.
 pub fn section_notes<'a>(
     file: &ElfFile<'a>,
     section: &SectionHeader,
 ) -> Result<Notes<'a>, LinkError>
     ensures bytes { MatchResult result
-        (λ notes. section_data_of file.now section.now ≡ Ok (notes_bytes notes))
+        (λ notes. section_data_of file.now section.now ≡ Ok (notes_bytes notes).now)
         (λ error. (why : ElfError) × (section_data_of file.now section.now ≡ Err why)
         × (error ≡ LinkError.Elf why)) }
+    ensures place { IfOk result (λ notes. LiesAsSection file.now section.now (notes_bytes notes)) }
     ensures read { IfOk result (λ notes. (notes_order notes ≡ file_order file.now.header)
         × (notes_align notes ≡ (section_fields section.now).align)) }
     ensures items { IfOk result (λ notes. AreNotes (section_fields section.now).align
@@ -187,24 +189,29 @@ pub fn section_notes<'a>(
     ensures fits { IfOk result (λ notes. length (notes_left notes) < 2 ^ 64) }
 {
     let bytes = section.raw_data(file)?;
-    let order = byte_order(file.header.pt1.encoding);
+    let order = file.byte_order();
     prove!(bytes.len() <= usize::MAX);
     Ok(Notes::new(bytes, order, section.align()))
 }
 
-/// The notes of a segment, by the order of the file and the alignment of the segment.
-/// The segment's type isn't asked.
+/// The notes of a segment of any type, in the byte order of the file and with the alignment of the
+/// segment.
 ///
-/// Refused as `ProgramHeader::raw_data` is.
+/// The errors are those of `ProgramHeader::raw_data`.
 pub fn segment_notes<'a>(
     file: &ElfFile<'a>,
     program: &ProgramHeader,
 ) -> Result<Notes<'a>, LinkError>
     ensures bytes { MatchResult result
-        (λ notes. segment_data_of file.now (program_fields program.now) ≡ Ok (notes_bytes notes))
+        (λ notes. segment_data_of file.now (program_fields program.now)
+        ≡ Ok (notes_bytes notes).now)
         (λ error. (why : ElfError)
         × (segment_data_of file.now (program_fields program.now) ≡ Err why)
         × (error ≡ LinkError.Elf why)) }
+    ensures place { IfOk result (λ notes.
+        LiesAsSegment file.now (program_fields program.now) (notes_bytes notes)) }
+    ensures range { IfOk result (λ notes.
+        IsSegmentData file.now (program_fields program.now) (notes_bytes notes).now) }
     ensures read { IfOk result (λ notes. (notes_order notes ≡ file_order file.now.header)
         × (notes_align notes ≡ (program_fields program.now).align)) }
     ensures items { IfOk result (λ notes. AreNotes (program_fields program.now).align
@@ -212,7 +219,7 @@ pub fn segment_notes<'a>(
     ensures fits { IfOk result (λ notes. length (notes_left notes) < 2 ^ 64) }
 {
     let bytes = program.raw_data(file)?;
-    let order = byte_order(file.header.pt1.encoding);
+    let order = file.byte_order();
     prove!(bytes.len() <= usize::MAX);
     Ok(Notes::new(bytes, order, program.align()))
 }

@@ -1,31 +1,32 @@
-//! Relative relocations that are packed into words (gABI, "Relocation", SHT_RELR).
+//! Relative relocations packed into words (gABI, "Relocation", SHT_RELR).
 
 ghost use Rattle.std.specs.Prelude.{◌≡◌, ◌<◌, ◌≤◌, ◌*◌, Ok, Err, IfOk, MatchResult, length};
 ghost use Rattle.std.specs.Iterator.{YieldsFirst, item_count};
-ghost use Rattle.elf_linking.specs.Relr.{MarkStep, marks, place_behind, relr_of, relr_rest};
+ghost use Rattle.elf_linking.specs.Relr.{MarkStep, marks, address_after, relr_of, relr_rest};
 ghost use Rattle.elf_linking.specs.Relr.{word_size, words_left, words_of};
 
 use crate::LinkError;
 use elf_base::bytes::{Order, Table, TableIter};
 use elf_base::header::Class;
 
-/// The addresses that RELR data names, in order: those of the words to which a dynamic linker adds
-/// the address that the file is loaded at.
+/// An iterator over the addresses in RELR data: those of the words to which a dynamic linker adds
+/// the load address.
 ///
-/// A word of the data has the width of the file's class. An even one is an address; an odd one
-/// marks some of the words behind. Addresses and places are modulo 2 to the width.
+/// A word of the data is as wide as the addresses of the file's class. An even word is an address;
+/// an odd word is a bitmap of the words after the last address. Addresses are modulo 2 to the
+/// width.
 #[derive(Clone, Debug, Drop)]
 pub struct Relr<'a> {
     words: Words<'a>,
-    // The place behind what was read.
+    // The address of the word after those that were read.
     place: u64,
-    // The last bitmap, the place that it began at, and how many of its places were looked at.
+    // The last bitmap, the address of its first word, and the number of its bits that were read.
     bitmap: u64,
     base: u64,
     looked_at: u64,
 }
 
-// The words that are left, by their width.
+// The remaining words, by their width.
 #[derive(Clone, Debug, Drop)]
 enum Words<'a> {
     Narrow(TableIter<'a, u32>),
@@ -33,7 +34,7 @@ enum Words<'a> {
 }
 
 impl<'a> Words<'a> {
-    // The words that these bytes are, refused as by `Relr::new`.
+    // The words in `bytes`; the errors are those of `Relr::new`.
     fn new(bytes: &'a [u8], class: Class, order: Order) -> Result<Words<'a>, LinkError>
         ensures { MatchResult result
             (λ words. words_of class order bytes.now ≡ Ok (word_size words, words_left words))
@@ -52,7 +53,7 @@ impl<'a> Words<'a> {
         }
     }
 
-    // How many words a bitmap stands for: one for each bit but the lowest.
+    // The number of words in a bitmap: one for each bit except the lowest.
     fn marks(&self) -> u64
         ensures { result ≡ marks (word_size self.now) }
     {
@@ -62,11 +63,11 @@ impl<'a> Words<'a> {
         }
     }
 
-    // The place so many words behind another.
+    // The address `count` words after another.
     #[tactic(auto, using(crate::proofs::RelrItems::narrow_place, crate::proofs::RelrItems::wide_place))]
-    fn behind(&self, place: u64, count: u64) -> u64
+    fn after(&self, place: u64, count: u64) -> u64
         requires { count < 64 }
-        ensures { result ≡ place_behind (word_size self.now) place count }
+        ensures { result ≡ address_after (word_size self.now) place count }
     {
         match self {
             Words::Narrow(_) => place.wrapping_add(count * 4) % (1 << 32),
@@ -87,10 +88,10 @@ impl<'a> Words<'a> {
 }
 
 impl<'a> Relr<'a> {
-    /// The addresses that these bytes name in a file of this class.
+    /// The addresses in `bytes`, in a file of this class.
     ///
-    /// Refused with `UnknownClass` where the class is neither 1 nor 2, and with `NotMultiple` where
-    /// the bytes are no whole number of words.
+    /// Errors: `UnknownClass` if the class is neither 1 nor 2; `NotMultiple` if `bytes` are not a
+    /// whole number of words.
     #[tactic(auto, using(crate::proofs::RelrItems::marked_none))]
     pub fn new(bytes: &'a [u8], class: Class, order: Order) -> Result<Relr<'a>, LinkError>
         ensures exact { MatchResult result
@@ -109,7 +110,7 @@ impl<'a> Relr<'a> {
         })
     }
 
-    // The next address that the bitmap at hand marks.
+    // The next address in the current bitmap.
     #[tactic(auto, using(crate::proofs::RelrItems::marked_set, crate::proofs::RelrItems::marked_unset, crate::proofs::RelrItems::marked_none))]
     fn next_marked(&mut self) -> Option<u64>
         ensures { MarkStep self.old result self.new }
@@ -117,7 +118,7 @@ impl<'a> Relr<'a> {
         for count in self.looked_at..self.words.marks() {
             if (self.bitmap >> (count + 1)) % 2 == 1 {
                 self.looked_at = count + 1;
-                return Some(self.words.behind(self.base, count));
+                return Some(self.words.after(self.base, count));
             }
         }
         self.looked_at = self.words.marks();
@@ -140,13 +141,13 @@ impl Iterator for Relr<'_> {
             }
             let word = self.words.next()?;
             if word % 2 == 0 {
-                self.place = self.words.behind(word, 1);
+                self.place = self.words.after(word, 1);
                 return Some(word);
             }
             self.bitmap = word;
             self.base = self.place;
             self.looked_at = 0;
-            self.place = self.words.behind(self.base, self.words.marks());
+            self.place = self.words.after(self.base, self.words.marks());
         }
     }
 }

@@ -1,5 +1,5 @@
-//! What is there without section headers: what a dynamic linker finds by the program headers alone
-//! (gABI, "Program Header" and "Dynamic Section").
+//! What a dynamic linker finds without section headers, by the program headers alone (gABI,
+//! "Program Header" and "Dynamic Section").
 
 mod dynamic;
 mod entries;
@@ -9,6 +9,7 @@ mod loaded;
 mod needed;
 mod symbols;
 mod tables;
+mod tags;
 
 pub use crate::view::dynamic::{DynamicView, strings};
 pub use crate::view::entries::DynamicEntries;
@@ -16,3 +17,7 @@ pub use crate::view::entry::DynamicEntry;
 pub use crate::view::linked_entry::{Linked, LinkedEntry32, LinkedEntry64};
 pub use crate::view::loaded::{bytes_at, bytes_from, segment_at};
 pub use crate::view::needed::Needed;
+pub use crate::view::tags::{
+    DT_GNU_HASH, DT_HASH, DT_NEEDED, DT_NULL, DT_RPATH, DT_RUNPATH, DT_SONAME, DT_STRSZ, DT_STRTAB,
+    DT_SYMTAB,
+};

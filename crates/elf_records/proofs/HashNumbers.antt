@@ -5,7 +5,7 @@ use Rattle.std.proofs.lemmas.List.Sums.{fold_more}
 use Rattle.std.proofs.lemmas.Nat.{xor_block, xor_lt}
 use Rattle.elf_records.specs.HashNumber.{hash_number, hash_step}
 
--- both parts of a step are below 2 to the 28, and so is what they make
+-- a step is below 2 to the 28, since both of its parts are
 hash_step-below : (h c : ℕ) → hash_step h c < 2 ^ 28
 hash_step-below h c =
     let t = (16 * h + c) % 2 ^ 32 in
@@ -19,7 +19,7 @@ pub hash_number-below : (bytes : List ℕ) → hash_number bytes < 2 ^ 28
 unfolding hash_number
 hash_number-below bytes = fold-below bytes 0 (omega arith)
 
--- a step whose parts are kept times 16
+-- a step with its parts multiplied by 16
 shifted_step : (t : ℕ) → bit_xor (16 * (t % 2 ^ 28)) (256 * (t / 2 ^ 28))
     ≡ 16 * bit_xor (t % 2 ^ 28) (16 * (t / 2 ^ 28))
 shifted_step t =
@@ -31,13 +31,13 @@ shifted_step t =
     let whole : bit_xor low high * 2 ^ 4 + bit_xor 0 0 ≡ 16 * bit_xor low high = omega arith in
     cc
 
--- a text with one byte more
+-- the hash number of a text with one more byte
 hash_number-more : (bytes : List ℕ) (i : ℕ) → i < length bytes
     → hash_number (take (i + 1) bytes) ≡ hash_step (hash_number (take i bytes)) (get_or bytes i 0)
 unfolding hash_number
 hash_number-more bytes i below = fold_more hash_step 0 bytes i 0 below
 
--- the same where the numbers are kept times 16
+-- the hash number of a text with one more byte, multiplied by 16
 pub shifted_more : (bytes : List ℕ) (i shifted byte : ℕ) → i < length bytes → byte ≡ get_or bytes i 0
     → shifted ≡ 16 * hash_number (take i bytes)
     → bit_xor (16 * ((shifted + byte) % 2 ^ 32 % 2 ^ 28)) (256 * ((shifted + byte) % 2 ^ 32 / 2 ^ 28))

@@ -1,8 +1,8 @@
--- What holds of each row of a table of numbers with names, and of every number that stands in none, holds of
--- the meaning of each number.
+-- A property of each row of a table of named numbers, and of every number without a row, is a property of the
+-- meaning of each number.
 use Rattle.std.proofs.Common.{◌≡◌, ℕ, ◌==◌, Bool, true, false, List, [], ◌∷◌, if◌then◌else◌, refl, sym, subst}
 use Rattle.std.proofs.lemmas.Bool.{eqb-true}
-use Rattle.elf_base.specs.Named.{named_or}
+use Rattle.elf_base.specs.Number.{named_or}
 
 module _ {A : Type 0} (other : ℕ → A) (P : ℕ → A → Type 0) where
   abbrev pub EachRow : List (ℕ × A) → Type 0

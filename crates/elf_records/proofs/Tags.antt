@@ -1,17 +1,17 @@
--- An entry of the dynamic section has both a value and a pointer exactly where its tag is one of the operating
--- system or of the processor.
+-- An entry of the dynamic section has both a value and a pointer exactly if its tag is OS-specific or
+-- processor-specific.
 use Rattle.std.proofs.Common.{◌≡◌, ℕ, nat_le, ◌&&◌, ◌⊎◌, inl, inr, Bool, true, false, [], ◌∷◌, Result, Ok, Err, is_ok, if◌then◌else◌, refl, sym, ap, ◌∙◌, ◌↔◌}
 use Rattle.elf_base.specs.Refusal.{and_then}
 use Rattle.elf_base.specs.declared.error.ElfError.{ElfError}
 use Rattle.elf_base.specs.declared.error.ElfError.TheVariants.{InvalidTag}
-use Rattle.elf_records.specs.Dynamic.{pointer_in, pointer_of, row_in_range, row_of, tag_of, value_in, value_of}
+use Rattle.elf_records.specs.Dynamic.{pointer_in, pointer_of, tag_row_in_range, tag_row_of, tag_of, value_in, value_of}
 use Rattle.elf_records.specs.declared.dynamic.Meaning.{Meaning}
 use Rattle.elf_records.specs.declared.dynamic.Meaning.TheVariants.{Ignored, Value, Pointer, Unspecified}
 use Rattle.elf_records.specs.declared.dynamic.Tag.{Tag}
 use Rattle.elf_records.specs.declared.dynamic.Tag.TheVariants as tag
 use Rattle.elf_records.proofs.NamedRows.{named_has}
 
--- the tag is one of the operating system or of the processor
+-- the tag is OS-specific or processor-specific
 abbrev is_open : Result (Tag ℕ) ElfError → Bool
 is_open (Ok (tag.OsSpecific n)) = true
 is_open (Ok (tag.ProcessorSpecific n)) = true
@@ -31,9 +31,9 @@ in_range value n true b = refl
 in_range value n false true = refl
 in_range value n false false = refl
 
-each_tag : (value n : ℕ) → has_both value (row_of n n)
-unfolding row_of
-each_tag value n = named_has (row_in_range n) (λ _. has_both value) ((0, Ok (tag.Null, Ignored)) ∷ (1, Ok (tag.Needed, Value)) ∷ (2, Ok (tag.PltRelSize, Value)) ∷ (3, Ok (tag.Pltgot, Pointer)) ∷ (4, Ok (tag.Hash, Pointer)) ∷ (5, Ok (tag.StrTab, Pointer)) ∷ (6, Ok (tag.SymTab, Pointer)) ∷ (7, Ok (tag.Rela, Pointer)) ∷ (8, Ok (tag.RelaSize, Value)) ∷ (9, Ok (tag.RelaEnt, Value)) ∷ (10, Ok (tag.StrSize, Value)) ∷ (11, Ok (tag.SymEnt, Value)) ∷ (12, Ok (tag.Init, Pointer)) ∷ (13, Ok (tag.Fini, Pointer)) ∷ (14, Ok (tag.SoName, Value)) ∷ (15, Ok (tag.RPath, Value)) ∷ (16, Ok (tag.Symbolic, Ignored)) ∷ (17, Ok (tag.Rel, Pointer)) ∷ (18, Ok (tag.RelSize, Value)) ∷ (19, Ok (tag.RelEnt, Value)) ∷ (20, Ok (tag.PltRel, Value)) ∷ (21, Ok (tag.Debug, Pointer)) ∷ (22, Ok (tag.TextRel, Ignored)) ∷ (23, Ok (tag.JmpRel, Pointer)) ∷ (24, Ok (tag.BindNow, Ignored)) ∷ (25, Ok (tag.InitArray, Pointer)) ∷ (26, Ok (tag.FiniArray, Pointer)) ∷ (27, Ok (tag.InitArraySize, Value)) ∷ (28, Ok (tag.FiniArraySize, Value)) ∷ (29, Ok (tag.RunPath, Value)) ∷ (30, Ok (tag.Flags, Value)) ∷ (32, Ok (tag.PreInitArray, Pointer)) ∷ (33, Ok (tag.PreInitArraySize, Value)) ∷ (34, Ok (tag.SymTabShIndex, Pointer)) ∷ (35, Ok (tag.RelrSize, Value)) ∷ (36, Ok (tag.Relr, Pointer)) ∷ (37, Ok (tag.RelrEnt, Value)) ∷ (1879048187, Ok (tag.Flags1, Value)) ∷ []) n (refl, (refl, (refl, (refl, (refl, (refl, (refl, (refl, (refl, (refl, (refl, (refl, (refl, (refl, (refl, (refl, (refl, (refl, (refl, (refl, (refl, (refl, (refl, (refl, (refl, (refl, (refl, (refl, (refl, (refl, (refl, (refl, (refl, (refl, (refl, (refl, (refl, (refl, tt)))))))))))))))))))))))))))))))))))))) (in_range value n (nat_le 0x6000000d n && nat_le n 0x6fffffff) (nat_le 0x70000000 n && nat_le n 0x7fffffff))
+each_tag : (value n : ℕ) → has_both value (tag_row_of n n)
+unfolding tag_row_of
+each_tag value n = named_has (tag_row_in_range n) (λ _. has_both value) ((0, Ok (tag.Null, Ignored)) ∷ (1, Ok (tag.Needed, Value)) ∷ (2, Ok (tag.PltRelSize, Value)) ∷ (3, Ok (tag.Pltgot, Pointer)) ∷ (4, Ok (tag.Hash, Pointer)) ∷ (5, Ok (tag.StrTab, Pointer)) ∷ (6, Ok (tag.SymTab, Pointer)) ∷ (7, Ok (tag.Rela, Pointer)) ∷ (8, Ok (tag.RelaSize, Value)) ∷ (9, Ok (tag.RelaEnt, Value)) ∷ (10, Ok (tag.StrSize, Value)) ∷ (11, Ok (tag.SymEnt, Value)) ∷ (12, Ok (tag.Init, Pointer)) ∷ (13, Ok (tag.Fini, Pointer)) ∷ (14, Ok (tag.SoName, Value)) ∷ (15, Ok (tag.RPath, Value)) ∷ (16, Ok (tag.Symbolic, Ignored)) ∷ (17, Ok (tag.Rel, Pointer)) ∷ (18, Ok (tag.RelSize, Value)) ∷ (19, Ok (tag.RelEnt, Value)) ∷ (20, Ok (tag.PltRel, Value)) ∷ (21, Ok (tag.Debug, Pointer)) ∷ (22, Ok (tag.TextRel, Ignored)) ∷ (23, Ok (tag.JmpRel, Pointer)) ∷ (24, Ok (tag.BindNow, Ignored)) ∷ (25, Ok (tag.InitArray, Pointer)) ∷ (26, Ok (tag.FiniArray, Pointer)) ∷ (27, Ok (tag.InitArraySize, Value)) ∷ (28, Ok (tag.FiniArraySize, Value)) ∷ (29, Ok (tag.RunPath, Value)) ∷ (30, Ok (tag.Flags, Value)) ∷ (32, Ok (tag.PreInitArray, Pointer)) ∷ (33, Ok (tag.PreInitArraySize, Value)) ∷ (34, Ok (tag.SymTabShIndex, Pointer)) ∷ (35, Ok (tag.RelrSize, Value)) ∷ (36, Ok (tag.Relr, Pointer)) ∷ (37, Ok (tag.RelrEnt, Value)) ∷ (1879048187, Ok (tag.Flags1, Value)) ∷ []) n (refl, (refl, (refl, (refl, (refl, (refl, (refl, (refl, (refl, (refl, (refl, (refl, (refl, (refl, (refl, (refl, (refl, (refl, (refl, (refl, (refl, (refl, (refl, (refl, (refl, (refl, (refl, (refl, (refl, (refl, (refl, (refl, (refl, (refl, (refl, (refl, (refl, (refl, tt)))))))))))))))))))))))))))))))))))))) (in_range value n (nat_le 0x6000000d n && nat_le n 0x6fffffff) (nat_le 0x70000000 n && nat_le n 0x7fffffff))
 
 open_is : (t : Result (Tag ℕ) ElfError) → is_open t ≡ true → (n : ℕ) × ((t ≡ Ok (tag.OsSpecific n)) ⊎ (t ≡ Ok (tag.ProcessorSpecific n)))
 open_is (Ok (tag.OsSpecific n)) is = (n, inl refl)
@@ -60,6 +60,6 @@ right false false h = h
 
 pub value_and_pointer : (n value : ℕ) → ((is_ok (value_of n value) ≡ true) × (is_ok (pointer_of n value) ≡ true)) ↔ ((m : ℕ) × ((tag_of n ≡ Ok (tag.OsSpecific m)) ⊎ (tag_of n ≡ Ok (tag.ProcessorSpecific m))))
 value_and_pointer n value = (
-  λ (v, p). open_is (tag_of n) (sym (each_tag value n) ∙ both (has_value value (row_of n n)) (has_pointer value (row_of n n)) v p),
-  λ (m, is). (let all = each_tag value n ∙ is_open_of (tag_of n) m is in (left (has_value value (row_of n n)) (has_pointer value (row_of n n)) all, right (has_value value (row_of n n)) (has_pointer value (row_of n n)) all)),
+  λ (v, p). open_is (tag_of n) (sym (each_tag value n) ∙ both (has_value value (tag_row_of n n)) (has_pointer value (tag_row_of n n)) v p),
+  λ (m, is). (let all = each_tag value n ∙ is_open_of (tag_of n) m is in (left (has_value value (tag_row_of n n)) (has_pointer value (tag_row_of n n)) all, right (has_value value (tag_row_of n n)) (has_pointer value (tag_row_of n n)) all)),
 )

@@ -1,8 +1,7 @@
--- The dynamic section (gABI, "Dynamic Section": Elf32_Dyn, Elf64_Dyn and the table of tags; `Flags1` and
--- where the tags of the operating system end are the Rust crate's).
+-- The dynamic section (gABI, "Dynamic Section": Elf32_Dyn, Elf64_Dyn and the table of tags; `Flags1` and the
+-- end of the range of OS-specific tags are the Rust crate's).
 use Rattle.std.specs.Prelude.{ℕ, nat_le, ◌&&◌, List, [], ◌∷◌, Result, Ok, Err, if◌then◌else◌}
-use Rattle.elf_base.specs.Named.{named_or}
-use Rattle.elf_base.specs.Number.{number}
+use Rattle.elf_base.specs.Number.{named_or, number}
 use Rattle.elf_base.specs.Refusal.{and_then}
 use Rattle.elf_base.specs.declared.bytes.Order.{Order}
 use Rattle.elf_base.specs.declared.error.ElfError.{ElfError}
@@ -14,14 +13,14 @@ use Rattle.elf_records.specs.declared.dynamic.Tag_.{Tag_}
 use Rattle.elf_records.specs.declared.dynamic.Tag.{Tag}
 use Rattle.elf_records.specs.declared.dynamic.Tag.TheVariants as tag
 
--- the 8 bytes of class 32
+-- an entry of class 32, of 8 bytes
 abbrev pub dynamic_32 : Order → List ℕ → Dynamic ℕ
 dynamic_32 order bytes = record {
   tag = record { 0 = number order 4 0 bytes };
   value = number order 4 4 bytes;
 }
 
--- the 16 bytes of class 64
+-- an entry of class 64, of 16 bytes
 abbrev pub dynamic_64 : Order → List ℕ → Dynamic ℕ
 dynamic_64 order bytes = record {
   tag = record { 0 = number order 8 0 bytes };
@@ -35,7 +34,7 @@ dynamic_tag entry = entry.tag.0
 abbrev pub dynamic_value : {P : Type 0} → Dynamic P → P
 dynamic_value entry = entry.value
 
--- the number of a tag, as it stands in the file
+-- the number of a tag, as it is in the file
 abbrev pub tag_number : {P : Type 0} → Tag_ P → P
 tag_number tag = tag.0
 
@@ -43,16 +42,16 @@ tag_number tag = tag.0
 abbrev pub tag_raw : {P : Type 0} → P → Tag_ P
 tag_raw n = record { 0 = n }
 
--- the tags that are ranges: of the operating system, of the processor
-abbrev pub row_in_range : {P : Type 0} → P → ℕ → Result (Tag P × Meaning) ElfError
-row_in_range raw n =
+-- the ranges of tags: OS-specific and processor-specific
+abbrev pub tag_row_in_range : {P : Type 0} → P → ℕ → Result (Tag P × Meaning) ElfError
+tag_row_in_range raw n =
     if nat_le 0x6000000d n && nat_le n 0x6fffffff then Ok (tag.OsSpecific raw, Unspecified)
     else (if nat_le 0x70000000 n && nat_le n 0x7fffffff then Ok (tag.ProcessorSpecific raw, Unspecified)
     else Err InvalidTag)
 
--- d_tag: its number, its name, and what d_un is; the same in both classes
-unfoldable pub row_of : {P : Type 0} → P → ℕ → Result (Tag P × Meaning) ElfError
-row_of raw n = named_or (row_in_range raw) (
+-- d_tag: its number, its name, and the meaning of d_un, in both classes
+unfoldable pub tag_row_of : {P : Type 0} → P → ℕ → Result (Tag P × Meaning) ElfError
+tag_row_of raw n = named_or (tag_row_in_range raw) (
     (0, Ok (tag.Null, Ignored))
     ∷ (1, Ok (tag.Needed, Value))
     ∷ (2, Ok (tag.PltRelSize, Value))
@@ -93,17 +92,17 @@ row_of raw n = named_or (row_in_range raw) (
     ∷ (0x6ffffffb, Ok (tag.Flags1, Value))
     ∷ []) n
 
--- the tag that a number means, or that it means none
+-- the tag of a number, or that the number is unknown
 abbrev pub tag_of : ℕ → Result (Tag ℕ) ElfError
-tag_of n = and_then (row_of n n) (λ row. Ok row.0)
+tag_of n = and_then (tag_row_of n n) (λ row. Ok row.0)
 
--- d_un as a value, where the tag has one
+-- d_un as a value, if the tag has one
 abbrev pub value_in : {P : Type 0} → P → Meaning → Result P ElfError
 value_in value Value = Ok value
 value_in value Unspecified = Ok value
 value_in value _ = Err InvalidValue
 
--- d_un as a pointer, where the tag has one
+-- d_un as a pointer, if the tag has one
 abbrev pub pointer_in : {P : Type 0} → P → Meaning → Result P ElfError
 pointer_in value Pointer = Ok value
 pointer_in value Unspecified = Ok value
@@ -111,7 +110,7 @@ pointer_in value _ = Err InvalidPtr
 
 -- the value and the pointer of an entry, by its two numbers, or why it has none
 abbrev pub value_of : ℕ → ℕ → Result ℕ ElfError
-value_of n value = and_then (row_of n n) (λ row. value_in value row.1)
+value_of n value = and_then (tag_row_of n n) (λ row. value_in value row.1)
 
 abbrev pub pointer_of : ℕ → ℕ → Result ℕ ElfError
-pointer_of n value = and_then (row_of n n) (λ row. pointer_in value row.1)
+pointer_of n value = and_then (tag_row_of n n) (λ row. pointer_in value row.1)

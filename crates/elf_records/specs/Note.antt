@@ -1,5 +1,5 @@
--- Notes: a header, and after it a name and a description (gABI, "Note Section"; the words of four bytes
--- in both classes, and so the rounding to four, are what files of class 64 have).
+-- Notes: a header, followed by a name and a description (gABI, "Note Section"; in both classes words have
+-- four bytes and sizes are rounded up to four, as in files of class 64).
 use Rattle.std.specs.Prelude.{◌≡◌, ◌≢◌, ℕ, ◌+◌, ◌*◌, ◌/◌, ◌≤◌, nat_eq, nat_lt, not, List, [], ◌∷◌, length, drop, take, Result}
 use Rattle.elf_base.specs.Number.{number}
 use Rattle.elf_base.specs.Refusal.{and_then, unless}
@@ -9,15 +9,15 @@ use Rattle.elf_base.specs.declared.error.ElfError.{ElfError}
 use Rattle.elf_base.specs.declared.error.ElfError.TheVariants.{NoteDesc, NoteName}
 use Rattle.elf_records.specs.declared.sections.note.NoteHeader.{NoteHeader}
 
--- the header that twelve bytes are
+-- the note header in twelve bytes
 abbrev pub note_header : Order → List ℕ → NoteHeader
 note_header order bytes = record { bytes = bytes; order = order }
 
--- n_namesz: how many bytes the name has, with the zero byte that ends it
+-- n_namesz: the size of the name in bytes, with the zero byte that ends it
 unfoldable pub note_name_size : NoteHeader → ℕ
 note_name_size header = number header.order 4 0 header.bytes
 
--- n_descsz: how many bytes the description has
+-- n_descsz: the size of the description in bytes
 unfoldable pub note_desc_size : NoteHeader → ℕ
 note_desc_size header = number header.order 4 4 header.bytes
 
@@ -25,14 +25,13 @@ note_desc_size header = number header.order 4 4 header.bytes
 unfoldable pub note_type : NoteHeader → ℕ
 note_type header = number header.order 4 8 header.bytes
 
--- bytes are a note: its header is their first twelve, and its body all that follow
+-- the bytes are a note: the first twelve are its header, and all others its body
 pub record IsNote (order : Order) (bytes : List ℕ) (header : NoteHeader) (body : List ℕ) : Type 0 where
   pub enough : 12 ≤ length bytes
   pub header_is : header ≡ note_header order (take 12 bytes)
   pub body_is : body ≡ drop 12 bytes
 
--- the name of a note, in the bytes that follow its header: the text at their front, which with its zero byte has
--- the size that the header says
+-- the name of a note: the text at the start of the body, which with its zero byte has the size in the header
 pub record IsNoteName (body : List ℕ) (name_size : ℕ) (text : List ℕ) : Type 0 where
   pub front : IsText body 0 text
   pub size : length text + 1 ≡ name_size
@@ -42,7 +41,7 @@ abbrev pub NoteNameRefused : List ℕ → ℕ → ElfError → Type 0
 NoteNameRefused body name_size NoteName = (text : List ℕ) × IsText body 0 text × (length text + 1 ≢ name_size)
 NoteNameRefused body name_size error = TextRefused body 0 error
 
--- the name as it is computed, or why there is none
+-- the name, or why there is none, as a function
 unfoldable pub note_name_of : List ℕ → ℕ → Result (List ℕ) ElfError
 note_name_of body name_size = and_then (text_of body 0) (λ text. unless (
     (not (nat_eq (length text + 1) name_size), NoteName)
@@ -52,14 +51,14 @@ note_name_of body name_size = and_then (text_of body 0) (λ text. unless (
 abbrev pub rounded_up : ℕ → ℕ
 rounded_up n = (n + 3) / 4 * 4
 
--- the description of a note, in the bytes that follow its header: as many bytes as the header says, from the
--- end of the name on, rounded up to a multiple of four
+-- the description of a note: `desc_size` bytes of the body, from the end of the name, rounded up to a
+-- multiple of four
 pub record IsNoteDescription (body : List ℕ) (name_size desc_size : ℕ) (desc : List ℕ) : Type 0 where
   pub fits : rounded_up name_size + desc_size ≤ length body
   pub bytes : desc ≡ take desc_size (drop (rounded_up name_size) body)
   pub count_is : length desc ≡ desc_size
 
--- the description as it is computed, or that it passes the end
+-- the description, or that it passes the end of the body
 unfoldable pub note_desc_of : List ℕ → ℕ → ℕ → Result (List ℕ) ElfError
 note_desc_of body name_size desc_size = unless (
     (nat_lt (length body) (rounded_up name_size + desc_size), NoteDesc)

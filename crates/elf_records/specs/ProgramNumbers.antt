@@ -1,6 +1,6 @@
--- What the numbers of segments mean (gABI, "Program Header", p_type and p_flags).
+-- The meaning of the numbers of program headers (gABI, "Program Header", p_type and p_flags).
 use Rattle.std.specs.Prelude.{ℕ, ◌==◌, ◌^◌, nat_le, ◌&&◌, Bool, true, false, List, [], ◌∷◌, ◌++◌, Result, Ok, Err, codes, bit_and, if◌then◌else◌}
-use Rattle.elf_base.specs.Named.{named_or}
+use Rattle.elf_base.specs.Number.{named_or}
 use Rattle.elf_base.specs.Printed.{numbered}
 use Rattle.elf_base.specs.declared.error.ElfError.{ElfError}
 use Rattle.elf_base.specs.declared.error.ElfError.TheVariants.{InvalidPhType}
@@ -8,7 +8,7 @@ use Rattle.elf_records.specs.declared.program.Type_.{Type_}
 use Rattle.elf_records.specs.declared.program.Type as the_type
 use Rattle.elf_records.specs.declared.program.Type.TheVariants as ph_type
 
--- the number of a segment's type (p_type), as it stands in the file
+-- the number of a segment's type (p_type), as it is in the file
 abbrev pub ph_type_number : Type_ → ℕ
 ph_type_number type_ = type_.0
 
@@ -16,14 +16,14 @@ ph_type_number type_ = type_.0
 abbrev pub ph_type_raw : ℕ → Type_
 ph_type_raw n = record { 0 = n }
 
--- the types that are ranges: of the operating system, of the processor
+-- the ranges of types: OS-specific and processor-specific
 abbrev pub ph_type_in_range : ℕ → Result the_type.Type ElfError
 ph_type_in_range n =
     if nat_le 0x60000000 n && nat_le n 0x6fffffff then Ok (ph_type.OsSpecific n)
     else (if nat_le 0x70000000 n && nat_le n 0x7fffffff then Ok (ph_type.ProcessorSpecific n)
     else Err InvalidPhType)
 
--- what the number means
+-- the type of a number, or that the number is unknown
 unfoldable pub ph_type_of : ℕ → Result the_type.Type ElfError
 ph_type_of n = named_or ph_type_in_range (
     (0, Ok ph_type.Null)
@@ -37,7 +37,7 @@ ph_type_of n = named_or ph_type_in_range (
     ∷ (0x6474e552, Ok ph_type.GnuRelro)
     ∷ []) n
 
--- two types are the same
+-- whether two types are equal
 abbrev pub is_ph_type : the_type.Type → the_type.Type → Bool
 is_ph_type ph_type.Null ph_type.Null = true
 is_ph_type ph_type.Load ph_type.Load = true
@@ -52,12 +52,12 @@ is_ph_type (ph_type.OsSpecific m) (ph_type.OsSpecific n) = m == n
 is_ph_type (ph_type.ProcessorSpecific m) (ph_type.ProcessorSpecific n) = m == n
 is_ph_type _ _ = false
 
--- what may be refused is this type
+-- whether a result is this type
 abbrev pub has_ph_type : the_type.Type → Result the_type.Type ElfError → Bool
 has_ph_type wanted (Ok kind) = is_ph_type wanted kind
 has_ph_type wanted (Err error) = false
 
--- how a type is printed
+-- the printed form of a type
 abbrev pub ph_type_text : the_type.Type → List ℕ
 ph_type_text ph_type.Null = codes "Null"
 ph_type_text ph_type.Load = codes "Load"

@@ -5,21 +5,21 @@ use Rattle.elf_base.specs.declared.bytes.Order.{Order}
 use Rattle.elf_records.specs.declared.sections.relocations.Rel.{Rel}
 use Rattle.elf_records.specs.declared.sections.relocations.Rela.{Rela}
 
--- the 8 bytes without an addend of class 32
+-- a relocation without an addend of class 32, of 8 bytes
 abbrev pub rel_32 : Order → List ℕ → Rel ℕ
 rel_32 order bytes = record {
   offset = number order 4 0 bytes;
   info = number order 4 4 bytes;
 }
 
--- the 16 bytes without an addend of class 64
+-- a relocation without an addend of class 64, of 16 bytes
 abbrev pub rel_64 : Order → List ℕ → Rel ℕ
 rel_64 order bytes = record {
   offset = number order 8 0 bytes;
   info = number order 8 8 bytes;
 }
 
--- the 12 bytes with an addend of class 32
+-- a relocation with an addend of class 32, of 12 bytes
 abbrev pub rela_32 : Order → List ℕ → Rela ℕ
 rela_32 order bytes = record {
   offset = number order 4 0 bytes;
@@ -27,7 +27,7 @@ rela_32 order bytes = record {
   addend = number order 4 8 bytes;
 }
 
--- the 24 bytes with an addend of class 64
+-- a relocation with an addend of class 64, of 24 bytes
 abbrev pub rela_64 : Order → List ℕ → Rela ℕ
 rela_64 order bytes = record {
   offset = number order 8 0 bytes;
@@ -42,7 +42,7 @@ rel_offset rel = rel.offset
 abbrev pub rel_info : {P : Type 0} → Rel P → P
 rel_info rel = rel.info
 
--- r_offset, r_info and r_addend of one with an addend
+-- r_offset, r_info and r_addend of a relocation with an addend
 abbrev pub rela_offset : {P : Type 0} → Rela P → P
 rela_offset rela = rela.offset
 

@@ -1,6 +1,6 @@
--- What the numbers of sections mean (gABI, "Sections", sh_type).
+-- The meaning of the numbers of sections (gABI, "Sections", sh_type).
 use Rattle.std.specs.Prelude.{ℕ, nat_le, ◌==◌, ◌&&◌, Bool, true, false, List, [], ◌∷◌, Result, Ok, Err, codes, if◌then◌else◌}
-use Rattle.elf_base.specs.Named.{named_or}
+use Rattle.elf_base.specs.Number.{named_or}
 use Rattle.elf_base.specs.Printed.{numbered}
 use Rattle.elf_base.specs.declared.error.ElfError.{ElfError}
 use Rattle.elf_base.specs.declared.error.ElfError.TheVariants.{InvalidShType}
@@ -8,7 +8,7 @@ use Rattle.elf_records.specs.declared.sections.ShType_.{ShType_}
 use Rattle.elf_records.specs.declared.sections.ShType.{ShType}
 use Rattle.elf_records.specs.declared.sections.ShType.TheVariants as sh_type
 
--- the number of a section's type (sh_type), as it stands in the file
+-- the number of a section's type (sh_type), as it is in the file
 abbrev pub sh_type_number : ShType_ → ℕ
 sh_type_number type_ = type_.0
 
@@ -16,7 +16,7 @@ sh_type_number type_ = type_.0
 abbrev pub sh_type_raw : ℕ → ShType_
 sh_type_raw n = record { 0 = n }
 
--- the types that are ranges: of the operating system, of the processor, of programs
+-- the ranges of types: OS-specific, processor-specific, and for applications
 abbrev pub sh_type_in_range : ℕ → Result ShType ElfError
 sh_type_in_range n =
     if nat_le 0x60000000 n && nat_le n 0x6fffffff then Ok (sh_type.OsSpecific n)
@@ -24,7 +24,7 @@ sh_type_in_range n =
     else (if nat_le 0x80000000 n then Ok (sh_type.User n)
     else Err InvalidShType))
 
--- what the number means
+-- the type of a number, or that the number is unknown
 unfoldable pub sh_type_of : ℕ → Result ShType ElfError
 sh_type_of n = named_or sh_type_in_range (
     (0, Ok sh_type.Null)
@@ -46,7 +46,7 @@ sh_type_of n = named_or sh_type_in_range (
     ∷ (18, Ok sh_type.SymTabShIndex)
     ∷ []) n
 
--- two types are the same
+-- whether two types are equal
 abbrev pub is_sh_type : ShType → ShType → Bool
 is_sh_type sh_type.Null sh_type.Null = true
 is_sh_type sh_type.ProgBits sh_type.ProgBits = true
@@ -70,12 +70,12 @@ is_sh_type (sh_type.ProcessorSpecific m) (sh_type.ProcessorSpecific n) = m == n
 is_sh_type (sh_type.User m) (sh_type.User n) = m == n
 is_sh_type _ _ = false
 
--- what may be refused is this type
+-- whether a result is this type
 abbrev pub has_sh_type : ShType → Result ShType ElfError → Bool
 has_sh_type wanted (Ok kind) = is_sh_type wanted kind
 has_sh_type wanted (Err error) = false
 
--- how a type is printed
+-- the printed form of a type
 abbrev pub sh_type_text : ShType → List ℕ
 sh_type_text sh_type.Null = codes "Null"
 sh_type_text sh_type.ProgBits = codes "ProgBits"

@@ -1,6 +1,6 @@
--- What the numbers of symbols mean (gABI, "Symbol Table": STB_, STT_ and STV_).
+-- The meaning of the numbers of symbols (gABI, "Symbol Table": STB_, STT_ and STV_).
 use Rattle.std.specs.Prelude.{ℕ, ◌%◌, nat_le, ◌&&◌, List, [], ◌∷◌, Result, Ok, Err, codes, if◌then◌else◌}
-use Rattle.elf_base.specs.Named.{named_or}
+use Rattle.elf_base.specs.Number.{named_or}
 use Rattle.elf_base.specs.Printed.{numbered}
 use Rattle.elf_base.specs.declared.error.ElfError.{ElfError}
 use Rattle.elf_base.specs.declared.error.ElfError.TheVariants.{InvalidBinding, InvalidSymbolType}
@@ -14,7 +14,7 @@ use Rattle.elf_records.specs.declared.symbol_table.Type_.{Type_}
 use Rattle.elf_records.specs.declared.symbol_table.Type as the_type
 use Rattle.elf_records.specs.declared.symbol_table.Type.TheVariants as symbol_type
 
--- the number of a visibility, a binding and a type, as it stands in the file, and back
+-- the number of a visibility, a binding and a type in the file, and the value of a number
 abbrev pub visibility_number : Visibility_ → ℕ
 visibility_number visibility = visibility.0
 
@@ -33,7 +33,7 @@ symbol_type_number type_ = type_.0
 abbrev pub symbol_type_raw : ℕ → Type_
 symbol_type_raw n = record { 0 = n }
 
--- STV_: by the remainder by four, which has no other values than these
+-- STV_: the visibility, in the low two bits
 unfoldable pub visibility_of : ℕ → Visibility
 visibility_of n = named_or (λ _. visibility.Default) (
     (0, visibility.Default)
@@ -42,14 +42,14 @@ visibility_of n = named_or (λ _. visibility.Default) (
     ∷ (3, visibility.Protected)
     ∷ []) (n % 4)
 
--- the bindings that are ranges: of the operating system, of the processor
+-- the ranges of bindings: OS-specific and processor-specific
 abbrev pub binding_in_range : ℕ → Result Binding ElfError
 binding_in_range n =
     if nat_le 10 n && nat_le n 12 then Ok (binding.OsSpecific n)
     else (if nat_le 13 n && nat_le n 15 then Ok (binding.ProcessorSpecific n)
     else Err InvalidBinding)
 
--- STB_
+-- STB_: the binding of a number, or that the number is unknown
 unfoldable pub binding_of : ℕ → Result Binding ElfError
 binding_of n = named_or binding_in_range (
     (0, Ok binding.Local)
@@ -57,14 +57,14 @@ binding_of n = named_or binding_in_range (
     ∷ (2, Ok binding.Weak)
     ∷ []) n
 
--- the types that are ranges: of the operating system, of the processor
+-- the ranges of types: OS-specific and processor-specific
 abbrev pub symbol_type_in_range : ℕ → Result the_type.Type ElfError
 symbol_type_in_range n =
     if nat_le 10 n && nat_le n 12 then Ok (symbol_type.OsSpecific n)
     else (if nat_le 13 n && nat_le n 15 then Ok (symbol_type.ProcessorSpecific n)
     else Err InvalidSymbolType)
 
--- STT_
+-- STT_: the type of a number, or that the number is unknown
 unfoldable pub symbol_type_of : ℕ → Result the_type.Type ElfError
 symbol_type_of n = named_or symbol_type_in_range (
     (0, Ok symbol_type.NoType)
@@ -76,7 +76,7 @@ symbol_type_of n = named_or symbol_type_in_range (
     ∷ (6, Ok symbol_type.Tls)
     ∷ []) n
 
--- how each is printed
+-- the printed form of each
 abbrev pub visibility_text : Visibility → List ℕ
 visibility_text visibility.Default = codes "Default"
 visibility_text visibility.Internal = codes "Internal"

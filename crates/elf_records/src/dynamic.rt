@@ -3,16 +3,16 @@
 ghost use Rattle.std.specs.Prelude.{◌≡◌};
 ghost use Rattle.std.proofs.Common.{lit<};
 ghost use Rattle.elf_records.specs.Dynamic.{dynamic_32, dynamic_64, dynamic_tag, dynamic_value};
-ghost use Rattle.elf_records.specs.Dynamic.{pointer_in, pointer_of, row_of, tag_number, tag_of};
+ghost use Rattle.elf_records.specs.Dynamic.{pointer_in, pointer_of, tag_row_of, tag_number, tag_of};
 ghost use Rattle.elf_records.specs.Dynamic.{tag_raw, value_in, value_of};
 
 use elf_base::bytes::{Order, Record, read_u32, read_u64};
 use elf_base::{ElfError, P32, P64};
 
-/// `DF_1_NOW`: all relocations are made before the program runs.
+/// `DF_1_NOW`: all relocations are applied before the program runs.
 pub const FLAG_1_NOW: u64 = 0x1;
 
-/// `DF_1_GLOBAL`: the symbols of the library are open to all others.
+/// `DF_1_GLOBAL`: the symbols of the library are available to all other libraries.
 pub const FLAG_1_GLOBAL: u64 = 0x2;
 
 /// `DF_1_GROUP`: the library is a member of a group.
@@ -21,95 +21,96 @@ pub const FLAG_1_GROUP: u64 = 0x4;
 /// `DF_1_NODELETE`: the library stays loaded.
 pub const FLAG_1_NODELETE: u64 = 0x8;
 
-/// `DF_1_LOADFLTR`: filtered libraries are loaded at once.
+/// `DF_1_LOADFLTR`: filtered libraries are loaded immediately.
 pub const FLAG_1_LOADFLTR: u64 = 0x10;
 
-/// `DF_1_INITFIRST`: the library begins before all others.
+/// `DF_1_INITFIRST`: the library is initialized before all others.
 pub const FLAG_1_INITFIRST: u64 = 0x20;
 
-/// `DF_1_NOOPEN`: the library cannot be opened while the program runs.
+/// `DF_1_NOOPEN`: `dlopen` cannot load the library.
 pub const FLAG_1_NOOPEN: u64 = 0x40;
 
-/// `DF_1_ORIGIN`: paths may name the place of the library.
+/// `DF_1_ORIGIN`: paths may contain `$ORIGIN`, the directory of the library.
 pub const FLAG_1_ORIGIN: u64 = 0x80;
 
 /// `DF_1_DIRECT`: symbols are bound directly.
 pub const FLAG_1_DIRECT: u64 = 0x100;
 
-/// `DF_1_TRANS`: no meaning is known.
+/// `DF_1_TRANS`: the meaning is not documented.
 pub const FLAG_1_TRANS: u64 = 0x200;
 
-/// `DF_1_INTERPOSE`: the symbols of the library come before those of others.
+/// `DF_1_INTERPOSE`: the symbols of the library take precedence over those of other libraries.
 pub const FLAG_1_INTERPOSE: u64 = 0x400;
 
-/// `DF_1_NODEFLIB`: the default places of libraries are passed over.
+/// `DF_1_NODEFLIB`: the default library search path is ignored.
 pub const FLAG_1_NODEFLIB: u64 = 0x800;
 
-/// `DF_1_NODUMP`: the library cannot be dumped.
+/// `DF_1_NODUMP`: `dldump` cannot dump the library.
 pub const FLAG_1_NODUMP: u64 = 0x1000;
 
-/// `DF_1_CONFALT`: another configuration is in use.
+/// `DF_1_CONFALT`: an alternative configuration is in use.
 pub const FLAG_1_CONFALT: u64 = 0x2000;
 
-/// `DF_1_ENDFILTEE`: the search for filtered libraries ends here.
+/// `DF_1_ENDFILTEE`: the search for filtered libraries ends at this one.
 pub const FLAG_1_ENDFILTEE: u64 = 0x4000;
 
-/// `DF_1_DISPRELDNE`: relocations by displacement were made when the file was.
+/// `DF_1_DISPRELDNE`: displacement relocations were applied when the file was built.
 pub const FLAG_1_DISPRELDNE: u64 = 0x8000;
 
-/// `DF_1_DISPRELPND`: relocations by displacement are left for the run.
+/// `DF_1_DISPRELPND`: displacement relocations are applied at run time.
 pub const FLAG_1_DISPRELPND: u64 = 0x1_0000;
 
 /// `DF_1_NODIRECT`: the file has no direct bindings.
 pub const FLAG_1_NODIRECT: u64 = 0x2_0000;
 
-/// `DF_1_IGNMULDEF`: further definitions of a symbol are passed over.
+/// `DF_1_IGNMULDEF`: further definitions of a symbol are ignored.
 pub const FLAG_1_IGNMULDEF: u64 = 0x4_0000;
 
-/// `DF_1_NOKSYMS`: no meaning is known.
+/// `DF_1_NOKSYMS`: the meaning is not documented.
 pub const FLAG_1_NOKSYMS: u64 = 0x8_0000;
 
-/// `DF_1_NOHDR`: no meaning is known.
+/// `DF_1_NOHDR`: the meaning is not documented.
 pub const FLAG_1_NOHDR: u64 = 0x10_0000;
 
-/// `DF_1_EDITED`: the file was changed after it was made.
+/// `DF_1_EDITED`: the file was modified after it was built.
 pub const FLAG_1_EDITED: u64 = 0x20_0000;
 
-/// `DF_1_NORELOC`: no meaning is known.
+/// `DF_1_NORELOC`: the meaning is not documented.
 pub const FLAG_1_NORELOC: u64 = 0x40_0000;
 
-/// `DF_1_SYMINTPOSE`: single symbols come before those of others.
+/// `DF_1_SYMINTPOSE`: individual symbols take precedence over those of other libraries.
 pub const FLAG_1_SYMINTPOSE: u64 = 0x80_0000;
 
 /// `DF_1_GLOBAUDIT`: all libraries are audited.
 pub const FLAG_1_GLOBAUDIT: u64 = 0x100_0000;
 
-/// `DF_1_SINGLETON`: symbols of which there is one in a program are used.
+/// `DF_1_SINGLETON`: the file uses singleton symbols.
 pub const FLAG_1_SINGLETON: u64 = 0x200_0000;
 
-/// `DF_1_STUB`: the file stands for another, which holds the code.
+/// `DF_1_STUB`: the file is a stub for another file, which contains the code.
 pub const FLAG_1_STUB: u64 = 0x400_0000;
 
-/// `DF_1_PIE`: the program may be loaded at any address.
+/// `DF_1_PIE`: the file is a position-independent executable.
 pub const FLAG_1_PIE: u64 = 0x800_0000;
 
-/// A tag, and a number whose meaning is the tag's (gABI, "Dynamic Section", Elf32_Dyn, Elf64_Dyn).
+/// An entry of the dynamic section: a tag, and a number whose meaning depends on the tag (gABI,
+/// "Dynamic Section", Elf32_Dyn, Elf64_Dyn).
 #[derive(Clone, Copy, Debug)]
 pub struct Dynamic<P> {
     tag: Tag_<P>,
     value: P,
 }
 
-/// What an entry of the dynamic section is, as a number (gABI, "Dynamic Section", d_tag).
+/// The tag of a dynamic entry, as a number (gABI, "Dynamic Section", d_tag).
 #[derive(Clone, Copy, Debug)]
 pub struct Tag_<P>(P);
 
-/// What an entry of the dynamic section is (gABI, "Dynamic Section", d_tag).
+/// The tag of a dynamic entry (gABI, "Dynamic Section", d_tag).
 #[derive(Clone, Debug, Drop, PartialEq, Eq)]
 pub enum Tag<P> {
     /// `DT_NULL`: the end of the entries.
     Null,
-    /// `DT_NEEDED`: the name of a library that is needed, as an offset in the string table.
+    /// `DT_NEEDED`: the name of a needed library, as an offset in the string table.
     Needed,
     /// `DT_PLTRELSZ`: the size of the relocations of the procedure linkage table, in bytes.
     PltRelSize,
@@ -123,87 +124,88 @@ pub enum Tag<P> {
     SymTab,
     /// `DT_RELA`: the address of the relocations with addends.
     Rela,
-    /// `DT_RELASZ`: the size of those, in bytes.
+    /// `DT_RELASZ`: the size of the relocations with addends, in bytes.
     RelaSize,
-    /// `DT_RELAENT`: the size of one of those, in bytes.
+    /// `DT_RELAENT`: the size of one relocation with an addend, in bytes.
     RelaEnt,
     /// `DT_STRSZ`: the size of the string table, in bytes.
     StrSize,
     /// `DT_SYMENT`: the size of one entry of the symbol table, in bytes.
     SymEnt,
-    /// `DT_INIT`: the address of the function that begins the run.
+    /// `DT_INIT`: the address of the initialization function.
     Init,
-    /// `DT_FINI`: the address of the function that ends the run.
+    /// `DT_FINI`: the address of the termination function.
     Fini,
     /// `DT_SONAME`: the name of this library, as an offset in the string table.
     SoName,
-    /// `DT_RPATH`: where libraries are looked for, as an offset in the string table (older).
+    /// `DT_RPATH`: the library search path, as an offset in the string table (older).
     RPath,
-    /// `DT_SYMBOLIC`: symbols are looked for in this library first.
+    /// `DT_SYMBOLIC`: symbols are searched in this library first.
     Symbolic,
     /// `DT_REL`: the address of the relocations without addends.
     Rel,
-    /// `DT_RELSZ`: the size of those, in bytes.
+    /// `DT_RELSZ`: the size of the relocations without addends, in bytes.
     RelSize,
-    /// `DT_RELENT`: the size of one of those, in bytes.
+    /// `DT_RELENT`: the size of one relocation without an addend, in bytes.
     RelEnt,
-    /// `DT_PLTREL`: which kind of relocations the procedure linkage table has: the tag Rel or Rela.
+    /// `DT_PLTREL`: the kind of relocations of the procedure linkage table: the tag Rel or Rela.
     PltRel,
     /// `DT_DEBUG`: an address for debuggers.
     Debug,
-    /// `DT_TEXTREL`: a relocation may change a segment that cannot be written.
+    /// `DT_TEXTREL`: a relocation may modify a segment that is not writable.
     TextRel,
     /// `DT_JMPREL`: the address of the relocations of the procedure linkage table.
     JmpRel,
-    /// `DT_BIND_NOW`: all relocations are made before the program runs.
+    /// `DT_BIND_NOW`: all relocations are applied before the program runs.
     BindNow,
-    /// `DT_INIT_ARRAY`: the address of the pointers to functions that begin the run.
+    /// `DT_INIT_ARRAY`: the address of the array of initialization functions.
     InitArray,
-    /// `DT_FINI_ARRAY`: the address of the pointers to functions that end the run.
+    /// `DT_FINI_ARRAY`: the address of the array of termination functions.
     FiniArray,
-    /// `DT_INIT_ARRAYSZ`: the size of the pointers of InitArray, in bytes.
+    /// `DT_INIT_ARRAYSZ`: the size of the array of initialization functions, in bytes.
     InitArraySize,
-    /// `DT_FINI_ARRAYSZ`: the size of the pointers of FiniArray, in bytes.
+    /// `DT_FINI_ARRAYSZ`: the size of the array of termination functions, in bytes.
     FiniArraySize,
-    /// `DT_RUNPATH`: where libraries are looked for, as an offset in the string table.
+    /// `DT_RUNPATH`: the library search path, as an offset in the string table.
     RunPath,
     /// `DT_FLAGS`: flags of this file.
     Flags,
-    /// `DT_PREINIT_ARRAY`: the address of the pointers to functions that run before the others.
+    /// `DT_PREINIT_ARRAY`: the address of the array of pre-initialization functions.
     PreInitArray,
-    /// `DT_PREINIT_ARRAYSZ`: the size of those pointers, in bytes.
+    /// `DT_PREINIT_ARRAYSZ`: the size of the array of pre-initialization functions, in bytes.
     PreInitArraySize,
-    /// `DT_SYMTAB_SHNDX`: the address of section indices of symbols that need more than 16 bits.
+    /// `DT_SYMTAB_SHNDX`: the address of the section indices of symbols that need more than 16
+    /// bits.
     SymTabShIndex,
     /// `DT_RELRSZ`: the size of the relative relocations, in bytes.
     RelrSize,
     /// `DT_RELR`: the address of the relative relocations.
     Relr,
-    /// `DT_RELRENT`: the size of one of those, in bytes.
+    /// `DT_RELRENT`: the size of one relative relocation, in bytes.
     RelrEnt,
-    /// `DT_FLAGS_1`: further flags of this file: `FLAG_1_NOW` and the like.
+    /// `DT_FLAGS_1`: further flags of this file, such as `FLAG_1_NOW`.
     Flags1,
-    /// `DT_LOOS` to `DT_HIOS`: a tag of the operating system.
+    /// `DT_LOOS` to `DT_HIOS`: an OS-specific tag.
     OsSpecific(P),
-    /// `DT_LOPROC` to `DT_HIPROC`: a tag of the processor.
+    /// `DT_LOPROC` to `DT_HIPROC`: a processor-specific tag.
     ProcessorSpecific(P),
 }
 
-// What the number of an entry is, by its tag (gABI, "Dynamic Section", the column d_un).
+// What the number of an entry means, by its tag (gABI, "Dynamic Section", the column d_un).
 #[derive(Clone, Copy)]
 enum Meaning {
-    // It has no meaning.
+    // Nothing.
     Ignored,
-    // A value, as a size or an offset.
+    // A value, such as a size or an offset.
     Value,
     // An address.
     Pointer,
-    // Either, by a rule that the tag's owner makes.
+    // A value or an address, as the owner of the tag defines.
     Unspecified,
 }
 
 impl Meaning {
-    // The number of an entry as a value.
+    // The number of an entry as a value, or `InvalidValue`.
     #[inline(always)]
     fn value<P: Copy>(self, number: P) -> Result<P, ElfError>
         ensures { result ≡ value_in number self }
@@ -214,7 +216,7 @@ impl Meaning {
         }
     }
 
-    // The number of an entry as a pointer.
+    // The number of an entry as a pointer, or `InvalidPtr`.
     #[inline(always)]
     fn pointer<P: Copy>(self, number: P) -> Result<P, ElfError>
         ensures { result ≡ pointer_in number self }
@@ -226,12 +228,12 @@ impl Meaning {
     }
 }
 
-// The tag that a number means, and what the number of its entries is; `raw` is that number as the
-// file has it.
-#[tactic(auto, unfolding(crate::specs::Dynamic::row_of))]
+// The tag of a number, and what the number of an entry with this tag means; `raw` is the tag's
+// number in the type of the file's class.
+#[tactic(auto, unfolding(crate::specs::Dynamic::tag_row_of))]
 #[inline(always)]
 fn row<P: Copy>(number: u64, raw: P) -> Result<(Tag<P>, Meaning), ElfError>
-    ensures { result ≡ row_of raw number }
+    ensures { result ≡ tag_row_of raw number }
 {
     Ok(match number {
         0 => (Tag::Null, Meaning::Ignored),
@@ -313,14 +315,14 @@ impl Record for Dynamic<P64> {
 }
 
 impl<P: Copy> Tag_<P> {
-    /// The value of this number, which may be any.
+    /// The value of `number`, which may be any number.
     pub fn from_raw(number: P) -> Tag_<P>
         ensures { result ≡ tag_raw number }
     {
         Self(number)
     }
 
-    /// The number as it stands in the file.
+    /// The number in the file.
     pub fn raw(self) -> P
         ensures { result ≡ tag_number self }
     {
@@ -329,7 +331,7 @@ impl<P: Copy> Tag_<P> {
 }
 
 impl Tag_<P32> {
-    /// What the number means; `InvalidTag` for 31, 38 to 0x6000000c and from 0x80000000 on.
+    /// What the number means; `InvalidTag` for 31, 38 to 0x6000000c, and 0x80000000 or more.
     #[inline(always)]
     pub fn as_tag(self) -> Result<Tag<P32>, ElfError>
         ensures { result ≡ tag_of (tag_number self) }
@@ -340,7 +342,23 @@ impl Tag_<P32> {
 }
 
 impl Dynamic<P32> {
-    /// What the entry is; `InvalidTag` where the tag's number has no meaning.
+    /// The number of the tag, whether it is known or not (d_tag).
+    #[inline(always)]
+    pub fn raw_tag(&self) -> u64
+        ensures { result ≡ dynamic_tag self.now }
+    {
+        u64::from(self.tag.0)
+    }
+
+    /// The entry's number, whatever the tag (d_un).
+    #[inline(always)]
+    pub fn raw_val(&self) -> u64
+        ensures { result ≡ dynamic_value self.now }
+    {
+        u64::from(self.value)
+    }
+
+    /// The tag of the entry; `InvalidTag` if its number is unknown.
     #[inline(always)]
     pub fn get_tag(&self) -> Result<Tag<P32>, ElfError>
         ensures { result ≡ tag_of (dynamic_tag self.now) }
@@ -348,7 +366,8 @@ impl Dynamic<P32> {
         self.tag.as_tag()
     }
 
-    /// The entry's number as a value; `InvalidTag`, or `InvalidValue` where the tag has none.
+    /// The entry's number as a value; `InvalidTag`, or `InvalidValue` if entries with this tag have
+    /// none.
     #[inline(always)]
     pub fn get_val(&self) -> Result<P32, ElfError>
         ensures { result ≡ value_of (dynamic_tag self.now) (dynamic_value self.now) }
@@ -357,7 +376,8 @@ impl Dynamic<P32> {
         meaning.value(self.value)
     }
 
-    /// The entry's number as a pointer; `InvalidTag`, or `InvalidPtr` where the tag has none.
+    /// The entry's number as a pointer; `InvalidTag`, or `InvalidPtr` if entries with this tag have
+    /// none.
     #[inline(always)]
     pub fn get_ptr(&self) -> Result<P32, ElfError>
         ensures { result ≡ pointer_of (dynamic_tag self.now) (dynamic_value self.now) }
@@ -368,7 +388,7 @@ impl Dynamic<P32> {
 }
 
 impl Tag_<P64> {
-    /// What the number means; `InvalidTag` for 31, 38 to 0x6000000c and from 0x80000000 on.
+    /// What the number means; `InvalidTag` for 31, 38 to 0x6000000c, and 0x80000000 or more.
     #[inline(always)]
     pub fn as_tag(self) -> Result<Tag<P64>, ElfError>
         ensures { result ≡ tag_of (tag_number self) }
@@ -379,7 +399,23 @@ impl Tag_<P64> {
 }
 
 impl Dynamic<P64> {
-    /// What the entry is; `InvalidTag` where the tag's number has no meaning.
+    /// The number of the tag, whether it is known or not (d_tag).
+    #[inline(always)]
+    pub fn raw_tag(&self) -> u64
+        ensures { result ≡ dynamic_tag self.now }
+    {
+        self.tag.0
+    }
+
+    /// The entry's number, whatever the tag (d_un).
+    #[inline(always)]
+    pub fn raw_val(&self) -> u64
+        ensures { result ≡ dynamic_value self.now }
+    {
+        self.value
+    }
+
+    /// The tag of the entry; `InvalidTag` if its number is unknown.
     #[inline(always)]
     pub fn get_tag(&self) -> Result<Tag<P64>, ElfError>
         ensures { result ≡ tag_of (dynamic_tag self.now) }
@@ -387,7 +423,8 @@ impl Dynamic<P64> {
         self.tag.as_tag()
     }
 
-    /// The entry's number as a value; `InvalidTag`, or `InvalidValue` where the tag has none.
+    /// The entry's number as a value; `InvalidTag`, or `InvalidValue` if entries with this tag have
+    /// none.
     #[inline(always)]
     pub fn get_val(&self) -> Result<P64, ElfError>
         ensures { result ≡ value_of (dynamic_tag self.now) (dynamic_value self.now) }
@@ -396,7 +433,8 @@ impl Dynamic<P64> {
         meaning.value(self.value)
     }
 
-    /// The entry's number as a pointer; `InvalidTag`, or `InvalidPtr` where the tag has none.
+    /// The entry's number as a pointer; `InvalidTag`, or `InvalidPtr` if entries with this tag have
+    /// none.
     #[inline(always)]
     pub fn get_ptr(&self) -> Result<P64, ElfError>
         ensures { result ≡ pointer_of (dynamic_tag self.now) (dynamic_value self.now) }

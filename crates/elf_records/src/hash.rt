@@ -3,13 +3,13 @@
 ghost use Rattle.std.specs.Prelude.{◌≡◌, ◌<◌, ◌^◌};
 ghost use Rattle.elf_records.specs.HashNumber.{hash_number};
 
-/// The hash number of a name, which leads to its bucket in a hash table.
+/// The hash number of a name, which selects its bucket in a hash table.
 #[tactic(auto, unfolding(crate::specs::HashNumber::hash_number))]
 pub fn hash(name: &str) -> u32
     ensures number { result ≡ hash_number name.now }
     ensures below { result < 2 ^ 28 }
 {
-    // The number is kept times 16, as the next byte is added to it: a step shorter than to keep it.
+    // The loop keeps 16 times the hash number, to which a byte is added in fewer operations.
     let mut shifted: u32 = 0;
     for byte in name.as_bytes() {
         let sum = shifted.wrapping_add(u32::from(*byte));

@@ -1,4 +1,4 @@
-//! The numbers and records that lie in the sections and segments of an ELF file.
+//! The numbers and records in the sections and segments of an ELF file.
 #![tactic(auto)]
 
 pub mod dynamic;

@@ -1,4 +1,4 @@
-//! The numbers of segments that have names (gABI, "Program Header").
+//! The named numbers of program headers (gABI, "Program Header").
 
 ghost use Rattle.std.specs.Prelude.{◌≡◌, ◌↔◌, IsTrue, Some};
 ghost use Rattle.std.specs.Fmt.{WritesOnOk};
@@ -11,56 +11,56 @@ use elf_base::ElfError;
 use std::fmt;
 use std::fmt::Display;
 
-/// `PT_LOOS`: the first type of the operating system.
+/// `PT_LOOS`: the first OS-specific type.
 pub const TYPE_LOOS: u32 = 0x6000_0000;
 
-/// `PT_HIOS`: the last type of the operating system.
+/// `PT_HIOS`: the last OS-specific type.
 pub const TYPE_HIOS: u32 = 0x6fff_ffff;
 
-/// `PT_LOPROC`: the first type of the processor.
+/// `PT_LOPROC`: the first processor-specific type.
 pub const TYPE_LOPROC: u32 = 0x7000_0000;
 
-/// `PT_HIPROC`: the last type of the processor.
+/// `PT_HIPROC`: the last processor-specific type.
 pub const TYPE_HIPROC: u32 = 0x7fff_ffff;
 
-/// `PT_GNU_RELRO`: what is read-only once relocations are applied (GNU).
+/// `PT_GNU_RELRO`: the memory that is read-only after relocation (GNU).
 pub const TYPE_GNU_RELRO: u32 = 0x6474_e552;
 
-/// `PF_X`: the segment can be executed.
+/// `PF_X`: the segment is executable.
 pub const FLAG_X: u32 = 1;
 
-/// `PF_W`: the segment can be written.
+/// `PF_W`: the segment is writable.
 pub const FLAG_W: u32 = 2;
 
-/// `PF_R`: the segment can be read.
+/// `PF_R`: the segment is readable.
 pub const FLAG_R: u32 = 4;
 
-/// `PF_MASKOS`: the flags of the operating system.
+/// `PF_MASKOS`: the mask of the OS-specific flags.
 pub const FLAG_MASKOS: u32 = 0x0ff0_0000;
 
-/// `PF_MASKPROC`: the flags of the processor.
+/// `PF_MASKPROC`: the mask of the processor-specific flags.
 pub const FLAG_MASKPROC: u32 = 0xf000_0000;
 
-/// What a segment is, as a number (gABI, "Program Header", p_type).
+/// The type of a segment, as a number (gABI, "Program Header", p_type).
 #[derive(Clone, Copy, Debug, Default)]
 pub struct Type_(u32);
 
 impl Type_ {
-    /// The value of this number, which may be any.
+    /// The value of `number`, which may be any number.
     pub fn from_raw(number: u32) -> Type_
         ensures { result ≡ ph_type_raw number }
     {
         Self(number)
     }
 
-    /// The number as it stands in the file.
+    /// The number in the file.
     pub fn raw(self) -> u32
         ensures { result ≡ ph_type_number self }
     {
         self.0
     }
 
-    /// What the number means; `InvalidPhType` for 8 to 0x5fffffff and from 0x80000000 on.
+    /// What the number means; `InvalidPhType` for 8 to 0x5fffffff, and 0x80000000 or more.
     #[tactic(auto, unfolding(crate::specs::ProgramNumbers::ph_type_of))]
     #[inline(always)]
     pub fn as_type(self) -> Result<Type, ElfError>
@@ -83,14 +83,14 @@ impl Type_ {
     }
 }
 
-/// What a segment is (gABI, "Program Header", p_type).
+/// The type of a segment (gABI, "Program Header", p_type).
 #[derive(Clone, Copy, Debug, PartialEq, Eq)]
 pub enum Type {
-    /// `PT_NULL`: no segment: the other fields have no meaning.
+    /// `PT_NULL`: an unused entry, whose other fields have no meaning.
     Null,
-    /// `PT_LOAD`: bytes to be loaded into memory.
+    /// `PT_LOAD`: bytes to load into memory.
     Load,
-    /// `PT_DYNAMIC`: what a dynamic linker needs.
+    /// `PT_DYNAMIC`: the dynamic section.
     Dynamic,
     /// `PT_INTERP`: the path of the program interpreter.
     Interp,
@@ -102,11 +102,11 @@ pub enum Type {
     Phdr,
     /// `PT_TLS`: the template of thread-local storage.
     Tls,
-    /// `PT_GNU_RELRO`: what is read-only once relocations are applied (GNU).
+    /// `PT_GNU_RELRO`: the memory that is read-only after relocation (GNU).
     GnuRelro,
-    /// `PT_LOOS` to `PT_HIOS`: a type of the operating system.
+    /// `PT_LOOS` to `PT_HIOS`: an OS-specific type.
     OsSpecific(u32),
-    /// `PT_LOPROC` to `PT_HIPROC`: a type of the processor.
+    /// `PT_LOPROC` to `PT_HIPROC`: a processor-specific type.
     ProcessorSpecific(u32),
 }
 
@@ -130,40 +130,40 @@ impl Display for Type {
     }
 }
 
-/// What may be done with the memory of a segment (gABI, "Program Header", p_flags).
+/// The permissions of a segment (gABI, "Program Header", p_flags).
 #[derive(Clone, Copy, Debug, Default, PartialEq, Eq)]
 pub struct Flags(pub u32);
 
 impl Flags {
-    /// The flags of this number, which may be any.
+    /// The flags in `number`, which may be any number.
     pub fn from_raw(number: u32) -> Flags
         ensures { result ≡ record { 0 = number } }
     {
         Self(number)
     }
 
-    /// The number as it stands in the file.
+    /// The number in the file.
     pub fn raw(self) -> u32
         ensures { result ≡ self.0 }
     {
         self.0
     }
 
-    /// Whether the segment can be executed: bit 0.
+    /// Whether the segment is executable: bit 0.
     pub fn is_execute(&self) -> bool
         ensures { IsTrue result ↔ IsBitSet self.now.0 0 }
     {
         self.0 & FLAG_X != 0
     }
 
-    /// Whether the segment can be written: bit 1.
+    /// Whether the segment is writable: bit 1.
     pub fn is_write(&self) -> bool
         ensures { IsTrue result ↔ IsBitSet self.now.0 1 }
     {
         self.0 & FLAG_W != 0
     }
 
-    /// Whether the segment can be read: bit 2.
+    /// Whether the segment is readable: bit 2.
     pub fn is_read(&self) -> bool
         ensures { IsTrue result ↔ IsBitSet self.now.0 2 }
     {

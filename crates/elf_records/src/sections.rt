@@ -1,4 +1,4 @@
-//! The numbers of sections that have names, and the records in sections (gABI, "Sections").
+//! The named numbers of sections, and the records in sections (gABI, "Sections").
 
 ghost use Rattle.std.specs.Prelude.{◌≡◌, Some};
 ghost use Rattle.elf_records.specs.SectionNumbers.{sh_type_number, sh_type_of, sh_type_raw};
@@ -13,115 +13,115 @@ use elf_base::ElfError;
 use std::fmt;
 use std::fmt::Display;
 
-/// No section.
+/// No section: an undefined index.
 pub const SHN_UNDEF: u16 = 0;
 
 /// The first reserved index.
 pub const SHN_LORESERVE: u16 = 0xff00;
 
-/// The first index of the processor.
+/// The first processor-specific index.
 pub const SHN_LOPROC: u16 = 0xff00;
 
-/// The last index of the processor.
+/// The last processor-specific index.
 pub const SHN_HIPROC: u16 = 0xff1f;
 
-/// The first index of the operating system.
+/// The first OS-specific index.
 pub const SHN_LOOS: u16 = 0xff20;
 
-/// The last index of the operating system.
+/// The last OS-specific index.
 pub const SHN_HIOS: u16 = 0xff3f;
 
-/// The value of a symbol is absolute.
+/// The section index of a symbol with an absolute value.
 pub const SHN_ABS: u16 = 0xfff1;
 
-/// The symbol is a common block.
+/// The section index of a common symbol.
 pub const SHN_COMMON: u16 = 0xfff2;
 
-/// The index stands elsewhere, since it needs more than 16 bits.
+/// The index is stored elsewhere, since it needs more than 16 bits.
 pub const SHN_XINDEX: u16 = 0xffff;
 
 /// The last reserved index.
 pub const SHN_HIRESERVE: u16 = 0xffff;
 
-/// The first type of the operating system.
+/// The first OS-specific type.
 pub const SHT_LOOS: u32 = 0x6000_0000;
 
-/// The last type of the operating system.
+/// The last OS-specific type.
 pub const SHT_HIOS: u32 = 0x6fff_ffff;
 
-/// The first type of the processor.
+/// The first processor-specific type.
 pub const SHT_LOPROC: u32 = 0x7000_0000;
 
-/// The last type of the processor.
+/// The last processor-specific type.
 pub const SHT_HIPROC: u32 = 0x7fff_ffff;
 
-/// The first type of programs.
+/// The first type for applications.
 pub const SHT_LOUSER: u32 = 0x8000_0000;
 
-/// The last type of programs.
+/// The last type for applications.
 pub const SHT_HIUSER: u32 = 0xffff_ffff;
 
-/// The section can be written while the program runs.
+/// The section is writable while the program runs.
 pub const SHF_WRITE: u64 = 1;
 
-/// The section takes memory while the program runs.
+/// The section occupies memory while the program runs.
 pub const SHF_ALLOC: u64 = 2;
 
-/// The section holds instructions.
+/// The section contains instructions.
 pub const SHF_EXECINSTR: u64 = 4;
 
-/// Equal items of the section may be merged.
+/// Equal entries of the section may be merged.
 pub const SHF_MERGE: u64 = 0x10;
 
-/// The section holds texts that zero bytes end.
+/// The section contains texts ended by zero bytes.
 pub const SHF_STRINGS: u64 = 0x20;
 
-/// `info` holds a section index.
+/// `info` is a section index.
 pub const SHF_INFO_LINK: u64 = 0x40;
 
-/// The section keeps the order of the one that it is linked to.
+/// The section is ordered like the section that it links to.
 pub const SHF_LINK_ORDER: u64 = 0x80;
 
-/// The section needs the operating system to handle it.
+/// The section needs OS-specific processing.
 pub const SHF_OS_NONCONFORMING: u64 = 0x100;
 
 /// The section is a member of a group.
 pub const SHF_GROUP: u64 = 0x200;
 
-/// The section holds thread-local storage.
+/// The section contains thread-local storage.
 pub const SHF_TLS: u64 = 0x400;
 
 /// The data of the section is compressed.
 pub const SHF_COMPRESSED: u64 = 0x800;
 
-/// The flags of the operating system.
+/// The mask of the OS-specific flags.
 pub const SHF_MASKOS: u64 = 0x0ff0_0000;
 
-/// The flags of the processor.
+/// The mask of the processor-specific flags.
 pub const SHF_MASKPROC: u64 = 0xf000_0000;
 
-/// The group is one of equal groups, of which one is kept.
+/// The group may have duplicates, of which one is kept.
 pub const GRP_COMDAT: u64 = 1;
 
-/// The flags of a group of the operating system.
+/// The mask of the OS-specific flags of a group.
 pub const GRP_MASKOS: u64 = 0x0ff0_0000;
 
-/// The flags of a group of the processor.
+/// The mask of the processor-specific flags of a group.
 pub const GRP_MASKPROC: u64 = 0xf000_0000;
 
-/// What a section holds, as a number (gABI, "Sections", sh_type).
+/// The type of a section, as a number (gABI, "Sections", sh_type).
 #[derive(Clone, Copy, Debug)]
 pub struct ShType_(u32);
 
 impl ShType_ {
-    /// The value of this number, which may be any.
+    /// The value of `number`, which may be any number.
     pub fn from_raw(number: u32) -> ShType_
         ensures { result ≡ sh_type_raw number }
     {
         Self(number)
     }
 
-    /// The number as it stands in the file.
+    /// The number in the file.
     pub fn raw(self) -> u32
         ensures { result ≡ sh_type_number self }
     {
@@ -160,12 +160,12 @@ impl ShType_ {
     }
 }
 
-/// What a section holds (gABI, "Sections", sh_type).
+/// The type of a section (gABI, "Sections", sh_type).
 #[derive(Clone, Copy, Debug, PartialEq, Eq)]
 pub enum ShType {
-    /// `SHT_NULL`: no section: the other fields have no meaning.
+    /// `SHT_NULL`: an unused entry, whose other fields have no meaning.
     Null,
-    /// `SHT_PROGBITS`: what the program itself defines.
+    /// `SHT_PROGBITS`: contents that the program defines.
     ProgBits,
     /// `SHT_SYMTAB`: the symbol table.
     SymTab,
@@ -175,7 +175,7 @@ pub enum ShType {
     Rela,
     /// `SHT_HASH`: a hash table of symbols.
     Hash,
-    /// `SHT_DYNAMIC`: what a dynamic linker needs.
+    /// `SHT_DYNAMIC`: the dynamic section.
     Dynamic,
     /// `SHT_NOTE`: notes.
     Note,
@@ -185,23 +185,23 @@ pub enum ShType {
     Rel,
     /// `SHT_SHLIB`: reserved, without a meaning.
     ShLib,
-    /// `SHT_DYNSYM`: the symbols of the dynamic linker.
+    /// `SHT_DYNSYM`: the symbol table for dynamic linking.
     DynSym,
-    /// `SHT_INIT_ARRAY`: pointers to functions that begin the run.
+    /// `SHT_INIT_ARRAY`: an array of initialization functions.
     InitArray,
-    /// `SHT_FINI_ARRAY`: pointers to functions that end the run.
+    /// `SHT_FINI_ARRAY`: an array of termination functions.
     FiniArray,
-    /// `SHT_PREINIT_ARRAY`: pointers to functions that run before those of InitArray.
+    /// `SHT_PREINIT_ARRAY`: an array of pre-initialization functions.
     PreInitArray,
     /// `SHT_GROUP`: a group of sections.
     Group,
     /// `SHT_SYMTAB_SHNDX`: section indices of symbols that need more than 16 bits.
     SymTabShIndex,
-    /// `SHT_LOOS` to `SHT_HIOS`: a type of the operating system.
+    /// `SHT_LOOS` to `SHT_HIOS`: an OS-specific type.
     OsSpecific(u32),
-    /// `SHT_LOPROC` to `SHT_HIPROC`: a type of the processor.
+    /// `SHT_LOPROC` to `SHT_HIPROC`: a processor-specific type.
     ProcessorSpecific(u32),
-    /// `SHT_LOUSER` to `SHT_HIUSER`: a type of programs.
+    /// `SHT_LOUSER` to `SHT_HIUSER`: a type for applications.
     User(u32),
 }
 

@@ -1,4 +1,4 @@
-//! The numbers of symbols that have names (gABI, "Symbol Table").
+//! The named numbers of symbols (gABI, "Symbol Table").
 
 ghost use Rattle.std.specs.Prelude.{◌≡◌, Some};
 ghost use Rattle.elf_records.specs.SymbolNumbers.{binding_number, binding_of, binding_raw};
@@ -11,26 +11,26 @@ use elf_base::ElfError;
 use std::fmt;
 use std::fmt::Display;
 
-/// Who sees a symbol, as a number (gABI, "Symbol Table", st_other).
+/// The visibility of a symbol, as a number (gABI, "Symbol Table", st_other).
 #[derive(Clone, Copy, Debug)]
 pub struct Visibility_(u8);
 
 impl Visibility_ {
-    /// The value of this number, which may be any.
+    /// The value of `number`, which may be any number.
     pub fn from_raw(number: u8) -> Visibility_
         ensures { result ≡ visibility_raw number }
     {
         Self(number)
     }
 
-    /// The number as it stands in the file.
+    /// The number in the file.
     pub fn raw(self) -> u8
         ensures { result ≡ visibility_number self }
     {
         self.0
     }
 
-    /// What the number means, by its remainder by four.
+    /// What the number means: its low two bits are the visibility.
     #[tactic(auto, unfolding(crate::specs::SymbolNumbers::visibility_of))]
     pub fn as_visibility(self) -> Visibility
         ensures { result ≡ visibility_of (visibility_number self) }
@@ -44,16 +44,16 @@ impl Visibility_ {
     }
 }
 
-/// Who sees a symbol (gABI, "Symbol Table", st_other).
+/// The visibility of a symbol (gABI, "Symbol Table", st_other).
 #[derive(Clone, Copy, Debug, PartialEq, Eq)]
 pub enum Visibility {
-    /// `STV_DEFAULT`: as its binding says.
+    /// `STV_DEFAULT`: as the binding says.
     Default,
-    /// `STV_INTERNAL`: as Hidden, with a further meaning of the processor.
+    /// `STV_INTERNAL`: as Hidden, with a processor-specific meaning.
     Internal,
-    /// `STV_HIDDEN`: no other file.
+    /// `STV_HIDDEN`: not visible to other files.
     Hidden,
-    /// `STV_PROTECTED`: all files, but the file itself uses its own.
+    /// `STV_PROTECTED`: visible to other files, but the file itself uses its own definition.
     Protected,
 }
 
@@ -70,26 +70,26 @@ impl Display for Visibility {
     }
 }
 
-/// How files share a symbol, as a number (gABI, "Symbol Table", ELF32_ST_BIND).
+/// The binding of a symbol, as a number (gABI, "Symbol Table", ELF32_ST_BIND).
 #[derive(Clone, Copy, Debug)]
 pub struct Binding_(u8);
 
 impl Binding_ {
-    /// The value of this number, which may be any.
+    /// The value of `number`, which may be any number.
     pub fn from_raw(number: u8) -> Binding_
         ensures { result ≡ binding_raw number }
     {
         Self(number)
     }
 
-    /// The number as it stands in the file.
+    /// The number in the file.
     pub fn raw(self) -> u8
         ensures { result ≡ binding_number self }
     {
         self.0
     }
 
-    /// What the number means; `InvalidBinding` for 3 to 9 and from 16 on.
+    /// What the number means; `InvalidBinding` for 3 to 9, and 16 or more.
     #[tactic(auto, unfolding(crate::specs::SymbolNumbers::binding_of))]
     pub fn as_binding(self) -> Result<Binding, ElfError>
         ensures { result ≡ binding_of (binding_number self) }
@@ -105,18 +105,18 @@ impl Binding_ {
     }
 }
 
-/// How files share a symbol (gABI, "Symbol Table", ELF32_ST_BIND).
+/// The binding of a symbol (gABI, "Symbol Table", ELF32_ST_BIND).
 #[derive(Clone, Copy, Debug, PartialEq, Eq)]
 pub enum Binding {
-    /// `STB_LOCAL`: only its own file has it.
+    /// `STB_LOCAL`: visible in its own file only.
     Local,
-    /// `STB_GLOBAL`: all files have it.
+    /// `STB_GLOBAL`: visible to all files.
     Global,
-    /// `STB_WEAK`: as Global, but it gives way to a global one.
+    /// `STB_WEAK`: as Global, with lower precedence.
     Weak,
-    /// `STB_LOOS` to `STB_HIOS`: a binding of the operating system.
+    /// `STB_LOOS` to `STB_HIOS`: an OS-specific binding.
     OsSpecific(u8),
-    /// `STB_LOPROC` to `STB_HIPROC`: a binding of the processor.
+    /// `STB_LOPROC` to `STB_HIPROC`: a processor-specific binding.
     ProcessorSpecific(u8),
 }
 
@@ -134,26 +134,26 @@ impl Display for Binding {
     }
 }
 
-/// What a symbol stands for, as a number (gABI, "Symbol Table", ELF32_ST_TYPE).
+/// The type of a symbol, as a number (gABI, "Symbol Table", ELF32_ST_TYPE).
 #[derive(Clone, Copy, Debug)]
 pub struct Type_(u8);
 
 impl Type_ {
-    /// The value of this number, which may be any.
+    /// The value of `number`, which may be any number.
     pub fn from_raw(number: u8) -> Type_
         ensures { result ≡ symbol_type_raw number }
     {
         Self(number)
     }
 
-    /// The number as it stands in the file.
+    /// The number in the file.
     pub fn raw(self) -> u8
         ensures { result ≡ symbol_type_number self }
     {
         self.0
     }
 
-    /// What the number means; `InvalidSymbolType` for 7 to 9 and from 16 on.
+    /// What the number means; `InvalidSymbolType` for 7 to 9, and 16 or more.
     #[tactic(auto, unfolding(crate::specs::SymbolNumbers::symbol_type_of))]
     pub fn as_type(self) -> Result<Type, ElfError>
         ensures { result ≡ symbol_type_of (symbol_type_number self) }
@@ -173,12 +173,12 @@ impl Type_ {
     }
 }
 
-/// What a symbol stands for (gABI, "Symbol Table", ELF32_ST_TYPE).
+/// The type of a symbol (gABI, "Symbol Table", ELF32_ST_TYPE).
 #[derive(Clone, Copy, Debug, PartialEq, Eq)]
 pub enum Type {
-    /// `STT_NOTYPE`: nothing is said.
+    /// `STT_NOTYPE`: not specified.
     NoType,
-    /// `STT_OBJECT`: data, as a variable.
+    /// `STT_OBJECT`: data, such as a variable.
     Object,
     /// `STT_FUNC`: a function or other code.
     Func,
@@ -186,13 +186,13 @@ pub enum Type {
     Section,
     /// `STT_FILE`: the name of a source file.
     File,
-    /// `STT_COMMON`: a common block that is not yet placed.
+    /// `STT_COMMON`: a common block that is not yet allocated.
     Common,
     /// `STT_TLS`: a thread-local variable.
     Tls,
-    /// `STT_LOOS` to `STT_HIOS`: a type of the operating system.
+    /// `STT_LOOS` to `STT_HIOS`: an OS-specific type.
     OsSpecific(u8),
-    /// `STT_LOPROC` to `STT_HIPROC`: a type of the processor.
+    /// `STT_LOPROC` to `STT_HIPROC`: a processor-specific type.
     ProcessorSpecific(u8),
 }
 

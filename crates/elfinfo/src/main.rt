@@ -2,13 +2,14 @@
 #![tactic(auto)]
 
 ghost use Rattle.std.specs.Borrow.{Bor};
-ghost use Rattle.std.specs.Prelude.{◌≡◌, ◌≤◌, [], IfOk, IfSome, IsSomeAnd, List, OnOk, ℕ};
-ghost use Rattle.std.specs.Io.Buffered.{writer_buffer, writer_inner};
+ghost use Rattle.std.specs.Prelude.{◌≡◌, ◌≤◌, IfOk, IfSome, IsSomeAnd, List, ℕ};
+ghost use Rattle.xmas_elf.proofs.lemmas.Flushes.{report_flushed};
 ghost use Rattle.xmas_elf.specs.Report.{WritesReport};
 
+use program_ends::{Output, Stop, read_whole, say, write_buffered};
 use std::alloc::Global;
 use std::fs::File;
-use std::io::{BufWriter, Read, Write};
+use std::io::{Read, Write};
 use std::process::ExitCode;
 use std::{env, io};
 use thiserror::Error;
@@ -55,12 +56,23 @@ pub fn run<R: Read + Drop, W: Write, E: Write>(
     }
 }
 
-// Says why the program ends with status 1, as far as the writer takes it.
-fn say<W: Write>(fault: &Fault<'_>, to: &mut W) -> u8
-    ensures { result ≡ 1 }
-{
-    let _ = writeln!(to, "{fault}");
-    1
+// What the program writes of a file: the report of all its bytes.
+#[derive(Clone, Copy)]
+struct Report<'a>(&'a [u8]);
+
+impl Output for Report<'_> {
+    ghost Writes = { λ report. WritesReport report.0 };
+
+    ghost flushed = { λ report. report_flushed report.0 };
+
+    type Refusal = ElfError;
+
+    fn write_to<W: Write>(&self, out: &mut W) -> Result<(), Stop<ElfError>> {
+        report(self.0, out).map_err(|fault| match fault {
+            ReportFault::Elf(error) => Stop::Refused(error),
+            ReportFault::Write => Stop::Write,
+        })
+    }
 }
 
 // Writes the report of all that the reader has left, whole, and gives the writer back.
@@ -75,41 +87,11 @@ fn print_report<'a, R: Read + Drop, W: Write + Drop>(
         × WritesReport input (W.contents out) (W.contents back)))) }
 {
     let path = path.ok_or(Fault::Usage)?;
-    let mut file = file.ok_or(Fault::Read { path })?;
-    let mut input = Vec::new(alloc);
-    if file.read_to_end(&mut input).is_err() {
-        return Err(Fault::Read { path });
-    }
-    write_buffered(alloc, &input, out).map_err(|fault| match fault {
-        ReportFault::Elf(error) => Fault::Refused(error),
-        ReportFault::Write => Fault::Write,
+    let input = read_whole(alloc, file).ok_or(Fault::Read { path })?;
+    write_buffered(alloc, &Report(&input), out).map_err(|stop| match stop {
+        Stop::Refused(error) => Fault::Refused(error),
+        Stop::Write => Fault::Write,
     })
-}
-
-// Writes the report through a buffer, which is thrown away after a fault.
-fn write_buffered<W: Write + Drop>(alloc: Global, input: &[u8], out: W) -> Result<W, ReportFault>
-    ensures { IfOk result (λ back. WritesReport input.entry (W.contents out) (W.contents back)) }
-{
-    let mut buffered = BufWriter::new(alloc, out).map_err(|_| ReportFault::Write)?;
-    let written = write_flushed(input, &mut buffered);
-    // Unlike a drop, this writes nothing more after a fault.
-    let (out, _) = buffered.into_parts();
-    match written {
-        Ok(()) => Ok(out),
-        Err(fault) => Err(fault),
-    }
-}
-
-fn write_flushed<W: Write + Drop>(
-    input: &[u8],
-    buffered: &mut BufWriter<W>,
-) -> Result<(), ReportFault>
-    requires { writer_buffer buffered.old ≡ [] }
-    ensures { OnOk result (WritesReport input.entry
-        (W.contents (writer_inner buffered.old)) (W.contents (writer_inner buffered.new))) }
-{
-    report(input, buffered)?;
-    buffered.flush().map_err(|_| ReportFault::Write)
 }
 
 fn main(rt: HostRuntime) -> ExitCode {

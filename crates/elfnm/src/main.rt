@@ -1,4 +1,4 @@
-//! Prints the value and the name of each symbol of a 64-bit ELF file: `elfnm PATH`.
+//! Prints the sections of an ELF file, and the symbols of a 64-bit one: `elfnm PATH`.
 #![tactic(auto)]
 
 use anyhow::Context;
@@ -15,11 +15,14 @@ fn main(rt: HostRuntime) -> anyhow::Result<()> {
     File::open(&rt, path.as_str())?.read_to_end(&mut input)?;
     let file = ElfFile::new(&input)?;
     let mut out = BufWriter::new(rt.alloc(), rt.stdout())?;
+    writeln!(out, "{} sections", file.section_count())?;
     for section in file.section_iter() {
+        let name = file.get_shstr(section.name()).unwrap_or("?");
+        writeln!(out, "{:6} {}", section.size(), name)?;
         if let Ok(SectionData::SymbolTable64(symbols)) = section.get_data(&file) {
             for symbol in symbols {
                 let name = symbol.get_name(&file).unwrap_or("?");
-                writeln!(out, "{:016x} {}", symbol.value(), name)?;
+                writeln!(out, "    {:016x} {}", symbol.value(), name)?;
             }
         }
     }

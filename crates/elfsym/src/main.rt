@@ -7,24 +7,23 @@
 #![tactic(auto)]
 
 ghost use Rattle.std.specs.Prelude.{◌≡◌, ◌≤◌};
-ghost use Rattle.linking_callers.specs.LinkedValue.{IsGoodBy};
-ghost use Rattle.xmas_elf.specs.Symbols.{symbols_of};
+ghost use Rattle.elf_linking.specs.AnyTable.{IsGoodBy};
+ghost use Rattle.xmas_elf.specs.SymbolTable.{table_symbols};
 
 use elf_base::bytes::{Record, Table};
 use elf_base::header::Class;
-use elf_linking::LinkError;
 use elf_linking::view::DynamicView;
-use linking_callers::callers::AnyTable;
-use linking_callers::callers::linked::{check_table, defined_symbol, linked_table};
+use elf_linking::{AnyTable, LinkError};
+use program_ends::{Output, Stop, read_whole, say, write_buffered};
 use std::alloc::Global;
 use std::convert::AsStr;
 use std::fs::File;
-use std::io::{BufWriter, Read, Write};
+use std::io::{Read, Write};
 use std::process::ExitCode;
 use std::{env, io};
 use thiserror::Error;
 use xmas_elf::ElfFile;
-use xmas_elf::symbol_table::Entry;
+use xmas_elf::symbol_table::{Entry, SymbolTable};
 
 #[cfg(test)]
 mod tests;
@@ -42,25 +41,6 @@ enum Fault<'a> {
     Refused { path: &'a str, error: LinkError },
     #[error("elfsym: cannot write")]
     Write,
-}
-
-/// Why a file isn't written about to the end.
-#[derive(Clone, Copy, Debug)]
-enum Stop {
-    Refused(LinkError),
-    Write,
-}
-
-impl From<LinkError> for Stop {
-    fn from(error: LinkError) -> Self {
-        Stop::Refused(error)
-    }
-}
-
-impl From<io::Error> for Stop {
-    fn from(_error: io::Error) -> Self {
-        Stop::Write
-    }
 }
 
 /// What is asked of a file.
@@ -93,12 +73,29 @@ pub fn run<S: AsStr, R: Read + Drop, W: Write, E: Write>(
     }
 }
 
-// Says why the program ends with status 1, as far as the writer takes it.
-fn say<W: Write>(fault: &Fault<'_>, to: &mut W) -> u8
-    ensures { result ≡ 1 }
-{
-    let _ = writeln!(to, "{fault}");
-    1
+// What the program writes of the file that these bytes are.
+#[derive(Drop)]
+struct Lines<'a, 'b, S> {
+    input: &'a [u8],
+    question: &'a Question<'b, S>,
+}
+
+impl<S: AsStr> Output for Lines<'_, '_, S> {
+    // What is written isn't claimed.
+    ghost Writes = { λ lines old new. Unit {0} };
+
+    ghost flushed = { λ lines old new kept written keeps. tt };
+
+    type Refusal = LinkError;
+
+    fn write_to<W: Write>(&self, out: &mut W) -> Result<(), Stop<LinkError>> {
+        let file = ElfFile::new(self.input).map_err(|error| Stop::Refused(LinkError::Elf(error)))?;
+        let view = DynamicView::read(&file).map_err(Stop::Refused)?;
+        match self.question {
+            Question::Needed => write_needed(&view, out),
+            Question::Names(names) => write_by_class(&view, &file, names, out),
+        }
+    }
 }
 
 // Reads the file whole, and writes what is asked of it.
@@ -109,50 +106,22 @@ fn answer<'a, S: AsStr, R: Read + Drop, W: Write>(
     file: Option<R>,
     out: &mut W,
 ) -> Result<(), Fault<'a>> {
-    let mut file = file.ok_or(Fault::Read { path })?;
-    let mut input = Vec::new(alloc);
-    if file.read_to_end(&mut input).is_err() {
-        return Err(Fault::Read { path });
+    let input = read_whole(alloc, file).ok_or(Fault::Read { path })?;
+    let output = Lines {
+        input: &input,
+        question: &question,
+    };
+    match write_buffered(alloc, &output, out) {
+        Ok(_) => Ok(()),
+        Err(Stop::Refused(error)) => Err(Fault::Refused { path, error }),
+        Err(Stop::Write) => Err(Fault::Write),
     }
-    write_buffered(alloc, &input, question, out).map_err(|stop| match stop {
-        Stop::Refused(error) => Fault::Refused { path, error },
-        Stop::Write => Fault::Write,
-    })
-}
-
-// Writes it through a buffer, which is thrown away after a fault.
-fn write_buffered<S: AsStr, W: Write>(
-    alloc: Global,
-    input: &[u8],
-    question: Question<'_, S>,
-    out: &mut W,
-) -> Result<(), Stop> {
-    let mut buffered = BufWriter::new(alloc, out).map_err(|_| Stop::Write)?;
-    let written = write_flushed(input, question, &mut buffered);
-    // Unlike a drop, this writes nothing more after a fault.
-    let _ = buffered.into_parts();
-    written
-}
-
-fn write_flushed<S: AsStr, W: Write>(
-    input: &[u8],
-    question: Question<'_, S>,
-    out: &mut W,
-) -> Result<(), Stop> {
-    let file = ElfFile::new(input).map_err(|error| Stop::Refused(LinkError::Elf(error)))?;
-    let view = DynamicView::read(&file)?;
-    match question {
-        Question::Needed => write_needed(&view, out)?,
-        Question::Names(names) => write_by_class(&view, &file, names, out)?,
-    }
-    out.flush()?;
-    Ok(())
 }
 
 // The names of the libraries that the file needs.
-fn write_needed<W: Write>(view: &DynamicView<'_>, out: &mut W) -> Result<(), Stop> {
+fn write_needed<W: Write>(view: &DynamicView<'_>, out: &mut W) -> Result<(), Stop<LinkError>> {
     for name in view.needed() {
-        writeln!(out, "{}", name?)?;
+        writeln!(out, "{}", name.map_err(Stop::Refused)?)?;
     }
     Ok(())
 }
@@ -162,15 +131,15 @@ fn write_by_class<'a, S: AsStr, W: Write>(
     file: &ElfFile<'a>,
     names: &[S],
     out: &mut W,
-) -> Result<(), Stop> {
-    let table = linked_table(view, file)?;
+) -> Result<(), Stop<LinkError>> {
+    let table = AnyTable::read(view, file).map_err(Stop::Refused)?;
     match file.header.pt1.class() {
         Class::ThirtyTwo => {
-            let symbols = view.symbols_32(file)?;
+            let symbols = view.symbols_32(file).map_err(Stop::Refused)?;
             write_symbols(&table, &symbols, file, names, out)
         }
         _ => {
-            let symbols = view.symbols_64(file)?;
+            let symbols = view.symbols_64(file).map_err(Stop::Refused)?;
             write_symbols(&table, &symbols, file, names, out)
         }
     }
@@ -183,24 +152,24 @@ fn write_symbols<Y: Entry + Record, S: AsStr, W: Write>(
     file: &ElfFile<'_>,
     names: &[S],
     out: &mut W,
-) -> Result<(), Stop> {
-    check_table(table, symbols, file)?;
+) -> Result<(), Stop<LinkError>> {
+    let symbols = SymbolTable::new(*symbols, file);
+    table.check(&symbols).map_err(Stop::Refused)?;
     for name in names {
-        write_symbol(table, symbols, file, name.as_str(), out)?;
+        write_symbol(table, &symbols, name.as_str(), out)?;
     }
     Ok(())
 }
 
 fn write_symbol<Y: Entry + Record, W: Write>(
     table: &AnyTable<'_>,
-    symbols: &Table<'_, Y>,
-    file: &ElfFile<'_>,
+    symbols: &SymbolTable<'_, Y>,
     name: &str,
     out: &mut W,
 ) -> io::Result<()>
-    requires good { IsGoodBy table.now (symbols_of Y.fields Y.text_in symbols.now file.now) }
+    requires good { IsGoodBy table.now (table_symbols symbols.now) }
 {
-    match defined_symbol(table, name, symbols, file) {
+    match table.defined_symbol(name, symbols) {
         Some((_, symbol)) => {
             writeln!(out, "{} 0x{:x} 0x{:x}", name, symbol.value(), symbol.size())
         }

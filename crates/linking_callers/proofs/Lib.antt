@@ -1,2 +1,1 @@
-pub mod BuildIdSearch
-pub mod Classes
+mod Early

@@ -1,4 +1,1 @@
-pub mod Linked
-pub mod BuildIds
-pub mod LinkedValue
 pub mod LinkedFunction

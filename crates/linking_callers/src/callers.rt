@@ -2,31 +2,29 @@
 
 ghost use Rattle.std.specs.Borrow.{Bor};
 ghost use Rattle.std.specs.Fn.{FnReturnsAt};
-ghost use Rattle.std.specs.Prelude.{◌≡◌, ◌↔◌, ◌≤◌};
-ghost use Rattle.std.specs.Prelude.{ℕ, Contains, IfErr, IfOk, IfSome, IsTrue, List, MatchOption};
+ghost use Rattle.std.specs.Prelude.{◌≡◌, ◌↔◌, ◌<◌, ◌≤◌};
+ghost use Rattle.std.specs.Prelude.{ℕ, Contains, IsTrue, List, MatchOption};
 ghost use Rattle.std.specs.Prelude.{None, Option, Result, Some, length, slice_get, true};
 ghost use Rattle.elf_base.specs.Table.{table_items};
+ghost use Rattle.elf_linking.specs.GnuHash.{first_symbol_of};
 ghost use Rattle.elf_linking.specs.GoodGnu.{IsExported, IsGood};
 ghost use Rattle.elf_linking.specs.Run.{Looks};
 ghost use Rattle.elf_linking.specs.declared.error.LinkError.{LinkError};
-ghost use Rattle.linking_callers.specs.Linked.{IsFaultOf, IsValueBy};
-ghost use Rattle.xmas_elf.specs.SymbolName.{HoldsNames};
+ghost use Rattle.xmas_elf.specs.SymbolTable.{table_symbols};
 ghost use Rattle.xmas_elf.specs.Symbols.{Decides, IsMatch, symbols_of};
 
 pub mod backtrace;
+pub mod clones;
 pub mod equality;
-pub mod linked;
+pub mod lookups;
 pub mod notes;
 pub mod relr;
 pub mod view;
 
 use elf_base::bytes::{Record, Table};
-use elf_callers::callers::hash;
-use elf_linking::LinkError;
 use elf_linking::gnu_hash::GnuHashTable;
-use xmas_elf::hash::HashTable;
-use xmas_elf::symbol_table::Entry;
-use xmas_elf::{ElfError, ElfFile};
+use xmas_elf::ElfFile;
+use xmas_elf::symbol_table::{Entry, SymbolTable};
 
 /// Whether look-ups by a table find each symbol that they should: all runs come to an end,
 /// and each symbol from the table's first on that is defined and not local and has a name
@@ -43,8 +41,9 @@ pub fn finds_all<E: Entry + Record>(
 }
 
 /// The symbol with this name that passes a test, by a table that passes the check. The look-up is
-/// never refused, what it finds bears the name and passes, and where it finds none, no defined
-/// symbol from the first on that isn't local bears the name and passes.
+/// never refused, what it finds is at the table's first symbol or later, bears the name and passes,
+/// and where it finds none, no defined symbol from the first on that isn't local bears the name and
+/// passes.
 pub fn symbol_that<E: Entry + Record, F: Fn(&E) -> bool>(
     table: &GnuHashTable<'_>,
     name: &str,
@@ -57,7 +56,8 @@ pub fn symbol_that<E: Entry + Record, F: Fn(&E) -> bool>(
     requires good { IsGood table.now (symbols_of E.fields E.text_in symbols.now file.now) }
     ensures { let all = symbols_of E.fields E.text_in symbols.now file.now in MatchOption result
         ((i : ℕ) (e : E) → IsExported table.now all i e name.now → FnReturnsAt F.Fn f e true → ⊥)
-        (λ found. (slice_get all.items found.0 ≡ Some found.1)
+        (λ found. (0 < found.0) × (first_symbol_of table.now ≤ found.0)
+        × (slice_get all.items found.0 ≡ Some found.1)
         × (all.text found.1 ≡ Some name.now) × FnReturnsAt F.Fn f found.1 true) }
 {
     match table.lookup(name, symbols, file, f) {
@@ -78,7 +78,8 @@ pub fn symbol_with_name<E: Entry + Record>(
     requires good { IsGood table.now (symbols_of E.fields E.text_in symbols.now file.now) }
     ensures { let all = symbols_of E.fields E.text_in symbols.now file.now in MatchOption result
         ((i : ℕ) (e : E) → ¬ IsExported table.now all i e name.now)
-        (λ found. (slice_get all.items found.0 ≡ Some found.1)
+        (λ found. (0 < found.0) × (first_symbol_of table.now ≤ found.0)
+        × (slice_get all.items found.0 ≡ Some found.1)
         × (all.text found.1 ≡ Some name.now)) }
 {
     match table.lookup(
@@ -89,7 +90,7 @@ pub fn symbol_with_name<E: Entry + Record>(
             ensures { result ≡ true }
         { true },
     ) {
-        Ok(Some(found)) => Some(found),
+        Ok(Some(symbol)) => Some(symbol),
         Ok(None) => None,
         Err(_) => unreachable!(),
     }
@@ -101,54 +102,50 @@ pub fn two_symbols<E: Entry + Record>(
     table: &GnuHashTable<'_>,
     one: &str,
     other: &str,
-    symbols: &Table<'_, E>,
-    file: &ElfFile<'_>,
+    symbols: &SymbolTable<'_, E>,
 ) -> (Option<(u32, E)>, Option<(u32, E)>)
-    requires good { IsGood table.now (symbols_of E.fields E.text_in symbols.now file.now) }
-    ensures first { let all = symbols_of E.fields E.text_in symbols.now file.now in
+    requires good { IsGood table.now (table_symbols symbols.now) }
+    ensures first { let all = table_symbols symbols.now in
         MatchOption result.0
         ((i : ℕ) (e : E) → ¬ IsExported table.now all i e one.now)
-        (λ found. (slice_get all.items found.0 ≡ Some found.1)
+        (λ found. (0 < found.0) × (first_symbol_of table.now ≤ found.0)
+        × (slice_get all.items found.0 ≡ Some found.1)
         × (all.text found.1 ≡ Some one.now)) }
-    ensures second { let all = symbols_of E.fields E.text_in symbols.now file.now in
+    ensures second { let all = table_symbols symbols.now in
         MatchOption result.1
         ((i : ℕ) (e : E) → ¬ IsExported table.now all i e other.now)
-        (λ found. (slice_get all.items found.0 ≡ Some found.1)
+        (λ found. (0 < found.0) × (first_symbol_of table.now ≤ found.0)
+        × (slice_get all.items found.0 ≡ Some found.1)
         × (all.text found.1 ≡ Some other.now)) }
 {
-    let strings = E::string_table(file);
     (
-        named_symbol(table, one, strings, symbols, file),
-        named_symbol(table, other, strings, symbols, file),
+        named_symbol(table, one, symbols),
+        named_symbol(table, other, symbols),
     )
 }
 
-/// The symbol with this name, by a table that passes the check
-/// and by the string table of its symbols.
+/// The symbol with this name, by a table that passes the check, among symbols that carry their
+/// names.
 pub fn named_symbol<E: Entry + Record>(
     table: &GnuHashTable<'_>,
     name: &str,
-    strings: Option<Result<&[u8], ElfError>>,
-    symbols: &Table<'_, E>,
-    file: &ElfFile<'_>,
+    symbols: &SymbolTable<'_, E>,
 ) -> Option<(u32, E)>
-    requires good { IsGood table.now (symbols_of E.fields E.text_in symbols.now file.now) }
-    requires names { IfSome strings (HoldsNames E.fields (λ e. E.text_in e file.now)) }
-    ensures { let all = symbols_of E.fields E.text_in symbols.now file.now in MatchOption result
+    requires good { IsGood table.now (table_symbols symbols.now) }
+    ensures { let all = table_symbols symbols.now in MatchOption result
         ((i : ℕ) (e : E) → ¬ IsExported table.now all i e name.now)
-        (λ found. (slice_get all.items found.0 ≡ Some found.1)
+        (λ found. (0 < found.0) × (first_symbol_of table.now ≤ found.0)
+        × (slice_get all.items found.0 ≡ Some found.1)
         × (all.text found.1 ≡ Some name.now)) }
 {
     match table.lookup_in(
         name,
-        strings,
         symbols,
-        file,
         |_| -> bool
             ensures { result ≡ true }
         { true },
     ) {
-        Ok(Some(found)) => Some(found),
+        Ok(Some(named)) => Some(named),
         Ok(None) => None,
         Err(_) => unreachable!(),
     }
@@ -172,42 +169,4 @@ pub fn words_looked_at<E: Entry + Record, F: Fn(&E) -> bool>(
     ensures in_symbols { result ≤ length (table_items symbols.now) }
 {
     table.lookup_counted(name, symbols, file, f).1
-}
-
-/// The hash table of a file's symbols, of either kind.
-#[derive(Clone, Copy, Debug)]
-pub enum AnyTable<'a> {
-    /// That of the ELF standard (`.hash`).
-    Sysv(HashTable<'a>),
-    /// That of GNU (`.gnu.hash`).
-    Gnu(GnuHashTable<'a>),
-}
-
-/// The value of the symbol with this name, by whichever table there is, once its check has passed.
-/// None where the table is to hold no such symbol, and a refusal where the check finds a fault.
-pub fn value_by_name<E: Entry + Record>(
-    table: &AnyTable<'_>,
-    name: &str,
-    symbols: &Table<'_, E>,
-    file: &ElfFile<'_>,
-) -> Result<Option<u64>, LinkError>
-    ensures value { IfOk result (λ found.
-        IsValueBy table.now (symbols_of E.fields E.text_in symbols.now file.now) name.now found) }
-    ensures refused { IfErr result (λ error.
-        IsFaultOf table.now (symbols_of E.fields E.text_in symbols.now file.now) error) }
-{
-    let found = match table {
-        AnyTable::Sysv(table) => match table.check(symbols, file) {
-            Ok(()) => hash::symbol_with_name(table, name, symbols, file),
-            Err(error) => return Err(LinkError::Elf(error)),
-        },
-        AnyTable::Gnu(table) => match table.check(symbols, file) {
-            Ok(()) => symbol_with_name(table, name, symbols, file),
-            Err(error) => return Err(error),
-        },
-    };
-    match found {
-        Some((_index, symbol)) => Ok(Some(symbol.value())),
-        None => Ok(None),
-    }
 }

@@ -7,6 +7,7 @@ mod linked;
 mod messages;
 mod notes;
 mod relr;
+mod sections;
 mod shared_object;
 mod view;
 mod want;

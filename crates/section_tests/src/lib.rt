@@ -1,4 +1,4 @@
-//! Tests of section headers, their names, and string tables.
+//! Tests of the ELF header and its check, of section headers, their names, string tables, and symbols.
 #![tactic(auto)]
 
 #[cfg(test)]

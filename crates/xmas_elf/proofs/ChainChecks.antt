@@ -1,19 +1,20 @@
--- What passes the check of a hash table, and what doesn't.
+-- Which hash tables pass their check.
 use Rattle.std.proofs.Common.{◌≡◌, ◌<◌, ◌%◌, ◌↔◌, ℕ, ◌⊎◌, inl, inr, List, Some, Result, Ok, Err, slice_get, refl, sym, ap, subst, arith}
 use Rattle.std.proofs.lemmas.Bool.{cases_order}
 use Rattle.std.specs.Prelude.{◌≢◌, IsOk, IsTrue, Option, is_some}
 use Rattle.elf_records.specs.HashNumber.{hash_number}
-use Rattle.xmas_elf.specs.Prelude.{ElfError, HashMissing, HashTable}
+use Rattle.elf_base.specs.declared.error.ElfError.TheVariants.{HashMissing}
+use Rattle.xmas_elf.specs.Prelude.{ElfError, HashTable}
 use Rattle.xmas_elf.specs.Good.{EndsBelow, IsAtFault, IsReached, IsGood, IsCheck, good, faulty, missing}
 use Rattle.xmas_elf.specs.Chain.{Comes, LooksFrom, Reaches, Walks, bad_bucket, chains_of, ends, stops}
 use Rattle.xmas_elf.specs.HashTable.{bucket_count_of, bucket_of, start_of}
-use Rattle.xmas_elf.specs.Symbols.{IsGlobal, Symbols}
+use Rattle.xmas_elf.specs.Symbol.{IsGlobal, Symbols}
 use Rattle.xmas_elf.proofs.ChainFinds.{goes, not_at_fault}
 use Rattle.xmas_elf.proofs.ChainOnce.{looks_once}
 use Rattle.xmas_elf.proofs.ChainStarts.{start_at}
 
 module _ {E : Type 0} (table : HashTable) (symbols : List E) where
-  -- whether a walk from the bucket of a name finds an index tells whether that is on the chain of the name
+  -- whether a walk from the bucket of a name finds an index is whether the index is in the chain of the name
   pub walk_reaches : (Stop Over : ℕ × E → Type 0) (name : List ℕ) (i first n : ℕ) (o : Option (ℕ × E)) → Walks Stop Over (chains_of table symbols) first (Ok o) n → ((x : ℕ) (e : E) → Stop (x, e) → x ≡ i) → ((x : ℕ) (e : E) → Over (x, e) → x ≢ i) → 0 < i → start_of table name ≡ Some (Ok first) → IsTrue (is_some o) ↔ IsReached table symbols name i
   walk_reaches Stop Over name i first _ _ (stops n x e w stands stop) is other above start =
       (λ _. (first, start, subst (λ z. Reaches (chains_of table symbols) first z) (is x e stop) (n, w.comes)), λ _. refl)
@@ -27,7 +28,7 @@ module _ {E : Type 0} (table : HashTable) (symbols : List E) where
         other i l.entry (w.over m i l.entry before at l.stands) refl),
   )
 
-  -- where all chains end, a walk along that of a name is not refused
+  -- if all chains end, a walk along the chain of a name has no error
   pub unrefused : (name : List ℕ) (first n : ℕ) (error : ElfError) → EndsBelow table symbols (bucket_count_of table) → start_of table name ≡ Some (Ok first) → LooksFrom (λ (e : E). ⊥) (chains_of table symbols) (Some (Ok first)) (Err error) n → ⊥
   unrefused name first n error each start looks =
       let (some, at) = start_at table name (Ok first) start in
@@ -37,7 +38,7 @@ module _ {E : Type 0} (table : HashTable) (symbols : List E) where
   bad_at_fault k error at = (0, rw at (bad_bucket error))
 
 module _ {E : Type 0} (table : HashTable) (symbols : Symbols E) where
-  -- the symbol at i is held, if there is one that must be
+  -- symbol i is found, if it must be
   abbrev pub Held : ℕ → Type 0
   Held i = (e : E) (name : List ℕ) → IsGlobal symbols i e name → IsReached table symbols.items name i
 
@@ -62,18 +63,18 @@ module _ {E : Type 0} (table : HashTable) (symbols : Symbols E) where
   good_is _ (faulty k error below before fault) sound = absurd (not_at_fault table symbols.items k error (sound.ends k below) fault)
   good_is _ (missing i d name all global lost) sound = absurd (lost (sound.holds i d name global))
 
-  -- the check answers Ok exactly on a good table
+  -- the result of the check is Ok exactly for a good table
   pub ok_is_good : (r : Result (Unit {0}) ElfError) → IsCheck table symbols r → IsOk r ↔ IsGood table symbols
   ok_is_good _ (good h) = (λ _. h, λ _. refl)
   ok_is_good _ (faulty k error below before fault) = (λ ok. absurd (cc), λ h. absurd (let same = good_is _ (faulty k error below before fault) h in cc))
   ok_is_good _ (missing i d name all global lost) = (λ ok. absurd (cc), λ h. absurd (let same = good_is _ (missing i d name all global lost) h in cc))
 
-  -- a bucket has one fault
+  -- a bucket has only one error
   fault_once : (k : ℕ) (error error' : ElfError) → IsAtFault table symbols.items k error → IsAtFault table symbols.items k error' → error ≡ error'
   fault_once k error error' (n, looks) (m, looks') =
       let both : Err error ≡ Err error' = (looks_once _ (chains_of table symbols.items) _ (Err error) (Err error') n m looks looks').0 in cc
 
-  -- the check has one answer
+  -- the check has only one result
   pub check_once : (a b : Result (Unit {0}) ElfError) → IsCheck table symbols a → IsCheck table symbols b → a ≡ b
   check_once _ b (good h) other = good_is b other h
   check_once _ _ (faulty k error below before fault) (good h) = sym (good_is (Err error) (faulty k error below before fault) h)

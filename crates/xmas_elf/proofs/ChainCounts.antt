@@ -1,4 +1,4 @@
--- The symbols that a chain holds, counted along the walk, and what their number tells.
+-- The number of symbols in a chain, counted along the walk, and what it says of the table.
 use Rattle.std.proofs.Common.{◌≡◌, ◌≢◌, ◌<◌, ◌≤◌, ◌+◌, ◌%◌, ◌/◌, ℕ, inl, inr, List, Some, Ok, Bool, IsTrue, ◌↔◌, length, slice_get, refl, sym, ◌∙◌, ap, subst, arith}
 use Rattle.std.proofs.lemmas.Bool.{cases_order}
 use Rattle.std.proofs.lemmas.Option.{slice_get_within}
@@ -9,19 +9,19 @@ use Rattle.xmas_elf.specs.Chain.{Comes, chains_of}
 use Rattle.xmas_elf.specs.Counted.{IsCount}
 use Rattle.xmas_elf.specs.Good.{Belongs, IsHeldBelow, IsHeldBy, IsReached, MustBeHeld}
 use Rattle.xmas_elf.specs.HashTable.{bucket_count_of, bucket_of}
-use Rattle.xmas_elf.specs.Symbols.{IsGlobal, Symbols}
+use Rattle.xmas_elf.specs.Symbol.{IsGlobal, Symbols}
 use Rattle.xmas_elf.proofs.ChainChecks.{named_once}
 use Rattle.xmas_elf.proofs.ChainPaths.{Passes, Picked, apart_before, by_order, comes_same, count_next, end_links, goes_on}
 use Rattle.xmas_elf.proofs.ChainStarts.{start_at, start_some}
 use Rattle.xmas_elf.proofs.SymbolCounts.{count_all, count_join, count_lacks, count_none, count_same}
 
 module _ {E : Type 0} (table : HashTable) (symbols : Symbols E) where
-  -- a symbol belongs to one bucket
+  -- a symbol belongs to only one bucket
   belongs_once : (k l x : ℕ) → Belongs table symbols k x → Belongs table symbols l x → k ≡ l
   belongs_once k l x (e, name, global, bucket) (d, other, global', bucket') =
       sym bucket ∙ ap (λ n. hash_number n % bucket_count_of table) (named_once table symbols x e d name other global global') ∙ bucket'
 
-  -- what a walk from a bucket has picked up to the end, that bucket holds
+  -- the symbols counted in a walk from a bucket to the end are those found in that bucket
   pub picked_held : (k first n i many : ℕ) → bucket_of table k ≡ Ok first → i ≡ 0 → Comes (chains_of table symbols.items) first n i → Picked (chains_of table symbols.items) (Belongs table symbols k) first n many → IsCount (IsHeldBy table symbols k) many
   picked_held k first n i many at end c p =
       let chains = chains_of table symbols.items in
@@ -54,7 +54,7 @@ module _ {E : Type 0} (table : HashTable) (symbols : Symbols E) where
   must_be : (i : ℕ) → IsHeldBelow table symbols (bucket_count_of table) i → MustBeHeld symbols i
   must_be i (k, below, ((e, name, global, bucket), held)) = (e, name, global)
 
-  -- a symbol is on the chain of its name exactly if the bucket of the name holds it
+  -- a symbol is in the chain of its name exactly if it is found in the bucket of the name
   reached_held : (i : ℕ) (e : E) (name : List ℕ) → IsGlobal symbols i e name → IsReached table symbols.items name i → IsHeldBelow table symbols (bucket_count_of table) i
   reached_held i e name global (first, start, r) =
       let (some, at) = start_at table name (Ok first) start in
@@ -68,7 +68,7 @@ module _ {E : Type 0} (table : HashTable) (symbols : Symbols E) where
       (first, start_some table name some ∙ ap (λ b. Some b) first_at, r)
 
 module _ {E : Type 0} (symbols : Symbols E) where
-  -- the symbols below an index that must be held, one index more
+  -- the number of symbols below an index that must be found, and for one index more
   abbrev pub MustBelow : ℕ → ℕ → Type 0
   MustBelow n i = (i < n) × MustBeHeld symbols i
 
@@ -88,18 +88,18 @@ module _ {E : Type 0} (symbols : Symbols E) where
       (λ i (e, name, global). (let within : i < length symbols.items = slice_get_within symbols.items i e global.stands in (omega arith, (e, name, global)))) count
 
 module _ {E : Type 0} (table : HashTable) (symbols : Symbols E) where
-  -- where as many are held as must be, each is that must be
+  -- if as many symbols are found as must be, each of those that must be is found
   pub all_held : (n m : ℕ) → m ≤ n → IsCount (IsHeldBelow table symbols (bucket_count_of table)) n → IsCount (MustBeHeld symbols) m → (i : ℕ) (e : E) (name : List ℕ) → IsGlobal symbols i e name → IsReached table symbols.items name i
   all_held n m many held must i e name global =
       held_reached table symbols i e name global (count_all (IsHeldBelow table symbols (bucket_count_of table)) (MustBeHeld symbols) n m many (must_be table symbols) held must i (e, name, global))
 
-  -- where fewer are, one is missing
+  -- if fewer symbols are found than must be, one is missing
   pub one_missing : (n m : ℕ) → n < m → IsCount (IsHeldBelow table symbols (bucket_count_of table)) n → IsCount (MustBeHeld symbols) m → (i : ℕ) × (e : E) × (name : List ℕ) × IsGlobal symbols i e name × ¬ IsReached table symbols.items name i
   one_missing n m fewer held must =
       let (i, (e, name, global), lost) = count_lacks (IsHeldBelow table symbols (bucket_count_of table)) (MustBeHeld symbols) n m fewer held must in
       (i, e, name, global, λ r. lost (reached_held table symbols i e name global r))
 
--- that a symbol belongs to a bucket, by the symbol there
+-- whether a symbol belongs to a bucket, by the symbol at the index
 pub belongs_by : {E : Type 0} (table : HashTable) (symbols : Symbols E) (k i : ℕ) (e : E) (b : Bool) → slice_get symbols.items i ≡ Some e → 0 < i → (IsTrue b ↔ ((name : List ℕ) × ((symbols.fields e).info / 16 ≢ 0) × (symbols.text e ≡ Some name) × (hash_number name % bucket_count_of table ≡ k))) → IsTrue b ↔ Belongs table symbols k i
 belongs_by table symbols k i e b there above said = (
   λ yes. (let (name, binding, named, bucket) = said.0 yes in (e, name, record { not_first = above; stands = there; binding = binding; named = named }, bucket)),

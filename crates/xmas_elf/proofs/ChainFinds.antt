@@ -1,4 +1,4 @@
--- On a good table a look-up is never refused and finds what must be found.
+-- In a good table a look-up has no error and finds what must be found.
 use Rattle.std.proofs.lemmas.Bool.{cases_eq}
 use Rattle.std.proofs.Common.{◌≡◌, ◌<◌, ◌%◌, ℕ, zero, suc, inl, inr, List, Option, Some, None, Result, Ok, Err, MatchResult, MatchOption, slice_get, refl, subst, arith, below_more}
 use Rattle.elf_records.specs.HashNumber.{hash_number}
@@ -6,12 +6,12 @@ use Rattle.xmas_elf.specs.Prelude.{ElfError, HashTable}
 use Rattle.xmas_elf.specs.Chain.{Chains, StandsAt, Stops, at_end, past_chains, past_symbols, found, refused, Links, Comes, Reaches, NoneBefore, LooksFrom, no_bucket, reaches, endless, chains_of}
 use Rattle.xmas_elf.specs.HashTable.{bucket_count_of, start_of}
 use Rattle.xmas_elf.specs.Good.{Ends, EndsBelow, IsAtFault, IsGood, FindsAll, MustBeFound}
-use Rattle.xmas_elf.specs.Symbols.{Symbols}
+use Rattle.xmas_elf.specs.Symbol.{Symbols}
 use Rattle.xmas_elf.proofs.ChainPaths.{by_order, comes_in, comes_once, end_links, goes_on}
 use Rattle.xmas_elf.proofs.ChainStarts.{start_none, start_some}
 
 module _ {E : Type 0} (P : E → Type 0) (chains : Chains E) where
-  -- where a walk along the whole chain ends, it comes to each other index before, and goes on from there
+  -- a walk along a chain that ends comes to each other index before the end, and has a step from there
   pub goes : (first n v i : ℕ) → Comes chains first n 0 → Comes chains first v i → 0 < i → (v < n) × ((j : ℕ) × Links chains i j)
   goes first n v i end at above =
       by_order chains ((v < n) × ((j : ℕ) × Links chains i j)) v n
@@ -19,14 +19,14 @@ module _ {E : Type 0} (P : E → Type 0) (chains : Chains E) where
       (λ earlier. (earlier, goes_on chains first n 0 v i end earlier at))
       (λ later. absurd (let (j, l) = goes_on chains first v i n 0 at later end in end_links chains 0 j refl l))
 
-  -- where no stop is reached, no entry with P is passed
+  -- if no stop is reached, no entry before has P
   none_all : (first : ℕ) → ((last m p : ℕ) (a : Result (Option (ℕ × E)) ElfError) → Comes chains first m last → NoneBefore P chains first m → Stops P chains last a p → ⊥) → (n : ℕ) → NoneBefore P chains first n
   none_all first never zero m below = absurd (omega arith)
   none_all first never (suc n) m below =
       below_more (λ k. (x : ℕ) (e : E) → Comes chains first k x → StandsAt chains x e → P e → ⊥) n (none_all first never n)
       (λ x e at stands holds. never x n 1 (Ok (Some (x, e))) at (none_all first never n) (found x e stands holds)) m (omega arith)
 
-  -- there a walk is not refused: it finds an entry with P, or comes to the end
+  -- a walk along a chain that ends has no error: it finds an entry with P, or comes to the end
   ends_well : (N : Type 0) (first n : ℕ) (a : Result (Option (ℕ × E)) ElfError) → Reaches chains first 0 → ((m : ℕ) → Comes chains first m 0 → NoneBefore P chains first m → N) → LooksFrom P chains (Some (Ok first)) a n → MatchResult a (λ o. MatchOption o N (λ (p : ℕ × E). (0 < p.0) × (slice_get chains.symbols p.0 ≡ Some p.1) × P p.1)) (λ _. ⊥)
   ends_well N first _ _ end nothing (reaches _ _ n _ _ c none at_end) = nothing n c none
   ends_well N first _ _ (m, end) nothing (reaches _ _ n _ _ c none (past_chains i above past)) = let (before, (j, l)) = goes first m n i end c above in let h : i < chains.count = l.stands.below in absurd (omega arith)
@@ -35,7 +35,7 @@ module _ {E : Type 0} (P : E → Type 0) (chains : Chains E) where
   ends_well N first _ _ (m, end) nothing (reaches _ _ n _ _ c none (refused i e error stands misses refuses)) = let (before, (j, l)) = goes first m n i end c stands.not_end in let h : chains.chain i ≡ Ok j = l.next in absurd (cc)
   ends_well N first _ _ (n, end) nothing (endless _ _ never) = absurd (never 0 n 0 (Ok None) end (none_all first never n) at_end)
 
--- where the chains of all buckets end, so does that of a name
+-- if the chains of all buckets end, the chain of a name ends
 start_ends : {E : Type 0} (table : HashTable) (symbols : List E) (name : List ℕ) (b : Result ℕ ElfError) → EndsBelow table symbols (bucket_count_of table) → start_of table name ≡ Some b → (first : ℕ) × (b ≡ Ok first) × Reaches (chains_of table symbols) first 0
 start_ends table symbols name b ends start = elim (cases_eq (bucket_count_of table) 0) [
   | inl none ↦ absurd (let e = start_none table name none in cc)

@@ -1,15 +1,16 @@
--- One look-up has one answer, and one number of symbols compared unless its chain never ends.
+-- A look-up has one result, and one number of compared symbols unless its chain never ends.
 use Rattle.std.proofs.Common.{◌≡◌, ◌≢◌, ◌<◌, ◌≤◌, ℕ, Option, Some, None, Result, Ok, Err, slice_get, ◌⊎◌, inl, inr, refl, subst, arith}
-use Rattle.xmas_elf.specs.Prelude.{ChainIndex, ElfError, HashCycle, SymbolIndex}
+use Rattle.elf_base.specs.declared.error.ElfError.TheVariants.{ChainIndex, HashCycle, SymbolIndex}
+use Rattle.xmas_elf.specs.Prelude.{ElfError}
 use Rattle.xmas_elf.specs.Chain.{Chains, StandsAt, Stops, at_end, past_chains, past_symbols, found, refused, Comes, NoneBefore, LooksFrom, no_bucket, bad_bucket, reaches, endless}
 use Rattle.xmas_elf.proofs.ChainPaths.{by_order, comes_in, comes_once, goes_on, stop_or_link}
 
 module _ {E : Type 0} (P : E → Type 0) (chains : Chains E) where
-  -- an answer, and how many symbols were compared for it
+  -- two results are equal, and so are their numbers of compared symbols
   abbrev Both : Result (Option (ℕ × E)) ElfError → ℕ → Result (Option (ℕ × E)) ElfError → ℕ → Type 0
   Both a n b m = (a ≡ b) × (n ≡ m)
 
-  -- a stop, told by what stands at its index
+  -- a stop, by the symbol at its index
   abbrev Told : ℕ → Result (Option (ℕ × E)) ElfError → ℕ → Type 0
   Told i a n = ((i ≡ 0) × Both a n (Ok None) 0)
       ⊎ (((0 < i) × (chains.count ≤ i) × Both a n (Err ChainIndex) 0)
@@ -24,11 +25,11 @@ module _ {E : Type 0} (P : E → Type 0) (chains : Chains E) where
   told _ _ _ (found i e stands holds) = inr (inr (inr (inl (e, stands, holds, (refl, refl)))))
   told _ _ _ (refused i e error stands misses refuses) = inr (inr (inr (inr (e, error, stands, misses, refuses, (refl, refl)))))
 
-  -- at one index there is one answer
+  -- a stop at an index has only one result
   answer_once : (i n m : ℕ) (a b : Result (Option (ℕ × E)) ElfError) → Stops P chains i a n → Stops P chains i b m → Both a n b m
   answer_once i n m a b s t = let one = told i n a s in let other = told i m b t in grind arith
 
-  -- the first stop comes in so many steps
+  -- the first stop is reached in one number of steps
   steps_once : (first n k p m l q : ℕ) (a b : Result (Option (ℕ × E)) ElfError) → Comes chains first n k → NoneBefore P chains first n → Stops P chains k a p → Comes chains first m l → NoneBefore P chains first m → Stops P chains l b q → n ≡ m
   steps_once first n k p m l q a b c none s c' none' s' =
       by_order chains (n ≡ m) n m

@@ -1,24 +1,25 @@
--- Walks along the chains of a hash table: they go one way, one that reaches a stop passes no index twice,
--- and what the code's walk answers is what a look-up does.
+-- Walks along the chains of a hash table: each step is determined, a walk that reaches a stop passes no index
+-- twice, and the result of the code's walk is that of a look-up.
 use Rattle.std.proofs.Common.{◌≡◌, ◌<◌, ◌≤◌, ◌↔◌, ℕ, zero, suc, ◌+◌, Option, Some, None, Result, Ok, Err, Bool, IsTrue, true, false, length, refl, sym, subst, arith, slice_get, ◌⊎◌, inl, inr, Contains}
 use Rattle.std.proofs.lemmas.Bool.{cases_order}
 use Rattle.std.proofs.lemmas.Option.{slice_get_within, get_or_from_slice_get}
 use Rattle.std.proofs.lemmas.Map.Steps.{length-le_from_distinct_below}
 use Rattle.std.specs.Int.{from_bool}
 use Rattle.std.specs.Prelude.{IsOk}
-use Rattle.xmas_elf.specs.Prelude.{ChainIndex, ElfError, SymbolIndex}
+use Rattle.elf_base.specs.declared.error.ElfError.TheVariants.{ChainIndex, SymbolIndex}
+use Rattle.xmas_elf.specs.Prelude.{ElfError}
 use Rattle.xmas_elf.specs.Chain.{Chains, StandsAt, Stops, at_end, past_chains, past_symbols, found, refused, Links, Comes, starts, goes, NoneBefore, LooksFrom, Reaches, reaches, endless, Halts, no_chain, no_symbol, too_many, Walked, Walks, ends, stops, halts, breaks}
 use Rattle.xmas_elf.specs.Counted.{IsCount}
 use Rattle.xmas_elf.proofs.SymbolCounts.{count_more, count_none, count_same}
 
--- one number more, if it has the property
+-- the count with one number more, if it has the property
 pub count_next : (Q R : ℕ → Type 0) (n x more : ℕ) (b : Bool) → more ≡ from_bool b → IsTrue b ↔ R x → (Q x → ⊥) → ((i : ℕ) → Q i → R i) → ((i : ℕ) → R i → (i ≡ x) ⊎ Q i) → IsCount Q n → IsCount R (n + more)
 count_next Q R n x more true is said new to from count = rw is (count_more Q R n x new (said.0 refl) to from count)
 count_next Q R n x more false is said new to from count =
     let same : n ≡ n + more = omega (arith, is) in
     subst (IsCount R) same (count_same Q R n to (λ i r. elim (from i r) [ inl here ↦ absurd (let yes = said.1 (subst R here r) in cc) | inr q ↦ q ]) count)
 
--- as many numbers as have a property are below a bound that is above each
+-- the number of numbers with a property is at most a bound of those numbers
 count_bound : (Q : ℕ → Type 0) (n bound : ℕ) → ((i : ℕ) → Q i → i < bound) → IsCount Q n → n ≤ bound
 count_bound Q n bound below count =
     let few : length count.list ≤ bound = length-le_from_distinct_below count.list bound count.once (λ q h. below q ((count.each q).0 h)) in
@@ -28,20 +29,20 @@ module _ {E : Type 0} (chains : Chains E) where
   link_once : (i j k : ℕ) → Links chains i j → Links chains i k → j ≡ k
   link_once i j k a b = cc
 
-  -- one entry stands at an index
+  -- only one entry is at an index
   stand_once : (i : ℕ) (d e : E) → StandsAt chains i d → StandsAt chains i e → d ≡ e
   stand_once i d e a b = cc
 
-  -- an entry that stands at an index is one of the symbols
+  -- the entry at an index is one of the symbols
   pub contains_at : (i : ℕ) (e : E) → StandsAt chains i e → Contains chains.symbols e
   contains_at i e stands =
       (i, slice_get_within chains.symbols i e stands.symbol, get_or_from_slice_get chains.symbols i e e stands.symbol)
 
-  -- the end links to nothing
+  -- there is no step from the end
   pub end_links : (i j : ℕ) → i ≡ 0 → Links chains i j → ⊥
   end_links i j end l = let some : 0 < i = l.stands.not_end in omega arith
 
-  -- in so many steps a walk comes to one index
+  -- a walk comes to only one index in a number of steps
   pub comes_once : (first n i j : ℕ) → Comes chains first n i → Comes chains first n j → i ≡ j
   comes_once first _ _ _ starts starts = refl
   comes_once first _ _ _ (goes n i j c l) (goes _ i' j' c' l') =
@@ -53,7 +54,7 @@ module _ {E : Type 0} (chains : Chains E) where
   pub comes_next : (first n i j : ℕ) → Comes chains first n i → Links chains i j → Comes chains first (n + 1) j
   comes_next first n i j c l = comes_in first (suc n) (n + 1) j (omega arith) (goes n i j c l)
 
-  -- at the same step it is at the same index
+  -- a walk comes to the same index in the same number of steps
   pub comes_same : (first n m i j : ℕ) → n ≡ m → Comes chains first n i → Comes chains first m j → i ≡ j
   comes_same first n m i j same c c' = comes_once first m i j (comes_in first n m i same c) c'
 
@@ -61,7 +62,7 @@ module _ {E : Type 0} (chains : Chains E) where
   pub by_order : (R : Type 0) (n m : ℕ) → (n ≡ m → R) → (n < m → R) → (m < n → R) → R
   by_order R n m same below above = elim (cases_order n m) [ inl e ↦ same e | inr h ↦ elim h [ inl l ↦ below l | inr g ↦ above g ] ]
 
-  -- a walk goes on from each index that it passes
+  -- there is a step from each index that a walk passes
   pub goes_on : (first m last n i : ℕ) → Comes chains first m last → n < m → Comes chains first n i → (j : ℕ) × Links chains i j
   goes_on first _ _ n i starts below at = absurd (omega arith)
   goes_on first _ _ n i (goes m k j c l) below at =
@@ -70,7 +71,7 @@ module _ {E : Type 0} (chains : Chains E) where
       (λ earlier. goes_on first m k n i c earlier at)
       (λ later. absurd (omega arith))
 
-  -- what a walk comes to behind an index that it comes to, it comes to from there
+  -- a walk that comes to an index later comes to it from each index before
   goes_ahead : (first m last n x : ℕ) → Comes chains first m last → n ≤ m → Comes chains first n x → (t : ℕ) × (n + t ≡ m) × Comes chains x t last
   goes_ahead first _ _ n x starts below at =
       let none : n ≡ 0 = omega arith in
@@ -92,11 +93,11 @@ module _ {E : Type 0} (chains : Chains E) where
   pub first_ends : (i : ℕ) → i < 1 → Reaches chains i 0
   first_ends i below = let end : 0 ≡ i = omega arith in subst (λ x. Reaches chains x 0) end (zero, starts)
 
-  -- no index before step n is met twice
+  -- no index before step n is passed twice
   abbrev pub Apart : ℕ → ℕ → Type 0
   Apart first n = (a b x : ℕ) → a < b → b < n → Comes chains first a x → Comes chains first b x → ⊥
 
-  -- where a walk comes to an index that it hasn't met before, it has met none twice
+  -- if a walk comes to an index that it has not passed, it has passed none twice
   pub apart_before : (first m last n : ℕ) → Comes chains first m last → ((k : ℕ) → k < m → Comes chains first k last → ⊥) → n ≤ m + 1 → Apart first n
   apart_before first m last n c new within a b x earlier below at again =
       let (t, sum, ahead) = goes_ahead first m last b x c (omega arith) again in
@@ -107,7 +108,7 @@ module _ {E : Type 0} (chains : Chains E) (Q : ℕ → Type 0) where
   abbrev pub Passes : ℕ → ℕ → ℕ → Type 0
   Passes first n x = Q x × ((m : ℕ) × (m < n) × Comes chains first m x)
 
-  -- a walk passes so many in n steps, if it meets none twice
+  -- the number of indices with Q that a walk passes in n steps, if it passes none twice
   abbrev pub Picked : ℕ → ℕ → ℕ → Type 0
   Picked first n many = Apart chains first n → IsCount (Passes first n) many
 
@@ -123,7 +124,7 @@ module _ {E : Type 0} (chains : Chains E) (Q : ℕ → Type 0) where
       (λ x (q, (m, below, at)). by_order chains ((x ≡ i) ⊎ Passes first n x) m n (λ same. inl (comes_same chains first m n x i same at c)) (λ earlier. inr (q, (m, earlier, at))) (λ later. absurd (omega arith)))
       (p (λ a b x before below. apart a b x before (omega arith)))
 
--- a walk passes as many as it takes steps
+-- a walk passes as many indices as it takes steps
 passes_all : {E : Type 0} (chains : Chains E) (first n i : ℕ) → Comes chains first n i → Picked chains (λ _. IsTrue true) first n n
 passes_all chains first _ _ starts = picked_first chains (λ _. IsTrue true) first
 passes_all chains first _ _ (goes n i j c l) =
@@ -131,7 +132,7 @@ passes_all chains first _ _ (goes n i j c l) =
     subst (λ k. Picked chains (λ _. IsTrue true) first k k) one (picked_next chains (λ _. IsTrue true) first n i n 1 true refl (λ h. h, λ h. h) c (passes_all chains first n i c))
 
 module _ {E : Type 0} (P : E → Type 0) (chains : Chains E) where
-  -- an index that stops links to none
+  -- there is no step from an index where the walk stops
   pub stop_or_link : (i j n : ℕ) (a : Result (Option (ℕ × E)) ElfError) → Stops P chains i a n → Links chains i j → ((e : E) → StandsAt chains i e → P e → ⊥) → ⊥
   stop_or_link _ j _ _ at_end l none = end_links chains 0 j refl l
   stop_or_link _ j _ _ (past_chains i above past) l none = let h : i < chains.count = l.stands.below in omega arith
@@ -139,7 +140,7 @@ module _ {E : Type 0} (P : E → Type 0) (chains : Chains E) where
   stop_or_link _ j _ _ (found i e stands holds) l none = none e stands holds
   stop_or_link _ j _ _ (refused i e error stands misses refuses) l none = let h : chains.chain i ≡ Ok j = l.next in cc
 
-  -- a walk that has passed as many entries as there are, and stands at one more, reaches no stop
+  -- a walk that has passed as many entries as there are, and is at another one, reaches no stop
   too_long : (bound first n i : ℕ) (e : E) (last m p : ℕ) (a : Result (Option (ℕ × E)) ElfError) → ((q : ℕ) (d : E) → StandsAt chains q d → q < bound) → Comes chains first n i → NoneBefore P chains first n → StandsAt chains i e → bound ≤ n → Comes chains first m last → NoneBefore P chains first m → Stops P chains last a p → ⊥
   too_long bound first n i e last m p a within c none stands long c' none' s =
       by_order chains ⊥ m n
@@ -157,7 +158,7 @@ module _ {E : Type 0} (P : E → Type 0) (chains : Chains E) where
           (λ later. absurd (omega arith))) count in
           omega arith
 
-  -- the walk stops
+  -- the result of a walk that stops
   pub looks : (first i n m k : ℕ) (a : Result (Option (ℕ × E)) ElfError) → Comes chains first n i → NoneBefore P chains first n → Stops P chains i a m → n + m ≡ k → LooksFrom P chains (Some (Ok first)) a k
   looks first i n m k a c none s sum = subst (λ c. LooksFrom P chains (Some (Ok first)) a c) sum (reaches first i n m a c none s)
 
@@ -190,18 +191,18 @@ module _ {E : Type 0} (Stop Over : ℕ × E → Type 0) (chains : Chains E) (fir
   none_over : (P : E → Type 0) (n i : ℕ) → ((i : ℕ) (e : E) → StandsAt chains i e → Over (i, e) → P e → ⊥) → Walked Over chains first n i → NoneBefore P chains first n
   none_over P n i lacks w m below x e at stands = lacks x e stands (w.over m x e below at stands)
 
-  -- a walk that stops at symbols with P, and passes over others, answers as a look-up for P
+  -- a walk that stops at symbols with P, and passes others, has the result of a look-up for P
   pub walk_looks : (P : E → Type 0) (n : ℕ) (a : Result (Option (ℕ × E)) ElfError) → Walks Stop Over chains first a n → ((i : ℕ) (e : E) → a ≡ Ok (Some (i, e)) → Stop (i, e) → P e) → ((i : ℕ) (e : E) → StandsAt chains i e → Over (i, e) → P e → ⊥) → LooksFrom P chains (Some (Ok first)) a n
   walk_looks P _ _ (ends n w) has lacks = looks P chains first 0 n 0 n (Ok None) w.comes (none_over P n 0 lacks w) at_end (omega arith)
   walk_looks P _ _ (stops n i e w stands stop) has lacks = looks P chains first i n 1 (n + 1) (Ok (Some (i, e))) w.comes (none_over P n i lacks w) (found i e stands (has i e refl stop)) refl
   walk_looks P _ _ (halts n i error w above halt) has lacks = looks_halted P chains first i n error w.comes (none_over P n i lacks w) above halt
   walk_looks P _ _ (breaks n i e error w stands over fails) has lacks = looks P chains first i n 1 (n + 1) (Err error) w.comes (none_over P n i lacks w) (refused i e error stands (lacks i e stands over) fails) refl
 
-  -- one that is refused is refused whatever it looks for
+  -- a walk with an error has that error whatever it looks for
   pub walk_refused : (n : ℕ) (error : ElfError) → Walks Stop Over chains first (Err error) n → LooksFrom (λ _. ⊥) chains (Some (Ok first)) (Err error) n
   walk_refused n error walk = walk_looks (λ _. ⊥) n (Err error) walk (λ i e is stop. cc) (λ i e stands over none. none)
 
-  -- where it isn't refused and stops only below a bound, and the chains from there end, so does this one
+  -- if a walk has no error and stops only below a bound, and the chains from there end, it ends
   pub walk_ends : (bound n : ℕ) (a : Result (Option (ℕ × E)) ElfError) → Walks Stop Over chains first a n → IsOk a → ((i : ℕ) (e : E) → Stop (i, e) → i < bound) → ((i : ℕ) → i < bound → Reaches chains i 0) → Reaches chains first 0
   walk_ends bound _ _ (ends n w) ok below each = (n, w.comes)
   walk_ends bound _ _ (stops n i e w stands stop) ok below each = reaches_along chains first i 0 (n, w.comes) (each i (below i e stop))

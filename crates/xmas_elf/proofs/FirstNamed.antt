@@ -1,4 +1,4 @@
--- The section with a name, in the list and by its index.
+-- A section by its name, in the list of sections and by its index.
 use Rattle.std.proofs.Common.{◌≡◌, ℕ, ◌↔◌, inl, inr, nat_lt, Bool, true, false, Result, Err, List, refl, length, Ok, if◌then◌else◌, Option, None, Some, IfSome, IfNone, ap, sym, subst, ◌∙◌, arith}
 use Rattle.std.proofs.lemmas.Bool.{cases_order, le-ltb, ltb-false}
 use Rattle.std.specs.Borrow.{Bor}
@@ -7,16 +7,14 @@ use Rattle.elf_base.specs.Lent.{Answers, Lends, LendsOnly}
 use Rattle.elf_base.specs.Refusal.{and_then}
 use Rattle.elf_base.specs.Text.{IsText}
 use Rattle.xmas_elf.specs.Prelude.{ElfError, ElfFile, SectionHeader}
-use Rattle.xmas_elf.specs.Counts.{section_count_of}
+use Rattle.xmas_elf.specs.SectionHeader.{section_count_of, section_fields, section_list, section_of}
 use Rattle.xmas_elf.specs.HeaderTable.{EachBelow}
-use Rattle.xmas_elf.specs.NameTable.{Bears, FindsNamed, IsFirstNamed, IsNameAt, IsNameTable, name_table_of, names_section_of}
-use Rattle.xmas_elf.specs.SectionHeader.{section_fields, section_of}
-use Rattle.xmas_elf.specs.SectionList.{section_list}
+use Rattle.xmas_elf.specs.NameTable.{HasName, FindsNamed, IsFirstNamed, IsNameAt, IsNameTable, name_table_of, names_section_of}
 use Rattle.xmas_elf.proofs.HeaderLists.{header_list-longest}
 use Rattle.xmas_elf.proofs.SectionLists.{section_in_list}
 use Rattle.xmas_elf.proofs.lemmas.HeaderList.{sections_within}
 
--- a call that answers where another had to has the other's answer, and it passed its refusal
+-- if `and_then` returns a value, the first call returned one, from which the second returned this one
 pub went_on : {A B : Type 0} (r : Result A ElfError) (next : A → Result B ElfError) (y : B) → and_then r next ≡ Ok y → (x : A) × (r ≡ Ok x) × (next x ≡ Ok y)
 went_on (Ok x) next y is = (x, refl, is)
 went_on (Err error) next y is = cc
@@ -25,7 +23,7 @@ pub not_refused : {A : Type 0} (refused : Bool) (error : ElfError) (r : Result A
 not_refused true error r y is = cc
 not_refused false error r y is = (refl, is)
 
--- the name table that is computed is the name table
+-- if `name_table_of` is a table, it is the name table
 pub name_table-is : (file : ElfFile) (t : List ℕ) → name_table_of file ≡ Ok t → IsNameTable file t
 unfolding name_table_of
 name_table-is file t is =
@@ -40,45 +38,45 @@ is-name_table file t is =
     let within : nat_lt (length file.input.now) (section_fields is.section).offset ≡ false = le-ltb _ _ is.within in
     rw (names, within) (ap Ok (sym is.table_is))
 
--- the text at an index of the name table is that of the table that is computed
+-- the text at an index of the name table is the text at that index of `name_table_of`
 pub name_at : (file : ElfFile) (index : ℕ) (names name : List ℕ) → name_table_of file ≡ Ok names → IsNameAt file index name ↔ IsText names index name
 name_at file index names name table = (
   λ at. let own = is-name_table file at.table at.in_table in let same : at.table ≡ names = cc in subst (λ t. IsText t index name) same at.is_text,
   λ is. record { table = names; in_table = name_table-is file names table; is_text = is },
 )
 
--- what is kept of an answer that is computed has what the answer has, alone, and is the answer
+-- a stored result that equals a computed one has the property that the computed one has
 pub kept : (Is : List ℕ → Type 0) (answer : Result (List ℕ) ElfError) (r : Result (Bor (List ℕ)) ElfError) → ((part : List ℕ) → answer ≡ Ok part ↔ Is part) → ForOk r (λ part. answer ≡ Ok part.now) → ForErr r (λ error. answer ≡ Err error) → Lends Is r × LendsOnly Is r × Answers answer r
 kept Is answer (Ok part) same is isnt = let here = is part refl in ((same part.now).0 here, (λ other has. let one = (same other).1 has in cc), here)
 kept Is answer (Err error) same is isnt = let none = isnt error refl in (tt, (λ other has. let one = (same other).1 has in cc), none)
 
--- where a search finds nothing no section bears the name, and what it finds is the first that does
-pub missing_named : (file : ElfFile) (name : List ℕ) (r : Option SectionHeader) → FindsNamed file name r → IfNone r (EachBelow (section_of file) (λ section. ¬ Bears file section name) (length (section_list file)))
-missing_named file name None none = sections_within file (λ section. ¬ Bears file section name) (length (section_list file)) (omega arith) none
+-- if a search finds nothing, no section has the name; what it finds is the first section that has it
+pub missing_named : (file : ElfFile) (name : List ℕ) (r : Option SectionHeader) → FindsNamed file name r → IfNone r (EachBelow (section_of file) (λ section. ¬ HasName file section name) (length (section_list file)))
+missing_named file name None none = sections_within file (λ section. ¬ HasName file section name) (length (section_list file)) (omega arith) none
 missing_named file name (Some section) found = tt
 
 pub found_named : (file : ElfFile) (name : List ℕ) (r : Option SectionHeader) → FindsNamed file name r → IfSome r (λ section. (index : ℕ) × IsFirstNamed file name index section)
 found_named file name None none = tt
-found_named file name (Some section) (bears, (i, below, at, none)) =
+found_named file name (Some section) (has, (i, below, at, none)) =
     let longest = header_list-longest (section_of file) (section_count_of file) in
     let counted = longest.counted in (
       i,
       record {
         below = omega arith;
         is_header = longest.each i below section ∙ ap Ok (at section);
-        bears = bears;
-        first = sections_within file (λ earlier. ¬ Bears file earlier name) i (omega arith) none;
+        named = has;
+        first = sections_within file (λ earlier. ¬ HasName file earlier name) i (omega arith) none;
       },
     )
 
--- so there is at most one, which is the answer of a search
+-- there is at most one first section with a name, and a search returns it
 pub only_named : (file : ElfFile) (name : List ℕ) (r : Option SectionHeader) → FindsNamed file name r → (index : ℕ) (section : SectionHeader) → IsFirstNamed file name index section → r ≡ Some section
 only_named file name None found index section first =
-    absurd (missing_named file name None found index section (section_in_list file index section first.below first.is_header) first.is_header first.bears)
+    absurd (missing_named file name None found index section (section_in_list file index section first.below first.is_header) first.is_header first.named)
 only_named file name (Some other) found index section first =
     let (i, is) = found_named file name (Some other) found in
     elim (cases_order i index) [
       | inl same ↦ let a = is.is_header in let b = first.is_header in cc
-      | inr (inl below) ↦ absurd (first.first i other below is.is_header is.bears)
-      | inr (inr above) ↦ absurd (is.first index section above first.is_header first.bears)
+      | inr (inl below) ↦ absurd (first.first i other below is.is_header is.named)
+      | inr (inr above) ↦ absurd (is.first index section above first.is_header first.named)
     ]

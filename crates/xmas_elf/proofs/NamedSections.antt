@@ -10,12 +10,11 @@ use Rattle.elf_records.specs.SectionNumbers.{is_sh_type}
 use Rattle.elf_records.specs.declared.sections.ShType.TheVariants.{Null}
 use Rattle.xmas_elf.specs.Prelude.{ElfError, ElfFile, SectionHeader, ShType}
 use Rattle.xmas_elf.specs.First.{FindsFirst}
-use Rattle.xmas_elf.specs.NameTable.{Bears, FindsNamed, IsNameAt, is_name, name_of, name_table_of, section_named, shstr_of}
-use Rattle.xmas_elf.specs.SectionHeader.{section_fields, section_type}
-use Rattle.xmas_elf.specs.SectionList.{section_list}
+use Rattle.xmas_elf.specs.NameTable.{HasName, FindsNamed, IsNameAt, is_name, name_of, name_table_of, section_named, shstr_of}
+use Rattle.xmas_elf.specs.SectionHeader.{section_fields, section_list, section_type}
 use Rattle.xmas_elf.proofs.FirstNamed.{is-name_table, name_at, not_refused, went_on}
 
--- a search by a test that decides a property finds the first that has it
+-- a search by a test that decides a property finds the first item that has it
 module _ {H : Type 0} (test : H → Bool) (P : H → Type 0) (decides : (h : H) → Decides (test h) (P h)) where
   fails : (h : H) (r : Bool) → test h ≡ r → ¬ P h → test h ≡ false
   fails h true is never = absurd (never ((decides h).0 is))
@@ -30,7 +29,7 @@ module _ {H : Type 0} (test : H → Bool) (P : H → Type 0) (decides : (h : H) 
       let position : position_or_len test items ≡ i = position_or_len_is test items i h (omega arith) (λ k low. fails _ _ refl (none k h (omega arith) low)) (λ within. (decides _).1 (subst P (sym (at h)) has)) in
       find_at test items ∙ ap (slice_get items) position ∙ slice_get-get_or items i h below ∙ ap Some (at h)
 
--- the text at an index of the name table that is computed is the text there
+-- if `shstr_of` is a text, it is the text at that index of the name table
 shstr_of-is : (file : ElfFile) (index : ℕ) (name : List ℕ) → shstr_of file index ≡ Ok name → IsNameAt file index name
 unfolding shstr_of
 shstr_of-is file index name is =
@@ -43,14 +42,14 @@ is-shstr_of file index name at =
     let table : name_table_of file ≡ Ok at.table = is-name_table file at.table at.in_table in
     rw table (is-text_of at.table index name at.is_text)
 
--- and so is the name of a section
+-- if `name_of` is a text, it is the name of the section
 null_test : (kind : ShType) → kind ≢ Null → is_sh_type Null kind ≡ false
 null_test Null other = absurd (other refl)
 null_test _ other = refl
 
-name_of-bears : (file : ElfFile) (section : SectionHeader) (name : List ℕ) → name_of file section ≡ Ok name → Bears file section name
+name_of-has_name : (file : ElfFile) (section : SectionHeader) (name : List ℕ) → name_of file section ≡ Ok name → HasName file section name
 unfolding name_of
-name_of-bears file section name is =
+name_of-has_name file section name is =
     let (kind, typed, answered) = went_on (section_type section) _ name is in
     let (test, text) = not_refused (is_sh_type Null kind) _ _ name answered in
     record {
@@ -60,25 +59,25 @@ name_of-bears file section name is =
       named = shstr_of-is file (section_fields section).name name text;
     }
 
-bears-name_of : (file : ElfFile) (section : SectionHeader) (name : List ℕ) → Bears file section name → name_of file section ≡ Ok name
+has_name-name_of : (file : ElfFile) (section : SectionHeader) (name : List ℕ) → HasName file section name → name_of file section ≡ Ok name
 unfolding name_of
-bears-name_of file section name bears =
-    let typed : section_type section ≡ Ok bears.kind = bears.typed in
-    let other : is_sh_type Null bears.kind ≡ false = null_test bears.kind bears.not_null in
-    rw (typed, other) (is-shstr_of file (section_fields section).name name bears.named)
+has_name-name_of file section name has =
+    let typed : section_type section ≡ Ok has.kind = has.typed in
+    let other : is_sh_type Null has.kind ≡ false = null_test has.kind has.not_null in
+    rw (typed, other) (is-shstr_of file (section_fields section).name name has.named)
 
--- the test of a name decides whether the section bears it
+-- the test of a name decides whether the section has it
 is_name-ok : (name : List ℕ) (r : Result (List ℕ) ElfError) → Decides (is_name name r) (r ≡ Ok name)
 is_name-ok name (Ok text) = (λ test. ap Ok ((bytes_eq-Decides text name).0 test), λ same. (bytes_eq-Decides text name).1 (cc))
 is_name-ok name (Err error) = (λ test. cc, λ same. cc)
 
-is_name-Decides : (file : ElfFile) (name : List ℕ) (section : SectionHeader) → Decides (is_name name (name_of file section)) (Bears file section name)
+is_name-Decides : (file : ElfFile) (name : List ℕ) (section : SectionHeader) → Decides (is_name name (name_of file section)) (HasName file section name)
 is_name-Decides file name section =
-    let (borne, named) = is_name-ok name (name_of file section) in
-    (λ test. name_of-bears file section name (borne test), λ bears. named (bears-name_of file section name bears))
+    let (here, named) = is_name-ok name (name_of file section) in
+    (λ test. name_of-has_name file section name (here test), λ has. named (has_name-name_of file section name has))
 
--- so what a search along the list of sections answers is the one that is computed
+-- the result of a search in the list of sections is the computed one
 pub is-section_named : (file : ElfFile) (name : List ℕ) (r : Option SectionHeader) → FindsNamed file name r → r ≡ section_named file name
 unfolding section_named
 is-section_named file name r found =
-    sym (finds (λ s. is_name name (name_of file s)) (λ s. Bears file s name) (is_name-Decides file name) (section_list file) r found)
+    sym (finds (λ s. is_name name (name_of file s)) (λ s. HasName file s name) (is_name-Decides file name) (section_list file) r found)

@@ -5,13 +5,13 @@ use Rattle.std.specs.Fmt.{HasWritten, IsPlainFormatter}
 use Rattle.std.specs.declared.fmt.Formatter.{Formatter}
 use Rattle.xmas_elf.specs.Report.{lines_from}
 
--- the index stays small, and what was written and the lines of the headers left make up all lines
+-- the index stays small, and the written lines and the lines of the remaining headers are all lines
 abbrev pub LinesSoFar : {W H : Type 0} → (W → List ℕ → W → Type 0) → (ℕ → H → List ℕ) → List ℕ → Formatter W → ℕ → List H → Formatter W → Type 0
 LinesSoFar took line all initial index headers f = (index + length headers < 2 ^ 60)
     × (IsPlainFormatter initial → (written : List ℕ) × HasWritten took initial written f
     × (written ++ lines_from line index headers ≡ all))
 
--- one header further
+-- the state of the loop after one more header
 pub next_line : {W H : Type 0} (took : W → List ℕ → W → Type 0) (line : ℕ → H → List ℕ) (all : List ℕ) (initial f g : Formatter W) (index : ℕ) (headers others : List H) (h : H)
     → headers ≡ h ∷ others → (IsPlainFormatter f → HasWritten took f (line index h) g)
     → LinesSoFar took line all initial index headers f → LinesSoFar took line all initial (index + 1) others g

@@ -1,4 +1,4 @@
--- How many numbers have a property: counts that are joined, and counts that are compared.
+-- The number of natural numbers with a property: sums and comparisons of such numbers.
 use Rattle.std.proofs.Common.{◌≡◌, ◌<◌, ◌≤◌, ◌+◌, ℕ, List, [], ◌∷◌, ◌++◌, true, length, ◌⊎◌, inl, inr, refl, sym, subst, arith}
 use Rattle.std.proofs.Math.Dec.{eqb}
 use Rattle.std.proofs.lemmas.Bool.{cases_Bool, eq-eqb, eqb-true, false_from_ne_true, or_cases, or_left, or_right}
@@ -33,12 +33,12 @@ distinct_head x xs d h =
     let bound : length (x ∷ xs) ≤ length xs = length-le_from_is_member nat_eq_equiv (x ∷ xs) xs d (λ i k. in_cons (In i xs) i x xs k (λ same. subst (λ z. In z xs) (sym same) h) (λ later. later)) in
     omega arith
 
--- no number of the property
+-- no number has the property
 pub count_none : (Q : ℕ → Type 0) → ((i : ℕ) → Q i → ⊥) → IsCount Q 0
 unfolding IsDistinct
 count_none Q none = record { list = []; once = tt; each = λ i. ((λ h. absurd (cc)), λ q. absurd (none i q)); many = refl }
 
--- the same numbers by another property
+-- two properties of the same numbers
 pub count_same : (Q R : ℕ → Type 0) (n : ℕ) → ((i : ℕ) → Q i → R i) → ((i : ℕ) → R i → Q i) → IsCount Q n → IsCount R n
 count_same Q R n to from count = record {
   list = count.list;
@@ -47,7 +47,7 @@ count_same Q R n to from count = record {
   many = count.many;
 }
 
--- one number more
+-- a property of one number more
 pub count_more : (Q R : ℕ → Type 0) (n x : ℕ) → (Q x → ⊥) → R x → ((i : ℕ) → Q i → R i) → ((i : ℕ) → R i → (i ≡ x) ⊎ Q i) → IsCount Q n → IsCount R (n + 1)
 count_more Q R n x new here to from count = record {
   list = x ∷ count.list;
@@ -59,7 +59,7 @@ count_more Q R n x new here to from count = record {
   many = omega (arith, count.many);
 }
 
--- two properties that no number has both
+-- the sum for two properties that no number has both
 pub count_join : (Q R S : ℕ → Type 0) (n m : ℕ) → ((i : ℕ) → Q i → R i → ⊥) → ((i : ℕ) → Q i → S i) → ((i : ℕ) → R i → S i) → ((i : ℕ) → S i → Q i ⊎ R i) → IsCount Q n → IsCount R m → IsCount S (n + m)
 count_join Q R S n m apart left right from count other =
     count_same (λ i. In i count.list ⊎ R i) S (n + m)
@@ -91,14 +91,15 @@ lacking (x ∷ xs) ys = elim (cases_Bool (list_any (eqb x) ys)) [
   | inr absent ↦ inl (x, in_here x x xs refl, λ h. cc)
 ]
 
--- where fewer numbers have one property than another, some has only the other
+-- if fewer numbers have one property than another, some number has only the other
 pub count_lacks : (Q R : ℕ → Type 0) (n m : ℕ) → n < m → IsCount Q n → IsCount R m → (i : ℕ) × R i × (Q i → ⊥)
 count_lacks Q R n m fewer count other = elim (lacking other.list count.list) [
   | inl (i, h, absent) ↦ (i, (other.each i).0 h, λ q. absent ((count.each i).1 q))
   | inr all ↦ absurd (let bound : length other.list ≤ length count.list = length-le_from_is_member nat_eq_equiv other.list count.list other.once all in omega (arith, count.many, other.many))
 ]
 
--- where as many numbers have a property as another that follows from it, the first follows from the other
+-- if at least as many numbers have a property as another that follows from it, the first follows from the
+-- other
 pub count_all : (Q R : ℕ → Type 0) (n m : ℕ) → m ≤ n → ((i : ℕ) → Q i → R i) → IsCount Q n → IsCount R m → (i : ℕ) → R i → Q i
 count_all Q R n m many to count other i r = elim (cases_Bool (list_any (eqb i) count.list)) [
   | inl there ↦ (count.each i).0 there

@@ -1,5 +1,5 @@
--- Names of symbols that are compared in the string table that was found for them.
-use Rattle.std.proofs.Common.{◌≡◌, ◌↔◌, ℕ, List, Option, Some, Result, Ok, Err, Bool, true, false, IsTrue, IfSome, Bor, ap}
+-- Names of symbols, compared in the string table that was found for them.
+use Rattle.std.proofs.Common.{rules, ◌≡◌, ◌↔◌, ℕ, List, Option, Some, Result, Ok, Err, Bool, true, false, IsTrue, IfSome, Bor, ap}
 use Rattle.std.specs.Result.{result_ok}
 use Rattle.elf_base.specs.Lent.{Answers}
 use Rattle.elf_base.specs.Text.{IsText, text_of}
@@ -19,13 +19,19 @@ compared table index wanted b said = (
   λ same. said.1 (text_of-is table index wanted (ok_of_some (text_of table index) wanted same)),
 )
 
--- a symbol bears the text that stands at its name in the table
-pub stands_named : {E : Type 0} (fields : E → SymbolFields) (text : E → Option (List ℕ)) (strings : Option (Result (Bor (List ℕ)) ElfError)) (found : Result (Bor (List ℕ)) ElfError) (table : Bor (List ℕ)) (entry : E) (index : ℕ) (wanted : List ℕ) (b : Bool) → IfSome strings (HoldsNames fields text) → strings ≡ Some found → found ≡ Ok table → index ≡ (fields entry).name → (IsTrue b ↔ IsText table.now index wanted) → IsTrue b ↔ (text entry ≡ Some wanted)
-stands_named fields text strings found table entry index wanted b holds is ok at said =
-    let bears = rw (is, ok) at holds in
-    rw (bears entry, ← at) (compared table.now index wanted b said)
+-- a symbol has the text at its name in the string table
+pub named_at : {E : Type 0} (fields : E → SymbolFields) (text : E → Option (List ℕ)) (found : Result (Bor (List ℕ)) ElfError) (table : Bor (List ℕ)) (entry : E) (index : ℕ) (wanted : List ℕ) (b : Bool) → HoldsNames fields text found → found ≡ Ok table → index ≡ (fields entry).name → (IsTrue b ↔ IsText table.now index wanted) → IsTrue b ↔ (text entry ≡ Some wanted)
+named_at fields text found table entry index wanted b holds ok at said =
+    let named = rw ok at holds in
+    rw (named entry, ← at) (compared table.now index wanted b said)
 
--- what is found of a string table holds the names that are the texts there
+-- a symbol has no name if there is no string table
+pub nameless : {E : Type 0} (fields : E → SymbolFields) (text : E → Option (List ℕ)) (found : Result (Bor (List ℕ)) ElfError) (error : ElfError) (entry : E) (wanted : List ℕ) → HoldsNames fields text found → found ≡ Err error → IsTrue false ↔ (text entry ≡ Some wanted)
+nameless fields text found error entry wanted holds refused =
+    let named = rw refused at holds in
+    rw (named entry) (search rules)
+
+-- the string table that was found contains the names of the symbols
 pub holds_found : (dynamic : Bool) (file : ElfFile) (found : Result (Bor (List ℕ)) ElfError) (index : ℕ) → Answers (symbol_strings_of dynamic file) found → result_ok (symbol_string_of dynamic file index) ≡ result_ok (name_in_table found index)
 unfolding string_of dyn_string_of
 holds_found true file (Ok bytes) index is = rw is

@@ -8,3 +8,4 @@ pub mod Walks
 pub mod Reports
 pub mod Extensions
 pub mod Enums
+pub mod Flushes

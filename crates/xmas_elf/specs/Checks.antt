@@ -1,24 +1,23 @@
--- What the checks of headers look at (this project's own, after the Rust crate).
+-- The checks of headers (this project's own, after the Rust crate).
 use Rattle.std.specs.Prelude.{ℕ, ◌+◌, ◌%◌, ◌==◌, ◌&&◌, not, nat_eq, nat_lt, nat_le, is_err, Bool, [], ◌∷◌, length, Result, Ok}
 use lib.Pointwise.{pointwise}
 use Rattle.elf_base.specs.Refusal.{and_then, unless}
 use Rattle.elf_base.specs.HeaderNumbers.{encoding_number, version_number}
-use Rattle.elf_base.specs.HeaderLayout.{header_fields, pt2_size}
-use Rattle.elf_base.specs.FileHeader.{file_class, magic_number}
+use Rattle.elf_base.specs.FileHeader.{file_class, header_fields, magic_number, pt2_size}
 use Rattle.elf_base.specs.declared.header.HeaderPt2.TheVariants.{Header32, Header64}
 use Rattle.elf_records.specs.ProgramNumbers.{has_ph_type}
 use Rattle.elf_records.specs.declared.program.Type.TheVariants.{ShLib}
-use Rattle.xmas_elf.specs.Prelude.{BadAlign, BadMagic, ClassMismatch, ElfError, ElfFile, EntryPointRange, HeaderPt2, HeaderSize, InvalidPhType, NoClass, NoDataFormat, NoVersion, PhSizeMismatch, PhTableRange, ProgramHeader, ProgramHeader64, SectionHeader, ShLibUsed, ShTableRange}
-use Rattle.xmas_elf.specs.Counts.{program_count_of, section_count_of}
+use Rattle.elf_base.specs.declared.error.ElfError.TheVariants.{BadAlign, BadMagic, ClassMismatch, EntryPointRange, HeaderSize, InvalidPhType, NoClass, NoDataFormat, NoVersion, PhSizeMismatch, PhTableRange, ShLibUsed, ShTableRange}
+use Rattle.xmas_elf.specs.Prelude.{ElfError, ElfFile, HeaderPt2, ProgramHeader, ProgramHeader64, SectionHeader}
+use Rattle.xmas_elf.specs.SectionHeader.{program_count_of, section_count_of, section_place, section_type}
 use Rattle.xmas_elf.specs.ProgramHeader.{program_fields, program_place, program_record_size, segment_type}
-use Rattle.xmas_elf.specs.SectionHeader.{section_place, section_type}
 
--- the class whose part 2 this is
+-- the class number of part 2
 abbrev pub part_class : HeaderPt2 → ℕ
 part_class (Header32 part) = 1
 part_class (Header64 part) = 2
 
--- the first fault of an ELF header over its input; a table ends where one more entry would begin
+-- the first error in an ELF header over its input; a table ends where one more entry would begin
 unfoldable pub header_check : ElfFile → Result (Unit {0}) ElfError
 header_check file = let header = file.header in unless (
     (not (pointwise nat_eq header.pt1.magic magic_number), BadMagic)
@@ -31,7 +30,7 @@ header_check file = let header = file.header in unless (
     ∷ (nat_lt (length file.input.now) (section_place header (section_count_of file)), ShTableRange)
     ∷ []) tt
 
--- the one fault of a section header: a type that is none
+-- the only error in a section header: an unknown type
 abbrev pub section_check : SectionHeader → Result (Unit {0}) ElfError
 section_check section = and_then (section_type section) (λ kind. Ok tt)
 
@@ -40,7 +39,7 @@ abbrev pub is_misaligned : ProgramHeader64 → Bool
 is_misaligned segment =
     nat_lt 1 segment.align && not (segment.virtual_addr % segment.align == segment.offset % segment.align)
 
--- the first fault of a program header over a file
+-- the first error in a program header over a file
 unfoldable pub program_check : ElfFile → ProgramHeader → Result (Unit {0}) ElfError
 program_check file program = let segment = program_fields program in unless (
     (not ((header_fields file.header.pt2).ph_entry_size == program_record_size program), PhSizeMismatch)

@@ -1,8 +1,8 @@
--- How many numbers have a property (this project's own).
+-- The number of natural numbers with a property (this project's own).
 use Rattle.std.specs.Prelude.{◌≡◌, ◌↔◌, ℕ, IsTrue, List, length, nat_eq}
 use Rattle.std.specs.List.{IsDistinct, list_any}
 
--- n numbers have the property: a list names each of them once, and no others
+-- n numbers have the property: a list contains each of them once, and no others
 pub record IsCount (Q : ℕ → Type 0) (n : ℕ) : Type 0 where
   pub list : List ℕ
   pub once : IsDistinct nat_eq list

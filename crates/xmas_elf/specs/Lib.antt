@@ -1,9 +1,7 @@
 pub use Rattle.elf_base.specs.Number
 pub use Rattle.elf_base.specs.Refusal
 pub use Rattle.elf_base.specs.Message
-pub use Rattle.elf_base.specs.Named
 pub use Rattle.elf_base.specs.HeaderNumbers
-pub use Rattle.elf_base.specs.HeaderLayout
 pub use Rattle.elf_base.specs.FileHeader
 pub use Rattle.elf_base.specs.Printed
 pub use Rattle.elf_base.specs.HeaderText
@@ -18,8 +16,8 @@ pub use Rattle.elf_records.specs.HashNumber
 pub use Rattle.elf_records.specs.Relocations
 pub use Rattle.elf_records.specs.Dynamic
 pub use Rattle.elf_records.specs.Note
--- for the variants of these types, in `TheVariants` behind each: the types and constants themselves are imported
--- from `Types`, where `DynamicTag` is `Tag`
+-- the variants of these types are in their `TheVariants`; import the types and constants themselves from
+-- `Types`, where `DynamicTag` is `Tag`
 pub use Rattle.elf_base.specs.declared.error.ElfError
 pub use Rattle.elf_base.specs.declared.bytes.Order
 pub use Rattle.elf_base.specs.declared.header.Header
@@ -45,14 +43,13 @@ pub mod Prelude
 pub mod First
 pub mod HeaderTable
 pub mod SectionHeader
-pub mod Counts
-pub mod SectionList
 pub mod SectionTable
 pub mod Ranges
 pub mod SectionData
 pub mod Symbol
 pub mod HashTable
 pub mod Symbols
+pub mod SymbolTable
 pub mod Chain
 pub mod Counted
 pub mod Good
@@ -66,9 +63,7 @@ pub mod SymbolSection
 pub mod SymbolText
 pub mod SectionText
 pub mod ProgramHeader
-pub mod ProgramList
 pub mod ProgramTable
-pub mod SegmentData
 pub mod SegmentContent
 pub mod ProgramText
 pub mod Checks

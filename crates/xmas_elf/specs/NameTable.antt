@@ -1,5 +1,5 @@
--- The names of sections, and the section with a name (gABI, "String Table" and "ELF Header",
--- e_shstrndx; that the table goes on past its section, of whatever type, is this project's own).
+-- The names of sections, and a section by its name (gABI, "String Table" and "ELF Header", e_shstrndx; that
+-- the table extends past its section, of any type, is this project's own).
 use Rattle.std.specs.Prelude.{◌≡◌, ◌≢◌, ℕ, ◌<◌, ◌≤◌, nat_lt, Bool, false, List, [], ◌∷◌, length, drop, Option, Result, Ok, Err, if◌then◌else◌}
 use Rattle.std.specs.List.{find}
 use Rattle.std.specs.Str.{bytes_eq}
@@ -8,26 +8,25 @@ use Rattle.elf_base.specs.Text.{IsText, text_of}
 use Rattle.elf_base.specs.TextCompared.{TextCompared}
 use Rattle.elf_records.specs.SectionNumbers.{is_sh_type}
 use Rattle.elf_records.specs.declared.sections.ShType.TheVariants.{Null}
-use Rattle.xmas_elf.specs.Prelude.{ElfError, ElfFile, NullName, SectionHeader, ShType, ShortSectionOffset}
-use Rattle.xmas_elf.specs.Counts.{section_count_of, shstr_index_of}
+use Rattle.elf_base.specs.declared.error.ElfError.TheVariants.{NullName, ShortSectionOffset}
+use Rattle.xmas_elf.specs.Prelude.{ElfError, ElfFile, SectionHeader, ShType}
+use Rattle.xmas_elf.specs.SectionHeader.{section_count_of, section_fields, section_list, section_of, section_type, shstr_index_of}
 use Rattle.xmas_elf.specs.First.{FindsFirst}
 use Rattle.xmas_elf.specs.HeaderTable.{EachBelow}
-use Rattle.xmas_elf.specs.SectionHeader.{section_fields, section_of, section_type}
-use Rattle.xmas_elf.specs.SectionList.{section_list}
 
--- the section that holds the names, or why it can't be read
+-- the section that contains the names, or why it can't be read
 unfoldable pub names_section_of : ElfFile → Result SectionHeader ElfError
 names_section_of file = and_then (shstr_index_of file) (section_of file)
 
--- `table` is the name table: the input from the offset of that section to its end, also past the end
--- of the section, whose type and size don't matter
+-- `table` is the name table: the input from the offset of that section to the end of the input, whatever the
+-- type and size of the section
 pub record IsNameTable (file : ElfFile) (table : List ℕ) : Type 0 where
   pub section : SectionHeader
   pub names : names_section_of file ≡ Ok section
   pub within : (section_fields section).offset ≤ length file.input.now
   pub table_is : table ≡ drop (section_fields section).offset file.input.now
 
--- the name table as it is computed, or why there is none
+-- the name table, or why there is none, as a function
 unfoldable pub name_table_of : ElfFile → Result (List ℕ) ElfError
 name_table_of file = and_then (names_section_of file) (λ section. unless (
     (nat_lt (length file.input.now) (section_fields section).offset, ShortSectionOffset)
@@ -39,44 +38,44 @@ pub record IsNameAt (file : ElfFile) (index : ℕ) (name : List ℕ) : Type 0 wh
   pub in_table : IsNameTable file table
   pub is_text : IsText table index name
 
--- the text at an index of the name table as it is computed, or why there is none
+-- the text at an index of the name table, or why there is none, as a function
 unfoldable pub shstr_of : ElfFile → ℕ → Result (List ℕ) ElfError
 shstr_of file index = and_then (name_table_of file) (λ table. text_of table index)
 
--- how a comparison with the text at an index of the name table ends; without a name table nothing is
--- compared
+-- the result of a comparison with the text at an index of the name table; nothing is compared if there is no
+-- name table
 abbrev pub NameCompared : Result (List ℕ) ElfError → ℕ → List ℕ → Bool → ℕ → Type 0
 NameCompared (Ok table) index name answer count = TextCompared table index name answer count
 NameCompared (Err error) index name answer count = (answer ≡ false) × (count ≡ 0)
 
--- a section bears a name: its type is valid and not Null, and the name stands in the name table
-pub record Bears (file : ElfFile) (section : SectionHeader) (name : List ℕ) : Type 0 where
+-- a section has a name: its type is known and not Null, and the name is in the name table
+pub record HasName (file : ElfFile) (section : SectionHeader) (name : List ℕ) : Type 0 where
   pub kind : ShType
   pub typed : section_type section ≡ Ok kind
   pub not_null : kind ≢ Null
   pub named : IsNameAt file (section_fields section).name name
 
--- the name of a section as it is computed, or why it has none
+-- the name of a section, or why it has none, as a function
 unfoldable pub name_of : ElfFile → SectionHeader → Result (List ℕ) ElfError
 name_of file section = and_then (section_type section)
     (λ kind. if is_sh_type Null kind then Err NullName else shstr_of file (section_fields section).name)
 
--- section header `index` bears the name, and none before it does
+-- section header `index` has the name, and none before it does
 pub record IsFirstNamed (file : ElfFile) (name : List ℕ) (index : ℕ) (section : SectionHeader) : Type 0 where
   pub below : index < section_count_of file
   pub is_header : section_of file index ≡ Ok section
-  pub bears : Bears file section name
-  pub first : EachBelow (section_of file) (λ earlier. ¬ Bears file earlier name) index
+  pub named : HasName file section name
+  pub first : EachBelow (section_of file) (λ earlier. ¬ HasName file earlier name) index
 
--- what a search for the name along the list of sections answers
+-- the result of a search for the name in the list of sections
 abbrev pub FindsNamed : ElfFile → List ℕ → Option SectionHeader → Type 0
-FindsNamed file name found = FindsFirst (λ section. Bears file section name) (section_list file) found
+FindsNamed file name found = FindsFirst (λ section. HasName file section name) (section_list file) found
 
--- the name of a section is this one, as a test
+-- whether the name of a section is this one
 abbrev pub is_name : List ℕ → Result (List ℕ) ElfError → Bool
 is_name name (Ok text) = bytes_eq text name
 is_name name (Err error) = false
 
--- the first section of the list that bears the name, as it is computed
+-- the first section of the list with the name, as a function
 unfoldable pub section_named : ElfFile → List ℕ → Option SectionHeader
 section_named file name = find (λ section. is_name name (name_of file section)) (section_list file)

@@ -1,4 +1,4 @@
--- Where the parts lie that are lent of a file (this project's own): each is the input's memory, and no copy.
+-- The places in the input of the parts that are lent (this project's own): they share its memory.
 use Rattle.std.specs.Prelude.{◌≢◌, ℕ, ◌+◌, List, codes, length}
 use Rattle.std.specs.Borrow.{Bor}
 use Rattle.elf_base.specs.Lent.{LiesAt}
@@ -12,22 +12,22 @@ use Rattle.xmas_elf.specs.SectionHeader.{section_fields}
 use Rattle.xmas_elf.specs.declared.program.content.SegmentData.TheVariants as segment_data
 use Rattle.xmas_elf.specs.declared.sections.content.SectionData.TheVariants as section_data
 
--- the data of a section lies at its offset in the input
+-- the data of a section is at its offset in the input
 abbrev pub LiesAsSection : ElfFile → SectionHeader → Bor (List ℕ) → Type 0
 LiesAsSection file section = LiesAt file.input (section_fields section).offset
 
--- that of a segment does too, but for the empty slice of an empty segment, which lies nowhere in it
+-- the data of a segment is at its offset in the input; the empty slice of an empty segment may be anywhere
 abbrev pub LiesAsSegment : ElfFile → ProgramHeader64 → Bor (List ℕ) → Type 0
 LiesAsSegment file segment part = segment.file_size ≢ 0 → LiesAt file.input segment.offset part
 
--- what is lent of some data: nothing, all of it, or what lies behind so many bytes
+-- the lent part of some data: nothing, all of it, or the bytes after the first `count`
 pub data Part : Type 0 where
   nothing : Part
   all : Bor (List ℕ) → Part
-  behind : ℕ → Bor (List ℕ) → Part
+  after : ℕ → Bor (List ℕ) → Part
 
--- what a value of `SectionData` lends: all data, or what follows the flags of a group or the header of
--- a note
+-- the part that a value of `SectionData` lends: all data, or the bytes after the flags of a group or after
+-- the header of a note
 abbrev pub section_part : SectionData → Part
 section_part section_data.Empty = nothing
 section_part (section_data.Undefined bytes) = all bytes
@@ -45,26 +45,26 @@ section_part (section_data.Rel64 table) = all (table_bytes table)
 section_part (section_data.Dynamic32 table) = all (table_bytes table)
 section_part (section_data.Dynamic64 table) = all (table_bytes table)
 section_part (section_data.SymTabShIndex table) = all (table_bytes table)
-section_part (section_data.Group flags table) = behind 4 (table_bytes table)
-section_part (section_data.Note64 header body) = behind 12 body
+section_part (section_data.Group flags table) = after 4 (table_bytes table)
+section_part (section_data.Note64 header body) = after 12 body
 section_part (section_data.HashTable table) = all (hash_bytes table)
 
--- what a value of `SegmentData` lends
+-- the part that a value of `SegmentData` lends
 abbrev pub segment_part : SegmentData → Part
 segment_part segment_data.Empty = nothing
 segment_part (segment_data.Undefined bytes) = all bytes
 segment_part (segment_data.Dynamic32 table) = all (table_bytes table)
 segment_part (segment_data.Dynamic64 table) = all (table_bytes table)
-segment_part (segment_data.Note64 header body) = behind 12 body
+segment_part (segment_data.Note64 header body) = after 12 body
 
--- it lies in data that begin at place `start` of these bytes
+-- the part is one of data that begins at place `start` of `whole`
 abbrev pub PartLies : Bor (List ℕ) → ℕ → Part → Type 0
 PartLies whole start nothing = Unit {0}
 PartLies whole start (all bytes) = LiesAt whole start bytes
-PartLies whole start (behind count bytes) = LiesAt whole (start + count) bytes
+PartLies whole start (after count bytes) = LiesAt whole (start + count) bytes
 
--- a build id lies in a note section with this name: behind the note's header, and its name with what
--- fills that up to a multiple of four
+-- a build id is in a note section with this name, after the note's header, its name and the padding of the
+-- name to a multiple of four
 pub record LiesAsBuildId (file : ElfFile) (id : Bor (List ℕ)) : Type 0 where
   pub index : ℕ
   pub section : SectionHeader
@@ -74,7 +74,7 @@ pub record LiesAsBuildId (file : ElfFile) (id : Bor (List ℕ)) : Type 0 where
   pub in_section : IsNoteSection file section header body
   pub lies : LiesAt file.input ((section_fields section).offset + (12 + rounded_up (note_name_size header))) id
 
--- what follows the text of an alternate link lies behind the text's zero byte in the section
+-- the rest of an alternate link follows the text's zero byte in the section
 pub record LiesAsRest (file : ElfFile) (text : List ℕ) (rest : Bor (List ℕ)) : Type 0 where
   pub index : ℕ
   pub section : SectionHeader

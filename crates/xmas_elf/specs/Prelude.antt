@@ -1,10 +1,8 @@
--- The types and refusals that the definitions and proofs of this crate speak of, by their names, whatever
--- module declares them.
+-- The types and errors that the definitions and proofs of this crate use, whatever module declares them.
 pub use Rattle.elf_base.specs.declared.bytes.Order.{Order}
 pub use Rattle.elf_base.specs.declared.bytes.table.Table.{Table}
 pub use Rattle.elf_base.specs.declared.bytes.table.TableIter.{TableIter}
 pub use Rattle.elf_base.specs.declared.error.ElfError.{ElfError}
-pub use Rattle.elf_base.specs.declared.error.ElfError.TheVariants.{BadAlign, BadMagic, BucketIndex, ChainIndex, ChainSum, ClassMismatch, DataRange, EntryPointRange, ExpectedShIndex, HashCycle, HashData, HashMissing, HeaderSize, InvalidBinding, InvalidClass, InvalidPhType, InvalidPtr, InvalidShType, InvalidSymbolType, InvalidTag, InvalidValue, NoClass, NoDataFormat, NoDynstr, NoMagic, NoProgramHeaders, NoShIndex, NoStrtab, NoVersion, NotMultiple, Note32, NoteDesc, NoteName, NullData, NullName, PhSizeMismatch, PhTableRange, ReservedIndex, ReservedSymbolIndex, ShLibUsed, ShTableRange, ShortData, ShortHeaders, ShortPart1, ShortProgramHeader, ShortSectionHeader, ShortSectionOffset, SmallEntry, StrtabType, SymbolIndex, TextEnd, TextStart, TextUtf8, UnknownClass, WideIndex}
 pub use Rattle.elf_base.specs.declared.header.Header.{Header}
 pub use Rattle.elf_base.specs.declared.header.HeaderPt1.{HeaderPt1}
 pub use Rattle.elf_base.specs.declared.header.HeaderPt2.{HeaderPt2}

@@ -1,4 +1,4 @@
--- How a program header is printed (this project's own, after the Rust crate).
+-- The printed form of a program header (this project's own, after the Rust crate).
 use Rattle.std.specs.Prelude.{ℕ, List, [], ◌∷◌, ◌++◌, codes}
 use Rattle.elf_base.specs.Printed.{field_line, hex_text, joined, result_text}
 use Rattle.elf_records.specs.ProgramNumbers.{flags_text, ph_type_number, ph_type_of, ph_type_text}
@@ -8,7 +8,7 @@ use Rattle.xmas_elf.specs.Prelude.{ProgramHeader64}
 abbrev pub segment_type_text : ℕ → List ℕ
 segment_type_text number = result_text ph_type_text (ph_type_of number)
 
--- the fields of either width
+-- the fields of either class
 abbrev pub program_fields_text : ProgramHeader64 → List ℕ
 program_fields_text segment = joined (
     field_line (codes "type") (segment_type_text (ph_type_number segment.type_))

@@ -11,27 +11,25 @@ use Rattle.xmas_elf.specs.Prelude.{ElfError, ElfFile, ProgramHeader, ReportFault
 use Rattle.xmas_elf.specs.Checks.{header_check, program_check}
 use Rattle.xmas_elf.specs.ReportHash.{IsHashVerdict}
 use Rattle.xmas_elf.specs.NameTable.{name_of}
-use Rattle.xmas_elf.specs.ProgramHeader.{program_fields}
-use Rattle.xmas_elf.specs.ProgramList.{program_list}
-use Rattle.xmas_elf.specs.SectionHeader.{section_fields}
-use Rattle.xmas_elf.specs.SectionList.{section_list}
+use Rattle.xmas_elf.specs.ProgramHeader.{program_fields, program_list}
+use Rattle.xmas_elf.specs.SectionHeader.{section_fields, section_list}
 use Rattle.xmas_elf.specs.SectionText.{section_type_text}
 use Rattle.xmas_elf.specs.ProgramText.{segment_type_text}
 use Rattle.xmas_elf.specs.declared.report.ReportFault.TheVariants.{Elf, Write}
 use Rattle.xmas_elf.specs.declared.report.hash.HashVerdict.{HashVerdict}
 use Rattle.xmas_elf.specs.declared.report.hash.HashVerdict.TheVariants.{NoTable, NoSymbols, Checked}
 
--- how a fault is printed
+-- the printed form of a fault
 abbrev pub fault_text : ReportFault → List ℕ
 fault_text (Elf error) = message_of error
 fault_text Write = codes "cannot write"
 
--- what a check found: ` ok`, or ` ! ` and the fault
+-- the result of a check: ` ok`, or ` ! ` and the error
 abbrev pub verdict_text : Result (Unit {0}) ElfError → List ℕ
 verdict_text (Ok done) = codes " ok"
 verdict_text (Err error) = codes " ! " ++ message_of error
 
--- a name behind ` = `, or ` ! ` and why there is none
+-- a name after ` = `, or ` ! ` and the error for it
 abbrev pub name_text : Result (List ℕ) ElfError → List ℕ
 name_text (Ok name) = codes " = " ++ name
 name_text (Err error) = codes " ! " ++ message_of error
@@ -46,18 +44,18 @@ section_line file index section = decimal index ++ (codes " "
     ++ (section_type_text (section_fields section).type_
     ++ (name_text (name_of file section) ++ codes "\n")))
 
--- the line of a segment: its index, its type, what its check found
+-- the line of a segment: its index, its type, the result of its check
 unfoldable pub segment_line : ElfFile → ℕ → ProgramHeader → List ℕ
 segment_line file index program = decimal index ++ (codes " "
     ++ (segment_type_text (ph_type_number (program_fields program).type_)
     ++ (verdict_text (program_check file program) ++ codes "\n")))
 
--- the lines of headers, the first of which has this index
+-- the lines of headers, the first of which has index `index`
 abbrev pub lines_from : {H : Type 0} → (ℕ → H → List ℕ) → ℕ → List H → List ℕ
 lines_from line index [] = []
 lines_from line index (h ∷ others) = line index h ++ lines_from line (index + 1) others
 
--- the lines of all sections but the first
+-- the lines of all sections except the first
 abbrev pub section_lines : ElfFile → List ℕ
 section_lines file = lines_from (section_line file) 1 (drop 1 (section_list file))
 
@@ -71,7 +69,7 @@ hash_line NoTable = codes "hash: none\n"
 hash_line NoSymbols = codes "hash: no symbols\n"
 hash_line (Checked answer) = codes "hash:" ++ (verdict_text answer ++ codes "\n")
 
--- the report of a file with this hash line, item after item
+-- the report of a file with this result for the hash table
 unfoldable pub report_text : ElfFile → HashVerdict → List ℕ
 report_text file verdict = joined (
     header_text file.header
@@ -84,21 +82,21 @@ report_text file verdict = joined (
     ∷ hash_line verdict
     ∷ [])
 
--- what was written has grown by the report of the file
+-- the report of the file was appended to what was written
 abbrev pub AppendsReport : ElfFile → Option (List ℕ) → Option (List ℕ) → Type 0
 AppendsReport file old new = (verdict : HashVerdict) × IsHashVerdict file verdict
     × Appends old new (report_text file verdict)
 
--- the input is accepted, and what was written has grown by the report of the file that it is
+-- the input is accepted, and the report of its file was appended to what was written
 abbrev pub WritesReport : Bor (List ℕ) → Option (List ℕ) → Option (List ℕ) → Type 0
 WritesReport input old new = IsOkAnd (header_of input.now)
     (λ header. AppendsReport (record { input = input; header = header }) old new)
 
--- the answer is `Elf(error)` exactly where the bytes are refused with that error
+-- the result is `Elf(error)` exactly if the bytes are refused with that error
 abbrev pub RefusesExactly : List ℕ → Result (Unit {0}) ReportFault → Type 0
 RefusesExactly bytes result = (error : ElfError) → (result ≡ Err (Elf error)) ↔ (header_of bytes ≡ Err error)
 
--- where the bytes are refused the writer is what it was
+-- if the bytes are refused, the writer is unchanged
 abbrev pub WritesNothing : {W : Type 0} → ReportFault → W → W → Type 0
 WritesNothing (Elf error) old new = new ≡ old
 WritesNothing Write old new = Unit {0}

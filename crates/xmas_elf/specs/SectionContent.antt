@@ -1,17 +1,17 @@
--- What the data of a section is taken for, by its type (gABI, "Sections", sh_type).
+-- The contents of a section, by its type (gABI, "Sections", sh_type).
 use Rattle.std.specs.Prelude.{ℕ, Bool, true, false, List, Result, Ok, if◌then◌else◌}
 use Rattle.elf_base.specs.FileHeader.{file_class, file_order}
 use Rattle.elf_base.specs.Refusal.{and_then}
 use Rattle.elf_base.specs.Table.{table_data, table_order}
 use Rattle.elf_records.specs.declared.sections.ShType.TheVariants as sh_type
 use Rattle.xmas_elf.specs.Prelude.{ElfError, ElfFile, Order, SectionData, SectionHeader, ShType}
-use Rattle.xmas_elf.specs.Content.{Content, by_class, dyn_symbols_32, dyn_symbols_64, dynamic_32, dynamic_64, empty, functions_32, functions_64, group, group_of, hash_table, hash_table_of, note_64, note_of, rel_32, rel_64, rela_32, rela_64, section_indices, strings, symbols_32, symbols_64, table_of, undefined, whole_table}
+use Rattle.xmas_elf.specs.Content.{Content, by_class, dyn_symbols_32, dyn_symbols_64, dynamic_32, dynamic_64, empty, functions_32, functions_64, group, group_content, hash_table, hash_table_content, note_64, note_content, rel_32, rel_64, rela_32, rela_64, section_indices, strings, symbols_32, symbols_64, table_of, undefined, whole_table}
 use Rattle.xmas_elf.specs.HashTable.{hash_data, hash_order}
 use Rattle.xmas_elf.specs.Ranges.{range_of}
 use Rattle.xmas_elf.specs.SectionHeader.{section_fields, section_type}
 use Rattle.xmas_elf.specs.declared.sections.content.SectionData.TheVariants as section_data
 
--- what a value of `SectionData` holds
+-- the contents in a value of `SectionData`
 abbrev pub section_content : SectionData → Content
 section_content section_data.Empty = empty
 section_content (section_data.Undefined bytes) = undefined bytes.now
@@ -33,8 +33,8 @@ section_content (section_data.Group flags table) = group flags (table_order tabl
 section_content (section_data.Note64 header body) = note_64 header body.now
 section_content (section_data.HashTable table) = hash_table (hash_order table) (hash_data table)
 
--- what bytes are in a section of this type, which has bytes, in a file of this class and order, or why
--- they can't be
+-- the contents of bytes in a section of this type, which has bytes, in a file of this class and byte order,
+-- or why they are malformed
 abbrev pub content_of_section : ShType → ℕ → Order → List ℕ → Result Content ElfError
 content_of_section sh_type.StrTab class order bytes = Ok (strings bytes)
 content_of_section sh_type.SymTab class order bytes = by_class symbols_32 symbols_64 class order bytes
@@ -46,23 +46,23 @@ content_of_section sh_type.Rela class order bytes = by_class rela_32 rela_64 cla
 content_of_section sh_type.Rel class order bytes = by_class rel_32 rel_64 class order bytes
 content_of_section sh_type.Dynamic class order bytes = by_class dynamic_32 dynamic_64 class order bytes
 content_of_section sh_type.SymTabShIndex class order bytes = whole_table section_indices order bytes
-content_of_section sh_type.Group class order bytes = group_of order bytes
-content_of_section sh_type.Note class order bytes = note_of class order bytes
-content_of_section sh_type.Hash class order bytes = hash_table_of order bytes
+content_of_section sh_type.Group class order bytes = group_content order bytes
+content_of_section sh_type.Note class order bytes = note_content class order bytes
+content_of_section sh_type.Hash class order bytes = hash_table_content order bytes
 content_of_section _ class order bytes = Ok (undefined bytes)
 
--- the type is one whose sections have no bytes in the file (SHT_NULL and SHT_NOBITS)
+-- sections of this type have no bytes in the file (SHT_NULL and SHT_NOBITS)
 abbrev pub has_no_bytes : ShType → Bool
 has_no_bytes sh_type.Null = true
 has_no_bytes sh_type.NoBits = true
 has_no_bytes _ = false
 
--- what a section of this type in a file has, or why it has nothing
+-- the contents of a section of this type in a file, or why it has none
 abbrev pub content_in : ElfFile → SectionHeader → ShType → Result Content ElfError
 content_in file section kind = if has_no_bytes kind then Ok empty
     else and_then (range_of file.input.now (section_fields section).offset (section_fields section).size)
     (content_of_section kind (file_class file.header) (file_order file.header))
 
--- what a section has, or the first reason why it has nothing
+-- the contents of a section, or the first reason why it has none
 unfoldable pub section_content_of : ElfFile → SectionHeader → Result Content ElfError
 section_content_of file section = and_then (section_type section) (content_in file section)

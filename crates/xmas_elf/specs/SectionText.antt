@@ -1,4 +1,4 @@
--- How a section header is printed (this project's own, after the Rust crate).
+-- The printed form of a section header (this project's own, after the Rust crate).
 use Rattle.std.specs.Prelude.{ℕ, List, [], ◌∷◌, ◌++◌, codes, decimal}
 use Rattle.elf_base.specs.Printed.{field_line, joined, result_text}
 use Rattle.elf_records.specs.SectionNumbers.{sh_type_of, sh_type_text}
@@ -8,7 +8,7 @@ use Rattle.xmas_elf.specs.SectionHeader.{SectionFields}
 abbrev pub section_type_text : ℕ → List ℕ
 section_type_text number = result_text sh_type_text (sh_type_of number)
 
--- the fields of either width, but `info`
+-- the fields of either class, except `info`
 abbrev pub section_fields_text : SectionFields → List ℕ
 section_fields_text section = joined (
     field_line (codes "name") (decimal section.name)

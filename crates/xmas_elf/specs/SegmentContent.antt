@@ -1,4 +1,4 @@
--- What the data of a segment is taken for, by its type (gABI, "Program Header", p_type).
+-- The contents of a segment, by its type (gABI, "Program Header", p_type).
 use Rattle.std.specs.Prelude.{ℕ, List, Result, Ok, if◌then◌else◌}
 use Rattle.elf_base.specs.FileHeader.{file_class, file_order}
 use Rattle.elf_base.specs.Refusal.{and_then}
@@ -6,12 +6,12 @@ use Rattle.elf_base.specs.Table.{table_data, table_order}
 use Rattle.elf_records.specs.ProgramNumbers.{is_ph_type}
 use Rattle.elf_records.specs.declared.program.Type.TheVariants as segment_type
 use Rattle.xmas_elf.specs.Prelude.{ElfError, ElfFile, Order, ProgramHeader64, SegmentData, SegmentType}
-use Rattle.xmas_elf.specs.Content.{Content, by_class, dynamic_32, dynamic_64, empty, note_64, note_of, table_of, undefined}
+use Rattle.xmas_elf.specs.Content.{Content, by_class, dynamic_32, dynamic_64, empty, note_64, note_content, table_of, undefined}
 use Rattle.xmas_elf.specs.ProgramHeader as program_header
-use Rattle.xmas_elf.specs.SegmentData.{segment_data_of}
+use Rattle.xmas_elf.specs.ProgramHeader.{segment_data_of}
 use Rattle.xmas_elf.specs.declared.program.content.SegmentData.TheVariants as segment_data
 
--- what a value of `SegmentData` holds
+-- the contents in a value of `SegmentData`
 abbrev pub segment_content : SegmentData → Content
 segment_content segment_data.Empty = empty
 segment_content (segment_data.Undefined bytes) = undefined bytes.now
@@ -19,14 +19,14 @@ segment_content (segment_data.Dynamic32 table) = table_of dynamic_32 (table_orde
 segment_content (segment_data.Dynamic64 table) = table_of dynamic_64 (table_order table) (table_data table)
 segment_content (segment_data.Note64 header body) = note_64 header body.now
 
--- what bytes are in a segment of this type, which isn't Null, in a file of this class and order, or why
--- they can't be
+-- the contents of bytes in a segment of this type, which isn't Null, in a file of this class and byte order,
+-- or why they are malformed
 abbrev pub content_of_segment : SegmentType → ℕ → Order → List ℕ → Result Content ElfError
 content_of_segment segment_type.Dynamic class order bytes = by_class dynamic_32 dynamic_64 class order bytes
-content_of_segment segment_type.Note class order bytes = note_of class order bytes
+content_of_segment segment_type.Note class order bytes = note_content class order bytes
 content_of_segment _ class order bytes = Ok (undefined bytes)
 
--- what a segment has, or the first reason why it has nothing
+-- the contents of a segment, or the first reason why it has none
 unfoldable pub segment_content_of : ElfFile → ProgramHeader64 → Result Content ElfError
 segment_content_of file segment = and_then (program_header.segment_type segment) (λ kind.
     if is_ph_type segment_type.Null kind then Ok empty

@@ -1,12 +1,12 @@
--- The string tables of symbols, which are found by their names, and the texts there (gABI, "Special
--- Sections": .strtab and .dynstr, and "String Table"; that the type of .strtab alone is asked is this
--- project's own).
+-- The string tables of symbols, found by their names, and their texts (gABI, "Special Sections": .strtab and
+-- .dynstr, and "String Table"; that only the type of .strtab is checked is this project's own).
 use Rattle.std.specs.Prelude.{ℕ, List, codes, Result}
 use Rattle.std.specs.Option.{ok_or}
 use Rattle.elf_base.specs.Refusal.{and_then}
 use Rattle.elf_base.specs.Text.{IsText, text_of}
 use Rattle.elf_records.specs.declared.sections.ShType.TheVariants.{StrTab}
-use Rattle.xmas_elf.specs.Prelude.{ElfError, ElfFile, NoDynstr, NoStrtab, StrtabType}
+use Rattle.elf_base.specs.declared.error.ElfError.TheVariants.{NoDynstr, NoStrtab, StrtabType}
+use Rattle.xmas_elf.specs.Prelude.{ElfError, ElfFile}
 use Rattle.xmas_elf.specs.NameTable.{section_named}
 use Rattle.xmas_elf.specs.SectionData.{IsDataNamed, IsTypedData, section_data_of, typed_data_of}
 
@@ -14,11 +14,11 @@ use Rattle.xmas_elf.specs.SectionData.{IsDataNamed, IsTypedData, section_data_of
 abbrev pub IsStrtab : ElfFile → List ℕ → Type 0
 IsStrtab file = IsTypedData file (codes ".strtab") StrTab
 
--- `table` is that of the symbols of the dynamic linker: the data of .dynstr, of whatever type
+-- `table` is the string table of the symbols for dynamic linking: the data of .dynstr, of any type
 abbrev pub IsDynstr : ElfFile → List ℕ → Type 0
 IsDynstr file = IsDataNamed file (codes ".dynstr")
 
--- `text` is the text at an index of a table, whose zero byte stands in the table too
+-- `text` is the text at an index of a table, which contains its zero byte
 pub record IsTextIn (IsTable : List ℕ → Type 0) (index : ℕ) (text : List ℕ) : Type 0 where
   pub table : List ℕ
   pub in_table : IsTable table
@@ -31,14 +31,14 @@ IsString file = IsTextIn (IsStrtab file)
 abbrev pub IsDynString : ElfFile → ℕ → List ℕ → Type 0
 IsDynString file = IsTextIn (IsDynstr file)
 
--- the two tables as they are computed, or why there is none
+-- the data of .strtab and of .dynstr, or why there is none, as a function
 unfoldable pub strtab_of : ElfFile → Result (List ℕ) ElfError
 strtab_of file = typed_data_of file (codes ".strtab") StrTab NoStrtab StrtabType
 
 unfoldable pub dynstr_of : ElfFile → Result (List ℕ) ElfError
 dynstr_of file = and_then (ok_or (section_named file (codes ".dynstr")) NoDynstr) (section_data_of file)
 
--- the texts as they are computed, or why there is none
+-- the text at an index of .strtab and of .dynstr, or why there is none, as a function
 unfoldable pub string_of : ElfFile → ℕ → Result (List ℕ) ElfError
 string_of file index = and_then (strtab_of file) (λ table. text_of table index)
 

@@ -5,49 +5,48 @@ use Rattle.elf_base.specs.Text.{IsText, TextRefused, text_of}
 use Rattle.xmas_elf.specs.Prelude.{ElfError, SectionStrings}
 use Rattle.xmas_elf.specs.Content.{Content, strings}
 
--- `items` are the texts at the front of the bytes, none of them empty, each followed by a zero byte,
--- up to the end of the bytes or an empty text; bytes that begin with no text are the last item, by why
--- they don't
-pub data Strings : List ℕ → List (Result (List ℕ) ElfError) → Type 0 where
-  at_end : Strings [] []
-  at_empty : (bytes : List ℕ) → IsText bytes 0 [] → Strings bytes []
-  refused : (bytes : List ℕ) (error : ElfError) → bytes ≢ [] → TextRefused bytes 0 error → Strings bytes (Err error ∷ [])
+-- `items` are the texts at the front of the bytes, each followed by a zero byte, up to the end of the bytes
+-- or an empty text; if the bytes after them begin with no text, the error for it is the last item
+pub data AreStringItems : List ℕ → List (Result (List ℕ) ElfError) → Type 0 where
+  at_end : AreStringItems [] []
+  at_empty : (bytes : List ℕ) → IsText bytes 0 [] → AreStringItems bytes []
+  refused : (bytes : List ℕ) (error : ElfError) → bytes ≢ [] → TextRefused bytes 0 error → AreStringItems bytes (Err error ∷ [])
   text : (first rest : List ℕ) (items : List (Result (List ℕ) ElfError)) → first ≢ []
-      → IsText (first ++ (0 ∷ rest)) 0 first → Strings rest items
-      → Strings (first ++ (0 ∷ rest)) (Ok first ∷ items)
+      → IsText (first ++ (0 ∷ rest)) 0 first → AreStringItems rest items
+      → AreStringItems (first ++ (0 ∷ rest)) (Ok first ∷ items)
 
--- the items of bytes by the text at their front, or by why there is none; `behind` has those that follow
--- the zero byte of a text of so many bytes
-abbrev pub first_item : Result (List ℕ) ElfError → (ℕ → List (Result (List ℕ) ElfError)) → List (Result (List ℕ) ElfError)
-first_item (Ok []) behind = []
-first_item (Ok (byte ∷ bytes)) behind = Ok (byte ∷ bytes) ∷ behind (length (byte ∷ bytes))
-first_item (Err error) behind = Err error ∷ []
+-- the items of bytes, by the text at their front or the error for it; `after` are the items after the zero
+-- byte of a text of `count` bytes
+abbrev pub items_by_text : Result (List ℕ) ElfError → (ℕ → List (Result (List ℕ) ElfError)) → List (Result (List ℕ) ElfError)
+items_by_text (Ok []) after = []
+items_by_text (Ok (byte ∷ bytes)) after = Ok (byte ∷ bytes) ∷ after (length (byte ∷ bytes))
+items_by_text (Err error) after = Err error ∷ []
 
--- the items behind so many bytes; after the first byte of a text come as many as it is long, the zero byte
--- among them
-unfoldable pub strings_behind : ℕ → List ℕ → List (Result (List ℕ) ElfError)
-strings_behind count [] = []
-strings_behind (suc count) (byte ∷ bytes) = strings_behind count bytes
-strings_behind zero (byte ∷ bytes) = first_item (text_of (byte ∷ bytes) 0) (λ count. strings_behind count bytes)
+-- the items after the first `count` bytes; after the first byte of a text `count` is its length, so that its
+-- zero byte is passed too
+unfoldable pub string_items_after : ℕ → List ℕ → List (Result (List ℕ) ElfError)
+string_items_after count [] = []
+string_items_after (suc count) (byte ∷ bytes) = string_items_after count bytes
+string_items_after zero (byte ∷ bytes) = items_by_text (text_of (byte ∷ bytes) 0) (λ count. string_items_after count bytes)
 
--- the items of bytes, as they are computed
-abbrev pub strings_of : List ℕ → List (Result (List ℕ) ElfError)
-strings_of bytes = strings_behind 0 bytes
+-- the items of bytes, as a function
+abbrev pub string_items : List ℕ → List (Result (List ℕ) ElfError)
+string_items bytes = string_items_after 0 bytes
 
--- the bytes that an iterator has left
+-- the bytes that an iterator has not yet passed
 abbrev pub strings_bytes : SectionStrings → List ℕ
 strings_bytes iter = iter.rest.now
 
--- the items that it has left
-abbrev pub strings_left : SectionStrings → List (Result (List ℕ) ElfError)
-strings_left iter = strings_of (strings_bytes iter)
+-- the items that an iterator has not yet returned
+abbrev pub string_items_left : SectionStrings → List (Result (List ℕ) ElfError)
+string_items_left iter = string_items (strings_bytes iter)
 
 -- the bytes of a string table
 abbrev pub string_data : Content → Option (List ℕ)
 string_data (strings bytes) = Some bytes
 string_data _ = None
 
--- an item, by what it lends
+-- an item, with its bytes
 abbrev pub string_item : Result (Bor (List ℕ)) ElfError → Result (List ℕ) ElfError
 string_item (Ok lent) = Ok lent.now
 string_item (Err error) = Err error

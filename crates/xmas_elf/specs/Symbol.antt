@@ -1,5 +1,5 @@
--- Symbols: what their bytes say (gABI, "Symbol Table": Elf32_Sym and Elf64_Sym).
-use Rattle.std.specs.Prelude.{ℕ, ◌/◌, ◌%◌, List, Result}
+-- The fields of symbols (gABI, "Symbol Table": Elf32_Sym and Elf64_Sym).
+use Rattle.std.specs.Prelude.{◌%◌, ◌/◌, ◌<◌, ◌≡◌, ◌≢◌, List, Option, Result, Some, slice_get, ℕ}
 use Rattle.elf_base.specs.Number.{byte_at, number}
 use Rattle.elf_base.specs.declared.bytes.Order.{Order}
 use Rattle.elf_base.specs.declared.error.ElfError.{ElfError}
@@ -14,7 +14,7 @@ use Rattle.xmas_elf.specs.declared.symbol_table.entries.Entry64.{Entry64}
 use Rattle.xmas_elf.specs.declared.symbol_table.entries.Layout.{Layout}
 use Rattle.xmas_elf.specs.declared.symbol_table.entries.Layout.TheVariants.{Narrow, Wide}
 
--- what a symbol says, in numbers
+-- the fields of a symbol, as numbers
 pub record SymbolFields : Type 0 where
   pub name : ℕ
   pub info : ℕ
@@ -23,7 +23,7 @@ pub record SymbolFields : Type 0 where
   pub value : ℕ
   pub size : ℕ
 
--- the 16 bytes of class 32
+-- a symbol of class 32, of 16 bytes
 abbrev pub symbol_32 : Order → List ℕ → SymbolFields
 symbol_32 order bytes = record {
   name = number order 4 0 bytes;
@@ -34,7 +34,7 @@ symbol_32 order bytes = record {
   shndx = number order 2 14 bytes;
 }
 
--- the 24 bytes of class 64
+-- a symbol of class 64, of 24 bytes
 abbrev pub symbol_64 : Order → List ℕ → SymbolFields
 symbol_64 order bytes = record {
   name = number order 4 0 bytes;
@@ -45,12 +45,12 @@ symbol_64 order bytes = record {
   size = number order 8 16 bytes;
 }
 
--- what is said by the bytes that a type keeps
+-- the fields of a symbol, by the layout of its bytes
 abbrev pub symbol_in : Layout → SymbolFields
 symbol_in (Narrow bytes order) = symbol_32 order bytes.now
 symbol_in (Wide bytes order) = symbol_64 order bytes.now
 
--- the entries that keep these bytes
+-- the entries that store these bytes
 abbrev pub entry_32 : Order → List ℕ → Entry32
 entry_32 order bytes = record { bytes = bytes; order = order }
 
@@ -63,7 +63,7 @@ dyn_entry_32 order bytes = record { bytes = bytes; order = order }
 abbrev pub dyn_entry_64 : Order → List ℕ → DynEntry64
 dyn_entry_64 order bytes = record { bytes = bytes; order = order }
 
--- what they say
+-- the fields of each type of entry
 unfoldable pub entry_32_fields : Entry32 → SymbolFields
 entry_32_fields entry = symbol_32 entry.order entry.bytes
 
@@ -76,8 +76,8 @@ dyn_entry_32_fields entry = symbol_32 entry.order entry.bytes
 unfoldable pub dyn_entry_64_fields : DynEntry64 → SymbolFields
 dyn_entry_64_fields entry = symbol_64 entry.order entry.bytes
 
--- how files share a symbol, what it stands for, and who sees it (gABI, "Symbol Table": ELF32_ST_BIND,
--- ELF32_ST_TYPE and ELF32_ST_VISIBILITY)
+-- the binding, type and visibility of a symbol (gABI, "Symbol Table": ELF32_ST_BIND, ELF32_ST_TYPE and
+-- ELF32_ST_VISIBILITY)
 abbrev pub symbol_binding : SymbolFields → Result Binding ElfError
 symbol_binding symbol = binding_of (symbol.info / 16)
 
@@ -86,3 +86,16 @@ symbol_type symbol = symbol_type_of (symbol.info % 16)
 
 abbrev pub symbol_visibility : SymbolFields → Visibility
 symbol_visibility symbol = visibility_of symbol.other
+
+-- the symbols in order, their fields, and their names in the file, if any
+pub record Symbols (E : Type 0) : Type 0 where
+  pub items : List E
+  pub fields : E → SymbolFields
+  pub text : E → Option (List ℕ)
+
+-- the symbol at index i is not local (STB_LOCAL) and has the name; index 0 is no symbol (STN_UNDEF)
+pub record IsGlobal {E : Type 0} (symbols : Symbols E) (i : ℕ) (e : E) (name : List ℕ) : Type 0 where
+  pub not_first : 0 < i
+  pub stands : slice_get symbols.items i ≡ Some e
+  pub binding : (symbols.fields e).info / 16 ≢ 0
+  pub named : symbols.text e ≡ Some name

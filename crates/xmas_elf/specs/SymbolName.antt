@@ -1,5 +1,5 @@
--- The texts that symbols bear in a file, each by itself and by a string table that was found for many of
--- them (gABI, "Symbol Table", st_name).
+-- The names of symbols in a file, one by one and in a string table that was found for many of them (gABI,
+-- "Symbol Table", st_name).
 use Rattle.std.specs.Prelude.{◌≡◌, ℕ, List, Option, Result, Ok, Err, Bool, true, false}
 use Rattle.std.specs.Borrow.{Bor}
 use Rattle.std.specs.Result.{result_ok}
@@ -8,8 +8,8 @@ use Rattle.xmas_elf.specs.Prelude.{ElfError, ElfFile}
 use Rattle.xmas_elf.specs.StringTables.{IsDynString, IsString, dyn_string_of, dynstr_of, string_of, strtab_of}
 use Rattle.xmas_elf.specs.Symbol.{SymbolFields}
 
--- the string table of symbols and the text at an index there: .dynstr for those of the dynamic linker,
--- else .strtab
+-- the string table of symbols and the text at an index there: .dynstr for symbols for dynamic linking,
+-- otherwise .strtab
 abbrev pub symbol_strings_of : Bool → ElfFile → Result (List ℕ) ElfError
 symbol_strings_of true = dynstr_of
 symbol_strings_of false = strtab_of
@@ -27,6 +27,6 @@ abbrev pub name_in_table : Result (Bor (List ℕ)) ElfError → ℕ → Result (
 name_in_table (Ok table) index = text_of table.now index
 name_in_table (Err error) index = Err error
 
--- each symbol bears the text at its name there, and no other
+-- the name of each symbol is the text at its index there
 abbrev pub HoldsNames : {E : Type 0} → (E → SymbolFields) → (E → Option (List ℕ)) → Result (Bor (List ℕ)) ElfError → Type 0
 HoldsNames {E} fields text found = (entry : E) → text entry ≡ result_ok (name_in_table found (fields entry).name)

@@ -1,11 +1,12 @@
--- The section that a symbol belongs to (gABI, "Symbol Table", st_shndx, and "Sections": special section
--- indexes and SHT_SYMTAB_SHNDX; which refusal comes first is this project's own).
+-- The section of a symbol (gABI, "Symbol Table", st_shndx, and "Sections": special section indexes and
+-- SHT_SYMTAB_SHNDX; the order of the errors is this project's own).
 use Rattle.std.specs.Prelude.{◌≡◌, ◌≢◌, ℕ, ◌*◌, ◌%◌, ◌<◌, ◌==◌, ◌||◌, ◌⊎◌, nat_le, not, Bool, List, [], ◌∷◌, length, drop, take, codes, Result, Err, if◌then◌else◌}
 use Rattle.elf_base.specs.FileHeader.{file_order}
 use Rattle.elf_base.specs.Number.{number}
 use Rattle.elf_base.specs.Refusal.{and_then, unless}
 use Rattle.elf_records.specs.declared.sections.ShType.TheVariants.{SymTabShIndex}
-use Rattle.xmas_elf.specs.Prelude.{ElfError, ElfFile, ExpectedShIndex, NoShIndex, NotMultiple, ReservedSymbolIndex, SectionHeader, SymbolIndex}
+use Rattle.elf_base.specs.declared.error.ElfError.TheVariants.{ExpectedShIndex, NoShIndex, NotMultiple, ReservedSymbolIndex, SymbolIndex}
+use Rattle.xmas_elf.specs.Prelude.{ElfError, ElfFile, SectionHeader}
 use Rattle.xmas_elf.specs.SectionHeader.{section_by_u16, section_of}
 use Rattle.xmas_elf.specs.SectionData.{IsTypedData, typed_data_of}
 use Rattle.xmas_elf.specs.Symbol.{SymbolFields}
@@ -14,7 +15,7 @@ use Rattle.xmas_elf.specs.Symbol.{SymbolFields}
 abbrev pub IsIndexTable : ElfFile → List ℕ → Type 0
 IsIndexTable file = IsTypedData file (codes ".symtab_shndx") SymTabShIndex
 
--- `index` is word `self_index` of it, of the words of four bytes that it has one of for each symbol
+-- `index` is word `self_index` of that table, which has a word of four bytes for each symbol
 pub record IsWideIndex (file : ElfFile) (self_index index : ℕ) : Type 0 where
   pub table : List ℕ
   pub in_table : IsIndexTable file table
@@ -22,28 +23,28 @@ pub record IsWideIndex (file : ElfFile) (self_index index : ℕ) : Type 0 where
   pub below : self_index * 4 < length table
   pub word : index ≡ number (file_order file.header) 4 0 (take 4 (drop (self_index * 4) table))
 
--- `index` is that of the section of symbol `self_index`: the symbol's own, where that is none of the indices
--- with a meaning of their own; for 0xffff (SHN_XINDEX) the wide one; and never 0 (SHN_UNDEF)
+-- `index` is that of the section of symbol `self_index`: the symbol's own, if it is not reserved; if it is
+-- 0xffff (SHN_XINDEX), the one in .symtab_shndx; and never 0 (SHN_UNDEF)
 pub record IsSectionIndex (file : ElfFile) (symbol : SymbolFields) (self_index index : ℕ) : Type 0 where
   pub defined : index ≢ 0
   pub is : ((symbol.shndx < 0xff00) × (index ≡ symbol.shndx)) ⊎ ((symbol.shndx ≡ 0xffff) × IsWideIndex file self_index index)
 
--- that table as it is computed, or why there is none
+-- the data of .symtab_shndx, or why there is none, as a function
 unfoldable pub index_table_of : ElfFile → Result (List ℕ) ElfError
 index_table_of file = typed_data_of file (codes ".symtab_shndx") SymTabShIndex NoShIndex ExpectedShIndex
 
--- and its word `self_index`
+-- word `self_index` of .symtab_shndx, or why there is none, as a function
 unfoldable pub wide_index_of : ElfFile → ℕ → Result ℕ ElfError
 wide_index_of file self_index = and_then (index_table_of file) (λ table. unless (
     (not (length table % 4 == 0), NotMultiple)
     ∷ (nat_le (length table) (self_index * 4), SymbolIndex)
     ∷ []) (number (file_order file.header) 4 0 (take 4 (drop (self_index * 4) table))))
 
--- the indices of symbols that belong to no section: SHN_UNDEF, SHN_ABS and SHN_COMMON
+-- the indices of symbols that have no section: SHN_UNDEF, SHN_ABS and SHN_COMMON
 abbrev pub is_sectionless : ℕ → Bool
 is_sectionless index = index == 0 || (index == 0xfff1 || index == 0xfff2)
 
--- section header `index`, but none for 0
+-- section header `index`, except for 0
 abbrev pub defined_section_of : ElfFile → ℕ → Result SectionHeader ElfError
 defined_section_of file index = if index == 0 then Err ReservedSymbolIndex else section_of file index
 

@@ -1,10 +1,10 @@
--- How a symbol is printed (this project's own, after the Rust crate).
+-- The printed form of a symbol (this project's own, after the Rust crate).
 use Rattle.std.specs.Prelude.{List, [], ◌∷◌, ◌++◌, ℕ, codes, decimal}
 use Rattle.elf_base.specs.Printed.{field_line, joined, result_text}
 use Rattle.elf_records.specs.SymbolNumbers.{binding_text, symbol_type_text, visibility_text}
 use Rattle.xmas_elf.specs.Symbol.{SymbolFields, symbol_binding, symbol_type, symbol_visibility}
 
--- the fields of any layout
+-- the fields of either class
 abbrev pub symbol_fields_text : SymbolFields → List ℕ
 symbol_fields_text symbol = joined (
     field_line (codes "name") (decimal symbol.name)

@@ -1,26 +1,19 @@
--- The symbols of a table in a file, as look-ups and checks read them (gABI, "Symbol Table").
-use Rattle.std.specs.Prelude.{◌≡◌, ◌≢◌, ◌<◌, ◌/◌, ℕ, List, Option, Some, Bool, true, false, Contains, slice_get}
+-- The symbols of a table in a file, as in look-ups and checks (gABI, "Symbol Table").
+use Rattle.std.specs.Prelude.{◌≡◌, ℕ, List, Option, Some, Bool, true, false, Contains}
 use Rattle.std.specs.Borrow.{Bor}
 use Rattle.std.specs.Fn.{Shared, FnReturnsAt}
 use Rattle.std.specs.Result.{result_ok}
 use Rattle.elf_base.specs.Table.{records, table_items}
 use Rattle.xmas_elf.specs.Prelude.{DynEntry32, DynEntry64, ElfFile, Entry32, Entry64, Order, Table}
-use Rattle.xmas_elf.specs.Symbol.{SymbolFields, dyn_entry_32, dyn_entry_32_fields, dyn_entry_64, dyn_entry_64_fields, entry_32, entry_32_fields, entry_64, entry_64_fields}
+use Rattle.xmas_elf.specs.Symbol.{SymbolFields, Symbols, dyn_entry_32, dyn_entry_32_fields, dyn_entry_64, dyn_entry_64_fields, entry_32, entry_32_fields, entry_64, entry_64_fields}
 use Rattle.xmas_elf.specs.SymbolName.{symbol_string_of}
 
--- the symbols in order, what each says, and the text that each bears in the file, if any
-pub record Symbols (E : Type 0) : Type 0 where
-  pub items : List E
-  pub fields : E → SymbolFields
-  pub text : E → Option (List ℕ)
-
--- those of a table in a file
+-- the symbols of a table in a file
 abbrev pub symbols_of : {E : Type 0} → {r : _} → (E → SymbolFields) → (E → ElfFile → Option (List ℕ)) → Table E r → ElfFile → Symbols E
 symbols_of fields text_in table file =
     record { items = table_items table; fields = fields; text = λ e. text_in e file }
 
--- the symbols of a size that stand in some bytes of a file, with their names in the table of symbols or in
--- that of the dynamic linker
+-- the symbols in bytes of a file, each of a size, with their names in `.strtab` or in `.dynstr`
 abbrev pub symbols_in : {E : Type 0} → ℕ → (List ℕ → E) → (E → SymbolFields) → Bool → ElfFile → List ℕ → Symbols E
 symbols_in size entry fields dynamic file bytes = record {
   items = records size entry bytes;
@@ -28,7 +21,7 @@ symbols_in size entry fields dynamic file bytes = record {
   text = λ e. result_ok (symbol_string_of dynamic file (fields e).name);
 }
 
--- those of each of the four kinds
+-- the symbols of each of the four types
 abbrev pub symbols_in_32 : ElfFile → Order → List ℕ → Symbols Entry32
 symbols_in_32 file order bytes = symbols_in 16 (entry_32 order) entry_32_fields false file bytes
 
@@ -41,18 +34,11 @@ dyn_symbols_in_32 file order bytes = symbols_in 16 (dyn_entry_32 order) dyn_entr
 abbrev pub dyn_symbols_in_64 : ElfFile → Order → List ℕ → Symbols DynEntry64
 dyn_symbols_in_64 file order bytes = symbols_in 24 (dyn_entry_64 order) dyn_entry_64_fields true file bytes
 
--- the symbol at index i is not local (STB_LOCAL) and bears the name; index 0 is no symbol (STN_UNDEF)
-pub record IsGlobal {E : Type 0} (symbols : Symbols E) (i : ℕ) (e : E) (name : List ℕ) : Type 0 where
-  pub not_first : 0 < i
-  pub stands : slice_get symbols.items i ≡ Some e
-  pub binding : (symbols.fields e).info / 16 ≢ 0
-  pub named : symbols.text e ≡ Some name
-
--- a test allows at most one answer for each of the symbols
+-- a test has at most one result for each of the symbols
 abbrev pub Decides : {F E : Type 0} → Symbols E → Shared F (Bor E × Unit {0}) Bool → F → Type 0
 Decides {F} {E} symbols test f =
     (e : E) → Contains symbols.items e → FnReturnsAt test f e true → FnReturnsAt test f e false → ⊥
 
--- a symbol bears the name and passes the test
+-- a symbol has the name and passes the test
 abbrev pub IsMatch : {F E : Type 0} → Symbols E → Shared F (Bor E × Unit {0}) Bool → F → List ℕ → E → Type 0
 IsMatch symbols test f name e = (symbols.text e ≡ Some name) × FnReturnsAt test f e true

@@ -1,19 +1,26 @@
--- Every public type, constant and refusal of the crate and of the two below it, by its name, for other crates:
--- `Types.{ElfFile}`. The enums that are called `Type` have the name of what they are the type of, as
--- `SymbolType`. Other variants than refusals stand in `TheVariants` behind their type. `P32` and `P64` are
--- numbers, and a clause writes `ℕ` for them. `tools/api.py --check` compares these names with the sources.
+-- Every public type, constant and error of the crate and of the two below it, for import by other crates:
+-- `Types.{ElfFile}`. Enums called `Type` are renamed by their subject, such as `SymbolType`. Variants of
+-- other enums than errors are in the `TheVariants` of their type. `P32` and `P64` are numbers: write `ℕ` for
+-- them in a clause. `SymbolTable` is imported from its module. `tools/api.py --check` compares these names
+-- with the sources.
 pub use Rattle.xmas_elf.specs.Prelude.{Order, Table, TableIter, ElfError, Header, HeaderPt1, HeaderPt2, HeaderPt2_, Class, Class_, Data, Data_, Machine, Machine_, OsAbi, OsAbi_, HeaderType, HeaderType_, Version, Version_, Dynamic, Tag, Tag_, Flags, SegmentType, SegmentType_, ShType, ShType_, NoteHeader, Rel, Rela, Binding, Binding_, SymbolType, SymbolType_, Visibility, Visibility_}
 pub use Rattle.elf_base.specs.declared.error.ElfError.TheVariants.{BadAlign, BadMagic, BucketIndex, ChainIndex, ChainSum, ClassMismatch, DataRange, EntryPointRange, ExpectedShIndex, HashCycle, HashData, HashMissing, HeaderSize, InvalidBinding, InvalidClass, InvalidPhType, InvalidPtr, InvalidShType, InvalidSymbolType, InvalidTag, InvalidValue, NoClass, NoDataFormat, NoDynstr, NoMagic, NoProgramHeaders, NoShIndex, NoStrtab, NoVersion, NotMultiple, Note32, NoteDesc, NoteName, NullData, NullName, PhSizeMismatch, PhTableRange, ReservedIndex, ReservedSymbolIndex, ShLibUsed, ShTableRange, ShortData, ShortHeaders, ShortPart1, ShortProgramHeader, ShortSectionHeader, ShortSectionOffset, SmallEntry, StrtabType, SymbolIndex, TextEnd, TextStart, TextUtf8, UnknownClass, WideIndex}
 pub use Rattle.elf_base.specs.declared.header.TheConstants.{MAGIC}
 pub use Rattle.elf_records.specs.declared.dynamic.TheConstants.{FLAG_1_CONFALT, FLAG_1_DIRECT, FLAG_1_DISPRELDNE, FLAG_1_DISPRELPND, FLAG_1_EDITED, FLAG_1_ENDFILTEE, FLAG_1_GLOBAL, FLAG_1_GLOBAUDIT, FLAG_1_GROUP, FLAG_1_IGNMULDEF, FLAG_1_INITFIRST, FLAG_1_INTERPOSE, FLAG_1_LOADFLTR, FLAG_1_NODEFLIB, FLAG_1_NODELETE, FLAG_1_NODIRECT, FLAG_1_NODUMP, FLAG_1_NOHDR, FLAG_1_NOKSYMS, FLAG_1_NOOPEN, FLAG_1_NORELOC, FLAG_1_NOW, FLAG_1_ORIGIN, FLAG_1_PIE, FLAG_1_SINGLETON, FLAG_1_STUB, FLAG_1_SYMINTPOSE, FLAG_1_TRANS}
 pub use Rattle.elf_records.specs.declared.program.TheConstants.{FLAG_MASKOS, FLAG_MASKPROC, FLAG_R, FLAG_W, FLAG_X, TYPE_GNU_RELRO, TYPE_HIOS, TYPE_HIPROC, TYPE_LOOS, TYPE_LOPROC}
 pub use Rattle.elf_records.specs.declared.sections.TheConstants.{GRP_COMDAT, GRP_MASKOS, GRP_MASKPROC, SHF_ALLOC, SHF_COMPRESSED, SHF_EXECINSTR, SHF_GROUP, SHF_INFO_LINK, SHF_LINK_ORDER, SHF_MASKOS, SHF_MASKPROC, SHF_MERGE, SHF_OS_NONCONFORMING, SHF_STRINGS, SHF_TLS, SHF_WRITE, SHN_ABS, SHN_COMMON, SHN_HIOS, SHN_HIPROC, SHN_HIRESERVE, SHN_LOOS, SHN_LOPROC, SHN_LORESERVE, SHN_UNDEF, SHN_XINDEX, SHT_HIOS, SHT_HIPROC, SHT_HIUSER, SHT_LOOS, SHT_LOPROC, SHT_LOUSER}
+use Rattle.std.specs.Prelude.{ℕ}
 use Rattle.xmas_elf.specs.Prelude.{ElfFile as the_ElfFile, HashTable as the_HashTable, ProgramIter as the_ProgramIter, SegmentData as the_SegmentData, ProgramHeader as the_ProgramHeader, ProgramHeader32 as the_ProgramHeader32, ProgramHeader64 as the_ProgramHeader64, ReportFault as the_ReportFault, SectionIter as the_SectionIter, SectionData as the_SectionData, SectionHeader_ as the_SectionHeader_, SectionHeader as the_SectionHeader, SectionStrings as the_SectionStrings, DynEntry32 as the_DynEntry32, DynEntry64 as the_DynEntry64, Entry32 as the_Entry32, Entry64 as the_Entry64}
 use Rattle.xmas_elf.specs.declared.sections.table.SectionTable.{SectionTable as the_SectionTable}
 use Rattle.xmas_elf.specs.declared.sections.table.SectionTableIter.{SectionTableIter as the_SectionTableIter}
 use Rattle.xmas_elf.specs.declared.program.table.ProgramTable.{ProgramTable as the_ProgramTable}
 use Rattle.xmas_elf.specs.declared.program.table.ProgramTableIter.{ProgramTableIter as the_ProgramTableIter}
 use Rattle.xmas_elf.specs.declared.report.hash.HashVerdict.{HashVerdict as the_HashVerdict}
+use Rattle.xmas_elf.specs.declared.extensions.TheConstants.{NT_GNU_BUILD_ID as the_NT_GNU_BUILD_ID}
+
+-- the constant of this crate
+abbrev pub NT_GNU_BUILD_ID : ℕ
+NT_GNU_BUILD_ID = the_NT_GNU_BUILD_ID
 
 -- the types of this crate
 abbrev pub ElfFile : Type 0
@@ -22,7 +29,7 @@ ElfFile = the_ElfFile
 abbrev pub HashTable : Type 0
 HashTable = the_HashTable
 
--- what the report says of the hash table of a file; no Rust path leads to it
+-- the verdict on the hash table of a file in the report; it has no Rust path
 abbrev pub HashVerdict : Type 0
 HashVerdict = the_HashVerdict
 

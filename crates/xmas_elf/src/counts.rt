@@ -1,4 +1,4 @@
-//! How many sections and segments a file has, and which section holds the names
+//! The number of sections and segments of a file, and the section that contains the section names
 //! (gABI, "ELF Header").
 
 ghost use Rattle.std.specs.Prelude.{◌≡◌, ◌==◌, [], ◌∷◌, None, if◌then◌else◌, length, nat_lt, not};
@@ -6,10 +6,10 @@ ghost use Rattle.std.specs.Result.{result_ok};
 ghost use Rattle.elf_base.specs.HeaderNumbers.{class_number};
 ghost use Rattle.elf_base.specs.Refusal.{unless};
 ghost use Rattle.elf_base.specs.declared.error.ElfError.{ElfError};
-ghost use Rattle.xmas_elf.specs.Counts.{first_section, program_count_of, section_count_of};
-ghost use Rattle.xmas_elf.specs.Counts.{shstr_index_of};
+ghost use Rattle.xmas_elf.specs.SectionHeader.{first_section, program_count_of, section_at_place};
+ghost use Rattle.xmas_elf.specs.SectionHeader.{section_count_of, section_header_size};
+ghost use Rattle.xmas_elf.specs.SectionHeader.{shstr_index_of};
 ghost use Rattle.xmas_elf.specs.HeaderTable.{entry_place, is_known_class};
-ghost use Rattle.xmas_elf.specs.SectionHeader.{section_at_place, section_header_size};
 
 use crate::bytes::{Order, Record};
 use crate::header::Class::{SixtyFour, ThirtyTwo};
@@ -17,15 +17,14 @@ use crate::header::Class_;
 use crate::ranges::entry_at;
 use crate::sections::{SHN_LORESERVE, SHN_XINDEX, SectionHeader, SectionHeader_, section_at_place};
 use crate::{ElfError, ElfFile, P32, P64};
-use elf_base::header::byte_order;
 
-// The count of program headers that stands for one in section header 0 (PN_XNUM).
-const WIDE_PROGRAM_COUNT: u16 = 0xffff;
+// PN_XNUM: the number of program headers is in section header 0.
+const PN_XNUM: u16 = 0xffff;
 
 impl ElfFile<'_> {
-    /// How many sections the file has: the count of the ELF header, or for 0 the size of section
-    /// header 0; 0 where that can't be read (gABI, "ELF Header", e_shnum).
-    #[tactic(auto, unfolding(crate::specs::Counts::section_count_of))]
+    /// The number of sections: that of the ELF header, or if it is 0, the size of section header 0;
+    /// 0 if section header 0 cannot be read (gABI, "ELF Header", e_shnum).
+    #[tactic(auto, unfolding(crate::specs::SectionHeader::section_count_of))]
     #[inline(always)]
     pub fn section_count(&self) -> u64
         ensures { result ≡ section_count_of self.now }
@@ -36,28 +35,28 @@ impl ElfFile<'_> {
         }
     }
 
-    /// How many segments the file has: the count of the ELF header, or for 0xffff the info of
-    /// section header 0; 0xffff where that can't be read (gABI, "ELF Header", e_phnum).
-    #[tactic(auto, unfolding(crate::specs::Counts::program_count_of))]
+    /// The number of segments: that of the ELF header, or if it is 0xffff, the info of section
+    /// header 0; 0xffff if section header 0 cannot be read (gABI, "ELF Header", e_phnum).
+    #[tactic(auto, unfolding(crate::specs::SectionHeader::program_count_of))]
     #[inline(always)]
     pub fn program_count(&self) -> u32
         ensures { result ≡ program_count_of self.now }
     {
         match self.header.pt2.ph_count() {
-            WIDE_PROGRAM_COUNT => {
+            PN_XNUM => {
                 let wide = self.first_section().map(|first| first.info());
-                wide.unwrap_or(u32::from(WIDE_PROGRAM_COUNT))
+                wide.unwrap_or(u32::from(PN_XNUM))
             }
             count => u32::from(count),
         }
     }
 
-    /// The index of the section that holds the names of the sections: that of the ELF header, or
-    /// for 0xffff the link of section header 0 (gABI, "ELF Header", e_shstrndx).
+    /// The index of the section that contains the section names: that of the ELF header, or if it
+    /// is 0xffff, the link of section header 0 (gABI, "ELF Header", e_shstrndx).
     ///
-    /// Refused with `ReservedIndex` for 0xff00 to 0xfffe,
-    /// and for 0xffff where section header 0 can't be read.
-    #[tactic(auto, unfolding(crate::specs::Counts::shstr_index_of))]
+    /// Error: `ReservedIndex` for 0xff00 to 0xfffe,
+    /// and for 0xffff if section header 0 cannot be read.
+    #[tactic(auto, unfolding(crate::specs::SectionHeader::shstr_index_of))]
     #[inline(always)]
     pub fn shstr_index(&self) -> Result<u32, ElfError>
         ensures { result ≡ shstr_index_of self.now }
@@ -72,21 +71,21 @@ impl ElfFile<'_> {
         }
     }
 
-    // Section header 0, where there is a section header table and it can be read.
-    #[tactic(auto, unfolding(crate::specs::Counts::first_section, crate::specs::SectionHeader::section_entry))]
+    // Section header 0, if there is a section header table and it can be read.
+    #[tactic(auto, unfolding(crate::specs::SectionHeader::first_section, crate::specs::SectionHeader::section_entry))]
     #[inline(always)]
     fn first_section(&self) -> Option<SectionHeader>
         ensures { result ≡ first_section self.now }
     {
         let offset = self.header.pt2.sh_offset();
         let entry_size = self.header.pt2.sh_entry_size();
-        let order = byte_order(self.header.pt1.encoding);
+        let order = self.byte_order();
         first_at(self.input, offset, entry_size, self.header.pt1.class, order)
     }
 }
 
-// Section header 0 of a table at an offset, where that isn't 0 and the header can be read. It takes
-// numbers, so that the caller's file needs no place in memory: few files come here.
+// Section header 0 of the table at an offset, if the offset is not 0 and the header can be read.
+// It takes numbers, so that the caller need not store its file in memory: this case is rare.
 #[cold]
 #[inline(never)]
 fn first_at(

@@ -1,4 +1,4 @@
-//! Build ids and links to debug information, which GNU's tools write beside the gABI.
+//! Build ids and links to debug information, which GNU tools write in addition to the gABI.
 
 ghost use Rattle.std.specs.Prelude.{◌≡◌, ◌+◌, IfSome, IsSomeAnd, List, length, ℕ};
 ghost use Rattle.elf_base.specs.Lent.{LiesAt};
@@ -17,38 +17,39 @@ use crate::bytes::{Order, text_at};
 use crate::notes::first_note;
 use crate::sections::{NoteHeader, SectionHeader, ShType};
 use elf_base::bytes::read_u32;
-use elf_base::header::byte_order;
 
-// The type of notes that are build ids.
-const NT_GNU_BUILD_ID: u32 = 3;
+/// `NT_GNU_BUILD_ID`: the type of build ids among the notes with the name `GNU`
+/// (GNU binutils and glibc, `elf.h`).
+pub const NT_GNU_BUILD_ID: u32 = 3;
 
-/// What GNU's tools write into a file beside the gABI. Each part lives as long as the input.
+/// The GNU extensions of a file. The returned slices live as long as the input.
 ///
-/// A call answers `None` where the section is missing, its data is refused, or isn't well formed.
+/// A call returns `None` if the section is missing, its data is refused, or its contents are
+/// malformed.
 pub trait Extensions<'a> {
-    /// What these parts are: the build id, the link with its checksum, and the alternate link.
+    /// The specs of the build id, the debug link with its checksum, and the alternate debug link.
     ghost BuildId: { Self → List ℕ → Type 0 };
 
     ghost DebugLink: { Self → List ℕ → ℕ → Type 0 };
 
     ghost AlternateLink: { Self → List ℕ → List ℕ → Type 0 };
 
-    /// What tells this build from all others: the description of the note of type 3 named `GNU` in
-    /// section `.note.gnu.build-id`. Files of class 32 have none here (gABI, "Note Section").
+    /// The build id, a unique number of the build: the description of the note of type 3 named
+    /// `GNU` in section `.note.gnu.build-id`. `None` for files of class 32 (gABI, "Note Section").
     fn get_gnu_buildid(&self) -> Option<&'a [u8]>
         ensures found { IfSome result (λ id. BuildId self.now id.now) }
         ensures only { (id : List ℕ) → BuildId self.now id
             → IsSomeAnd result (λ lent. lent.now ≡ id) };
 
-    /// The name of the file with the debug information, and the CRC of its bytes, which stands
-    /// behind the name at a multiple of four: section `.gnu_debuglink`, of whatever type.
+    /// The name of the file with the debug information and the CRC of its bytes, which follows the
+    /// name at the next multiple of four: section `.gnu_debuglink`, of any type.
     fn get_gnu_debuglink(&self) -> Option<(&'a str, u32)>
         ensures found { IfSome result (λ link. DebugLink self.now link.0.now link.1) }
         ensures only { (text : List ℕ) (checksum : ℕ) → DebugLink self.now text checksum
             → IsSomeAnd result (λ link. (link.0.now ≡ text) × (link.1 ≡ checksum)) };
 
-    /// The name of the file with debug information that several files share, and its build id,
-    /// which is all that follows the name: section `.gnu_debugaltlink`, of whatever type.
+    /// The name of the file with shared debug information and its build id, which is the rest of
+    /// the section after the name: section `.gnu_debugaltlink`, of any type.
     fn get_gnu_debugaltlink(&self) -> Option<(&'a str, &'a [u8])>
         ensures found { IfSome result (λ link. AlternateLink self.now link.0.now link.1.now) }
         ensures only { (text rest : List ℕ) → AlternateLink self.now text rest
@@ -79,7 +80,7 @@ impl<'a> Extensions<'a> for ElfFile<'a> {
             → IsSomeAnd result (λ link. (link.0.now ≡ text) × (link.1 ≡ checksum)) }
     {
         let bytes = named_data(self, ".gnu_debuglink")?;
-        debug_link(bytes, byte_order(self.header.pt1.encoding))
+        debug_link(bytes, self.byte_order())
     }
 
     fn get_gnu_debugaltlink(&self) -> Option<(&'a str, &'a [u8])>
@@ -93,7 +94,7 @@ impl<'a> Extensions<'a> for ElfFile<'a> {
     }
 }
 
-// The note at the front of a section of type Note.
+// The first note in a section of type Note.
 fn section_note<'a>(file: &ElfFile<'a>, section: &SectionHeader) -> Option<(NoteHeader, &'a [u8])>
     ensures found { IfSome result (λ note. IsNoteSection file.now section.now note.0 note.1.now) }
     ensures only { (header : NoteHeader) (body : List ℕ)
@@ -139,7 +140,7 @@ fn named_data<'a>(file: &ElfFile<'a>, name: &str) -> Option<&'a [u8]>
     }
 }
 
-// The text at the front of these bytes, and the number behind it at a multiple of four.
+// The text at the start of `bytes`, and the number after it at the next multiple of four.
 fn debug_link(bytes: &[u8], order: Order) -> Option<(&str, u32)>
     ensures found { IfSome result (λ link. IsLink order bytes.now link.0.now link.1) }
     ensures only { (text : List ℕ) (checksum : ℕ) → IsLink order bytes.now text checksum
@@ -148,7 +149,7 @@ fn debug_link(bytes: &[u8], order: Order) -> Option<(&str, u32)>
     let Ok(text) = text_at(bytes, 0) else {
         return None;
     };
-    // The zero byte behind the text and three more, down to a multiple of four.
+    // The first multiple of four after the text and its zero byte.
     let place = text.len().checked_add(4)? / 4 * 4;
     let end = place.checked_add(4)?;
     if end > bytes.len() {
@@ -157,7 +158,7 @@ fn debug_link(bytes: &[u8], order: Order) -> Option<(&str, u32)>
     Some((text, read_u32(bytes, place, order)))
 }
 
-// The text at the front of these bytes, and all bytes behind its zero byte.
+// The text at the start of `bytes`, and all bytes after its zero byte.
 fn alternate_link(bytes: &[u8]) -> Option<(&str, &[u8])>
     ensures found { IfSome result (λ link. IsTextAndRest bytes.now link.0.now link.1.now) }
     ensures only { (text rest : List ℕ) → IsTextAndRest bytes.now text rest

@@ -4,23 +4,20 @@ ghost use Rattle.std.specs.Borrow.{Bor};
 ghost use Rattle.std.specs.Fn.{FnReturnsAt};
 ghost use Rattle.std.specs.Prelude.{◌≡◌, ◌↔◌, ◌+◌, ◌^◌, ◌<◌, ◌≤◌, ℕ, true, false};
 ghost use Rattle.std.specs.Prelude.{Contains, Err, IfOk, IsOk, MatchResult, Ok, Some, length};
-ghost use Rattle.elf_base.specs.Table.{table_items};
 
 mod check;
 mod lookup;
 
 use crate::ElfError;
-use crate::bytes::{Order, Record, Table};
+use crate::bytes::{Order, Record};
+use crate::symbol_table::{Entry, SymbolTable};
 use elf_base::bytes::read_u32;
 pub use elf_records::hash::hash;
 
-// What the names of symbols stand in, as `Entry::string_table` answers.
-type Strings<'a> = Option<Result<&'a [u8], ElfError>>;
-
-/// The hash table of a symbol table, in words of four bytes: how many buckets and how many chains
-/// it has, the buckets, and the chains.
+/// The hash table of a symbol table, in words of four bytes: the number of buckets, the number of
+/// chains, the buckets, and the chains.
 ///
-/// It is a view: it keeps the data of its section and the order of the numbers there.
+/// It borrows the data of its section, and has the byte order of the file.
 #[derive(Clone, Copy, Debug)]
 pub struct HashTable<'a> {
     bytes: &'a [u8],
@@ -33,8 +30,9 @@ impl<'a> HashTable<'a> {
     ghost use Rattle.xmas_elf.specs.HashTable.{HasBucket, HasChain, bucket_count_of, bucket_of};
     ghost use Rattle.xmas_elf.specs.HashTable.{chain_count_of, chain_of, hash_bytes, hash_data};
     ghost use Rattle.xmas_elf.specs.HashTable.{hash_order, hash_word, start_of, word_of};
+    ghost use Rattle.xmas_elf.specs.SymbolTable.{table_symbols};
 
-    /// The hash table that these bytes are; `ShortData` below 12 bytes.
+    /// The hash table in `bytes`; `ShortData` if there are fewer than 12 bytes.
     pub fn read(bytes: &'a [u8], order: Order) -> Result<HashTable<'a>, ElfError>
         ensures { MatchResult result
             (λ table. (12 ≤ length bytes.now) × (hash_data table ≡ bytes.now)
@@ -47,24 +45,24 @@ impl<'a> HashTable<'a> {
         Ok(HashTable { bytes, order })
     }
 
-    /// How many buckets it has.
+    /// The number of buckets.
     pub fn bucket_count(&self) -> u32
         ensures { result ≡ bucket_count_of self.now }
     {
         read_u32(self.bytes, 0, self.order)
     }
 
-    /// How many chains it has, which is how many symbols its symbol table is to have.
+    /// The number of chains, which is the number of symbols that its symbol table should have.
     pub fn chain_count(&self) -> u32
         ensures { result ≡ chain_count_of self.now }
     {
         read_u32(self.bytes, 4, self.order)
     }
 
-    /// The word of a bucket: the index of the first symbol on its chain, or 0.
+    /// The word of a bucket: the index of the first symbol in its chain, or 0.
     ///
-    /// Refused with `BucketIndex` where the index isn't below `bucket_count`, and with `HashData`
-    /// where the word doesn't lie whole in the data.
+    /// Errors: `BucketIndex` if the index is not below `bucket_count`; `HashData` if the word
+    /// extends past the end of the data.
     #[tactic(auto, unfolding(crate::specs::HashTable::bucket_of, crate::specs::HashTable::word_of))]
     pub fn get_bucket(&self, index: u32) -> Result<u32, ElfError>
         ensures readable { IsOk result ↔ HasBucket self.now index }
@@ -77,11 +75,11 @@ impl<'a> HashTable<'a> {
         self.word(2 + u64::from(index))
     }
 
-    /// The word of a chain: the index of the symbol that follows that of this index, or 0.
+    /// The word of a chain: the index of the symbol after this one, or 0.
     ///
-    /// Refused with `ChainIndex` where the index isn't below `chain_count`, with `ChainSum` where
-    /// `bucket_count` and the index add up to 2 to the 32 or more, and with `HashData` where the
-    /// word doesn't lie whole in the data.
+    /// Errors: `ChainIndex` if the index is not below `chain_count`; `ChainSum` if the sum of
+    /// `bucket_count` and the index does not fit in 32 bits; `HashData` if the word extends past
+    /// the end of the data.
     #[tactic(auto, unfolding(crate::specs::HashTable::chain_of, crate::specs::HashTable::word_of))]
     pub fn get_chain(&self, index: u32) -> Result<u32, ElfError>
         ensures readable { IsOk result ↔ HasChain self.now index }
@@ -112,17 +110,17 @@ impl<'a> HashTable<'a> {
         Some(self.get_bucket(hash(name) % bucket_count))
     }
 
-    // The symbol that a walk meets at an index, which isn't the end, behind so many others; or why
-    // it goes no further. Behind as many as there are chains or symbols it has met one twice.
+    // The symbol at an index, which isn't the end, of a walk after `passed` steps, or why it stops
+    // there. After as many steps as there are chains or symbols it has passed one twice.
     #[inline(always)]
-    fn symbol_at<E: Record>(
+    fn symbol_at<E: Entry + Record>(
         &self,
         index: u32,
         passed: u32,
-        symbols: &Table<'_, E>,
+        symbols: &SymbolTable<'_, E>,
     ) -> Result<E, ElfError>
         requires { 0 < index }
-        ensures { let chains = chains_of self.now (table_items symbols.now) in MatchResult result
+        ensures { let chains = chains_of self.now (table_symbols symbols.now).items in MatchResult result
             (λ entry. StandsAt chains index entry × (passed < chains.count)
             × (passed < length chains.symbols) × (passed + 1 < 2 ^ 32))
             (Halts chains passed index) }
@@ -141,22 +139,22 @@ impl<'a> HashTable<'a> {
         Ok(entry)
     }
 
-    // The walk along a chain from an index on: the first symbol at which the test is true, with its
-    // index; `None` where the chain ends before one; or why it goes no further. And how many it has
-    // tested.
-    fn walk<E: Record, F: Fn(&(u32, E)) -> bool>(
+    // The walk along a chain from an index on: the first symbol for which the test is true, with
+    // its index; `None` if the chain ends before one; or the error where it stops. And the number
+    // of symbols tested.
+    fn walk<E: Entry + Record, F: Fn(&(u32, E)) -> bool>(
         &self,
         first: u32,
-        symbols: &Table<'_, E>,
+        symbols: &SymbolTable<'_, E>,
         stops: F,
     ) -> (Result<Option<(u32, E)>, ElfError>, u32)
-        requires { (at : Bor (ℕ × E)) → Contains (table_items symbols.now) at.now.1
+        requires { (at : Bor (ℕ × E)) → Contains (table_symbols symbols.now).items at.now.1
             → F.pre stops at }
         ensures in_chains { result.1 ≤ chain_count_of self.now }
-        ensures in_symbols { result.1 ≤ length (table_items symbols.now) }
+        ensures in_symbols { result.1 ≤ length (table_symbols symbols.now).items }
         ensures answer { Walks (λ at. FnReturnsAt F.Fn stops at true)
             (λ at. FnReturnsAt F.Fn stops at false)
-            (chains_of self.now (table_items symbols.now)) first result.0 result.1 }
+            (chains_of self.now (table_symbols symbols.now).items) first result.0 result.1 }
     {
         let mut index = first;
         let mut count: u32 = 0;
@@ -178,7 +176,7 @@ impl<'a> HashTable<'a> {
         (Ok(None), count)
     }
 
-    // The word with this many words before it.
+    // The word after `before` words.
     #[tactic(auto, unfolding(crate::specs::HashTable::word_of))]
     #[inline(always)]
     fn word(&self, before: u64) -> Result<u32, ElfError>

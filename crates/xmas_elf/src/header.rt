@@ -1,14 +1,11 @@
-//! The ELF header, with which every file begins (gABI, "ELF Header").
+//! The ELF header, at the start of every file (gABI, "ELF Header").
 
 ghost use Rattle.std.specs.Prelude.{◌≡◌, ◌≢◌, ◌≤◌, OnOk, length};
-ghost use Rattle.elf_base.specs.FileHeader.{file_class};
-ghost use Rattle.elf_base.specs.HeaderLayout.{header_fields};
+ghost use Rattle.elf_base.specs.FileHeader.{file_class, header_fields};
 ghost use Rattle.xmas_elf.specs.Checks.{header_check, part_class};
-ghost use Rattle.xmas_elf.specs.Counts.{program_count_of, section_count_of};
-ghost use Rattle.xmas_elf.specs.ProgramHeader.{program_header_size};
-ghost use Rattle.xmas_elf.specs.ProgramList.{program_list};
-ghost use Rattle.xmas_elf.specs.SectionHeader.{section_header_size};
-ghost use Rattle.xmas_elf.specs.SectionList.{section_list};
+ghost use Rattle.xmas_elf.specs.SectionHeader.{program_count_of, section_count_of};
+ghost use Rattle.xmas_elf.specs.SectionHeader.{section_header_size, section_list};
+ghost use Rattle.xmas_elf.specs.ProgramHeader.{program_header_size, program_list};
 
 use crate::bytes::Record;
 use crate::ranges::table_is_within;
@@ -18,16 +15,17 @@ pub use elf_base::header::{
     OsAbi, OsAbi_, Type, Type_, Version, Version_, parse_header,
 };
 
-/// Whether the ELF header of a file makes sense over its input.
+/// Checks the ELF header of a file against its input.
 ///
-/// Refused with the first that holds of `BadMagic`; `HeaderSize` where the header says another size
-/// than that of its two parts; `NoClass` for class 0; `ClassMismatch` where the class is not that
-/// of part 2; `NoVersion` and `NoDataFormat` for a 0 there; `PhTableRange` and `ShTableRange` where
-/// a header table passes the end of the input.
+/// The error is the first that applies: `BadMagic`; `HeaderSize` if the header size is not that of
+/// the two parts; `NoClass` for class 0; `ClassMismatch` if the class is not that of part 2;
+/// `NoVersion` and `NoDataFormat` for a 0 there; `PhTableRange` and `ShTableRange` if a header
+/// table extends past the end of the input.
 pub fn sanity_check(file: &ElfFile<'_>) -> Result<(), ElfError>
     ensures exact { result ≡ header_check file.now }
 
-    // Where all is well and the entries are large enough, each list is as long as its count says.
+    // If the check succeeds and entries are large enough, each list has the length that its count
+    // says.
     ensures sections { OnOk result (
         section_header_size (file_class file.now.header)
         ≤ (header_fields file.now.header.pt2).sh_entry_size
@@ -38,14 +36,14 @@ pub fn sanity_check(file: &ElfFile<'_>) -> Result<(), ElfError>
         ≤ (header_fields file.now.header.pt2).ph_entry_size
         → length (program_list file.now) ≡ program_count_of file.now) }
 {
-    // One choice of the class for all fields.
+    // The class is chosen once for all fields.
     match file.header.pt2 {
         HeaderPt2::Header32(part) => check(&with_part(file, HeaderPt2::Header32(part))),
         HeaderPt2::Header64(part) => check(&with_part(file, HeaderPt2::Header64(part))),
     }
 }
 
-// The file with this part 2: the same, where that is its own.
+// The file with this part 2: unchanged if that is its own.
 #[inline(always)]
 fn with_part<'a>(file: &ElfFile<'a>, pt2: HeaderPt2) -> ElfFile<'a>
     ensures { pt2 ≡ file.now.header.pt2 → result ≡ file.now }
@@ -57,7 +55,7 @@ fn with_part<'a>(file: &ElfFile<'a>, pt2: HeaderPt2) -> ElfFile<'a>
     }
 }
 
-// The check. It is made into code for each class apart.
+// The check, compiled separately for each class.
 #[tactic(auto, unfolding(crate::specs::Checks::header_check))]
 #[inline(always)]
 fn check(file: &ElfFile<'_>) -> Result<(), ElfError>
@@ -104,7 +102,7 @@ fn check(file: &ElfFile<'_>) -> Result<(), ElfError>
     Ok(())
 }
 
-// The number of the class whose part 2 this is.
+// The class number of this part 2.
 fn part_class(part: &HeaderPt2) -> u8
     ensures { result ≡ part_class part.now }
 {

@@ -1,26 +1,24 @@
-//! A reader of ELF files that lie in a byte slice.
+//! A reader of ELF files in a byte slice.
 //!
-//! Field values are those of the file, and every slice and text that is handed out is a part of
-//! the input, but for the empty slice of an empty segment. No call takes memory, and each
-//! returns on every input.
+//! Field values are those of the file. Every returned slice and text is a part of the input, except
+//! the empty slice of an empty segment. No call allocates memory, and each returns on every input.
 //!
-//! `ElfFile` is a file. Its calls stand beside their subject:
+//! `ElfFile` is a file. Its methods are in the modules of their subjects:
 //!
-//! - `counts`: how many sections and segments there are, and which section holds the names.
-//! - `sections`, `program`: a header by its index, and all of them in order; what each says, its
-//!   data, and what they are taken for; the checks.
-//! - `names`: the names of sections, and the section with a name.
-//! - `string_tables`, `symbol_table`, `hash`: the names of symbols, the symbols,
-//!   and look-ups of them.
-//! - `notes`: the first note of a section or a segment. `extensions`: build ids and links to debug
+//! - `counts`: the number of sections and segments, and the section that contains the names.
+//! - `sections`, `program`: headers by index and in order; their fields, data,
+//!   contents by type, and checks.
+//! - `names`: the names of sections, and a section by its name.
+//! - `string_tables`, `symbol_table`, `hash`: symbol names, symbols, and symbol look-ups.
+//! - `notes`: the first note of a section or segment. `extensions`: build ids and links to debug
 //!   information.
 //! - `header`: the ELF header and its check. `dynamic`: the entries of the dynamic section.
-//! - `report`: what `elfinfo` prints. `bytes`: numbers, records and texts in bytes. `ranges`: where
-//!   tables and data end.
+//! - `report`: the output of `elfinfo`. `bytes`: numbers, records and texts in bytes. `ranges`: the
+//!   bounds of tables and data.
 #![tactic(auto)]
 
 ghost use Rattle.std.specs.Prelude.{◌≡◌, ◌↔◌, Err, IfErr, IfOk, IsOk, Ok};
-ghost use Rattle.elf_base.specs.FileHeader.{IsAccepted, file_header, header_of};
+ghost use Rattle.elf_base.specs.FileHeader.{IsAccepted, file_header, file_order, header_of};
 
 pub mod bytes;
 mod counts;
@@ -37,23 +35,25 @@ pub mod sections;
 mod string_tables;
 pub mod symbol_table;
 
-pub use crate::extensions::Extensions;
+use crate::bytes::Order;
+pub use crate::extensions::{Extensions, NT_GNU_BUILD_ID};
 use crate::header::{Header, parse_header};
+use elf_base::header::byte_order;
 pub use elf_base::{ElfError, P32, P64};
 
 /// An ELF file: its bytes, and its ELF header.
 ///
-/// Both may be put together by hand, and each call says what it answers then.
+/// Both fields can be set by hand; each call says what it returns then.
 #[derive(Debug, Drop)]
 pub struct ElfFile<'a> {
     /// The bytes of the file.
     pub input: &'a [u8],
-    /// The ELF header, by which the other calls read the bytes.
+    /// The ELF header, by which all calls read the bytes.
     pub header: Header,
 }
 
 impl<'a> ElfFile<'a> {
-    /// The file that these bytes are, with the answer of `parse_header`.
+    /// Reads the file in `input`; the errors are those of `parse_header`.
     #[inline(always)]
     pub fn new(input: &'a [u8]) -> Result<ElfFile<'a>, ElfError>
         ensures accepts { IsOk result ↔ IsAccepted input.now }
@@ -64,5 +64,14 @@ impl<'a> ElfFile<'a> {
     {
         let header = parse_header(input)?;
         Ok(Self { input, header })
+    }
+
+    /// The byte order of the file's numbers, by the data byte of its ELF header: big-endian for
+    /// ELFDATA2MSB, else little-endian (gABI, "ELF Identification", EI_DATA).
+    #[inline(always)]
+    pub fn byte_order(&self) -> Order
+        ensures { result ≡ file_order self.now.header }
+    {
+        byte_order(self.header.pt1.encoding)
     }
 }

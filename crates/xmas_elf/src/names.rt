@@ -1,17 +1,15 @@
-//! The names of sections, and the section with a name
+//! The names of sections, and a section by its name
 //! (gABI, "String Table" and "Sections", sh_name).
 
 ghost use Rattle.std.specs.Prelude.{◌≡◌, ◌↔◌, ◌+◌, ◌≤◌, Err, IfNone, IfOk, IfSome, IsOkAnd, IsTrue};
 ghost use Rattle.std.specs.Prelude.{List, Ok, Some, length, ℕ};
-ghost use Rattle.std.specs.Result.{ForErr, ForOk};
 ghost use Rattle.elf_base.specs.Lent.{Answers, Lends, LendsOnly, LiesAt};
 ghost use Rattle.elf_base.specs.TextCompared.{TextCompared};
 ghost use Rattle.xmas_elf.specs.HeaderTable.{EachBelow};
-ghost use Rattle.xmas_elf.specs.NameTable.{Bears, FindsNamed, IsFirstNamed, IsNameAt, IsNameTable};
+ghost use Rattle.xmas_elf.specs.NameTable.{HasName, FindsNamed, IsFirstNamed, IsNameAt, IsNameTable};
 ghost use Rattle.xmas_elf.specs.NameTable.{NameCompared, name_table_of, names_section_of};
 ghost use Rattle.xmas_elf.specs.NameTable.{section_named, shstr_of};
-ghost use Rattle.xmas_elf.specs.SectionHeader.{section_fields, section_of};
-ghost use Rattle.xmas_elf.specs.SectionList.{section_list};
+ghost use Rattle.xmas_elf.specs.SectionHeader.{section_fields, section_list, section_of};
 ghost use Rattle.xmas_elf.specs.declared.sections.section_header.SectionHeader.{SectionHeader};
 
 use crate::bytes::{text_at, text_is};
@@ -19,12 +17,12 @@ use crate::sections::{SectionHeader, section_entry};
 use crate::{ElfError, ElfFile};
 
 impl<'a> ElfFile<'a> {
-    /// The text at an index of the name table, in bytes: up to the next zero byte of the input,
-    /// also where the section ends before it. It lives as long as the input.
+    /// The text at byte `index` of the name table, up to the next zero byte of the input, even past
+    /// the end of the section. It lives as long as the input.
     ///
-    /// Refused as `shstr_index` and then as `section_header_at` of that index is, with
-    /// `ShortSectionOffset` where that section begins past the end of the input, and as
-    /// `bytes::text_at` is.
+    /// Errors: those of `shstr_index`, then those of `section_header_at` for that index, then
+    /// `ShortSectionOffset` if that section begins past the end of the input, then those of
+    /// `bytes::text_at`.
     #[tactic(auto, unfolding(crate::specs::NameTable::shstr_of))]
     #[inline(always)]
     pub fn get_shstr(&self, index: u32) -> Result<&'a str, ElfError>
@@ -35,8 +33,8 @@ impl<'a> ElfFile<'a> {
         text_at(self.name_table()?, index as usize)
     }
 
-    /// Whether the text at an index of the name table is this one, and how many bytes were compared
-    /// to find out: none where there is no name table, and else as by `bytes::text_is`.
+    /// Whether the text at byte `index` of the name table equals `name`, and the number of bytes
+    /// compared: 0 if there is no name table, otherwise as in `bytes::text_is`.
     #[inline(always)]
     pub fn shstr_is(&self, index: u32, name: &str) -> (bool, usize)
         ensures is { IsTrue result.0 ↔ IsNameAt self.now index name.now }
@@ -52,7 +50,7 @@ impl<'a> ElfFile<'a> {
         }
     }
 
-    // The section that holds the names.
+    // The section that contains the section names.
     #[tactic(auto, unfolding(crate::specs::NameTable::names_section_of))]
     #[inline(always)]
     fn names_section(&self) -> Result<SectionHeader, ElfError>
@@ -62,19 +60,10 @@ impl<'a> ElfFile<'a> {
         section_entry(self.input, &self.header, index)
     }
 
-    // The name table, as a table of sections keeps it.
-    #[inline(always)]
-    pub(crate) fn kept_names(&self) -> Result<&'a [u8], ElfError>
-        ensures named { ForOk result (λ table. name_table_of self.now ≡ Ok table.now) }
-        ensures nameless { ForErr result (λ error. name_table_of self.now ≡ Err error) }
-    {
-        self.name_table()
-    }
-
-    // The input from the offset of the section that holds the names, whatever its type and size.
+    // The input from the offset of the section with the names on, whatever its type and size.
     #[tactic(auto, unfolding(crate::specs::NameTable::name_table_of))]
     #[inline(always)]
-    fn name_table(&self) -> Result<&'a [u8], ElfError>
+    pub(crate) fn name_table(&self) -> Result<&'a [u8], ElfError>
         ensures table { Lends (IsNameTable self.now) result }
         ensures place { IfOk result (λ table. IsOkAnd (names_section_of self.now)
             (λ section. LiesAt self.now.input (section_fields section).offset table)) }
@@ -88,8 +77,8 @@ impl<'a> ElfFile<'a> {
         Ok(&self.input[offset as usize..])
     }
 
-    /// The first section that bears this name, in the order of `section_iter`; the names are
-    /// compared in place. A section of type Null, or of one that `get_type` refuses, bears none.
+    /// The first section with this name, in the order of `section_iter`; names are compared in
+    /// place. A section has no name if its type is Null or an error of `get_type`.
     pub fn find_section_by_name(&self, name: &str) -> Option<SectionHeader>
         ensures list { FindsNamed self.now name.now result }
         ensures found { IfSome result (λ section. (index : ℕ)
@@ -97,7 +86,7 @@ impl<'a> ElfFile<'a> {
         ensures only { (index : ℕ) (section : SectionHeader)
             → IsFirstNamed self.now name.now index section → result ≡ Some section }
         ensures missing { IfNone result (EachBelow (section_of self.now)
-            (λ section. ¬ Bears self.now section name.now) (length (section_list self.now))) }
+            (λ section. ¬ HasName self.now section name.now) (length (section_list self.now))) }
         ensures exact { result ≡ section_named self.now name.now }
     {
         self.section_table().find_by_name(name)

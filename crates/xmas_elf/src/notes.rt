@@ -5,18 +5,17 @@ ghost use Rattle.std.specs.Prelude.{take};
 ghost use Rattle.elf_base.specs.FileHeader.{file_class, file_order};
 ghost use Rattle.elf_base.specs.Lent.{LiesAt};
 ghost use Rattle.elf_records.specs.Note.{note_header};
-ghost use Rattle.xmas_elf.specs.Content.{note_64, note_of};
+ghost use Rattle.xmas_elf.specs.Content.{note_64, note_content};
 
 use crate::bytes::Record;
 use crate::header::Class::{SixtyFour, ThirtyTwo};
 use crate::sections::NoteHeader;
 use crate::{ElfError, ElfFile};
-use elf_base::header::byte_order;
 
-// The header of the note at the front of these bytes, and all bytes that follow it.
+// The header of the note at the start of `bytes`, and all bytes after it.
 //
-// Refused with `Note32` in class 1, with `UnknownClass` where the class is not 2, and with
-// `ShortData` below 12 bytes.
+// Errors: `Note32` in class 1, `UnknownClass` if the class is not 2, and `ShortData` if there are
+// fewer than 12 bytes.
 #[inline(always)]
 pub(crate) fn first_note<'a>(
     file: &ElfFile<'_>,
@@ -29,9 +28,9 @@ pub(crate) fn first_note<'a>(
     ensures body { IfOk result (λ note. note.1.now ≡ drop 12 bytes.now) }
     ensures place { IfOk result (λ note. LiesAt bytes.entry 12 note.1) }
     ensures exact { MatchResult result
-        (λ note. note_of (file_class file.now.header) (file_order file.now.header) bytes.now
+        (λ note. note_content (file_class file.now.header) (file_order file.now.header) bytes.now
         ≡ Ok (note_64 note.0 note.1.now))
-        (λ e. note_of (file_class file.now.header) (file_order file.now.header) bytes.now ≡ Err e) }
+        (λ e. note_content (file_class file.now.header) (file_order file.now.header) bytes.now ≡ Err e) }
 {
     match file.header.pt1.class() {
         ThirtyTwo => Err(ElfError::Note32),
@@ -39,7 +38,7 @@ pub(crate) fn first_note<'a>(
             if bytes.len() < NoteHeader::SIZE {
                 return Err(ElfError::ShortData);
             }
-            let order = byte_order(file.header.pt1.encoding);
+            let order = file.byte_order();
             let header = NoteHeader::decode(&bytes[..NoteHeader::SIZE], order);
             Ok((header, &bytes[NoteHeader::SIZE..]))
         }

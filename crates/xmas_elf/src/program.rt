@@ -1,13 +1,13 @@
-//! The segments of a file, by index and by iterator (gABI, "Program Header").
+//! The segments of a file, by index and in order (gABI, "Program Header").
 
 ghost use Rattle.std.specs.Prelude.{◌≡◌, ◌↔◌, ◌+◌, ◌*◌, ◌^◌, ◌<◌, ◌≤◌, IfOk, IsOk, length};
 ghost use Rattle.std.specs.Iterator.{YieldsFirst, item_count};
 ghost use Rattle.xmas_elf.specs.Checks.{program_check};
-ghost use Rattle.xmas_elf.specs.Counts.{program_count_of};
+ghost use Rattle.xmas_elf.specs.SectionHeader.{program_count_of};
 ghost use Rattle.xmas_elf.specs.HeaderTable.{IsLongest};
-ghost use Rattle.xmas_elf.specs.ProgramHeader.{HasProgram, HasProgramHeader, program_at_index};
-ghost use Rattle.xmas_elf.specs.ProgramHeader.{program_by_u16, program_of};
-ghost use Rattle.xmas_elf.specs.ProgramList.{ProgramStep, program_list, program_rest};
+ghost use Rattle.xmas_elf.specs.ProgramHeader.{HasProgram, HasProgramHeader, ProgramStep};
+ghost use Rattle.xmas_elf.specs.ProgramHeader.{program_at_index, program_by_u16, program_list};
+ghost use Rattle.xmas_elf.specs.ProgramHeader.{program_of, program_rest};
 
 mod content;
 mod program_header;
@@ -29,7 +29,7 @@ pub use elf_records::program::{
 };
 
 impl<'a> ElfFile<'a> {
-    /// The program header at this index, with the answer of `program::parse_program_header`.
+    /// The program header at `index`; the errors are those of `program::parse_program_header`.
     #[inline(always)]
     pub fn program_header(&self, index: u16) -> Result<ProgramHeader, ElfError>
         ensures readable { IsOk result ↔ HasProgramHeader self.now.input.now self.now.header index }
@@ -40,10 +40,10 @@ impl<'a> ElfFile<'a> {
         parse_program_header(self.input, self.header, index)
     }
 
-    /// The program header at this index, by the number of segments that `program_count` gives.
+    /// The program header at `index`, which may be any below `program_count`.
     ///
-    /// Refused with `NoProgramHeaders`, `UnknownClass`, `ShortProgramHeader` and `SmallEntry` as by
-    /// `program::parse_program_header`.
+    /// Errors: `NoProgramHeaders`, `UnknownClass`, `ShortProgramHeader` and `SmallEntry`, under the
+    /// conditions of `program::parse_program_header`.
     #[inline(always)]
     pub fn program_header_at(&self, index: u32) -> Result<ProgramHeader, ElfError>
         ensures readable { IsOk result ↔ HasProgram self.now index }
@@ -54,10 +54,10 @@ impl<'a> ElfFile<'a> {
         program_entry(self.input, &self.header, self.program_count(), index)
     }
 
-    /// The program headers in order, from index 0 on.
+    /// An iterator over the program headers, from index 0 on.
     ///
-    /// It ends before the first that is refused: with fewer items than `program_count`, some can't
-    /// be read.
+    /// It ends before the first header that cannot be read, so there may be fewer items than
+    /// `program_count`.
     pub fn program_iter(&self) -> ProgramIter<'_, 'a>
         ensures file { result.file.now ≡ self.now }
         ensures first { result.next_index ≡ 0 }
@@ -67,7 +67,7 @@ impl<'a> ElfFile<'a> {
         ensures room { length (program_rest result) * 32 ≤ length self.now.input.now }
         ensures fits { length (program_rest result) < 2 ^ 59 }
     {
-        // By this the proof of `fits` knows that the length is a number of 64 bits.
+        // This tells the proof of `fits` that the length is a number of 64 bits.
         prove!(self.input.len() <= usize::MAX);
         ProgramIter {
             file: self,
@@ -76,20 +76,20 @@ impl<'a> ElfFile<'a> {
     }
 }
 
-/// The program headers of a file in order, up to their count or the first that is refused.
+/// An iterator over the program headers of a file, up to their number or the first error.
 #[derive(Clone, Debug, Drop)]
 pub struct ProgramIter<'b, 'a> {
-    /// The file whose segments they are.
+    /// The file with the segments.
     pub file: &'b ElfFile<'a>,
     /// The index of the next program header.
     pub next_index: u32,
 }
 
 impl ProgramIter<'_, '_> {
-    /// The program header at the next index, and on to the index after it. At the end it is `None`
-    /// and the index stays, so that only `None` follows.
+    /// Returns the program header at the next index, and advances the index. At the end it returns
+    /// `None` and keeps the index, so that it returns only `None` from then on.
     ///
-    /// This is the call of `Iterator`, with what becomes of the index.
+    /// It is `Iterator::next` with a contract for the index.
     #[inline(always)]
     pub fn next(&mut self) -> Option<ProgramHeader>
         ensures { ProgramStep self.old result self.new }
@@ -116,12 +116,12 @@ impl Iterator for ProgramIter<'_, '_> {
     }
 }
 
-/// Whether a program header makes sense over a file.
+/// Checks a program header against a file.
 ///
-/// Refused with the first that holds of `PhSizeMismatch` where the table's entries have another
-/// size than the record; `EntryPointRange` where the segment does not end before the end of the
-/// input (also where it ends right there, as in the Rust crate); `InvalidPhType`; `ShLibUsed` for
-/// type ShLib; and `BadAlign` where address and offset differ modulo an alignment above 1.
+/// The error is the first that applies: `PhSizeMismatch` if the table's entry size is not that of
+/// the header; `EntryPointRange` if the segment does not end before the end of the input (even if
+/// it ends there, as in the Rust crate); `InvalidPhType`; `ShLibUsed` for type ShLib; `BadAlign` if
+/// address and offset differ modulo an alignment above 1.
 #[tactic(auto, unfolding(crate::specs::Checks::program_check))]
 #[inline(always)]
 pub fn sanity_check(program: ProgramHeader, file: &ElfFile<'_>) -> Result<(), ElfError>

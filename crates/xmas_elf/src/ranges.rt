@@ -1,4 +1,4 @@
-//! Ranges of the input, whose ends are whole numbers and never wrap.
+//! Byte ranges of the input, computed without overflow.
 
 ghost use Rattle.std.specs.Prelude.{◌≡◌, ◌↔◌, ◌+◌, ◌≤◌, ◌<◌};
 ghost use Rattle.std.specs.Prelude.{IfOk, IsOk, IsTrue, MatchOption, length, ℕ};
@@ -8,7 +8,7 @@ ghost use Rattle.xmas_elf.specs.Ranges.{IsRange, range_of};
 
 use crate::ElfError;
 
-// Whether the `count` bytes from `start` on lie in the input.
+// Whether `input` contains the range of `count` bytes from `start` on.
 #[inline(always)]
 pub(crate) fn is_within(input: &[u8], start: u64, count: u64) -> bool
     ensures { IsTrue result ↔ (start + count ≤ length input.now) }
@@ -17,7 +17,7 @@ pub(crate) fn is_within(input: &[u8], start: u64, count: u64) -> bool
     count <= len && start <= len - count
 }
 
-// Whether the `count` bytes from `start` on end before the input does.
+// Whether `input` contains the range of `count` bytes from `start` on and another byte after it.
 #[inline(always)]
 pub(crate) fn ends_inside(input: &[u8], start: u64, count: u64) -> bool
     ensures { IsTrue result ↔ (start + count < length input.now) }
@@ -26,7 +26,7 @@ pub(crate) fn ends_inside(input: &[u8], start: u64, count: u64) -> bool
     count < len && start < len - count
 }
 
-// The `count` bytes of the input from `start` on, or `DataRange`.
+// The range of `count` bytes of `input` from `start` on, or `DataRange`.
 #[inline(always)]
 pub(crate) fn range_at(input: &[u8], start: u64, count: u64) -> Result<&[u8], ElfError>
     ensures within { IsOk result ↔ (start + count ≤ length input.now) }
@@ -41,14 +41,14 @@ pub(crate) fn range_at(input: &[u8], start: u64, count: u64) -> Result<&[u8], El
     Ok(&input[start..start + count as usize])
 }
 
-// Where entry `index` of a table begins, if it ends within the input.
+// The offset of entry `index` of a table, if the input contains the entry.
 #[inline(always)]
 pub(crate) fn entry_at(input: &[u8], offset: u64, entry_size: u16, index: u64) -> Option<usize>
     ensures { MatchOption result (length input.now < entry_place offset entry_size (index + 1))
         (λ place. (place ≡ entry_place offset entry_size index)
         × (place + entry_size ≤ length input.now)) }
 {
-    // 128 bits hold the place of any entry.
+    // 128 bits are enough for the offset of any entry.
     let size = u128::from(entry_size);
     let place = u128::from(offset) + u128::from(index) * size;
     if place + size > input.len() as u128 {
@@ -57,7 +57,7 @@ pub(crate) fn entry_at(input: &[u8], offset: u64, entry_size: u16, index: u64) -
     Some(place as usize)
 }
 
-// How many entries of a table end within the input, of so many.
+// The number of entries of a table that the input contains, up to `limit`.
 #[inline(always)]
 pub(crate) fn entries_within(input: &[u8], offset: u64, entry_size: u16, limit: u64) -> usize
     requires { 0 < entry_size }
@@ -73,7 +73,7 @@ pub(crate) fn entries_within(input: &[u8], offset: u64, entry_size: u16, limit: 
     room.min(limit) as usize
 }
 
-// Whether a table with so many entries ends within the input.
+// Whether `input` contains a table with `count` entries.
 #[inline(always)]
 pub(crate) fn table_is_within(input: &[u8], offset: u64, entry_size: u16, count: u64) -> bool
     ensures { IsTrue result ↔ (entry_place offset entry_size count ≤ length input.now) }

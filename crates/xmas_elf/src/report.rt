@@ -1,4 +1,4 @@
-//! The report: what `elfinfo` tells of a file, as text.
+//! The report: the output of `elfinfo` for a file, as text.
 
 ghost use Rattle.std.specs.Prelude.{◌≡◌, Some, OnOk, IfErr};
 ghost use Rattle.xmas_elf.specs.NameTable.{name_of};
@@ -20,7 +20,7 @@ use std::{fmt, io};
 /// Why a report was not written.
 #[derive(Clone, Copy, Debug, PartialEq, Eq)]
 pub enum ReportFault {
-    /// The input is refused, and nothing was written.
+    /// The input is not accepted, and nothing was written.
     Elf(ElfError),
     /// The writer failed.
     Write,
@@ -41,7 +41,7 @@ impl Display for ReportFault {
 
 impl Error for ReportFault {}
 
-// What a check found.
+// The result of a check.
 #[derive(Clone, Copy)]
 struct Verdict(Result<(), ElfError>);
 
@@ -56,7 +56,7 @@ impl Display for Verdict {
     }
 }
 
-// The line of the check of the ELF header.
+// The line with the check of the ELF header.
 #[derive(Clone, Copy)]
 struct CheckLine<'b, 'a>(&'b ElfFile<'a>);
 
@@ -68,7 +68,7 @@ impl Display for CheckLine<'_, '_> {
     }
 }
 
-// The name of a section, or why it has none.
+// The name of a section, or the error for it.
 #[derive(Clone, Copy)]
 struct Name<'b, 'a>(&'b ElfFile<'a>, SectionHeader);
 
@@ -83,7 +83,7 @@ impl Display for Name<'_, '_> {
     }
 }
 
-// The line of a section.
+// The line for a section.
 #[derive(Clone, Copy)]
 struct SectionLine<'b, 'a> {
     file: &'b ElfFile<'a>,
@@ -107,7 +107,7 @@ impl Display for SectionLine<'_, '_> {
     }
 }
 
-// A line for each section but the first.
+// A line for each section except the first.
 #[derive(Clone, Copy)]
 struct SectionLines<'b, 'a>(&'b ElfFile<'a>);
 
@@ -132,7 +132,7 @@ impl Display for SectionLines<'_, '_> {
     }
 }
 
-// The line of a segment.
+// The line for a segment.
 #[derive(Clone, Copy)]
 struct SegmentLine<'b, 'a> {
     file: &'b ElfFile<'a>,
@@ -174,7 +174,7 @@ impl Display for SegmentLines<'_, '_> {
     }
 }
 
-// The line of the hash table.
+// The line for the hash table.
 #[derive(Clone, Copy)]
 struct HashLine(HashVerdict);
 
@@ -190,7 +190,7 @@ impl Display for HashLine {
     }
 }
 
-// The report of an accepted file, whose hash table was looked at before.
+// The report of an accepted file, whose hash table was checked before.
 #[derive(Clone, Copy)]
 struct FileReport<'b, 'a>(&'b ElfFile<'a>, HashVerdict);
 
@@ -211,12 +211,11 @@ impl Display for FileReport<'_, '_> {
     }
 }
 
-/// Writes the report of the file that these bytes are.
+/// Writes the report of the file in `input`.
 ///
-/// `Elf` where `ElfFile::new` refuses the bytes, and `Write` where the writer failed; how much was
-/// written then is left open. What was written is known of a writer that tells its bytes, as one
-/// over memory does. A call that was interrupted is made again, and one that takes no byte of some
-/// has failed, as std's `write_all` has it.
+/// Errors: `Elf` if `ElfFile::new` refuses the input; `Write` if the writer fails, after any number
+/// of bytes. The contract says what was written if the contents of the writer are known, as in
+/// memory. As in std's `write_all`, interrupted writes are retried, and a write of 0 bytes fails.
 pub fn report<W: io::Write>(input: &[u8], w: &mut W) -> Result<(), ReportFault>
     ensures written { OnOk result (WritesReport input.entry (W.contents w.old) (W.contents w.new)) }
     ensures refused { RefusesExactly input.now result }

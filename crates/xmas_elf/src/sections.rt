@@ -1,13 +1,12 @@
-//! The sections of a file, by index and by iterator (gABI, "Sections").
+//! The sections of a file, by index and in order (gABI, "Sections").
 
 ghost use Rattle.std.specs.Prelude.{◌≡◌, ◌↔◌, ◌+◌, ◌*◌, ◌^◌, ◌<◌, ◌≤◌, IfOk, IsOk, length};
 ghost use Rattle.std.specs.Iterator.{YieldsFirst, item_count};
 ghost use Rattle.xmas_elf.specs.Checks.{section_check};
-ghost use Rattle.xmas_elf.specs.Counts.{section_count_of};
+ghost use Rattle.xmas_elf.specs.SectionHeader.{HasSectionEntry, HasSectionHeader, SectionStep};
+ghost use Rattle.xmas_elf.specs.SectionHeader.{section_at_index, section_by_u16, section_count_of};
+ghost use Rattle.xmas_elf.specs.SectionHeader.{section_list, section_of, section_rest};
 ghost use Rattle.xmas_elf.specs.HeaderTable.{IsLongest};
-ghost use Rattle.xmas_elf.specs.SectionHeader.{HasSectionEntry, HasSectionHeader, section_at_index};
-ghost use Rattle.xmas_elf.specs.SectionHeader.{section_by_u16, section_of};
-ghost use Rattle.xmas_elf.specs.SectionList.{SectionStep, section_list, section_rest};
 
 mod content;
 mod section_header;
@@ -31,7 +30,7 @@ pub use elf_records::sections::{
 };
 
 impl<'a> ElfFile<'a> {
-    /// The section header at this index, with the answer of `sections::parse_section_header`.
+    /// The section header at `index`; the errors are those of `sections::parse_section_header`.
     #[inline(always)]
     pub fn section_header(&self, index: u16) -> Result<SectionHeader, ElfError>
         ensures readable { IsOk result ↔ HasSectionHeader self.now.input.now self.now.header index }
@@ -42,10 +41,10 @@ impl<'a> ElfFile<'a> {
         parse_section_header(self.input, self.header, index)
     }
 
-    /// The section header at any index of the section header table: none is reserved, and the index
-    /// isn't compared with the count of sections.
+    /// The section header at `index` of the section header table, which may be any: no index is
+    /// reserved, and it is not compared with the number of sections.
     ///
-    /// Refused with `ShortSectionHeader`, `UnknownClass` and `SmallEntry` as by
+    /// Errors: `ShortSectionHeader`, `UnknownClass` and `SmallEntry`, under the conditions of
     /// `sections::parse_section_header`.
     #[inline(always)]
     pub fn section_header_at(&self, index: u64) -> Result<SectionHeader, ElfError>
@@ -57,10 +56,11 @@ impl<'a> ElfFile<'a> {
         section_entry(self.input, &self.header, index)
     }
 
-    /// The section headers in order, from index 0 on.
+    /// An iterator over the section headers, from index 0 on.
     ///
-    /// It ends before the first that is refused: with fewer items than `section_count`, some can't
-    /// be read. Section 0 is of type Null by the gABI, and `get_name` and `raw_data` refuse that.
+    /// It ends before the first header that cannot be read, so there may be fewer items than
+    /// `section_count`. By the gABI section 0 has type Null, for which `get_name` and `raw_data`
+    /// are errors.
     pub fn section_iter(&self) -> SectionIter<'_, 'a>
         ensures file { result.file.now ≡ self.now }
         ensures first { result.next_index ≡ 0 }
@@ -70,7 +70,7 @@ impl<'a> ElfFile<'a> {
         ensures room { length (section_rest result) * 40 ≤ length self.now.input.now }
         ensures fits { length (section_rest result) < 2 ^ 59 }
     {
-        // By this the proof of `fits` knows that the length is a number of 64 bits.
+        // This tells the proof of `fits` that the length is a number of 64 bits.
         prove!(self.input.len() <= usize::MAX);
         SectionIter {
             file: self,
@@ -79,21 +79,21 @@ impl<'a> ElfFile<'a> {
     }
 }
 
-/// The section headers of a file in order, up to the count of sections
-/// or the first that is refused.
+/// An iterator over the section headers of a file, up to the number of sections
+/// or the first error.
 #[derive(Clone, Debug, Drop)]
 pub struct SectionIter<'b, 'a> {
-    /// The file whose sections they are.
+    /// The file with the sections.
     pub file: &'b ElfFile<'a>,
     /// The index of the next section header.
     pub next_index: u64,
 }
 
 impl SectionIter<'_, '_> {
-    /// The section header at the next index, and on to the index after it. At the end it is `None`
-    /// and the index stays, so that only `None` follows.
+    /// Returns the section header at the next index, and advances the index. At the end it returns
+    /// `None` and keeps the index, so that it returns only `None` from then on.
     ///
-    /// This is the call of `Iterator`, with what becomes of the index.
+    /// It is `Iterator::next` with a contract for the index.
     #[inline(always)]
     pub fn next(&mut self) -> Option<SectionHeader>
         ensures { SectionStep self.old result self.new }
@@ -120,7 +120,7 @@ impl Iterator for SectionIter<'_, '_> {
     }
 }
 
-/// Whether a section header makes sense: `InvalidShType` is its one fault.
+/// Checks a section header; the only error is `InvalidShType`.
 #[inline(always)]
 pub fn sanity_check(section: SectionHeader, _file: &ElfFile<'_>) -> Result<(), ElfError>
     ensures { result ≡ section_check section }

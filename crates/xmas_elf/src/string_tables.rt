@@ -1,4 +1,4 @@
-//! The string tables of symbols, by name, and the texts there (gABI, "String Table").
+//! The string tables of symbols, found by name, and their texts (gABI, "String Table").
 
 ghost use Rattle.elf_base.specs.Lent.{Answers, Lends, LendsOnly};
 ghost use Rattle.xmas_elf.specs.StringTables.{IsDynString, IsDynstr, IsString, IsStrtab};
@@ -9,15 +9,15 @@ use crate::sections::ShType;
 use crate::{ElfError, ElfFile};
 
 impl<'a> ElfFile<'a> {
-    /// The text at an index of `.strtab`, in bytes: up to the next zero byte of that section. It
-    /// lives as long as the input.
+    /// The text at byte `index` of `.strtab`, up to the next zero byte of that section. It lives as
+    /// long as the input.
     ///
-    /// Refused with `NoStrtab` where no section bears that name, with `StrtabType` where the first
-    /// that does has another type than StrTab, with `DataRange` where its data passes the end of
-    /// the input, and as `bytes::text_at` is.
+    /// Errors: `NoStrtab` if no section has that name; `StrtabType` if the type of the first such
+    /// section is not StrTab; `DataRange` if its data extends past the end of the input; those of
+    /// `bytes::text_at`.
     ///
-    /// Each call looks for the section by its name, in one pass over the section headers. For many
-    /// texts, take `raw_data` of the section once, and then `bytes::text_at` of it.
+    /// Each call searches the section headers for the name. For many texts, get `raw_data` of the
+    /// section once, and call `bytes::text_at` on it.
     #[tactic(auto, unfolding(crate::specs::StringTables::string_of))]
     pub fn get_string(&self, index: u32) -> Result<&'a str, ElfError>
         ensures text { Lends (IsString self.now index) result }
@@ -27,11 +27,11 @@ impl<'a> ElfFile<'a> {
         text_at(self.strtab()?, index as usize)
     }
 
-    /// The text at an index of `.dynstr`, in bytes, like that of `.strtab` by `get_string`.
+    /// The text at byte `index` of `.dynstr`, up to the next zero byte of that section. It lives as
+    /// long as the input.
     ///
-    /// Refused with `NoDynstr` where no section bears that name, with `DataRange` where the data
-    /// of the first that does, whatever its type, passes the end of the input, and as
-    /// `bytes::text_at` is.
+    /// Errors: `NoDynstr` if no section has that name; `DataRange` if the data of the first such
+    /// section, of any type, extends past the end of the input; those of `bytes::text_at`.
     #[tactic(auto, unfolding(crate::specs::StringTables::dyn_string_of))]
     pub fn get_dyn_string(&self, index: u32) -> Result<&'a str, ElfError>
         ensures text { Lends (IsDynString self.now index) result }
@@ -57,7 +57,7 @@ impl<'a> ElfFile<'a> {
         }
     }
 
-    // The data of `.dynstr`, of whatever type.
+    // The data of `.dynstr`, of any type.
     #[tactic(auto, unfolding(crate::specs::StringTables::dynstr_of))]
     pub(crate) fn dynstr(&self) -> Result<&'a [u8], ElfError>
         ensures table { Lends (IsDynstr self.now) result }

@@ -6,7 +6,7 @@ use Rattle.std.proofs.lemmas.Option.{slice_get-get_or}
 use Rattle.std.specs.Prelude.{slice_get}
 use Rattle.elf_base.specs.Table.{first_records, records, record_at}
 
--- bytes that are a whole number of records, and not none of them, hold one
+-- bytes whose number is a multiple of the record size, and not 0, contain a record
 one_record : (size n : ℕ) → n % size ≡ 0 → 0 < n → size ≤ n
 one_record size n whole more = let h : n < size → n % size ≡ n = mod-eq_of_lt in grind (arith, h)
 
@@ -20,7 +20,7 @@ records-first size value bytes above fits =
     div-eq-sub-div above fits ∙ add-one ((length bytes - size) / size) ∙ ap (λ n. suc (n / size)) (sym others) in
     ap (λ n. first_records size value n bytes) e
 
--- the same, with the others as `&bytes[size..]`
+-- the first record and the others, with the others in `&bytes[size..]`
 pub records-split : {V : Type 0} (size : ℕ) (value : List ℕ → V) (bytes : List ℕ) → 0 < size → length bytes % size ≡ 0 → 0 < length bytes
     → records size value bytes ≡ value (take size bytes) ∷ records size value (take (length bytes - size) (drop size bytes))
 records-split size value bytes above whole more =
@@ -32,7 +32,7 @@ pub records-none : {V : Type 0} (size : ℕ) (value : List ℕ → V) (bytes : L
 unfolding records first_records
 records-none size value bytes none = ap (λ n. first_records size value n bytes) (ap (λ n. n / size) none ∙ zero-div size)
 
--- there are as many records as fit
+-- the first n records are n
 length_first : {V : Type 0} (size : ℕ) (value : List ℕ → V) (n : ℕ) (bytes : List ℕ) → length (first_records size value n bytes) ≡ n
 unfolding first_records
 length_first size value zero bytes = refl
@@ -42,7 +42,7 @@ pub length-records : {V : Type 0} (size : ℕ) (value : List ℕ → V) (bytes :
 unfolding records
 length-records size value bytes = length_first size value (length bytes / size) bytes
 
--- record i of them
+-- record i of the first n records
 at_first : {V : Type 0} (size : ℕ) (value : List ℕ → V) (n : ℕ) (bytes : List ℕ) (i : ℕ) (d : V) → i < n
     → get_or (first_records size value n bytes) i d ≡ value (take size (drop (i * size) bytes))
 unfolding first_records

@@ -1,4 +1,4 @@
--- Texts as they are computed, and as they are meant.
+-- `text_of` and `IsText` agree.
 use Rattle.std.proofs.Common.{◌≡◌, ◌≢◌, ℕ, zero, suc, ◌<◌, ◌==◌, Bool, true, false, ltb, not, is_none, unwrap_or, option_map, Option, None, Some, Ok, List, [], ◌∷◌, length, drop, slice_index, if◌then◌else◌, refl, subst, ap, arith}
 use Rattle.std.proofs.lemmas.Bool.{eqb-true, eqb-false}
 use Rattle.std.specs.Str.{is_utf8}
@@ -8,7 +8,7 @@ use Rattle.elf_base.specs.Text.{EndsInZero, IsText, before_zero, text_of}
 use Rattle.elf_base.specs.declared.error.ElfError.TheVariants.{TextStart, TextEnd, TextUtf8}
 use Rattle.elf_base.proofs.Texts
 
--- a first byte that isn't zero, before a text
+-- a byte other than zero before a text without a zero byte
 no_zero_before : (byte : ℕ) (text : List ℕ) → byte ≢ 0 → ((k : ℕ) → k < length text → slice_index text k ≢ 0) → (k : ℕ) → k < length (byte ∷ text) → slice_index (byte ∷ text) k ≢ 0
 no_zero_before byte text other no_zero zero below = other
 no_zero_before byte text other no_zero (suc k) below = no_zero k (omega arith)
@@ -27,7 +27,7 @@ ends_here byte bytes is = record {
   no_zero = λ k below. omega arith;
 }
 
--- what is computed of a first byte and the bytes behind it ends in a zero byte
+-- the text computed from a first byte and the bytes after it ends in a zero byte
 ends_by : (byte : ℕ) (bytes text : List ℕ) (zero_first : Bool) (found : Option (List ℕ)) → (byte == 0) ≡ zero_first → ((later : List ℕ) → found ≡ Some later → EndsInZero bytes 0 later) → (if zero_first then Some [] else option_map (λ later. byte ∷ later) found) ≡ Some text → EndsInZero (byte ∷ bytes) 0 text
 ends_by byte bytes text true found test ended is =
     let same : [] ≡ text = cc in subst (EndsInZero (byte ∷ bytes) 0) same (ends_here byte bytes (eqb-true byte 0 test))
@@ -55,7 +55,7 @@ text_by bytes start text false true (Some later) before valid is =
       ended = from_start bytes start later (before_zero-ends (drop start bytes) later before);
     })
 
--- what is computed is the text at a place, and the text at a place is what is computed
+-- `text_of` is a text exactly if it is the text at `start`
 pub text_of-is : (bytes : List ℕ) (start : ℕ) (text : List ℕ) → text_of bytes start ≡ Ok text → IsText bytes start text
 unfolding text_of
 text_of-is bytes start text is =

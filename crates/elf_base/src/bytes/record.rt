@@ -7,18 +7,18 @@ ghost use Rattle.elf_base.specs.declared.bytes.Order.{Order};
 
 use crate::bytes::{Order, read_u32, read_u64};
 
-/// A value that a fixed number of bytes stands for, as a header or a symbol.
+/// A value decoded from a fixed number of bytes, such as a header or a symbol.
 ///
-/// The ghost member `value` of an implementation is what its bytes mean in an order.
+/// The ghost member `value` of an implementation says what its bytes mean in a byte order.
 pub trait Record: Copy {
     ghost SIZE: { ℕ };
 
-    /// How many bytes one record has, which is above 0.
+    /// The size of a record in bytes, above 0.
     const SIZE: usize;
 
     ghost value: { Order → List ℕ → Self };
 
-    /// The record that `bytes`, which are `SIZE` bytes, stand for in an order.
+    /// Decodes the record in `bytes`, which has `SIZE` bytes.
     fn decode(bytes: &[u8], order: Order) -> Self
         requires { length bytes.now ≡ SIZE }
         ensures { result ≡ value order bytes.now };

@@ -9,9 +9,9 @@ use crate::bytes::{Order, Record};
 use std::alloc::AllocError;
 use std::marker::PhantomData;
 
-/// Records of one kind, one after the other in a slice, as in a symbol table.
+/// Records of one type, one after the other in a slice, such as a symbol table.
 ///
-/// It is a view: it holds no records, and each call decodes what it gives.
+/// The table borrows the bytes, and each call decodes the record that it returns.
 #[derive(Debug)]
 pub struct Table<'a, T: Record> {
     bytes: &'a [u8],
@@ -36,8 +36,8 @@ impl<'a, T: Record> Table<'a, T> {
     ghost use Rattle.elf_base.specs.Table.{record_at, table_bytes, table_data};
     ghost use Rattle.elf_base.specs.Table.{table_items, table_order, table_rest};
 
-    /// The table of the records in `bytes`; `NotMultiple`
-    /// where their length is no multiple of `SIZE`.
+    /// The table of the records in `bytes`; `NotMultiple` if the length of `bytes` is not a
+    /// multiple of `SIZE`.
     #[inline(always)]
     pub fn new(bytes: &'a [u8], order: Order) -> Result<Self, ElfError>
         ensures { MatchResult result
@@ -55,7 +55,7 @@ impl<'a, T: Record> Table<'a, T> {
         })
     }
 
-    /// How many records it has.
+    /// The number of records.
     #[inline(always)]
     pub fn len(&self) -> usize
         ensures items { result ≡ length (table_items self.now) }
@@ -64,14 +64,14 @@ impl<'a, T: Record> Table<'a, T> {
         self.bytes.len() / T::SIZE
     }
 
-    /// Whether it has no records.
+    /// Whether the table has no records.
     pub fn is_empty(&self) -> bool
         ensures { IsTrue result ↔ (length (table_items self.now) ≡ 0) }
     {
         self.len() == 0
     }
 
-    /// All its bytes: the very slice that it was made of.
+    /// The bytes of the table: the slice that was given to `new`.
     pub fn bytes(&self) -> &'a [u8]
         ensures bytes { result.now ≡ table_data self.now }
         ensures place { result ≡ table_bytes self.now }
@@ -79,7 +79,7 @@ impl<'a, T: Record> Table<'a, T> {
         self.bytes
     }
 
-    /// The record at an index, which is `None` from `len` on.
+    /// The record at `index`, or `None` if `index` is `len` or more.
     #[inline(always)]
     pub fn get(&self, index: usize) -> Option<T>
         ensures item { result ≡ slice_get (table_items self.now) index }
@@ -113,7 +113,7 @@ impl<'a, T: Record> Table<'a, T> {
         Some((first, rest))
     }
 
-    /// All its records in order.
+    /// An iterator over the records, in order.
     #[inline(always)]
     pub fn iter(&self) -> TableIter<'a, T>
         ensures starts { table_rest result ≡ self.now }
@@ -128,7 +128,7 @@ impl<'a, T: Record> Table<'a, T> {
     }
 }
 
-/// The records of a table in order.
+/// An iterator over the records of a table, in order.
 #[derive(Clone, Debug, Drop)]
 pub struct TableIter<'a, T: Record> {
     rest: Table<'a, T>,

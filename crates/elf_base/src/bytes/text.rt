@@ -1,4 +1,4 @@
-//! Texts that a zero byte ends (gABI, "String Table").
+//! Texts ended by a zero byte (gABI, "String Table").
 
 ghost use Rattle.std.specs.Prelude.{◌≡◌, ◌↔◌, ◌+◌, ◌<◌, ◌≤◌, ℕ, Err, IfErr, IfOk, IsErrOf, IsTrue};
 ghost use Rattle.std.specs.Prelude.{List, MatchResult, Ok, drop, length, take};
@@ -12,10 +12,10 @@ use crate::ElfError;
 use memchr::arch::all::is_equal;
 use memchr::memchr;
 
-/// The text from `start`, which is in bytes, up to the first zero byte.
+/// The text from byte `start` of `data` up to the first zero byte.
 ///
-/// Refused with `TextStart` for a start past the end of the data, `TextEnd` if no zero byte
-/// follows, and `TextUtf8` if what stands before it is not UTF-8.
+/// Errors: `TextStart` if `start` is past the end of `data`, `TextEnd` if no zero byte follows,
+/// `TextUtf8` if the bytes before it are not UTF-8.
 #[inline(always)]
 pub fn text_at(data: &[u8], start: usize) -> Result<&str, ElfError>
     ensures text { Lends (IsText «data».now start) result }
@@ -42,9 +42,9 @@ pub fn text_at(data: &[u8], start: usize) -> Result<&str, ElfError>
     }
 }
 
-/// Where in `data` the text from `start` on stands: its first byte and its length, both in bytes.
+/// The byte range in `data` of the text that begins at byte `start`: its first byte and its length.
 ///
-/// Refused as `text_at` is, whose text has these bytes. A zero byte follows them.
+/// The errors are those of `text_at`. The zero byte after the range is not part of it.
 pub fn text_range(data: &[u8], start: usize) -> Result<(usize, usize), ElfError>
     ensures text { IfOk result (λ range. (range.0 ≡ start)
         × IsText «data».now start (take range.1 (drop start «data».now))) }
@@ -57,12 +57,12 @@ pub fn text_range(data: &[u8], start: usize) -> Result<(usize, usize), ElfError>
     Ok((start, text.len()))
 }
 
-/// Whether the text from `start`, which is in bytes, up to the first zero byte is this one, and how
-/// many bytes were compared to find out.
+/// Whether the text from byte `start` of `data` up to the first zero byte equals `text`, and the
+/// number of bytes compared.
 ///
-/// None are where `start` is past the end of the data or a zero byte stands in `text`; else all of
-/// `text` and a zero byte behind it, up to the first that the data lacks or that differs there. The
-/// data's text isn't tested for UTF-8, which `text` is.
+/// No byte is compared if `start` is past the end of `data` or `text` contains a zero byte.
+/// Otherwise `text` and a zero byte after it are compared, up to the first byte that `data` lacks
+/// or that differs. The bytes of `data` are not checked for UTF-8, since `text` is UTF-8.
 #[inline(always)]
 pub fn text_is(data: &[u8], start: usize, text: &str) -> (bool, usize)
     ensures is { IsTrue result.0 ↔ IsText «data».now start text.now }
@@ -76,9 +76,9 @@ pub fn text_is(data: &[u8], start: usize, text: &str) -> (bool, usize)
     front_is(&data[start..], wanted)
 }
 
-/// Whether the text from `start`, which is in bytes, up to the first zero byte is this one: as by
-/// `text_is`, without the number. The zero byte behind the text is looked for first, as it tells
-/// most texts of other lengths apart, and one within `text` only where all else agrees.
+/// Whether the text from byte `start` of `data` up to the first zero byte equals `text`: `text_is`
+/// without the number. The zero byte after the text is checked first, since it rules out most texts
+/// of other lengths; `text` is searched for a zero byte only if all else agrees.
 #[inline(always)]
 pub fn stands_at(data: &[u8], start: usize, text: &str) -> bool
     ensures { IsTrue result ↔ IsText «data».now start text.now }
@@ -94,7 +94,7 @@ pub fn stands_at(data: &[u8], start: usize, text: &str) -> bool
     is_equal(&rest[..wanted.len()], wanted) && memchr(0, wanted).is_none()
 }
 
-// Whether the bytes begin with these and a zero byte, and how many were compared.
+// Whether `bytes` begin with `wanted` and a zero byte, and the number of bytes compared.
 #[inline(always)]
 fn front_is(bytes: &[u8], wanted: &[u8]) -> (bool, usize)
     ensures { FrontCompared bytes.now wanted.now result.0 result.1 }

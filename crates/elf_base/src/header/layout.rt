@@ -2,7 +2,7 @@
 
 ghost use Rattle.std.specs.Prelude.{◌≡◌, ◌+◌, ◌≤◌, ◌<◌, length};
 ghost use Rattle.std.proofs.Common.{lit<};
-ghost use Rattle.elf_base.specs.HeaderLayout.{header_pt1, header_pt2_32, header_pt2_64};
+ghost use Rattle.elf_base.specs.FileHeader.{header_pt1, header_pt2_32, header_pt2_64};
 
 use crate::bytes::{Order, Record, read_u16, read_u32, read_u64};
 use crate::header::numbers::{Class_, Data_, Machine_, OsAbi_, Type_, Version_};
@@ -10,7 +10,7 @@ use crate::header::{HeaderPt1, HeaderPt2_};
 use crate::{P32, P64};
 
 impl HeaderPt1 {
-    // The first 16 bytes of a file; no number in them has an order.
+    // Reads the first 16 bytes; all fields are single bytes, so no byte order is needed.
     #[inline(always)]
     pub(crate) fn read(bytes: &[u8]) -> HeaderPt1
         requires { 16 ≤ length bytes.now }
@@ -47,7 +47,7 @@ impl Record for HeaderPt1 {
 }
 
 impl HeaderPt2_<P32> {
-    // The 36 bytes from `place` on.
+    // Reads the 36 bytes from `place` on.
     #[inline(always)]
     pub(crate) fn read(bytes: &[u8], place: usize, order: Order) -> HeaderPt2_<P32>
         requires { place + 36 ≤ length bytes.now }
@@ -86,7 +86,7 @@ impl Record for HeaderPt2_<P32> {
 }
 
 impl HeaderPt2_<P64> {
-    // The 48 bytes from `place` on.
+    // Reads the 48 bytes from `place` on.
     #[inline(always)]
     pub(crate) fn read(bytes: &[u8], place: usize, order: Order) -> HeaderPt2_<P64>
         requires { place + 48 ≤ length bytes.now }

@@ -1,7 +1,7 @@
-//! The numbers of an ELF header that have names, and those names.
+//! The named numbers of an ELF header.
 //!
-//! A type whose name ends in `_` is the number as it stands in the file, and every number is one.
-//! The enum of the same name is what the number means.
+//! A type whose name ends in `_` is the number in the file, which may be any. The enum with that
+//! name, without `_`, is what the number means.
 
 ghost use Rattle.std.specs.Prelude.{◌≡◌, ◌↔◌, IsTrue};
 ghost use Rattle.elf_base.specs.HeaderNumbers.{class_number, class_of, class_raw, encoding_number};
@@ -10,19 +10,19 @@ ghost use Rattle.elf_base.specs.HeaderNumbers.{machine_of, machine_raw, os_abi_n
 ghost use Rattle.elf_base.specs.HeaderNumbers.{os_abi_raw, type_number, type_of, type_raw};
 ghost use Rattle.elf_base.specs.HeaderNumbers.{version_number, version_of, version_raw};
 
-/// How wide the addresses and offsets of a file are, as a number (gABI, "ELF Header", EI_CLASS).
+/// The class of a file, as a number (gABI, "ELF Header", EI_CLASS).
 #[derive(Clone, Copy, Debug, PartialEq, Eq)]
 pub struct Class_(u8);
 
 impl Class_ {
-    /// The value of this number, which may be any.
+    /// The value of `number`, which may be any number.
     pub fn from_raw(number: u8) -> Class_
         ensures { result ≡ class_raw number }
     {
         Self(number)
     }
 
-    /// The number as it stands in the file.
+    /// The number in the file.
     pub fn raw(self) -> u8
         ensures { result ≡ class_number self }
     {
@@ -49,7 +49,7 @@ impl Class_ {
     }
 }
 
-/// How wide the addresses and offsets of a file are (gABI, "ELF Header", EI_CLASS).
+/// The class of a file: the width of its addresses and offsets (gABI, "ELF Header", EI_CLASS).
 #[derive(Clone, Copy, Debug, PartialEq, Eq)]
 pub enum Class {
     /// `ELFCLASSNONE`: invalid.
@@ -71,19 +71,19 @@ impl Class {
     }
 }
 
-/// The encoding of the numbers of a file, as a number (gABI, "ELF Header", EI_DATA).
+/// The data encoding of a file, as a number (gABI, "ELF Header", EI_DATA).
 #[derive(Clone, Copy, Debug)]
 pub struct Data_(u8);
 
 impl Data_ {
-    /// The value of this number, which may be any.
+    /// The value of `number`, which may be any number.
     pub fn from_raw(number: u8) -> Data_
         ensures { result ≡ encoding_raw number }
     {
         Self(number)
     }
 
-    /// The number as it stands in the file.
+    /// The number in the file.
     pub fn raw(self) -> u8
         ensures { result ≡ encoding_number self }
     {
@@ -110,7 +110,7 @@ impl Data_ {
     }
 }
 
-/// The encoding of the numbers of a file (gABI, "ELF Header", EI_DATA).
+/// The data encoding of a file: its byte order (gABI, "ELF Header", EI_DATA).
 #[derive(Clone, Copy, Debug, PartialEq, Eq)]
 pub enum Data {
     /// `ELFDATANONE`: invalid.
@@ -137,14 +137,14 @@ impl Data {
 pub struct Version_(u8);
 
 impl Version_ {
-    /// The value of this number, which may be any.
+    /// The value of `number`, which may be any number.
     pub fn from_raw(number: u8) -> Version_
         ensures { result ≡ version_raw number }
     {
         Self(number)
     }
 
-    /// The number as it stands in the file.
+    /// The number in the file.
     pub fn raw(self) -> u8
         ensures { result ≡ version_number self }
     {
@@ -175,7 +175,7 @@ impl Version_ {
 pub enum Version {
     /// `EV_NONE`: invalid.
     None,
-    /// `EV_CURRENT`: the one version that there is.
+    /// `EV_CURRENT`: the only version.
     Current,
     /// Any other number.
     Other(u8),
@@ -195,14 +195,14 @@ impl Version {
 pub struct OsAbi_(u8);
 
 impl OsAbi_ {
-    /// The value of this number, which may be any.
+    /// The value of `number`, which may be any number.
     pub fn from_raw(number: u8) -> OsAbi_
         ensures { result ≡ os_abi_raw number }
     {
         Self(number)
     }
 
-    /// The number as it stands in the file.
+    /// The number in the file.
     pub fn raw(self) -> u8
         ensures { result ≡ os_abi_number self }
     {
@@ -232,7 +232,7 @@ impl OsAbi_ {
 /// The operating system whose extensions a file uses (gABI, "ELF Header", EI_OSABI).
 #[derive(Clone, Copy, Debug, PartialEq, Eq)]
 pub enum OsAbi {
-    /// `ELFOSABI_NONE`: no extensions, or none that are told.
+    /// `ELFOSABI_NONE`: no extensions, or not specified.
     SystemV,
     /// `ELFOSABI_HPUX`: Hewlett-Packard HP-UX.
     HpUx,
@@ -256,19 +256,19 @@ pub enum OsAbi {
     Other(u8),
 }
 
-/// What a file is for, as a number (gABI, "ELF Header", e_type).
+/// The type of an object file, as a number (gABI, "ELF Header", e_type).
 #[derive(Clone, Copy, Debug)]
 pub struct Type_(pub u16);
 
 impl Type_ {
-    /// The value of this number, which may be any.
+    /// The value of `number`, which may be any number.
     pub fn from_raw(number: u16) -> Type_
         ensures { result ≡ type_raw number }
     {
         Self(number)
     }
 
-    /// The number as it stands in the file.
+    /// The number in the file.
     pub fn raw(self) -> u16
         ensures { result ≡ type_number self }
     {
@@ -290,37 +290,37 @@ impl Type_ {
     }
 }
 
-/// What a file is for (gABI, "ELF Header", e_type).
+/// The type of an object file (gABI, "ELF Header", e_type).
 #[derive(Clone, Copy, Debug, PartialEq, Eq)]
 pub enum Type {
     /// `ET_NONE`: no type.
     None,
-    /// `ET_REL`: an object file.
+    /// `ET_REL`: a relocatable file.
     Relocatable,
-    /// `ET_EXEC`: a program.
+    /// `ET_EXEC`: an executable file.
     Executable,
     /// `ET_DYN`: a shared object.
     SharedObject,
     /// `ET_CORE`: a core dump.
     Core,
-    /// Any other number, `ET_LOOS` to `ET_HIOS` (0xfe00 to 0xfeff) and `ET_LOPROC` to
-    /// `ET_HIPROC` (0xff00 to 0xffff) among them.
+    /// Any other number, including `ET_LOOS` to `ET_HIOS` (0xfe00 to 0xfeff) and `ET_LOPROC` to
+    /// `ET_HIPROC` (0xff00 to 0xffff).
     ProcessorSpecific(u16),
 }
 
-/// The processor that a file is for, as a number (gABI, "ELF Header", e_machine).
+/// The processor architecture of a file, as a number (gABI, "ELF Header", e_machine).
 #[derive(Clone, Copy, Debug)]
 pub struct Machine_(u16);
 
 impl Machine_ {
-    /// The value of this number, which may be any.
+    /// The value of `number`, which may be any number.
     pub fn from_raw(number: u16) -> Machine_
         ensures { result ≡ machine_raw number }
     {
         Self(number)
     }
 
-    /// The number as it stands in the file.
+    /// The number in the file.
     pub fn raw(self) -> u16
         ensures { result ≡ machine_number self }
     {
@@ -349,7 +349,7 @@ impl Machine_ {
     }
 }
 
-/// The processor that a file is for (gABI, "ELF Header", e_machine).
+/// The processor architecture of a file (gABI, "ELF Header", e_machine).
 #[allow(non_camel_case_types)]
 #[derive(Clone, Copy, Debug, PartialEq, Eq)]
 pub enum Machine {
@@ -363,7 +363,7 @@ pub enum Machine {
     Mips,
     /// `EM_PPC`: PowerPC.
     PowerPC,
-    /// `EM_ARM`: Arm of 32 bits.
+    /// `EM_ARM`: 32-bit Arm.
     Arm,
     /// `EM_SH`: Hitachi SuperH.
     SuperH,
@@ -371,7 +371,7 @@ pub enum Machine {
     Ia64,
     /// `EM_X86_64`: AMD x86-64.
     X86_64,
-    /// `EM_AARCH64`: Arm of 64 bits.
+    /// `EM_AARCH64`: 64-bit Arm.
     AArch64,
     /// `EM_RISCV`: RISC-V.
     RISC_V,

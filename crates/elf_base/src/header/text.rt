@@ -1,7 +1,7 @@
-//! How the ELF header is printed: a line for each field.
+//! The printed form of the ELF header: one line per field.
 
 ghost use Rattle.std.specs.Prelude.{◌≡◌, Some};
-ghost use Rattle.elf_base.specs.HeaderLayout.{header_fields};
+ghost use Rattle.elf_base.specs.FileHeader.{header_fields};
 ghost use Rattle.elf_base.specs.HeaderText.{class_text, encoding_text, first_part_text};
 ghost use Rattle.elf_base.specs.HeaderText.{header_text, machine_text, os_abi_text};
 ghost use Rattle.elf_base.specs.HeaderText.{second_part_text, type_text, version_text};
@@ -131,7 +131,7 @@ impl Display for FirstPart<'_> {
 }
 
 impl HeaderPt2_<P32> {
-    // The same numbers, in the types of class 64, so that one text serves both.
+    // The part with fields as wide as in class 64, so that one printed form serves both classes.
     fn to_64(&self) -> HeaderPt2_<P64>
         ensures { result ≡ self.now }
     {

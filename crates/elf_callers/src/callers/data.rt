@@ -1,7 +1,7 @@
 //! Callers that read the data of sections and segments by their types.
 
 ghost use Rattle.std.specs.Prelude.{◌≡◌, ◌*◌, ◌+◌, ◌<◌, ◌≤◌, ◌⊎◌, Err, IfOk, IfErr, IfNone, IfSome};
-ghost use Rattle.std.specs.Prelude.{IsOkAnd, IsSome, IsSomeAnd, IsTrue, List, MatchOption, None};
+ghost use Rattle.std.specs.Prelude.{IsOkAnd, IsSome, IsSomeAnd, List, MatchOption, None};
 ghost use Rattle.std.specs.Prelude.{Ok, Some, length, take, drop, ℕ};
 ghost use Rattle.elf_callers.specs.Kinds.{dynamic_in, hash_table_in, rela_64_in, strings_in};
 ghost use Rattle.elf_callers.specs.Kinds.{symbols_64_in, text_found, uses_in};
@@ -11,7 +11,7 @@ ghost use Rattle.xmas_elf.specs.ProgramHeader.{program_fields, segment_type};
 ghost use Rattle.xmas_elf.specs.SectionContent.{section_content, section_content_of};
 ghost use Rattle.xmas_elf.specs.SectionHeader.{section_fields, section_type};
 ghost use Rattle.xmas_elf.specs.SegmentContent.{segment_content_of};
-ghost use Rattle.xmas_elf.specs.Strings.{string_data, strings_of};
+ghost use Rattle.xmas_elf.specs.Strings.{string_data, string_items};
 ghost use Rattle.xmas_elf.specs.Text.{IsText};
 
 use xmas_elf::bytes::text_at;
@@ -74,17 +74,8 @@ pub fn unknown_symbols(file: &ElfFile<'_>, section: SectionHeader) -> Option<Elf
     section.get_data(file).err()
 }
 
-/// A section that has no bytes in the file is empty, wherever its bytes would lie.
-#[tactic(auto, unfolding(xmas_elf::specs::SectionContent::section_content_of))]
-pub fn is_empty(file: &ElfFile<'_>, section: SectionHeader) -> bool
-    requires { section_type section ≡ Ok ShType.NoBits }
-    ensures { IsTrue result }
-{
-    matches!(section.get_data(file), Ok(SectionData::Empty))
-}
-
 /// Notes of class 32 are not read.
-#[tactic(auto, unfolding(xmas_elf::specs::SegmentContent::segment_content_of, xmas_elf::specs::SegmentData::segment_data_of))]
+#[tactic(auto, unfolding(xmas_elf::specs::SegmentContent::segment_content_of, xmas_elf::specs::ProgramHeader::segment_data_of))]
 pub fn note_32(file: &ElfFile<'_>, program: ProgramHeader) -> Option<ElfError>
     requires typed { segment_type (program_fields program) ≡ Ok Type.Note }
     requires class { file_class file.now.header ≡ 1 }
@@ -152,7 +143,7 @@ pub fn text_in<'a>(file: &ElfFile<'a>, section: SectionHeader, index: usize) -> 
 pub fn text_count(part: &SectionData<'_>) -> Option<usize>
     ensures { MatchOption result (string_data (section_content part.now) ≡ None)
         (λ count. IsSomeAnd (string_data (section_content part.now))
-        (λ bytes. count ≡ length (strings_of bytes))) }
+        (λ bytes. count ≡ length (string_items bytes))) }
 {
     let texts = part.strings().ok()?;
     Some(texts.count())

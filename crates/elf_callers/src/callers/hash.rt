@@ -12,7 +12,8 @@ ghost use Rattle.xmas_elf.specs.Good.{IsGood};
 ghost use Rattle.xmas_elf.specs.ReportHash.{content_at};
 ghost use Rattle.xmas_elf.specs.HashTable.{chain_count_of, hash_data, hash_order};
 ghost use Rattle.xmas_elf.specs.SectionContent.{section_content_of};
-ghost use Rattle.xmas_elf.specs.Symbols.{Decides, IsGlobal, IsMatch, symbols_of};
+ghost use Rattle.xmas_elf.specs.Symbol.{IsGlobal};
+ghost use Rattle.xmas_elf.specs.Symbols.{Decides, IsMatch, symbols_of};
 ghost use Rattle.xmas_elf.specs.Table.{table_data, table_items, table_order};
 ghost use Rattle.xmas_elf.specs.Types.{ElfError, ElfFile};
 
@@ -120,8 +121,8 @@ pub fn linked_tables<'a>(file: &ElfFile<'a>) -> Option<(HashTable<'a>, Table<'a,
 }
 
 /// The value of the symbol with this name in some file, as a dynamic linker finds it: by the hash
-/// table and the symbols that it is linked to, once the check has passed. None where there is no
-/// such symbol, and a refusal where the file has no such tables or they don't pass.
+/// table and the symbols that it is linked to, after the check. None where there is no such symbol,
+/// and a refusal where the file has no such tables or they fail the check.
 pub fn value_of_name(file: &ElfFile<'_>, name: &str) -> Result<Option<u64>, ElfError>
     ensures value { IfOk result (IsFileValueOf file.now name.now) }
     ensures refused { IfErr result (IsLinkRefused file.now) }

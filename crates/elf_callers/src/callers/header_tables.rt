@@ -1,12 +1,10 @@
-//! Callers that go over the headers of a file by tables, which are prepared once.
+//! Callers that go over the section headers of a file by a table, which is prepared once.
 
 ghost use Rattle.std.specs.Prelude.{◌≡◌, length, slice_get};
 ghost use Rattle.xmas_elf.specs.Lent.{Answers};
 ghost use Rattle.xmas_elf.specs.NameTable.{name_of, section_named};
-ghost use Rattle.xmas_elf.specs.ProgramList.{program_list};
-ghost use Rattle.xmas_elf.specs.SectionList.{section_list};
+ghost use Rattle.xmas_elf.specs.SectionHeader.{section_list};
 
-use xmas_elf::program::ProgramHeader;
 use xmas_elf::sections::SectionHeader;
 use xmas_elf::{ElfError, ElfFile};
 
@@ -43,25 +41,4 @@ pub fn name_by_table<'a>(file: &ElfFile<'a>, section: &SectionHeader) -> Result<
     ensures { Answers (name_of file.now section.now) result }
 {
     file.section_table().name_of(section)
-}
-
-/// How many segments of a file can be read: as many as its iterator gives.
-pub fn segment_count(file: &ElfFile<'_>) -> usize
-    ensures { result ≡ length (program_list file.now) }
-{
-    file.program_table().len()
-}
-
-/// The segment at an index of the iterator's.
-pub fn nth_segment(file: &ElfFile<'_>, index: usize) -> Option<ProgramHeader>
-    ensures { result ≡ slice_get (program_list file.now) index }
-{
-    file.program_table().get(index)
-}
-
-/// The count of segments by the table's own iterator.
-pub fn segments_counted(file: &ElfFile<'_>) -> usize
-    ensures { result ≡ length (program_list file.now) }
-{
-    file.program_table().iter().count()
 }

@@ -5,8 +5,7 @@ ghost use Rattle.std.specs.Prelude.{◌≡◌, IsOkAnd, MatchOption, Ok, length}
 ghost use Rattle.elf_callers.specs.Executable.{IsExecutable};
 ghost use Rattle.xmas_elf.specs.First.{FindsFirstAt};
 ghost use Rattle.xmas_elf.specs.HeaderTable.{EachBelow};
-ghost use Rattle.xmas_elf.specs.ProgramHeader.{program_of};
-ghost use Rattle.xmas_elf.specs.ProgramList.{program_list};
+ghost use Rattle.xmas_elf.specs.ProgramHeader.{program_list, program_of};
 
 use xmas_elf::ElfFile;
 use xmas_elf::program::ProgramHeader;

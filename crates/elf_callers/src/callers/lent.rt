@@ -6,16 +6,14 @@ ghost use Rattle.elf_callers.specs.Kinds.{symbols_64_in};
 ghost use Rattle.xmas_elf.specs.FileHeader.{header_of};
 ghost use Rattle.xmas_elf.specs.Lent.{LiesAt};
 ghost use Rattle.xmas_elf.specs.Place.{LiesAsSection};
-ghost use Rattle.xmas_elf.specs.ProgramHeader.{program_fields, program_by_u16};
+ghost use Rattle.xmas_elf.specs.ProgramHeader.{HasSegmentData, IsSegmentData, program_fields};
 ghost use Rattle.xmas_elf.specs.SectionContent.{section_content, section_content_of};
 ghost use Rattle.xmas_elf.specs.SectionData.{HasSectionData, IsSectionData};
 ghost use Rattle.xmas_elf.specs.SectionHeader.{section_fields, section_by_u16};
-ghost use Rattle.xmas_elf.specs.SegmentContent.{segment_content, segment_content_of};
-ghost use Rattle.xmas_elf.specs.SegmentData.{HasSegmentData, IsSegmentData};
 ghost use Rattle.xmas_elf.specs.Types.{ElfFile};
 
 use xmas_elf::bytes::{Order, Table};
-use xmas_elf::program::{ProgramHeader, SegmentData};
+use xmas_elf::program::ProgramHeader;
 use xmas_elf::sections::{SectionData, SectionHeader};
 use xmas_elf::symbol_table::Entry64;
 use xmas_elf::{ElfError, ElfFile};
@@ -93,25 +91,6 @@ pub fn section_data_in(input: &[u8], index: u16) -> Result<SectionData<'_>, ElfE
     let file = ElfFile::new(input)?;
     let section = file.section_header(index)?;
     section.get_data(&file)
-}
-
-/// The same of a segment.
-pub fn segment_data_in(input: &[u8], index: u16) -> Result<SegmentData<'_>, ElfError>
-    ensures found { IfOk result (λ part. IsOkAnd (header_of input.now) (λ header.
-        let file : ElfFile = record { input = input.entry; header = header } in
-        IsOkAnd (program_by_u16 input.now header index)
-        (λ program. segment_content_of file (program_fields program)
-        ≡ Ok (segment_content part)))) }
-    ensures refused { IfErr result (λ error. MatchResult (header_of input.now) (λ header.
-        let file : ElfFile = record { input = input.entry; header = header } in
-        MatchResult (program_by_u16 input.now header index)
-        (λ program. segment_content_of file (program_fields program) ≡ Err error)
-        (λ why. why ≡ error))
-        (λ why. why ≡ error)) }
-{
-    let file = ElfFile::new(input)?;
-    let program = file.program_header(index)?;
-    program.get_data(&file)
 }
 
 /// The bytes of some symbols, which outlive the table that they were read by.

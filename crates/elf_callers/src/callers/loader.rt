@@ -3,9 +3,7 @@
 ghost use Rattle.std.specs.Prelude.{◌≡◌, ◌↔◌, IfErr, IfOk, IsOk, IsTrue, OnOk, map};
 ghost use Rattle.elf_callers.specs.Loaded.{AreRead, FitMemory, IsLoadable, IsRefused, LieInFile};
 ghost use Rattle.elf_callers.specs.Loaded.{image, image_of, images, is_load};
-ghost use Rattle.xmas_elf.specs.ProgramHeader.{program_fields};
-ghost use Rattle.xmas_elf.specs.ProgramList.{program_list};
-ghost use Rattle.xmas_elf.specs.SegmentData.{HasSegmentData};
+ghost use Rattle.xmas_elf.specs.ProgramHeader.{HasSegmentData, program_fields, program_list};
 
 use std::alloc::Global;
 use xmas_elf::ElfFile;

@@ -3,18 +3,20 @@
 ghost use Rattle.std.specs.Borrow.{Bor};
 ghost use Rattle.std.specs.Prelude.{◌≡◌, ◌≢◌, ◌↔◌, ◌<◌, ◌≤◌, ℕ, Contains, Err, IfErr, IfSome, IsOk};
 ghost use Rattle.std.specs.Prelude.{IsTrue, MatchOption, OnOk, Some, length, slice_get, true};
-ghost use Rattle.elf_callers.specs.Tiny.{tiny_fields, tiny_name};
+ghost use Rattle.elf_callers.specs.Numbered.{numbered_fields, numbered_name};
 ghost use Rattle.xmas_elf.specs.Chain.{IsEndless, Looks, chains_of};
 ghost use Rattle.xmas_elf.specs.Good.{FindsAll, IsCheck, IsGood, MustBeFound};
 ghost use Rattle.xmas_elf.specs.HashTable.{chain_count_of, start_of};
-ghost use Rattle.xmas_elf.specs.SymbolName.{HoldsNames};
-ghost use Rattle.xmas_elf.specs.Symbols.{Decides, IsGlobal, IsMatch, symbols_of};
+ghost use Rattle.xmas_elf.specs.SymbolTable.{table_symbols};
+ghost use Rattle.xmas_elf.specs.Symbol.{IsGlobal};
+ghost use Rattle.xmas_elf.specs.Symbols.{Decides, IsMatch, symbols_of};
 ghost use Rattle.xmas_elf.specs.Table.{table_items};
 
-use crate::tiny::Tiny;
+use crate::callers::hash::symbol_with_name;
+use crate::own::Numbered;
 use xmas_elf::bytes::{Record, Table};
 use xmas_elf::hash::HashTable;
-use xmas_elf::symbol_table::Entry;
+use xmas_elf::symbol_table::{Entry, SymbolTable};
 use xmas_elf::{ElfError, ElfFile};
 
 /// A symbol with this name that passes the test, by a table that passed the check; none where a
@@ -97,49 +99,41 @@ pub fn two_symbols<E: Entry + Record>(
     table: &HashTable<'_>,
     one: &str,
     other: &str,
-    symbols: &Table<'_, E>,
-    file: &ElfFile<'_>,
+    symbols: &SymbolTable<'_, E>,
 ) -> (Option<(u32, E)>, Option<(u32, E)>)
-    requires good { IsGood table.now (symbols_of E.fields E.text_in symbols.now file.now) }
-    ensures first { let all = symbols_of E.fields E.text_in symbols.now file.now in
+    requires good { IsGood table.now (table_symbols symbols.now) }
+    ensures first { let all = table_symbols symbols.now in
         MatchOption result.0
         ((i : ℕ) (e : E) → ¬ IsGlobal all i e one.now)
         (λ found. (0 < found.0) × (slice_get all.items found.0 ≡ Some found.1)
         × (all.text found.1 ≡ Some one.now)) }
-    ensures second { let all = symbols_of E.fields E.text_in symbols.now file.now in
+    ensures second { let all = table_symbols symbols.now in
         MatchOption result.1
         ((i : ℕ) (e : E) → ¬ IsGlobal all i e other.now)
         (λ found. (0 < found.0) × (slice_get all.items found.0 ≡ Some found.1)
         × (all.text found.1 ≡ Some other.now)) }
 {
-    let strings = E::string_table(file);
     (
-        named_symbol(table, one, strings, symbols, file),
-        named_symbol(table, other, strings, symbols, file),
+        named_symbol(table, one, symbols),
+        named_symbol(table, other, symbols),
     )
 }
 
-/// A symbol with this name, by a table that passed the check
-/// and by the string table of its symbols.
+/// A symbol with this name, by a table that passed the check, among symbols that carry their names.
 pub fn named_symbol<E: Entry + Record>(
     table: &HashTable<'_>,
     name: &str,
-    strings: Option<Result<&[u8], ElfError>>,
-    symbols: &Table<'_, E>,
-    file: &ElfFile<'_>,
+    symbols: &SymbolTable<'_, E>,
 ) -> Option<(u32, E)>
-    requires good { IsGood table.now (symbols_of E.fields E.text_in symbols.now file.now) }
-    requires names { IfSome strings (HoldsNames E.fields (λ e. E.text_in e file.now)) }
-    ensures { let all = symbols_of E.fields E.text_in symbols.now file.now in MatchOption result
+    requires good { IsGood table.now (table_symbols symbols.now) }
+    ensures { let all = table_symbols symbols.now in MatchOption result
         ((i : ℕ) (e : E) → ¬ IsGlobal all i e name.now)
         (λ found. (0 < found.0) × (slice_get all.items found.0 ≡ Some found.1)
         × (all.text found.1 ≡ Some name.now)) }
 {
     match table.lookup_in(
         name,
-        strings,
         symbols,
-        file,
         |_| -> bool
             ensures { result ≡ true }
         { true },
@@ -150,21 +144,21 @@ pub fn named_symbol<E: Entry + Record>(
     }
 }
 
-/// The same among symbols of one's own.
-pub fn defined_number(
+/// The number of a symbol of one's own with this name, by a table that passed the check.
+pub fn number_with_name(
     table: &HashTable<'_>,
     name: &str,
-    symbols: &Table<'_, Tiny>,
+    symbols: &Table<'_, Numbered>,
     file: &ElfFile<'_>,
-) -> Option<u8>
-    requires good { IsGood table.now (symbols_of (λ symbol. tiny_fields symbol.number)
-        (λ symbol _. tiny_name symbol.number) symbols.now file.now) }
-    ensures { let all = symbols_of (λ symbol. tiny_fields symbol.number)
-        (λ symbol _. tiny_name symbol.number) symbols.now file.now in
-        MatchOption result ((i : ℕ) (e : _) → IsGlobal all i e name.now → e.number ≡ 0)
-        (λ number. (number ≢ 0) × (tiny_name number ≡ Some name.now)) }
+) -> Option<u32>
+    requires good { IsGood table.now (symbols_of (λ symbol. numbered_fields symbol.number)
+        (λ symbol _. numbered_name symbol.number) symbols.now file.now) }
+    ensures { let all = symbols_of (λ symbol. numbered_fields symbol.number)
+        (λ symbol _. numbered_name symbol.number) symbols.now file.now in
+        MatchOption result ((i : ℕ) (e : _) → ¬ IsGlobal all i e name.now)
+        (λ number. numbered_name number ≡ Some name.now) }
 {
-    match defined_symbol(table, name, symbols, file) {
+    match symbol_with_name(table, name, symbols, file) {
         Some((_index, symbol)) => Some(symbol.number),
         None => None,
     }

@@ -53,13 +53,6 @@ pub fn has_debug_link(file: &ElfFile<'_>) -> bool
     file.get_gnu_debuglink().is_some()
 }
 
-/// Whether a file has a link to debug information that several files share.
-pub fn has_alternate_link(file: &ElfFile<'_>) -> bool
-    ensures { IsTrue result ↔ ((text rest : List ℕ) × IsAlternateLink file.now text rest) }
-{
-    file.get_gnu_debugaltlink().is_some()
-}
-
 /// Files of class 32 have no build id.
 pub fn has_build_id_32(file: &ElfFile<'_>) -> bool
     requires { file_class file.now.header ≡ 1 }
@@ -80,14 +73,6 @@ pub fn build_id_len(file: &ElfFile<'_>) -> Option<usize>
         Some(id) => Some(id.len()),
         None => None,
     }
-}
-
-/// A file has one build id at most.
-pub fn have_one_build_id(file: &ElfFile<'_>)
-    ensures { (one other : List ℕ) → IsBuildId file.now one → IsBuildId file.now other
-        → one ≡ other }
-{
-    file.get_gnu_buildid();
 }
 
 /// A build id, which outlives the `ElfFile` that it was read by.
@@ -155,19 +140,4 @@ pub fn is_identified<'a, E: Extensions<'a>>(file: &E) -> bool
     ensures { IsTrue result ↔ ((id : List ℕ) × E.BuildId file.now id) }
 {
     file.get_gnu_buildid().is_some()
-}
-
-/// Whether there is a link to debug information, of any implementation.
-pub fn is_linked<'a, E: Extensions<'a>>(file: &E) -> bool
-    ensures { IsTrue result
-        ↔ ((text : List ℕ) × (checksum : ℕ) × E.DebugLink file.now text checksum) }
-{
-    file.get_gnu_debuglink().is_some()
-}
-
-/// Whether there is an alternate link, of any implementation.
-pub fn is_shared<'a, E: Extensions<'a>>(file: &E) -> bool
-    ensures { IsTrue result ↔ ((text rest : List ℕ) × E.AlternateLink file.now text rest) }
-{
-    file.get_gnu_debugaltlink().is_some()
 }

@@ -2,9 +2,7 @@
 
 ghost use Rattle.std.specs.Prelude.{◌≡◌, ◌↔◌, ◌+◌, ◌<◌, ◌^◌, Err, IfErr, IfOk, IsOk, length, ℕ};
 ghost use Rattle.elf_callers.specs.Sizes.{IsSizeReport, kind_of, size_as, size_of};
-ghost use Rattle.xmas_elf.specs.Counts.{section_count_of};
-ghost use Rattle.xmas_elf.specs.SectionHeader.{section_of};
-ghost use Rattle.xmas_elf.specs.SectionList.{section_list};
+ghost use Rattle.xmas_elf.specs.SectionHeader.{section_count_of, section_list, section_of};
 
 use crate::callers::readable_sections;
 use xmas_elf::sections::{SHF_ALLOC, SHF_EXECINSTR, SHF_WRITE, SectionHeader, ShType};

@@ -1,9 +1,8 @@
 //! Callers that step an iterator on from any index.
 
 ghost use Rattle.std.specs.Prelude.{◌≡◌, ◌<◌, ◌+◌, IfNone, IfSome, Ok, Some};
-ghost use Rattle.xmas_elf.specs.Counts.{program_count_of, section_count_of};
+ghost use Rattle.xmas_elf.specs.SectionHeader.{program_count_of, section_count_of, section_of};
 ghost use Rattle.xmas_elf.specs.ProgramHeader.{program_of};
-ghost use Rattle.xmas_elf.specs.SectionHeader.{section_of};
 ghost use Rattle.xmas_elf.specs.Types.{ProgramHeader, SectionHeader};
 
 use xmas_elf::ElfFile;

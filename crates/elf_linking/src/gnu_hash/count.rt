@@ -1,33 +1,25 @@
-//! How many symbols a GNU hash table is for (the convention of GNU binutils and glibc).
+//! The number of symbols of a GNU hash table (the convention of GNU binutils and glibc).
 
 ghost use Rattle.std.specs.Prelude.{◌≡◌, ◌^◌, ◌≤◌, IfOk, Result, ℕ};
-ghost use Rattle.elf_linking.specs.GnuCount.{CountsFrom, IsAboveRuns, IsCount, IsLastRun};
+ghost use Rattle.elf_linking.specs.DynamicTables.{CountsFrom, IsAboveRuns, IsGnuCount, IsLastRun};
 
 use crate::LinkError;
 use crate::gnu_hash::GnuHashTable;
 
 impl GnuHashTable<'_> {
-    /// How many symbols the table is for, with those before its first: the greatest index that the
-    /// run of a bucket reaches, and one more; `first_symbol` where no bucket has a run.
+    /// The number of symbols of the table, including those before its first: one more than the
+    /// greatest index that the run of a bucket reaches; `first_symbol` if no bucket has a run.
     ///
-    /// Refused where the run that begins last leaves the table: as `get_chain` is of the index
-    /// where it does, with `ChainIndex` or `ChainData`; and with `SymbolIndex` where its end has
-    /// no index of 32 bits.
+    /// Errors, if the run that begins last leaves the table: those of `get_chain` for the index
+    /// there, `ChainIndex` or `ChainData`; `SymbolIndex` if the index of its end does not fit in 32
+    /// bits.
     ///
-    /// It costs one pass over the buckets, and one over the chain words
+    /// The call takes one pass over the buckets, and one over the chain words
     /// of the run that begins last.
     pub fn symbol_count(&self) -> Result<u64, LinkError>
-        ensures exact { IsCount self.now result }
-        ensures only { (other : Result ℕ LinkError) → IsCount self.now other → other ≡ result }
+        ensures exact { IsGnuCount self.now result }
+        ensures only { (other : Result ℕ LinkError) → IsGnuCount self.now other → other ≡ result }
         ensures above { IfOk result (IsAboveRuns self.now) }
-        ensures bound { IfOk result (λ count. count ≤ 2 ^ 32) }
-    {
-        self.count()
-    }
-
-    // The same by the last run.
-    fn count(&self) -> Result<u64, LinkError>
-        ensures exact { IsCount self.now result }
         ensures bound { IfOk result (λ count. count ≤ 2 ^ 32) }
     {
         match self.last_run() {
@@ -36,7 +28,7 @@ impl GnuHashTable<'_> {
         }
     }
 
-    // The greatest index at which the run of a bucket begins; 0 where none has one.
+    // The greatest index at which the run of a bucket begins; 0 if no bucket has a run.
     fn last_run(&self) -> u32
         ensures { IsLastRun self.now result }
     {
@@ -50,7 +42,7 @@ impl GnuHashTable<'_> {
         greatest
     }
 
-    // The index behind the end of the run from an index on.
+    // The index after the end of the run from an index on.
     fn run_end(&self, from: u32) -> Result<u64, LinkError>
         ensures exact { CountsFrom self.now from result }
         ensures bound { IfOk result (λ count. count ≤ 2 ^ 32) }

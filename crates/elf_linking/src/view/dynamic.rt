@@ -1,37 +1,30 @@
-//! The dynamic segment of a file, and what its entries say (gABI, "Dynamic Section").
+//! The dynamic segment of a file, and its entries (gABI, "Dynamic Section").
 
-ghost use Rattle.std.specs.Prelude.{◌≡◌, Ok, Err, MatchResult};
-ghost use Rattle.elf_linking.specs.DynamicEntries.{entries_left, number_with, pairs_of, until_null};
-ghost use Rattle.elf_linking.specs.DynamicView.{dynamic_segment_of, is_dynamic};
-ghost use Rattle.elf_linking.specs.DynamicView.{strings_of, table_at};
+ghost use Rattle.std.specs.Prelude.{◌≡◌, ◌<◌, ◌^◌, Ok, Err, IfOk, MatchResult, length};
+ghost use Rattle.elf_linking.specs.DynamicView.{LiesAsFileStrings, LiesByEntries};
+ghost use Rattle.elf_linking.specs.DynamicView.{dynamic_segment_of, entries_left, is_dynamic};
+ghost use Rattle.elf_linking.specs.DynamicView.{number_with, pairs_of, strings_of, table_at};
+ghost use Rattle.elf_linking.specs.DynamicView.{until_null};
 ghost use Rattle.elf_linking.specs.Loaded.{lent};
+ghost use Rattle.elf_linking.specs.declared.view.tags.TheConstants.{DT_RPATH};
+ghost use Rattle.elf_linking.specs.declared.view.tags.TheConstants.{DT_RUNPATH, DT_SONAME};
 
 use crate::LinkError;
 use crate::view::entries::{DynamicEntries, Pairs};
 use crate::view::loaded::bytes_at;
 use crate::view::needed::{Needed, text_by};
+use crate::view::tags::{DT_RPATH, DT_RUNPATH, DT_SONAME, DT_STRSZ, DT_STRTAB};
 use xmas_elf::ElfFile;
 use xmas_elf::program::{ProgramHeader, Type};
 
-// The tags of entries that are read here (gABI, "Dynamic Section", d_tag).
-const STRING_TABLE: u64 = 5;
-
-const STRING_SIZE: u64 = 10;
-
-const SONAME: u64 = 14;
-
-const R_PATH: u64 = 15;
-
-const RUN_PATH: u64 = 29;
-
-/// What the dynamic segment of a file says. It needs no section header.
+/// The dynamic segment of a file, read without section headers.
 #[derive(Clone, Copy, Debug)]
 pub struct DynamicView<'a> {
     pairs: Pairs<'a>,
     strings: Result<&'a [u8], LinkError>,
 }
 
-// Whether a segment is one of type Dynamic.
+// Whether a segment has type Dynamic.
 fn is_dynamic(program: &ProgramHeader) -> bool
     ensures { result ≡ is_dynamic program.now }
 {
@@ -52,21 +45,23 @@ fn dynamic_segment(file: &ElfFile<'_>) -> Option<ProgramHeader>
 }
 
 impl<'a> DynamicView<'a> {
-    ghost use Rattle.elf_linking.specs.DynamicView.{IsTextWith, dynamic_entries_of};
+    ghost use Rattle.elf_linking.specs.DynamicView.{IsTextWith, LiesAsStrings, dynamic_entries_of};
     ghost use Rattle.elf_linking.specs.DynamicView.{needed_left, needed_of, strings_by};
-    ghost use Rattle.elf_linking.specs.DynamicView.{view_entries, view_strings};
+    ghost use Rattle.elf_linking.specs.DynamicView.{view_entries, view_strings, view_table};
 
-    /// What the first segment of type Dynamic says. Its entries end before the first whose tag is
-    /// Null, or at the end of the segment.
+    /// Reads the first segment of type Dynamic. Its entries end before the first with tag Null, or
+    /// at the end of the segment.
     ///
-    /// Refused with `NoDynamic` where there is no such segment, and as its
-    /// `ProgramHeader::get_data` is: with `Elf` of `DataRange`, `UnknownClass` or `NotMultiple`.
+    /// Errors: `NoDynamic` if there is no such segment; `Elf` with `DataRange`, `UnknownClass` or
+    /// `NotMultiple`, as in `ProgramHeader::get_data`.
     #[tactic(auto, unfolding(crate::specs::DynamicView::dynamic_entries_of))]
     pub fn read(file: &ElfFile<'a>) -> Result<DynamicView<'a>, LinkError>
         ensures exact { MatchResult result
             (λ view. (dynamic_entries_of file.now ≡ Ok (view_entries view))
             × (view_strings view ≡ strings_by file.now (view_entries view)))
             (λ error. dynamic_entries_of file.now ≡ Err error) }
+        ensures place { IfOk result (λ view.
+            IfOk (view_table view) (LiesAsStrings file.now (view_entries view))) }
     {
         let Some(program) = dynamic_segment(file) else {
             return Err(LinkError::NoDynamic);
@@ -74,55 +69,59 @@ impl<'a> DynamicView<'a> {
         let pairs = Pairs::new(program.raw_data(file)?, file)?;
         let strings = strings_by(
             file,
-            first_number(&pairs, STRING_TABLE),
-            first_number(&pairs, STRING_SIZE),
+            first_number(&pairs, DT_STRTAB),
+            first_number(&pairs, DT_STRSZ),
         );
         Ok(DynamicView { pairs, strings })
     }
 
-    /// The entries in order.
+    /// An iterator over the entries, in order.
     pub fn entries(&self) -> DynamicEntries<'a>
-        ensures { entries_left result ≡ view_entries self.now }
+        ensures items { entries_left result ≡ view_entries self.now }
+        ensures fits { length (entries_left result) < 2 ^ 64 }
     {
         self.pairs.iter()
     }
 
-    /// The number of the first entry with this tag.
+    /// The number in the first entry with this tag.
     pub fn entry(&self, tag: u64) -> Option<u64>
         ensures { result ≡ number_with tag (view_entries self.now) }
     {
         first_number(&self.pairs, tag)
     }
 
-    /// The names of the libraries that the file needs, in order.
+    /// An iterator over the names of the needed libraries, in order.
     pub fn needed(&self) -> Needed<'a>
-        ensures { needed_left result ≡ needed_of self.now }
+        ensures items { needed_left result ≡ needed_of self.now }
+        ensures fits { length (needed_left result) < 2 ^ 64 }
     {
         Needed::new(self.entries(), self.strings)
     }
 
-    /// The name of the file as a library; refused as each text of `needed` is.
+    /// The name of the file as a library (DT_SONAME); the errors are those of the items of
+    /// `needed`.
     pub fn soname(&self) -> Option<Result<&'a str, LinkError>>
-        ensures { IsTextWith self.now 14 result }
+        ensures { IsTextWith self.now DT_SONAME result }
     {
-        self.text_with(SONAME)
+        self.text_with(DT_SONAME)
     }
 
-    /// Where the libraries are looked for that the file needs; refused as each text of `needed` is.
+    /// The library search path (DT_RUNPATH); the errors are those of the items of `needed`.
     pub fn run_path(&self) -> Option<Result<&'a str, LinkError>>
-        ensures { IsTextWith self.now 29 result }
+        ensures { IsTextWith self.now DT_RUNPATH result }
     {
-        self.text_with(RUN_PATH)
+        self.text_with(DT_RUNPATH)
     }
 
-    /// The same in older files; refused as each text of `needed` is.
+    /// The library search path of older files (DT_RPATH); the errors are those of the items of
+    /// `needed`.
     pub fn r_path(&self) -> Option<Result<&'a str, LinkError>>
-        ensures { IsTextWith self.now 15 result }
+        ensures { IsTextWith self.now DT_RPATH result }
     {
-        self.text_with(R_PATH)
+        self.text_with(DT_RPATH)
     }
 
-    // The text at the number of the first entry with this tag.
+    // The text at the offset in the first entry with this tag.
     fn text_with(&self, tag: u64) -> Option<Result<&'a str, LinkError>>
         ensures { IsTextWith self.now tag result }
     {
@@ -133,7 +132,7 @@ impl<'a> DynamicView<'a> {
     }
 }
 
-// The number of the first entry with this tag.
+// The number in the first entry with this tag.
 #[tactic(auto, using(crate::proofs::EntryItems::number_none, crate::proofs::EntryItems::number_hit, crate::proofs::EntryItems::number_other))]
 fn first_number(pairs: &Pairs<'_>, tag: u64) -> Option<u64>
     ensures { result ≡ number_with tag (until_null (pairs_of pairs.now)) }
@@ -146,13 +145,14 @@ fn first_number(pairs: &Pairs<'_>, tag: u64) -> Option<u64>
     None
 }
 
-// The bytes at these two numbers, the address and the size of the string table.
+// The bytes of the string table, by its address and its size.
 fn strings_by<'a>(
     file: &ElfFile<'a>,
     address: Option<u64>,
     size: Option<u64>,
 ) -> Result<&'a [u8], LinkError>
-    ensures { lent result ≡ table_at file.now address size }
+    ensures exact { lent result ≡ table_at file.now address size }
+    ensures place { IfOk result (LiesByEntries file.now address size) }
 {
     match (address, size) {
         (Some(address), Some(size)) => bytes_at(file, address, size),
@@ -162,11 +162,12 @@ fn strings_by<'a>(
 
 /// The string table of the dynamic segment: the bytes at its entries StrTab and StrSize.
 ///
-/// Refused as `DynamicView::read` is; with `NoEntry` where one of the two entries is missing;
-/// and as `bytes_at` is.
+/// Errors: those of `DynamicView::read`; `NoEntry` if one of the two entries is missing; those of
+/// `bytes_at`.
 #[tactic(auto, unfolding(crate::specs::DynamicView::strings_of))]
 pub fn strings<'a>(file: &ElfFile<'a>) -> Result<&'a [u8], LinkError>
-    ensures { lent result ≡ strings_of file.now }
+    ensures exact { lent result ≡ strings_of file.now }
+    ensures place { IfOk result (LiesAsFileStrings file.now) }
 {
     DynamicView::read(file)?.strings
 }

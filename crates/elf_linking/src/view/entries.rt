@@ -1,19 +1,20 @@
 //! The entries of a dynamic segment in order (gABI, "Dynamic Section", DT_NULL).
 
-ghost use Rattle.std.specs.Prelude.{◌≡◌, Ok, Err, MatchResult};
+ghost use Rattle.std.specs.Prelude.{◌≡◌, ◌<◌, ◌^◌, Ok, Err, MatchResult, length};
 ghost use Rattle.std.specs.Iterator.{YieldsFirst, item_count};
 ghost use Rattle.elf_base.specs.FileHeader.{file_class, file_order};
-ghost use Rattle.elf_linking.specs.DynamicEntries.{all_entries, entries_left};
-ghost use Rattle.elf_linking.specs.DynamicEntries.{pairs_left, pairs_of, until_null};
+ghost use Rattle.elf_linking.specs.DynamicView.{all_entries, entries_left};
+ghost use Rattle.elf_linking.specs.DynamicView.{pairs_left, pairs_of, until_null};
 
 use crate::LinkError;
 use crate::view::entry::DynamicEntry;
+use crate::view::tags::DT_NULL;
 use elf_base::ElfError;
 use elf_base::bytes::{Table, TableIter};
-use elf_base::header::{Class, byte_order};
+use elf_base::header::Class;
 use xmas_elf::ElfFile;
 
-// The records of a dynamic segment, by their width.
+// The entries of a dynamic segment, by class.
 #[derive(Clone, Copy, Debug)]
 pub(crate) enum Pairs<'a> {
     Narrow(Table<'a, DynamicEntry<u32>>),
@@ -21,14 +22,14 @@ pub(crate) enum Pairs<'a> {
 }
 
 impl<'a> Pairs<'a> {
-    // The records of these bytes in a file, refused as by `DynamicView::read`.
+    // The entries in these bytes of a file; the errors are those of `DynamicView::read`.
     pub(crate) fn new(bytes: &'a [u8], file: &ElfFile<'_>) -> Result<Pairs<'a>, LinkError>
         ensures { let answer = all_entries
             (file_class file.now.header) (file_order file.now.header) bytes.now in
             MatchResult result (λ pairs. answer ≡ Ok (pairs_of pairs))
             (λ error. answer ≡ Err error) }
     {
-        let order = byte_order(file.header.pt1.encoding);
+        let order = file.byte_order();
         match file.header.pt1.class() {
             Class::ThirtyTwo => match Table::new(bytes, order) {
                 Ok(table) => Ok(Pairs::Narrow(table)),
@@ -42,9 +43,10 @@ impl<'a> Pairs<'a> {
         }
     }
 
-    // The same, to be read in order.
+    // An iterator over the entries.
     pub(crate) fn iter(&self) -> DynamicEntries<'a>
-        ensures { entries_left result ≡ until_null (pairs_of self.now) }
+        ensures items { entries_left result ≡ until_null (pairs_of self.now) }
+        ensures fits { length (entries_left result) < 2 ^ 64 }
     {
         match self {
             Pairs::Narrow(table) => DynamicEntries::new(Rest::Narrow(table.iter())),
@@ -53,7 +55,7 @@ impl<'a> Pairs<'a> {
     }
 }
 
-// The records that are left, by their width.
+// The remaining entries, by class.
 #[derive(Clone, Debug, Drop)]
 enum Rest<'a> {
     Narrow(TableIter<'a, DynamicEntry<u32>>),
@@ -61,7 +63,7 @@ enum Rest<'a> {
 }
 
 impl Rest<'_> {
-    // The first record.
+    // The first remaining entry.
     #[tactic(auto, using(crate::proofs::EntryItems::widened))]
     fn next(&mut self) -> Option<DynamicEntry<u64>>
         ensures { YieldsFirst pairs_left self.old result self.new }
@@ -79,18 +81,21 @@ impl Rest<'_> {
     }
 }
 
-/// The entries of a dynamic segment in order, up to the first whose tag is Null, which isn't one of
-/// them.
+/// An iterator over the entries of a dynamic segment, up to the first with tag Null, which it does
+/// not return.
 #[derive(Clone, Debug, Drop)]
 pub struct DynamicEntries<'a> {
     rest: Rest<'a>,
-    // Whether the entry with tag Null was met.
+    // Whether it has reached the entry with tag Null.
     ended: bool,
 }
 
 impl<'a> DynamicEntries<'a> {
+    #[tactic(auto, using(crate::proofs::EntryItems::until_null_fits))]
     fn new(rest: Rest<'a>) -> DynamicEntries<'a>
-        ensures { entries_left result ≡ until_null (pairs_left rest.entry) }
+        requires { length (pairs_left rest) < 2 ^ 64 }
+        ensures items { entries_left result ≡ until_null (pairs_left rest.entry) }
+        ensures fits { length (entries_left result) < 2 ^ 64 }
     {
         DynamicEntries { rest, ended: false }
     }
@@ -109,7 +114,7 @@ impl Iterator for DynamicEntries<'_> {
             return None;
         }
         let entry = self.rest.next()?;
-        if entry.tag == 0 {
+        if entry.tag == DT_NULL {
             self.ended = true;
             return None;
         }

@@ -2,16 +2,16 @@
 
 ghost use Rattle.std.specs.Prelude.{◌≡◌};
 ghost use Rattle.std.proofs.Common.{lit<};
-ghost use Rattle.elf_linking.specs.DynamicLayout.{entry_32, entry_64};
+ghost use Rattle.elf_linking.specs.Layouts.{dynamic_entry_32, dynamic_entry_64};
 
 use elf_base::bytes::{Order, Record, read_u32, read_u64};
 
-/// An entry of a dynamic segment, by its numbers: its tag, and what that says of the other.
+/// An entry of a dynamic segment: its tag, and a number whose meaning depends on the tag.
 #[derive(Clone, Copy, Debug)]
 pub struct DynamicEntry<P> {
-    /// What the entry is (d_tag).
+    /// The tag of the entry (d_tag).
     pub tag: P,
-    /// A value or an address, as the tag has it (d_un).
+    /// A value or an address, depending on the tag (d_un).
     pub number: P,
 }
 
@@ -20,7 +20,7 @@ impl Record for DynamicEntry<u32> {
 
     const SIZE: usize = 8;
 
-    ghost value = { entry_32 };
+    ghost value = { dynamic_entry_32 };
 
     ghost size_above_zero = { lit< tt };
 
@@ -37,7 +37,7 @@ impl Record for DynamicEntry<u64> {
 
     const SIZE: usize = 16;
 
-    ghost value = { entry_64 };
+    ghost value = { dynamic_entry_64 };
 
     ghost size_above_zero = { lit< tt };
 

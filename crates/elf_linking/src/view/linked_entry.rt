@@ -1,10 +1,11 @@
-//! Symbols whose names stand in the string table of the dynamic segment (gABI, "Symbol Table" and
+//! Symbols whose names are in the string table of the dynamic segment (gABI, "Symbol Table" and
 //! "Dynamic Section", DT_STRTAB).
 
-ghost use Rattle.std.specs.Prelude.{◌≡◌, IfSome, IsSomeAnd};
+ghost use Rattle.std.specs.Prelude.{◌≡◌, IfOk, IfSome, IsSomeAnd};
 ghost use Rattle.std.specs.Result.{result_ok};
 ghost use Rattle.elf_base.specs.Lent.{Answers};
-ghost use Rattle.elf_linking.specs.LinkedName.{linked_table_of, linked_text_of, ported_error};
+ghost use Rattle.elf_linking.specs.DynamicView.{LiesAsFileStrings};
+ghost use Rattle.elf_linking.specs.DynamicTables.{linked_table_of, linked_text_of, elf_error_of};
 ghost use Rattle.xmas_elf.specs.SymbolName.{HoldsNames};
 
 use crate::LinkError;
@@ -14,8 +15,8 @@ use elf_base::bytes::{Order, Record, text_at};
 use xmas_elf::ElfFile;
 use xmas_elf::symbol_table::{DynEntry32, DynEntry64, Entry, Visibility_};
 
-/// A symbol of the layout of another, whose name stands in the string table of the dynamic segment,
-/// so that it has one without section headers.
+/// A symbol with the layout of `E`, whose name is in the string table of the dynamic segment, so
+/// that it can be read without section headers.
 #[derive(Clone, Copy, Debug)]
 pub struct Linked<E>(E);
 
@@ -39,20 +40,21 @@ impl<E: Record> Record for Linked<E> {
     }
 }
 
-// The string table of the dynamic segment, with a refusal that symbols can answer.
-#[tactic(auto, unfolding(crate::specs::LinkedName::linked_table_of))]
+// The string table of the dynamic segment, with an error that symbols can return.
+#[tactic(auto, unfolding(crate::specs::DynamicTables::linked_table_of))]
 fn linked_table<'a>(file: &ElfFile<'a>) -> Result<&'a [u8], ElfError>
-    ensures { Answers (linked_table_of file.now) result }
+    ensures exact { Answers (linked_table_of file.now) result }
+    ensures place { IfOk result (LiesAsFileStrings file.now) }
 {
     match strings(file) {
         Ok(table) => Ok(table),
-        Err(error) => Err(ported(error)),
+        Err(error) => Err(as_elf_error(error)),
     }
 }
 
-// A refusal in the words of the port.
-fn ported(error: LinkError) -> ElfError
-    ensures { result ≡ ported_error error }
+// An error as an `ElfError`.
+fn as_elf_error(error: LinkError) -> ElfError
+    ensures { result ≡ elf_error_of error }
 {
     match error {
         LinkError::Elf(error) => error,
@@ -97,20 +99,21 @@ impl<E: Entry> Entry for Linked<E> {
         self.0.size()
     }
 
-    /// The text at the symbol's name in `view::strings`.
+    /// The text in `view::strings` at the offset of the symbol's name.
     ///
-    /// Refused as that is, where that is a refusal of `xmas_elf`, and else with `NoDynstr`; and as
-    /// `bytes::text_at` is.
-    #[tactic(auto, unfolding(crate::specs::LinkedName::linked_text_of))]
+    /// Errors: those of `view::strings`, with `NoDynstr` for those that are not `Elf`; those of
+    /// `bytes::text_at`.
+    #[tactic(auto, unfolding(crate::specs::DynamicTables::linked_text_of))]
     fn get_name<'a>(&self, file: &ElfFile<'a>) -> Result<&'a str, ElfError>
         ensures exact { Answers (linked_text_of file.now (E.fields self.now.0).name) result }
     {
         text_at(linked_table(file)?, self.name() as usize)
     }
 
-    /// The string table of the dynamic segment, refused as by `get_name`.
+    /// The string table of the dynamic segment; the errors are those of `get_name`.
     fn string_table<'a>(file: &ElfFile<'a>) -> Option<Result<&'a [u8], ElfError>>
         ensures table { IsSomeAnd result (Answers (linked_table_of file.now)) }
+        ensures place { IfSome result (λ answer. IfOk answer (LiesAsFileStrings file.now)) }
         ensures names { IfSome result (HoldsNames (λ (entry : Linked E). E.fields entry.0)
             (λ entry. result_ok (linked_text_of file.now (E.fields entry.0).name))) }
     {

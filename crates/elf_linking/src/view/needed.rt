@@ -1,19 +1,17 @@
-//! The texts that entries of a dynamic segment name
-//! (gABI, "Dynamic Section": DT_NEEDED and the like).
+//! Texts at offsets in entries of a dynamic segment
+//! (gABI, "Dynamic Section": DT_NEEDED and others).
 
-ghost use Rattle.std.specs.Prelude.{◌≡◌};
-ghost use Rattle.elf_linking.specs.DynamicEntries.{entries_left};
-ghost use Rattle.elf_linking.specs.DynamicView.{needed_in, needed_left, text_in_strings};
+ghost use Rattle.std.specs.Prelude.{◌≡◌, ◌<◌, ◌^◌, length};
+ghost use Rattle.elf_linking.specs.DynamicView.{entries_left, needed_in, needed_left};
+ghost use Rattle.elf_linking.specs.DynamicView.{text_in_strings};
 ghost use Rattle.elf_linking.specs.Loaded.{lent};
 
 use crate::LinkError;
 use crate::view::entries::DynamicEntries;
+use crate::view::tags::DT_NEEDED;
 use elf_base::bytes::text_at;
 
-// The tag of the entries that name a library which is needed.
-const NEEDED: u64 = 1;
-
-// The text at this place of a string table, which may be refused.
+// The text at an offset in a string table, which may be an error.
 pub(crate) fn text_by<'a>(
     strings: Result<&'a [u8], LinkError>,
     place: u64,
@@ -29,9 +27,9 @@ pub(crate) fn text_by<'a>(
     }
 }
 
-/// The names of the libraries that a file needs, in order.
+/// An iterator over the names of the libraries that a file needs, in order.
 ///
-/// Each is refused as `view::strings` is, and as `bytes::text_at` of it.
+/// The errors of an item are those of `view::strings`, and those of `bytes::text_at`.
 #[derive(Clone, Debug, Drop)]
 pub struct Needed<'a> {
     entries: DynamicEntries<'a>,
@@ -39,11 +37,15 @@ pub struct Needed<'a> {
 }
 
 impl<'a> Needed<'a> {
+    #[tactic(auto, using(crate::proofs::NeededItems::needed_fits))]
     pub(crate) fn new(
         entries: DynamicEntries<'a>,
         strings: Result<&'a [u8], LinkError>,
     ) -> Needed<'a>
-        ensures { needed_left result ≡ needed_in (lent strings.entry) (entries_left entries.entry) }
+        requires { length (entries_left entries) < 2 ^ 64 }
+        ensures items { needed_left result
+            ≡ needed_in (lent strings.entry) (entries_left entries.entry) }
+        ensures fits { length (needed_left result) < 2 ^ 64 }
     {
         Needed { entries, strings }
     }
@@ -62,7 +64,7 @@ impl<'a> Iterator for Needed<'a> {
     fn next(&mut self) -> Option<Result<&'a str, LinkError>> {
         loop {
             let entry = self.entries.next()?;
-            if entry.tag == NEEDED {
+            if entry.tag == DT_NEEDED {
                 return Some(text_by(self.strings, entry.number));
             }
         }

@@ -1,39 +1,37 @@
-//! The symbols that a dynamic segment names (gABI, "Dynamic Section": DT_SYMTAB).
+//! The symbols of a dynamic segment (gABI, "Dynamic Section": DT_SYMTAB).
 
 ghost use Rattle.std.specs.Prelude.{◌≡◌, ◌%◌, ◌^◌, ◌<◌, ◌≤◌};
-ghost use Rattle.std.specs.Prelude.{Ok, Err, IfOk, MatchResult, Result, length, ℕ};
+ghost use Rattle.std.specs.Prelude.{Ok, Err, IfOk, List, MatchResult, Result, length, ℕ};
+ghost use Rattle.elf_linking.specs.declared.error.LinkError.{LinkError};
 ghost use Rattle.elf_base.specs.FileHeader.{file_order};
-ghost use Rattle.elf_base.specs.Table.{table_data, table_order};
-ghost use Rattle.elf_linking.specs.LinkedSymbols.{AreSymbols, IsSymbolCount};
+ghost use Rattle.elf_base.specs.Table.{table_bytes, table_data, table_order};
+ghost use Rattle.elf_linking.specs.DynamicTables.{AreSymbols, IsSymbolCount, LieAsSymbols};
 ghost use Rattle.elf_linking.specs.Loaded.{lent};
 
 use crate::LinkError;
 use crate::view::dynamic::DynamicView;
 use crate::view::linked_entry::{LinkedEntry32, LinkedEntry64};
 use crate::view::loaded::bytes_at;
+use crate::view::tags::{DT_HASH, DT_SYMTAB};
 use elf_base::bytes::Table;
-use elf_base::header::byte_order;
 use xmas_elf::ElfFile;
-
-// The tags of entries that are read here (gABI, "Dynamic Section", d_tag).
-const HASH: u64 = 4;
-
-const SYMBOL_TABLE: u64 = 6;
 
 impl<'a> DynamicView<'a> {
     ghost use Rattle.elf_linking.specs.DynamicView.{view_entries};
 
-    /// How many symbols the dynamic segment has, which no entry says: as many as the hash
-    /// table of the ELF standard has chains, if there is one, and else
-    /// `GnuHashTable::symbol_count` of GNU's.
+    /// The number of symbols of the dynamic segment, which no entry says: the number of chains of
+    /// the ELF standard's hash table, if there is one, otherwise `GnuHashTable::symbol_count` of
+    /// GNU's.
     ///
-    /// Refused as `hash_table` is where there is an entry Hash; and else as `gnu_hash_table` is,
-    /// and as `GnuHashTable::symbol_count` is.
+    /// Errors: those of `hash_table` if there is an entry Hash; otherwise those of `gnu_hash_table`
+    /// and of `GnuHashTable::symbol_count`.
     pub fn symbol_count(&self, file: &ElfFile<'a>) -> Result<u64, LinkError>
         ensures exact { IsSymbolCount file.now (view_entries self.now) result }
+        ensures only { (other : Result ℕ LinkError)
+            → IsSymbolCount file.now (view_entries self.now) other → other ≡ result }
         ensures bound { IfOk result (λ count. count ≤ 2 ^ 32) }
     {
-        match self.entry(HASH) {
+        match self.entry(DT_HASH) {
             Some(_) => match self.hash_table(file) {
                 Ok(table) => Ok(u64::from(table.chain_count())),
                 Err(error) => Err(error),
@@ -45,49 +43,68 @@ impl<'a> DynamicView<'a> {
         }
     }
 
-    /// The symbols of a file of class 32: `symbol_count` of them from the entry SymTab on.
+    /// The symbols of a file of class 32: `symbol_count` symbols at the address in the entry
+    /// SymTab.
     ///
-    /// Refused as `symbol_count` is; with `NoEntry` where there is no entry SymTab;
-    /// and as `bytes_at` is.
+    /// Errors: those of `symbol_count`; `NoEntry` if there is no entry SymTab; those of `bytes_at`.
     pub fn symbols_32(&self, file: &ElfFile<'a>) -> Result<Table<'a, LinkedEntry32>, LinkError>
-        ensures { let are = AreSymbols file.now (view_entries self.now) 16 in MatchResult result
+        ensures exact { let are = AreSymbols file.now (view_entries self.now) 16 in MatchResult result
             (λ symbols. are (Ok (table_data symbols))
             × (table_order symbols ≡ file_order file.now.header))
             (λ error. are (Err error)) }
+        ensures only { (other : Result (List ℕ) LinkError)
+            → AreSymbols file.now (view_entries self.now) 16 other → MatchResult result
+            (λ symbols. other ≡ Ok (table_data symbols)) (λ error. other ≡ Err error) }
+        ensures place { IfOk result (λ symbols.
+            LieAsSymbols file.now (view_entries self.now) (table_bytes symbols)) }
     {
-        let bytes = self.symbol_bytes(file, 16)?;
-        match Table::new(bytes, byte_order(file.header.pt1.encoding)) {
+        let bytes = match self.symbol_bytes(file, 16) {
+            Ok(bytes) => bytes,
+            Err(error) => return Err(error),
+        };
+        match Table::new(bytes, file.byte_order()) {
             Ok(symbols) => Ok(symbols),
             Err(_) => unreachable!(),
         }
     }
 
-    /// The symbols of a file of class 64, and else as `symbols_32`.
+    /// The symbols of a file of class 64; the errors are those of `symbols_32`.
     pub fn symbols_64(&self, file: &ElfFile<'a>) -> Result<Table<'a, LinkedEntry64>, LinkError>
-        ensures { let are = AreSymbols file.now (view_entries self.now) 24 in MatchResult result
+        ensures exact { let are = AreSymbols file.now (view_entries self.now) 24 in MatchResult result
             (λ symbols. are (Ok (table_data symbols))
             × (table_order symbols ≡ file_order file.now.header))
             (λ error. are (Err error)) }
+        ensures only { (other : Result (List ℕ) LinkError)
+            → AreSymbols file.now (view_entries self.now) 24 other → MatchResult result
+            (λ symbols. other ≡ Ok (table_data symbols)) (λ error. other ≡ Err error) }
+        ensures place { IfOk result (λ symbols.
+            LieAsSymbols file.now (view_entries self.now) (table_bytes symbols)) }
     {
-        let bytes = self.symbol_bytes(file, 24)?;
-        match Table::new(bytes, byte_order(file.header.pt1.encoding)) {
+        let bytes = match self.symbol_bytes(file, 24) {
+            Ok(bytes) => bytes,
+            Err(error) => return Err(error),
+        };
+        match Table::new(bytes, file.byte_order()) {
             Ok(symbols) => Ok(symbols),
             Err(_) => unreachable!(),
         }
     }
 
-    // The bytes of the symbols, where each has this size.
+    // The bytes of the symbols, where each has `size` bytes.
     fn symbol_bytes(&self, file: &ElfFile<'a>, size: u64) -> Result<&'a [u8], LinkError>
         requires above { 0 < size }
         requires below { size ≤ 24 }
         ensures exact { AreSymbols file.now (view_entries self.now) size (lent result) }
+        ensures only { (other : Result (List ℕ) LinkError)
+            → AreSymbols file.now (view_entries self.now) size other → other ≡ lent result }
         ensures whole { IfOk result (λ bytes. length bytes.now % size ≡ 0) }
+        ensures place { IfOk result (LieAsSymbols file.now (view_entries self.now)) }
     {
         let count = match self.symbol_count(file) {
             Ok(count) => count,
             Err(error) => return Err(error),
         };
-        match self.entry(SYMBOL_TABLE) {
+        match self.entry(DT_SYMTAB) {
             Some(address) => bytes_at(file, address, count * size),
             None => Err(LinkError::NoEntry),
         }

@@ -12,9 +12,9 @@ ghost use Rattle.elf_records.specs.Note.{note_name_size, note_type, rounded_up};
 use elf_base::ElfError;
 use elf_base::bytes::{Order, Record, read_u32, text_at};
 
-/// The header of a note, kept as its twelve bytes (gABI, "Note Section").
+/// The header of a note, stored as its twelve bytes (gABI, "Note Section").
 ///
-/// Its calls take the bytes that follow the header, up to the end of the section or segment.
+/// Its methods take the bytes after the header, up to the end of the section or segment.
 #[derive(Clone, Copy, Debug)]
 pub struct NoteHeader {
     bytes: [u8; 12],
@@ -41,7 +41,7 @@ impl Record for NoteHeader {
 
 #[tactic(auto, unfolding(crate::specs::Note::note_name_size, crate::specs::Note::note_desc_size, crate::specs::Note::note_type))]
 impl NoteHeader {
-    /// What the description means, by the note's name.
+    /// The type of the note, whose meaning depends on the note's name.
     #[inline(always)]
     pub fn type_(&self) -> u32
         ensures { result ≡ note_type self.now }
@@ -49,7 +49,7 @@ impl NoteHeader {
         read_u32(&self.bytes, 8, self.order)
     }
 
-    // How many bytes the name has, with its zero byte.
+    // The size of the name in bytes, with its zero byte.
     #[inline(always)]
     fn name_size(&self) -> u32
         ensures { result ≡ note_name_size self.now }
@@ -57,7 +57,7 @@ impl NoteHeader {
         read_u32(&self.bytes, 0, self.order)
     }
 
-    // How many bytes the description has.
+    // The size of the description in bytes.
     #[inline(always)]
     fn desc_size(&self) -> u32
         ensures { result ≡ note_desc_size self.now }
@@ -67,9 +67,9 @@ impl NoteHeader {
 }
 
 impl NoteHeader {
-    /// The name of the note, without its zero byte: `TextEnd` where no zero byte
-    /// follows, `TextUtf8`, and `NoteName` where the text with its zero byte has not the
-    /// size that the header says.
+    /// The name of the note, without its zero byte: `TextEnd` if no zero byte follows, `TextUtf8`
+    /// if the name is not UTF-8, `NoteName` if the name with its zero byte does not have the size
+    /// that the header says.
     #[tactic(auto, unfolding(crate::specs::Note::note_name_of))]
     #[inline(always)]
     pub fn name<'a>(&self, body: &'a [u8]) -> Result<&'a str, ElfError>
@@ -89,7 +89,8 @@ impl NoteHeader {
         Ok(text)
     }
 
-    /// The description of the note, a part of `body`; `NoteDesc` where it passes the end of that.
+    /// The description of the note, a slice of `body`; `NoteDesc` if it extends past the end of
+    /// `body`.
     #[tactic(auto, unfolding(crate::specs::Note::note_desc_of))]
     #[inline(always)]
     pub fn desc<'a>(&self, body: &'a [u8]) -> Result<&'a [u8], ElfError>

@@ -9,14 +9,14 @@ ghost use Rattle.elf_records.specs.Relocations.{symbol_in_32, symbol_in_64, type
 use elf_base::bytes::{Order, Record, read_u32, read_u64};
 use elf_base::{P32, P64};
 
-/// A relocation whose addend stands at the place that is changed (gABI, "Relocation").
+/// A relocation whose addend is stored at the relocated location (gABI, "Relocation").
 #[derive(Clone, Copy, Debug)]
 pub struct Rel<P> {
     offset: P,
     info: P,
 }
 
-/// A relocation with its addend (gABI, "Relocation").
+/// A relocation with an addend (gABI, "Relocation").
 #[derive(Clone, Copy, Debug)]
 pub struct Rela<P> {
     offset: P,
@@ -94,28 +94,28 @@ impl Record for Rela<P64> {
     }
 }
 
-// The symbol's index in the info of class 32.
+// The symbol index in the info of class 32.
 fn symbol_index_32(info: P32) -> u32
     ensures { result ≡ symbol_in_32 info }
 {
     info / 256
 }
 
-// The type in the info of class 32.
+// The relocation type in the info of class 32.
 fn relocation_type_32(info: P32) -> u8
     ensures { result ≡ type_in_32 info }
 {
     (info % 256) as u8
 }
 
-// The symbol's index in the info of class 64.
+// The symbol index in the info of class 64.
 fn symbol_index_64(info: P64) -> u32
     ensures { result ≡ symbol_in_64 info }
 {
     (info / 0x1_0000_0000) as u32
 }
 
-// The type in the info of class 64.
+// The relocation type in the info of class 64.
 fn relocation_type_64(info: P64) -> u32
     ensures { result ≡ type_in_64 info }
 {
@@ -123,7 +123,7 @@ fn relocation_type_64(info: P64) -> u32
 }
 
 impl<P: Copy> Rel<P> {
-    /// Where it applies: an offset in a section, or an address.
+    /// The location to relocate: an offset in a section, or a virtual address.
     pub fn get_offset(&self) -> P
         ensures { result ≡ rel_offset self.now }
     {
@@ -139,7 +139,7 @@ impl Rel<P32> {
         symbol_index_32(self.info)
     }
 
-    /// What is done there, by a number of the processor.
+    /// The relocation type, which is processor-specific.
     pub fn get_type(&self) -> u8
         ensures { result ≡ type_in_32 (rel_info self.now) }
     {
@@ -155,7 +155,7 @@ impl Rel<P64> {
         symbol_index_64(self.info)
     }
 
-    /// What is done there, by a number of the processor.
+    /// The relocation type, which is processor-specific.
     pub fn get_type(&self) -> u32
         ensures { result ≡ type_in_64 (rel_info self.now) }
     {
@@ -164,14 +164,14 @@ impl Rel<P64> {
 }
 
 impl<P: Copy> Rela<P> {
-    /// Where it applies: an offset in a section, or an address.
+    /// The location to relocate: an offset in a section, or a virtual address.
     pub fn get_offset(&self) -> P
         ensures { result ≡ rela_offset self.now }
     {
         self.offset
     }
 
-    /// What is added, as an unsigned number.
+    /// The addend, as an unsigned number.
     pub fn get_addend(&self) -> P
         ensures { result ≡ rela_addend self.now }
     {
@@ -187,7 +187,7 @@ impl Rela<P32> {
         symbol_index_32(self.info)
     }
 
-    /// What is done there, by a number of the processor.
+    /// The relocation type, which is processor-specific.
     pub fn get_type(&self) -> u8
         ensures { result ≡ type_in_32 (rela_info self.now) }
     {
@@ -203,7 +203,7 @@ impl Rela<P64> {
         symbol_index_64(self.info)
     }
 
-    /// What is done there, by a number of the processor.
+    /// The relocation type, which is processor-specific.
     pub fn get_type(&self) -> u32
         ensures { result ≡ type_in_64 (rela_info self.now) }
     {

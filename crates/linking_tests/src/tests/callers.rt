@@ -4,17 +4,18 @@ ghost use Rattle.std.specs.Prelude.{◌≡◌, true};
 
 use crate::tests::want::{open, want};
 use elf_base::ElfError;
-use elf_base::bytes::{Order, Table};
+use elf_base::bytes::{Order, Record, Table};
 use elf_base::header::Class;
-use elf_linking::LinkError;
 use elf_linking::gnu_hash::GnuHashTable;
-use linking_callers::callers::{AnyTable, finds_all, value_by_name, words_looked_at};
+use elf_linking::values::defined_value;
+use elf_linking::{AnyTable, LinkError};
+use linking_callers::callers::{finds_all, words_looked_at};
 use std::process::Abort;
 use worked_files::files::{put_words, strtab_file};
 use worked_files::places::{set, symbol_32};
 use xmas_elf::ElfFile;
 use xmas_elf::hash::HashTable;
-use xmas_elf::symbol_table::Entry32;
+use xmas_elf::symbol_table::{Entry, Entry32, SymbolTable};
 
 const LITTLE: Order = Order::Little;
 
@@ -33,6 +34,16 @@ const GNU: [u32; 7] = [1, 1, 1, 5, 0x200_0100, 1, 0x0059_7729];
 
 const SYSV: [u32; 5] = [1, 2, 1, 0, 0];
 
+// The value of a name by a table.
+fn value_of<E: Entry + Record>(
+    table: &AnyTable<'_>,
+    name: &str,
+    symbols: &Table<'_, E>,
+    file: &ElfFile<'_>,
+) -> Result<Option<u64>, LinkError> {
+    defined_value(table, name, &SymbolTable::new(*symbols, file))
+}
+
 // Wants the value of the one name, and that none is found by another.
 fn check_values(
     rt: &impl Abort,
@@ -40,8 +51,8 @@ fn check_values(
     symbols: &Table<'_, Entry32>,
     file: &ElfFile<'_>,
 ) {
-    want(rt, value_by_name(table, "ab", symbols, file), Ok(Some(7)));
-    want(rt, value_by_name(table, "zz", symbols, file), Ok(None));
+    want(rt, value_of(table, "ab", symbols, file), Ok(Some(7)));
+    want(rt, value_of(table, "zz", symbols, file), Ok(None));
 }
 
 #[test]
@@ -68,7 +79,7 @@ fn finds_values_by_the_table_of_gnu(rt: HostRuntime) -> Result<(), LinkError> {
     put_words(&mut words, 20, &[0]);
     let table = GnuHashTable::read(&words, Class::ThirtyTwo, LITTLE)?;
     want(&rt, finds_all(&table, &symbols, &file), false);
-    let answer = value_by_name(&AnyTable::Gnu(table), "ab", &symbols, &file);
+    let answer = value_of(&AnyTable::Gnu(table), "ab", &symbols, &file);
     want(&rt, answer, Err(LinkError::Missing));
     Ok(())
 }
@@ -85,7 +96,7 @@ fn finds_values_by_the_table_of_the_standard(rt: HostRuntime) -> Result<(), Link
     check_values(&rt, &AnyTable::Sysv(table), &symbols, &file);
     put_words(&mut words, 8, &[0]);
     let table = HashTable::read(&words, LITTLE)?;
-    let answer = value_by_name(&AnyTable::Sysv(table), "ab", &symbols, &file);
+    let answer = value_of(&AnyTable::Sysv(table), "ab", &symbols, &file);
     want(&rt, answer, Err(LinkError::Elf(ElfError::HashMissing)));
     Ok(())
 }

@@ -32,7 +32,7 @@ use std::process::Abort;
 use worked_files::places::put;
 use xmas_elf::ElfFile;
 use xmas_elf::sections::SectionData;
-use xmas_elf::symbol_table::Entry;
+use xmas_elf::symbol_table::{Entry, SymbolTable};
 
 /// The exported names, in the order of the symbols from index 2 on; symbol 1,
 /// `outer`, is undefined.
@@ -130,6 +130,16 @@ pub const WIDE: &[u8; 1928] = b"\
     \x01\0\0\0\x03\0\0\0\0\0\0\0\0\0\0\0\0\0\0\0\0\0\0\0\xe4\x03\0\0\0\0\0\0_\0\0\0\0\0\0\0\0\0\0\
     \0\0\0\0\0\x01\0\0\0\0\0\0\0\0\0\0\0\0\0\0\0";
 
+// The look-up by a symbol table that carries its names.
+fn look_up_in<E: Entry + Record>(
+    table: &GnuHashTable<'_>,
+    name: &str,
+    symbols: &Table<'_, E>,
+    file: &ElfFile<'_>,
+) -> Result<Option<(u32, E)>, LinkError> {
+    table.lookup_in(name, &SymbolTable::new(*symbols, file), |_| true)
+}
+
 // Whether each exported name is at its index with its value, also by a string table taken once.
 fn finds_each<E: Entry + Record>(
     table: &GnuHashTable<'_>,
@@ -137,10 +147,9 @@ fn finds_each<E: Entry + Record>(
     file: &ElfFile<'_>,
     values: [u64; 7],
 ) -> bool {
-    let strings = E::string_table(file);
     for (k, (name, value)) in NAMES.iter().zip(values).enumerate() {
         let found = table.lookup(name, symbols, file, |_| true);
-        let again = table.lookup_in(name, strings, symbols, file, |_| true);
+        let again = look_up_in(table, name, symbols, file);
         match (found, again) {
             (Ok(Some((index, symbol))), Ok(Some((same, _))))
                 if index as usize == k.wrapping_add(2)

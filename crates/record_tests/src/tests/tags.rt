@@ -59,6 +59,8 @@ fn check_narrow(rt: &impl Abort, number: u32, name: &Tag<P32>, has_value: bool, 
     );
     let found = [entry.get_val(), entry.get_ptr()];
     want_at(rt, number, found, numbers(8, has_value, has_pointer));
+    let raw = [entry.raw_tag(), entry.raw_val()];
+    want_at(rt, number, raw, [u64::from(number), 8]);
 }
 
 const TAGS: &[(u32, Tag<P32>, bool, bool)] = &[
@@ -157,6 +159,8 @@ fn names_the_tags_of_class_64(rt: HostRuntime) {
             found,
             numbers(1 << 63, *has_value, *has_pointer),
         );
+        let raw = [entry.raw_tag(), entry.raw_val()];
+        want_at(&rt, number, raw, [u64::from(*number), 1 << 63]);
     }
     want(
         &rt,

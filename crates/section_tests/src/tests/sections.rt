@@ -452,6 +452,5 @@ fn callers_get_what_they_ask_of_bytes(rt: HostRuntime) -> Result<(), Fail> {
     want(&rt, callers::name_in(&bytes, 11), Ok(".gnu_debuglink"));
     want(&rt, callers::copied_name_len(rt.alloc(), &bytes)?, 9);
     want(&rt, callers::string_bytes(&bytes), Ok(45));
-    want(&rt, callers::text_section(&bytes).is_none(), true);
     Ok(())
 }

@@ -1,10 +1,10 @@
--- That `==` of refusals is equality: what `search` doesn't find for an enum of so many variants.
+-- `==` of errors is equality, which `search` doesn't find for an enum of that many variants.
 use denote.Enum.Bare.{sameb, same_true, true_same}
 use Rattle.std.proofs.Common.{◌≡◌, true}
 use Rattle.elf_base.specs.contracts.error.ElfError.{the_type}
 use Rattle.xmas_elf.specs.Prelude.{ElfError}
 
--- `sameb the_type` is the test that `==` of two refusals computes
+-- `sameb the_type` is the test that `==` of two errors computes
 pub same_error : (one other : ElfError) → sameb the_type one other ≡ true → one ≡ other
 same_error one other test = same_true the_type tt one other test
 

@@ -1,4 +1,4 @@
--- For callers of parts that are lent: of two parts of one whole, the place of the one in the other.
+-- For callers: the place of one part of a whole in another part that contains it.
 use Rattle.std.proofs.Common.{◌≡◌, ℕ, ◌+◌, List, sym, ◌∙◌, arith}
 use Rattle.std.specs.Borrow.{Bor}
 use Rattle.elf_base.specs.Lent.{LiesAt}

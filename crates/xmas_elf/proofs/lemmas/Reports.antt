@@ -1,4 +1,4 @@
--- A file has one report: the verdict on its hash table is one thing alone.
+-- A file has only one report: the verdict on its hash table is unique.
 use mathlib.Core.Path.{fun_ext}
 use Rattle.std.proofs.Common.{◌≡◌, ◌<◌, ◌⊎◌, inl, inr, Some, None, Result, Ok, Err, refl, sym, ap, ◌∙◌, subst, arith}
 use Rattle.std.proofs.lemmas.Bool.{cases_order}
@@ -8,7 +8,8 @@ use Rattle.xmas_elf.specs.Good.{IsCheck, good, faulty, missing}
 use Rattle.xmas_elf.specs.ReportHash.{FindsHash, IsHashVerdict, IsLinkedVerdict, IsVerdictOf, content_at, linked, none, refused}
 use Rattle.xmas_elf.specs.HashTable.{bucket_of, chain_of, hash_data, hash_order, start_of}
 use Rattle.xmas_elf.specs.SectionHeader.{section_fields, section_type}
-use Rattle.xmas_elf.specs.Symbols.{Symbols, dyn_symbols_in_32, dyn_symbols_in_64, symbols_in_32, symbols_in_64}
+use Rattle.xmas_elf.specs.Symbol.{Symbols}
+use Rattle.xmas_elf.specs.Symbols.{dyn_symbols_in_32, dyn_symbols_in_64, symbols_in_32, symbols_in_64}
 use Rattle.xmas_elf.specs.declared.report.hash.HashVerdict.{HashVerdict}
 use Rattle.xmas_elf.specs.declared.report.hash.HashVerdict.TheVariants.{Checked}
 use Rattle.xmas_elf.proofs.ChainChecks.{check_once}
@@ -24,7 +25,7 @@ first_once file a b (ta, (i, lowi, hi, ni)) (tb, (j, lowj, hj, nj)) = go (cases_
 no_first : (file : ElfFile) (a : SectionHeader) → FindsHash file None → FindsHash file (Some a) → ⊥
 no_first file a n (ta, (i, low, h, _)) = n i a (omega arith) low (ap section_type (h a) ∙ ta)
 
--- the check of a hash table is told by its order and its bytes alone
+-- the check of a hash table depends only on its byte order and its bytes
 module _ (one other : HashTable) (order : hash_order one ≡ hash_order other) (bytes : hash_data one ≡ hash_data other) where
   same_chain : chain_of one ≡ chain_of other
   unfolding chain_of

@@ -1,5 +1,5 @@
--- An entry of the dynamic section has both a value and a pointer exactly where its tag is one of the operating
--- system or of the processor.
+-- An entry of the dynamic section has both a value and a pointer exactly if its tag is OS-specific or
+-- processor-specific.
 use Rattle.std.proofs.Common.{◌≡◌, ℕ, ◌⊎◌, true, Ok, is_ok, ◌↔◌}
 use Rattle.elf_records.proofs.Tags
 use Rattle.elf_records.specs.Dynamic.{pointer_of, tag_of, value_of}

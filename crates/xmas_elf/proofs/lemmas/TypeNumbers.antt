@@ -1,4 +1,4 @@
--- No two numbers mean one type, of sections and of segments.
+-- Different numbers mean different types, of sections and of segments.
 use Rattle.std.proofs.Common.{◌≡◌, ℕ, Bool, List, [], ◌∷◌, Result, Ok, Err, if◌then◌else◌, sym, ◌∙◌, rules, arith}
 use Rattle.elf_records.specs.declared.sections.ShType.TheVariants as sh_type
 use Rattle.elf_records.specs.declared.program.Type.TheVariants as ph_type
@@ -7,13 +7,13 @@ use Rattle.elf_records.specs.ProgramNumbers.{has_ph_type, ph_type_in_range, ph_t
 use Rattle.elf_records.specs.SectionNumbers.{has_sh_type, sh_type_in_range, sh_type_of}
 use Rattle.xmas_elf.specs.Prelude.{ElfError, SegmentType, ShType}
 
--- the number beside a type in a table
+-- the number of a type in a table
 abbrev beside : {K : Type 0} → (K → Result K ElfError → Bool) → List (ℕ × Result K ElfError) → K → ℕ
 beside means [] kind = 0
 beside means (row ∷ rows) kind = if means kind row.1 then row.0 else beside means rows kind
 
 module _ {K : Type 0} (number_of : K → ℕ) where
-  -- the type has this number, where the answer is one
+  -- the type has this number, if the result is a type
   abbrev HasNumber : ℕ → Result K ElfError → Type 0
   HasNumber n (Ok kind) = number_of kind ≡ n
   HasNumber n (Err error) = Unit {0}
@@ -34,7 +34,7 @@ sh_has : (n : ℕ) → HasNumber sh_number n (sh_type_of n)
 unfolding sh_type_of
 sh_has n = named_has sh_type_in_range (HasNumber sh_number) sh_rows n (search rules) (grind arith)
 
--- no two numbers mean one type of section
+-- two numbers of the same section type are equal
 pub one_section_number : (one other : ℕ) (kind : ShType) → sh_type_of one ≡ Ok kind → sh_type_of other ≡ Ok kind → one ≡ other
 one_section_number = one_number sh_number sh_type_of sh_has
 
@@ -50,6 +50,6 @@ ph_has : (n : ℕ) → HasNumber ph_number n (ph_type_of n)
 unfolding ph_type_of
 ph_has n = named_has ph_type_in_range (HasNumber ph_number) ph_rows n (search rules) (grind arith)
 
--- no two numbers mean one type of segment
+-- two numbers of the same segment type are equal
 pub one_segment_number : (one other : ℕ) (kind : SegmentType) → ph_type_of one ≡ Ok kind → ph_type_of other ≡ Ok kind → one ≡ other
 one_segment_number = one_number ph_number ph_type_of ph_has

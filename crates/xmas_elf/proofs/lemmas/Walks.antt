@@ -1,9 +1,10 @@
--- A look-up answers HashCycle exactly where its walk reaches no stop: no refusal of a bucket or a chain is
--- HashCycle.
+-- A look-up has the error HashCycle exactly if its walk reaches no stop, since no bucket or chain has that
+-- error.
 use Rattle.std.proofs.Common.{◌≡◌, ℕ, Bool, true, false, List, [], ◌∷◌, Option, Some, None, Result, Err, if◌then◌else◌, refl, sym, subst}
 use Rattle.std.specs.List.{AllByRecursion}
 use Rattle.elf_base.specs.Refusal.{unless}
-use Rattle.xmas_elf.specs.Prelude.{BucketIndex, ChainIndex, ChainSum, ElfError, HashCycle, HashData, HashTable}
+use Rattle.elf_base.specs.declared.error.ElfError.TheVariants.{BucketIndex, ChainIndex, ChainSum, HashCycle, HashData}
+use Rattle.xmas_elf.specs.Prelude.{ElfError, HashTable}
 use Rattle.xmas_elf.specs.Chain.{Stops, at_end, past_chains, past_symbols, found, refused, IsEndless, LooksFrom, no_bucket, bad_bucket, reaches, endless, chains_of}
 use Rattle.xmas_elf.specs.HashTable.{bucket_of, chain_of, start_of}
 

@@ -1,23 +1,22 @@
-//! Program headers: their records in bytes, of either width, and what they say (gABI, "Program
-//! Header": Elf32_Phdr and Elf64_Phdr).
+//! Program headers of both classes: their layout and their fields (gABI, "Program Header":
+//! Elf32_Phdr and Elf64_Phdr).
 
 ghost use Rattle.std.specs.Prelude.{◌≡◌, ◌≢◌, ◌↔◌, ◌+◌, ◌≤◌, ◌<◌, [], ◌∷◌};
 ghost use Rattle.std.specs.Prelude.{Err, IfOk, IsOk, MatchResult, Ok, drop, is_none, length};
 ghost use Rattle.std.specs.Prelude.{nat_lt, not, take, unwrap_or};
 ghost use Rattle.std.specs.Option.{ForSome};
 ghost use Rattle.std.proofs.Common.{lit<};
-ghost use Rattle.elf_base.specs.FileHeader.{file_class};
-ghost use Rattle.elf_base.specs.HeaderLayout.{header_fields};
+ghost use Rattle.elf_base.specs.FileHeader.{file_class, header_fields};
 ghost use Rattle.elf_base.specs.Lent.{Answers, Lends};
 ghost use Rattle.elf_base.specs.Refusal.{unless};
 ghost use Rattle.xmas_elf.specs.HeaderTable.{is_known_class};
 ghost use Rattle.xmas_elf.specs.Place.{LiesAsSegment};
-ghost use Rattle.xmas_elf.specs.ProgramHeader.{HasProgramEntry, HasProgramHeader, program_64};
-ghost use Rattle.xmas_elf.specs.ProgramHeader.{program_at_index, program_at_place, program_by_u16};
-ghost use Rattle.xmas_elf.specs.ProgramHeader.{program_entry, program_fields, program_header_32};
+ghost use Rattle.xmas_elf.specs.ProgramHeader.{HasProgramEntry, HasProgramHeader, HasSegmentData};
+ghost use Rattle.xmas_elf.specs.ProgramHeader.{IsSegmentData, program_64, program_at_index};
+ghost use Rattle.xmas_elf.specs.ProgramHeader.{program_at_place, program_by_u16, program_entry};
+ghost use Rattle.xmas_elf.specs.ProgramHeader.{program_fields, program_header_32};
 ghost use Rattle.xmas_elf.specs.ProgramHeader.{program_header_64, program_header_size};
-ghost use Rattle.xmas_elf.specs.ProgramHeader.{program_record_size, segment_type};
-ghost use Rattle.xmas_elf.specs.SegmentData.{HasSegmentData, IsSegmentData, segment_data_of};
+ghost use Rattle.xmas_elf.specs.ProgramHeader.{program_record_size, segment_data_of, segment_type};
 
 use crate::bytes::{Order, Record};
 use crate::header::Class::{SixtyFour, ThirtyTwo};
@@ -31,19 +30,19 @@ use elf_base::header::byte_order;
 /// A program header of class 32 (gABI, "Program Header", Elf32_Phdr).
 #[derive(Clone, Copy, Debug, Default)]
 pub struct ProgramHeader32 {
-    /// What the segment is.
+    /// The type of the segment.
     pub type_: Type_,
-    /// Where the segment's data lies, in bytes from the start of the file.
+    /// The file offset of the segment in bytes.
     pub offset: u32,
-    /// The address of the segment in memory.
+    /// The virtual address of the segment.
     pub virtual_addr: u32,
-    /// The physical address of the segment, where that matters.
+    /// The physical address of the segment, where that is relevant.
     pub physical_addr: u32,
-    /// How many bytes the segment has in the file.
+    /// The size of the segment in the file, in bytes.
     pub file_size: u32,
-    /// How many bytes the segment has in memory.
+    /// The size of the segment in memory, in bytes.
     pub mem_size: u32,
-    /// What may be done with the segment's memory.
+    /// The permissions of the segment.
     pub flags: Flags,
     /// The alignment of the segment in memory and in the file, in bytes; 0 and 1 mean none.
     pub align: u32,
@@ -52,26 +51,26 @@ pub struct ProgramHeader32 {
 /// A program header of class 64 (gABI, "Program Header", Elf64_Phdr).
 #[derive(Clone, Copy, Debug, Default)]
 pub struct ProgramHeader64 {
-    /// What the segment is.
+    /// The type of the segment.
     pub type_: Type_,
-    /// What may be done with the segment's memory.
+    /// The permissions of the segment.
     pub flags: Flags,
-    /// Where the segment's data lies, in bytes from the start of the file.
+    /// The file offset of the segment in bytes.
     pub offset: u64,
-    /// The address of the segment in memory.
+    /// The virtual address of the segment.
     pub virtual_addr: u64,
-    /// The physical address of the segment, where that matters.
+    /// The physical address of the segment, where that is relevant.
     pub physical_addr: u64,
-    /// How many bytes the segment has in the file.
+    /// The size of the segment in the file, in bytes.
     pub file_size: u64,
-    /// How many bytes the segment has in memory.
+    /// The size of the segment in memory, in bytes.
     pub mem_size: u64,
     /// The alignment of the segment in memory and in the file, in bytes; 0 and 1 mean none.
     pub align: u64,
 }
 
 impl ProgramHeader32 {
-    /// What the segment is, or `InvalidPhType`.
+    /// The type of the segment, or `InvalidPhType`.
     #[inline(always)]
     pub fn get_type(&self) -> Result<Type, ElfError>
         ensures { result ≡ segment_type (program_64 self.now) }
@@ -79,10 +78,10 @@ impl ProgramHeader32 {
         self.type_.as_type()
     }
 
-    /// The data of the segment as it stands in the input, where it lives as long.
+    /// The bytes of the segment in the input, which live as long as the input.
     ///
-    /// Refused with `InvalidPhType`, with `NullData` for type Null, and with `DataRange` where it
-    /// passes the end of the input; an empty segment is the empty slice, whatever its offset.
+    /// Errors: `InvalidPhType`; `NullData` for type Null; `DataRange` if the segment extends past
+    /// the end of the input. An empty segment is any empty slice, whatever its offset.
     #[inline(always)]
     pub fn raw_data<'a>(&self, file: &ElfFile<'a>) -> Result<&'a [u8], ElfError>
         ensures readable { IsOk result ↔ HasSegmentData file.now (program_64 self.now) }
@@ -93,7 +92,7 @@ impl ProgramHeader32 {
         self.to_64().raw_data(file)
     }
 
-    // The same numbers in the record of class 64.
+    // The fields in the record of class 64.
     #[inline(always)]
     pub(crate) fn to_64(&self) -> ProgramHeader64
         ensures { result ≡ program_64 self.now }
@@ -110,7 +109,7 @@ impl ProgramHeader32 {
         }
     }
 
-    // The 32 bytes from `place` on.
+    // Reads the 32 bytes from `place` on.
     #[inline(always)]
     pub(crate) fn read(bytes: &[u8], place: usize, order: Order) -> ProgramHeader32
         requires { place + 32 ≤ length bytes.now }
@@ -144,7 +143,7 @@ impl Record for ProgramHeader32 {
 }
 
 impl ProgramHeader64 {
-    /// What the segment is, or `InvalidPhType`.
+    /// The type of the segment, or `InvalidPhType`.
     #[inline(always)]
     pub fn get_type(&self) -> Result<Type, ElfError>
         ensures { result ≡ segment_type self.now }
@@ -152,11 +151,11 @@ impl ProgramHeader64 {
         self.type_.as_type()
     }
 
-    /// The data of the segment as it stands in the input, where it lives as long.
+    /// The bytes of the segment in the input, which live as long as the input.
     ///
-    /// Refused with `InvalidPhType`, with `NullData` for type Null, and with `DataRange` where it
-    /// passes the end of the input; an empty segment is the empty slice, whatever its offset.
-    #[tactic(auto, unfolding(crate::specs::SegmentData::segment_data_of))]
+    /// Errors: `InvalidPhType`; `NullData` for type Null; `DataRange` if the segment extends past
+    /// the end of the input. An empty segment is any empty slice, whatever its offset.
+    #[tactic(auto, unfolding(crate::specs::ProgramHeader::segment_data_of))]
     #[inline(always)]
     pub fn raw_data<'a>(&self, file: &ElfFile<'a>) -> Result<&'a [u8], ElfError>
         ensures readable { IsOk result ↔ HasSegmentData file.now self.now }
@@ -171,7 +170,7 @@ impl ProgramHeader64 {
         }
     }
 
-    // The 56 bytes from `place` on.
+    // Reads the 56 bytes from `place` on.
     #[inline(always)]
     pub(crate) fn read(bytes: &[u8], place: usize, order: Order) -> ProgramHeader64
         requires { place + 56 ≤ length bytes.now }
@@ -204,7 +203,7 @@ impl Record for ProgramHeader64 {
     }
 }
 
-/// A program header of either width (gABI, "Program Header").
+/// A program header of either class (gABI, "Program Header").
 #[derive(Clone, Copy, Debug)]
 pub enum ProgramHeader {
     /// The 32 bytes of class 32.
@@ -214,7 +213,8 @@ pub enum ProgramHeader {
 }
 
 impl ProgramHeader {
-    // What the segment is, as a number. That of a section is public, as in the Rust crate.
+    // The type of the segment, as a number. Unlike that of a section it is private, as in the Rust
+    // crate.
     pub(crate) fn type_(&self) -> Type_
         ensures { result ≡ (program_fields self.now).type_ }
     {
@@ -224,7 +224,7 @@ impl ProgramHeader {
         }
     }
 
-    /// What may be done with the segment's memory.
+    /// The permissions of the segment.
     pub fn flags(&self) -> Flags
         ensures { result ≡ (program_fields self.now).flags }
     {
@@ -234,7 +234,7 @@ impl ProgramHeader {
         }
     }
 
-    /// The address of the segment in memory.
+    /// The virtual address of the segment.
     pub fn virtual_addr(&self) -> u64
         ensures { result ≡ (program_fields self.now).virtual_addr }
     {
@@ -244,7 +244,7 @@ impl ProgramHeader {
         }
     }
 
-    /// The physical address of the segment, where that matters.
+    /// The physical address of the segment, where that is relevant.
     pub fn physical_addr(&self) -> u64
         ensures { result ≡ (program_fields self.now).physical_addr }
     {
@@ -254,7 +254,7 @@ impl ProgramHeader {
         }
     }
 
-    /// Where the segment's data lies, in bytes from the start of the file.
+    /// The file offset of the segment in bytes.
     pub fn offset(&self) -> u64
         ensures { result ≡ (program_fields self.now).offset }
     {
@@ -264,7 +264,7 @@ impl ProgramHeader {
         }
     }
 
-    /// How many bytes the segment has in the file.
+    /// The size of the segment in the file, in bytes.
     pub fn file_size(&self) -> u64
         ensures { result ≡ (program_fields self.now).file_size }
     {
@@ -274,7 +274,7 @@ impl ProgramHeader {
         }
     }
 
-    /// How many bytes the segment has in memory.
+    /// The size of the segment in memory, in bytes.
     pub fn mem_size(&self) -> u64
         ensures { result ≡ (program_fields self.now).mem_size }
     {
@@ -294,7 +294,7 @@ impl ProgramHeader {
         }
     }
 
-    /// What the segment is, or `InvalidPhType`.
+    /// The type of the segment, or `InvalidPhType`.
     #[inline(always)]
     pub fn get_type(&self) -> Result<Type, ElfError>
         ensures { result ≡ segment_type (program_fields self.now) }
@@ -305,10 +305,10 @@ impl ProgramHeader {
         }
     }
 
-    /// The data of the segment as it stands in the input, where it lives as long.
+    /// The bytes of the segment in the input, which live as long as the input.
     ///
-    /// Refused with `InvalidPhType`, with `NullData` for type Null, and with `DataRange` where it
-    /// passes the end of the input; an empty segment is the empty slice, whatever its offset.
+    /// Errors: `InvalidPhType`; `NullData` for type Null; `DataRange` if the segment extends past
+    /// the end of the input. An empty segment is any empty slice, whatever its offset.
     #[inline(always)]
     pub fn raw_data<'a>(&self, file: &ElfFile<'a>) -> Result<&'a [u8], ElfError>
         ensures readable { IsOk result ↔ HasSegmentData file.now (program_fields self.now) }
@@ -322,10 +322,12 @@ impl ProgramHeader {
         }
     }
 
-    /// Where in the input the data of the segment stands: the place of its first byte and how many
-    /// bytes they are. Refused as `raw_data` is, which gives these bytes; both are 0 for an empty
+    /// The range of the segment in the input: the offset of its first byte, and its length in
+    /// bytes.
+    ///
+    /// The errors are those of `raw_data`, which returns these bytes. Both are 0 for an empty
     /// segment.
-    #[tactic(auto, unfolding(crate::specs::SegmentData::segment_data_of))]
+    #[tactic(auto, unfolding(crate::specs::ProgramHeader::segment_data_of))]
     pub fn file_range(&self, file: &ElfFile<'_>) -> Result<(usize, usize), ElfError>
         ensures readable { IsOk result ↔ HasSegmentData file.now (program_fields self.now) }
         ensures count { IfOk result (λ range. range.1 ≡ (program_fields self.now).file_size) }
@@ -345,7 +347,7 @@ impl ProgramHeader {
         Ok((self.offset() as usize, bytes.len()))
     }
 
-    // The record of the segment, in the types of class 64.
+    // The fields in the record of class 64.
     pub(crate) fn record_64(&self) -> ProgramHeader64
         ensures { result ≡ program_fields self.now }
     {
@@ -355,7 +357,7 @@ impl ProgramHeader {
         }
     }
 
-    // How many bytes the record has: 32 or 56.
+    // The size of the record in bytes: 32 or 56.
     pub(crate) fn record_size(&self) -> usize
         ensures { result ≡ program_record_size self.now }
     {
@@ -366,12 +368,12 @@ impl ProgramHeader {
     }
 }
 
-/// The program header at this index of the program header table.
+/// The program header at `index` of the program header table.
 ///
-/// Refused with `NoProgramHeaders` where the index is not below the count, or the offset or the
-/// entry size of the table is 0; `UnknownClass` where the class is neither 1 nor 2;
-/// `ShortProgramHeader` where the entry passes the end of the input; and `SmallEntry` where the
-/// entries are smaller than the record of the class.
+/// Errors: `NoProgramHeaders` if the index is not below the number of entries, or the offset or the
+/// entry size of the table is 0; `UnknownClass` if the class is neither 1 nor 2;
+/// `ShortProgramHeader` if the entry extends past the end of the input; `SmallEntry` if entries are
+/// smaller than the header of the class.
 #[inline(always)]
 pub fn parse_program_header(
     input: &[u8],
@@ -386,7 +388,7 @@ pub fn parse_program_header(
     program_entry(input, &header, count, u32::from(index))
 }
 
-// The program header at any index below this count, refused as by `parse_program_header`.
+// The program header at any index below `count`; the errors are those of `parse_program_header`.
 #[tactic(auto, unfolding(crate::specs::ProgramHeader::program_entry))]
 #[inline(always)]
 pub(crate) fn program_entry(
@@ -405,14 +407,14 @@ pub(crate) fn program_entry(
         return Err(ElfError::NoProgramHeaders);
     }
     let place = entry_at(input, offset, entry_size, u64::from(index));
-    // One choice of the order for all fields.
+    // The byte order is chosen once for all fields.
     match byte_order(header.pt1.encoding) {
         Order::Little => read_at_place(input, place, header, Order::Little),
         Order::Big => read_at_place(input, place, header, Order::Big),
     }
 }
 
-// The program header at a place of the input, if there is one, its width by the class.
+// The program header at `place`, if there is one, in the layout of the class.
 #[inline(always)]
 fn read_at_place(
     input: &[u8],
@@ -454,13 +456,13 @@ fn read_at_place(
     }
 }
 
-// The program header at a place of the input, of 32 bits for class 1 and else of 64.
+// The program header at `place`, in the layout of class 32 for class 1, otherwise of class 64.
 #[inline(always)]
 pub(crate) fn program_at_place(input: &[u8], place: usize, class: u8, order: Order) -> ProgramHeader
     requires { place + program_header_size class ≤ length input.now }
     ensures { result ≡ program_at_place class order place input.now }
 {
-    // One choice of the order for all fields.
+    // The byte order is chosen once for all fields.
     match (class, order) {
         (1, Order::Little) => {
             ProgramHeader::Ph32(ProgramHeader32::read(input, place, Order::Little))

@@ -1,4 +1,4 @@
-//! How a program header is printed: a line for each field.
+//! The printed form of a program header: one line per field.
 
 ghost use Rattle.std.specs.Prelude.{◌≡◌, Some};
 ghost use Rattle.elf_records.specs.ProgramNumbers.{ph_type_number};
@@ -10,7 +10,7 @@ use elf_base::print::{Field, Hex, PrintedResult};
 use std::fmt;
 use std::fmt::Display;
 
-// What the number of a type means, or why it means nothing.
+// The type of a segment, or the error for an unknown number.
 #[derive(Clone, Copy)]
 pub(crate) struct SegmentType(pub(crate) Type_);
 
@@ -22,7 +22,7 @@ impl Display for SegmentType {
     }
 }
 
-// The fields, each on a line.
+// The fields, one per line.
 #[derive(Clone, Copy)]
 struct ProgramFields(ProgramHeader64);
 

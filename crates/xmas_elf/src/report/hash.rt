@@ -1,4 +1,4 @@
-//! What the report says of the hash table of a file.
+//! The part of the report about the hash table of a file.
 
 ghost use Rattle.std.specs.Prelude.{◌≡◌};
 ghost use Rattle.xmas_elf.specs.ReportHash.{FindsHash, IsHashVerdict, IsLinkedVerdict, content_at};
@@ -7,18 +7,18 @@ use crate::hash::HashTable;
 use crate::sections::{SectionData, SectionHeader, ShType};
 use crate::{ElfError, ElfFile};
 
-// What is found of the hash table of a file. It is `pub`, since definitions elsewhere name it.
+// The result for the hash table of a file. It is `pub`, since definitions in other crates name it.
 #[derive(Clone, Copy)]
 pub enum HashVerdict {
-    // It has none.
+    // There is no hash table.
     NoTable,
-    // Its link leads to no symbols.
+    // Its link is not the index of a symbol table.
     NoSymbols,
-    // The answer of its check, or why its data is refused.
+    // The result of its check, or the error for its data.
     Checked(Result<(), ElfError>),
 }
 
-// What is found of the first hash table of a file, and the symbols that it is linked to.
+// The result for the first hash table of a file and the symbols that it links to.
 pub(crate) fn hash_verdict(file: &ElfFile<'_>) -> HashVerdict
     ensures { IsHashVerdict file.now result }
 {
@@ -43,7 +43,7 @@ fn hash_section(file: &ElfFile<'_>) -> Option<SectionHeader>
         .find(|section| matches!(section.get_type(), Ok(ShType::Hash)))
 }
 
-// What is found of a hash table whose symbols are in the section with this index.
+// The result for a hash table whose symbols are in the section at index `link`.
 fn linked_verdict(file: &ElfFile<'_>, table: &HashTable<'_>, link: u32) -> HashVerdict
     ensures { IsLinkedVerdict file.now table.now (content_at file.now link) result }
 {

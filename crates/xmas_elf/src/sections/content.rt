@@ -1,4 +1,4 @@
-//! What the data of a section is taken for, by its type (gABI, "Sections").
+//! The contents of a section, by its type (gABI, "Sections").
 
 ghost use Rattle.std.specs.Prelude.{◌≡◌, Ok, Err, IfOk, MatchResult};
 ghost use Rattle.elf_base.specs.FileHeader.{file_class, file_order};
@@ -17,16 +17,16 @@ use crate::sections::{NoteHeader, Rel, Rela, SectionHeader, ShType};
 use crate::symbol_table::{DynEntry32, DynEntry64, Entry32, Entry64};
 use crate::{ElfError, ElfFile, P32, P64};
 use elf_base::bytes::read_u32;
-use elf_base::header::byte_order;
 
-/// The data of a section by its type, with the class in the names (gABI, "Sections", sh_type).
+/// The contents of a section, by its type; variants with 32 or 64 are for that class (gABI,
+/// "Sections", sh_type).
 #[derive(Debug, Drop)]
 pub enum SectionData<'a> {
     /// `SHT_NULL`, `SHT_NOBITS`: no bytes.
     Empty,
-    /// `SHT_PROGBITS`, `SHT_SHLIB` and all from `SHT_LOOS` on: bytes that have no meaning here.
+    /// `SHT_PROGBITS`, `SHT_SHLIB` and all from `SHT_LOOS` on: uninterpreted bytes.
     Undefined(&'a [u8]),
-    /// `SHT_STRTAB`: texts that zero bytes end.
+    /// `SHT_STRTAB`: texts ended by zero bytes.
     StrArray(&'a [u8]),
     /// `SHT_INIT_ARRAY`, `SHT_FINI_ARRAY`, `SHT_PREINIT_ARRAY`: pointers to functions.
     FnArray32(Table<'a, u32>),
@@ -36,13 +36,13 @@ pub enum SectionData<'a> {
     SymbolTable32(Table<'a, Entry32>),
     /// `SHT_SYMTAB`: symbols.
     SymbolTable64(Table<'a, Entry64>),
-    /// `SHT_DYNSYM`: symbols of the dynamic linker.
+    /// `SHT_DYNSYM`: symbols for dynamic linking.
     DynSymbolTable32(Table<'a, DynEntry32>),
-    /// `SHT_DYNSYM`: symbols of the dynamic linker.
+    /// `SHT_DYNSYM`: symbols for dynamic linking.
     DynSymbolTable64(Table<'a, DynEntry64>),
     /// `SHT_SYMTAB_SHNDX`: section indices of symbols that need more than 16 bits.
     SymTabShIndex(Table<'a, u32>),
-    /// `SHT_NOTE`: the header of the first note, and all bytes that follow it.
+    /// `SHT_NOTE`: the header of the first note, and all bytes after it.
     Note64(NoteHeader, &'a [u8]),
     /// `SHT_RELA`: relocations with addends.
     Rela32(Table<'a, Rela<P32>>),
@@ -52,13 +52,13 @@ pub enum SectionData<'a> {
     Rel32(Table<'a, Rel<P32>>),
     /// `SHT_REL`: relocations without addends.
     Rel64(Table<'a, Rel<P64>>),
-    /// `SHT_DYNAMIC`: what a dynamic linker needs.
+    /// `SHT_DYNAMIC`: the dynamic section.
     Dynamic32(Table<'a, Dynamic<P32>>),
-    /// `SHT_DYNAMIC`: what a dynamic linker needs.
+    /// `SHT_DYNAMIC`: the dynamic section.
     Dynamic64(Table<'a, Dynamic<P64>>),
     /// `SHT_GROUP`: a group of sections.
     Group {
-        /// The flags of the group: `GRP_COMDAT` and the like.
+        /// The flags of the group, such as `GRP_COMDAT`.
         flags: u32,
         /// The section indices of its members.
         indicies: Table<'a, u32>,
@@ -68,27 +68,26 @@ pub enum SectionData<'a> {
 }
 
 impl SectionHeader {
-    ghost use Rattle.xmas_elf.specs.Content.{Holds};
+    ghost use Rattle.xmas_elf.specs.Content.{IsReadFrom};
     ghost use Rattle.xmas_elf.specs.Place.{PartLies, section_part};
     ghost use Rattle.xmas_elf.specs.SectionContent.{section_content, section_content_of};
 
-    /// The data of the section by its type, which lives as long as the input. The class and the
-    /// order of its numbers are those of the file.
+    /// The contents of the section, by its type, in the class and byte order of the file. They live
+    /// as long as the input.
     ///
-    /// It is `Empty` for types Null and NoBits, wherever their bytes would lie. Refused with
-    /// `InvalidShType`, and with `DataRange` where it passes the end of the input. Tables are
-    /// refused with `UnknownClass` where their records differ by class and the class is neither
-    /// 1 nor 2, and with `NotMultiple` where they aren't a whole number of records; groups
-    /// below 4 bytes with `ShortData`, and then with `NotMultiple`; notes with `Note32` in
-    /// class 1, with `UnknownClass`, and below 12 bytes with `ShortData`; hash tables below 12
-    /// bytes with `ShortData`.
+    /// `Empty` for types Null and NoBits, whatever their offset and size. Errors: `InvalidShType`;
+    /// `DataRange` if the data extends past the end of the input. For tables: `UnknownClass` if
+    /// their records depend on the class and it is neither 1 nor 2, `NotMultiple` if they are not a
+    /// whole number of records. For groups: `ShortData` if there are fewer than 4 bytes,
+    /// `NotMultiple`. For notes: `Note32` in class 1, `UnknownClass`, and `ShortData` if there are
+    /// fewer than 12 bytes. For hash tables: `ShortData` if there are fewer than 12 bytes.
     #[tactic(auto, using(crate::proofs::Places::section_lies), unfolding(crate::specs::SectionContent::section_content_of))]
     #[inline(always)]
     pub fn get_data<'a>(&self, file: &ElfFile<'a>) -> Result<SectionData<'a>, ElfError>
         ensures exact { MatchResult result
             (λ d. section_content_of file.now self.now ≡ Ok (section_content d))
             (λ e. section_content_of file.now self.now ≡ Err e) }
-        ensures holds { IfOk result (λ d. Holds (IsSectionData file.now self.now)
+        ensures holds { IfOk result (λ d. IsReadFrom (IsSectionData file.now self.now)
             (file_order file.now.header) (section_content d)) }
         ensures place { IfOk result (λ d.
             PartLies file.now.input (section_fields self.now).offset (section_part d)) }
@@ -105,10 +104,10 @@ impl SectionHeader {
 
 impl<'a> SectionData<'a> {
     ghost use Rattle.xmas_elf.specs.SectionContent.{section_content, content_of_section};
-    ghost use Rattle.xmas_elf.specs.Content.{Holds, group_of};
+    ghost use Rattle.xmas_elf.specs.Content.{IsReadFrom, group_content};
     ghost use Rattle.xmas_elf.specs.Place.{PartLies, section_part};
 
-    // What these bytes are in a section of this type, which has bytes.
+    // The contents in `bytes` of a section of this type, which is not Null or NoBits.
     #[inline(always)]
     fn read(kind: ShType, file: &ElfFile<'a>, bytes: &'a [u8]) -> Result<SectionData<'a>, ElfError>
         ensures exact { MatchResult result
@@ -117,11 +116,11 @@ impl<'a> SectionData<'a> {
             (λ e. content_of_section kind (file_class file.now.header) (file_order file.now.header)
             bytes.now ≡ Err e) }
         ensures holds { (f : ElfFile) (section : SectionHeader) → IsSectionData f section bytes.now
-            → IfOk result (λ d. Holds (IsSectionData f section)
+            → IfOk result (λ d. IsReadFrom (IsSectionData f section)
             (file_order file.now.header) (section_content d)) }
         ensures place { IfOk result (λ d. PartLies bytes.entry 0 (section_part d)) }
     {
-        let order = byte_order(file.header.pt1.encoding);
+        let order = file.byte_order();
         match (kind, file.header.pt1.class()) {
             (ShType::StrTab, _) => Ok(Self::StrArray(bytes)),
             (ShType::SymTab, ThirtyTwo) => Ok(Self::SymbolTable32(Table::new(bytes, order)?)),
@@ -165,10 +164,10 @@ impl<'a> SectionData<'a> {
     #[inline(always)]
     fn group(bytes: &'a [u8], order: Order) -> Result<SectionData<'a>, ElfError>
         ensures exact { MatchResult result
-            (λ d. group_of order bytes.now ≡ Ok (section_content d))
-            (λ e. group_of order bytes.now ≡ Err e) }
+            (λ d. group_content order bytes.now ≡ Ok (section_content d))
+            (λ e. group_content order bytes.now ≡ Err e) }
         ensures holds { (f : ElfFile) (section : SectionHeader) → IsSectionData f section bytes.now
-            → IfOk result (λ d. Holds (IsSectionData f section) order (section_content d)) }
+            → IfOk result (λ d. IsReadFrom (IsSectionData f section) order (section_content d)) }
         ensures place { IfOk result (λ d. PartLies bytes.entry 0 (section_part d)) }
     {
         if bytes.len() < 4 {

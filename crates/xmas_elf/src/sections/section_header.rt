@@ -1,16 +1,15 @@
-//! Section headers: their records in bytes, of either width, and what they say (gABI, "Sections":
-//! Elf32_Shdr and Elf64_Shdr).
+//! Section headers of both classes: their layout and their fields (gABI, "Sections": Elf32_Shdr and
+//! Elf64_Shdr).
 
 ghost use Rattle.std.specs.Prelude.{◌≡◌, ◌↔◌, ◌+◌, ◌≤◌, ◌<◌, [], ◌∷◌, Err, IfOk, IsOk, IsTrue};
 ghost use Rattle.std.specs.Prelude.{MatchResult, Ok, drop, length, nat_lt, not, take};
 ghost use Rattle.std.proofs.Common.{lit<};
-ghost use Rattle.elf_base.specs.FileHeader.{file_class};
-ghost use Rattle.elf_base.specs.HeaderLayout.{header_fields};
+ghost use Rattle.elf_base.specs.FileHeader.{file_class, header_fields};
 ghost use Rattle.elf_base.specs.Lent.{Answers, Lends, LendsOnly};
 ghost use Rattle.elf_base.specs.Refusal.{unless};
 ghost use Rattle.elf_records.specs.SectionNumbers.{sh_type_raw};
 ghost use Rattle.xmas_elf.specs.HeaderTable.{is_known_class};
-ghost use Rattle.xmas_elf.specs.NameTable.{Bears, name_of, name_table_of};
+ghost use Rattle.xmas_elf.specs.NameTable.{HasName, name_of, name_table_of};
 ghost use Rattle.xmas_elf.specs.Place.{LiesAsSection};
 ghost use Rattle.xmas_elf.specs.SectionData.{HasSectionData, IsSectionData, section_data_of};
 ghost use Rattle.xmas_elf.specs.SectionHeader.{HasSectionEntry, HasSectionHeader, record_fields};
@@ -29,7 +28,7 @@ use crate::{ElfError, ElfFile, P32, P64};
 use elf_base::bytes::{read_u32, read_u64};
 use elf_base::header::byte_order;
 
-/// A section header with numbers of type `P`, which `SectionHeader` reads (gABI, "Sections").
+/// A section header with numbers of type `P`; `SectionHeader` has its getters (gABI, "Sections").
 #[derive(Clone, Copy, Debug)]
 pub struct SectionHeader_<P> {
     pub(crate) name: u32,
@@ -45,7 +44,7 @@ pub struct SectionHeader_<P> {
 }
 
 impl SectionHeader_<P32> {
-    // The same numbers in the record of class 64.
+    // The fields in the record of class 64.
     #[inline(always)]
     pub(crate) fn to_64(&self) -> SectionHeader_<P64>
         ensures { result ≡ self.now }
@@ -64,7 +63,7 @@ impl SectionHeader_<P32> {
         }
     }
 
-    // The 40 bytes from `place` on.
+    // Reads the 40 bytes from `place` on.
     #[inline(always)]
     pub(crate) fn read(bytes: &[u8], place: usize, order: Order) -> SectionHeader_<P32>
         requires { place + 40 ≤ length bytes.now }
@@ -100,7 +99,7 @@ impl Record for SectionHeader_<P32> {
 }
 
 impl SectionHeader_<P64> {
-    // The 64 bytes from `place` on.
+    // Reads the 64 bytes from `place` on.
     #[inline(always)]
     pub(crate) fn read(bytes: &[u8], place: usize, order: Order) -> SectionHeader_<P64>
         requires { place + 64 ≤ length bytes.now }
@@ -135,7 +134,7 @@ impl Record for SectionHeader_<P64> {
     }
 }
 
-/// A section header of either width (gABI, "Sections").
+/// A section header of either class (gABI, "Sections").
 #[derive(Clone, Copy, Debug)]
 pub enum SectionHeader {
     /// The 40 bytes of class 32.
@@ -145,7 +144,7 @@ pub enum SectionHeader {
 }
 
 impl SectionHeader {
-    /// The index of the section's name in the name table, in bytes.
+    /// The offset of the section's name in the name table, in bytes.
     pub fn name(&self) -> u32
         ensures { result ≡ (section_fields self.now).name }
     {
@@ -155,7 +154,7 @@ impl SectionHeader {
         }
     }
 
-    /// What the section holds.
+    /// The type of the section, as a number.
     pub fn type_(&self) -> ShType_
         ensures { result ≡ sh_type_raw (section_fields self.now).type_ }
     {
@@ -165,7 +164,7 @@ impl SectionHeader {
         }
     }
 
-    /// The flags of the section (`SHF_WRITE` and the like).
+    /// The flags of the section, such as `SHF_WRITE`.
     pub fn flags(&self) -> u64
         ensures { result ≡ (section_fields self.now).flags }
     {
@@ -175,7 +174,7 @@ impl SectionHeader {
         }
     }
 
-    /// The address of the section in memory, or 0.
+    /// The virtual address of the section, or 0.
     pub fn address(&self) -> u64
         ensures { result ≡ (section_fields self.now).address }
     {
@@ -185,7 +184,7 @@ impl SectionHeader {
         }
     }
 
-    /// Where the section's data lies, in bytes from the start of the file.
+    /// The file offset of the section in bytes.
     pub fn offset(&self) -> u64
         ensures { result ≡ (section_fields self.now).offset }
     {
@@ -195,7 +194,7 @@ impl SectionHeader {
         }
     }
 
-    /// How many bytes the section has.
+    /// The size of the section in bytes.
     pub fn size(&self) -> u64
         ensures { result ≡ (section_fields self.now).size }
     {
@@ -205,7 +204,7 @@ impl SectionHeader {
         }
     }
 
-    /// The index of a section that this one is linked to, if its type has one.
+    /// The index of a section that this one links to, for the types that have one.
     pub fn link(&self) -> u32
         ensures { result ≡ (section_fields self.now).link }
     {
@@ -215,7 +214,7 @@ impl SectionHeader {
         }
     }
 
-    /// More about the section, as its type has it.
+    /// Extra information, which depends on the type of the section.
     pub fn info(&self) -> u32
         ensures { result ≡ (section_fields self.now).info }
     {
@@ -235,7 +234,7 @@ impl SectionHeader {
         }
     }
 
-    /// How many bytes an entry of the section has, or 0.
+    /// The size of an entry of the section in bytes, or 0.
     pub fn entry_size(&self) -> u64
         ensures { result ≡ (section_fields self.now).entry_size }
     {
@@ -245,10 +244,10 @@ impl SectionHeader {
         }
     }
 
-    /// What the section holds, or `InvalidShType`.
+    /// The type of the section, or `InvalidShType`.
     ///
-    /// Refused as `ShType_::as_sh_type` is. Among the types refused is RELR, that of `.relr.dyn` in
-    /// recent C libraries; the other getters read such a section all the same.
+    /// The errors are those of `ShType_::as_sh_type`, one of them for RELR, the type of `.relr.dyn`
+    /// in recent C libraries. The other getters work for such a section.
     #[inline(always)]
     pub fn get_type(&self) -> Result<ShType, ElfError>
         ensures { result ≡ section_type self.now }
@@ -258,13 +257,13 @@ impl SectionHeader {
 
     /// The name of the section, which lives as long as the input.
     ///
-    /// Refused with `InvalidShType`, with `NullName` for type Null, and as `ElfFile::get_shstr` is.
-    /// Whatever its type, RELR or Null too, `file.get_shstr(section.name())` reads the name.
+    /// Errors: `InvalidShType`; `NullName` for type Null; those of `ElfFile::get_shstr`. For any
+    /// type, even RELR or Null, `file.get_shstr(section.name())` returns the name.
     #[tactic(auto, unfolding(crate::specs::NameTable::name_of))]
     #[inline(always)]
     pub fn get_name<'a>(&self, file: &ElfFile<'a>) -> Result<&'a str, ElfError>
-        ensures name { Lends (Bears file.now self.now) result }
-        ensures only { LendsOnly (Bears file.now self.now) result }
+        ensures name { Lends (HasName file.now self.now) result }
+        ensures only { LendsOnly (HasName file.now self.now) result }
         ensures exact { Answers (name_of file.now self.now) result }
     {
         match self.get_type()? {
@@ -273,13 +272,13 @@ impl SectionHeader {
         }
     }
 
-    // Whether the section bears this name, where `names` is the name table of a file.
+    // Whether the section has this name; `names` is the name table of the file.
     #[inline(always)]
-    pub(crate) fn bears(&self, names: &[u8], name: &str) -> bool
+    pub(crate) fn has_name(&self, names: &[u8], name: &str) -> bool
         ensures { (file : ElfFile) → name_table_of file ≡ Ok names.now
-            → (IsTrue result ↔ Bears file self.now name.now) }
+            → (IsTrue result ↔ HasName file self.now name.now) }
     {
-        // The name tells most sections apart, so the type is asked second.
+        // The name is compared first, since it rules out most sections.
         if !stands_at(names, self.name() as usize, name) {
             return false;
         }
@@ -289,12 +288,12 @@ impl SectionHeader {
         }
     }
 
-    /// The data of the section as it stands in the input, where it lives as long. For type NoBits
-    /// these bytes belong to other sections, or to none: such a section has no bytes in the file.
+    /// The bytes of the section in the input, which live as long as the input. For type NoBits
+    /// these belong to other sections, or to none: such a section has no bytes in the file.
     ///
-    /// Refused with `InvalidShType`, with `NullData` for type Null, and with `DataRange` where it
-    /// passes the end of the input, also for type NoBits and for an empty section. Where the type
-    /// is refused, as RELR is, `offset` and `size` still say where the bytes lie.
+    /// Errors: `InvalidShType`; `NullData` for type Null; `DataRange` if the section extends past
+    /// the end of the input, even if its type is NoBits or it is empty. For a type that is an
+    /// error, such as RELR, `offset` and `size` return the range of the section.
     #[tactic(auto, unfolding(crate::specs::SectionData::section_data_of))]
     #[inline(always)]
     pub fn raw_data<'a>(&self, file: &ElfFile<'a>) -> Result<&'a [u8], ElfError>
@@ -309,8 +308,8 @@ impl SectionHeader {
         }
     }
 
-    /// Where in the input the data of the section stands: the place of its first byte and how many
-    /// bytes they are. Refused as `raw_data` is, which gives these bytes.
+    /// The range of the section in the input: the offset of its first byte, and its length in
+    /// bytes. The errors are those of `raw_data`, which returns these bytes.
     #[tactic(auto, unfolding(crate::specs::SectionData::section_data_of))]
     pub fn file_range(&self, file: &ElfFile<'_>) -> Result<(usize, usize), ElfError>
         ensures readable { IsOk result ↔ HasSectionData file.now self.now }
@@ -325,7 +324,7 @@ impl SectionHeader {
         Ok((self.offset() as usize, bytes.len()))
     }
 
-    // The record of the section, in the types of class 64.
+    // The fields in the record of class 64.
     pub(crate) fn record_64(&self) -> SectionHeader_<P64>
         ensures { record_fields result ≡ section_fields self.now }
     {
@@ -336,12 +335,11 @@ impl SectionHeader {
     }
 }
 
-/// The section header at this index of the section header table.
+/// The section header at `index` of the section header table.
 ///
-/// The index is not compared with the count of sections. Refused with `ReservedIndex` from
-/// 0xff00 on, `ShortSectionHeader` where the entry passes the end of the input, `UnknownClass`
-/// where the class is neither 1 nor 2, and `SmallEntry` where the entries are smaller than the
-/// record of the class.
+/// The index is not compared with the number of sections. Errors: `ReservedIndex` for 0xff00 or
+/// more; `ShortSectionHeader` if the entry extends past the end of the input; `UnknownClass` if the
+/// class is neither 1 nor 2; `SmallEntry` if entries are smaller than the header of the class.
 #[tactic(auto, unfolding(crate::specs::SectionHeader::section_by_u16))]
 #[inline(always)]
 pub fn parse_section_header(
@@ -359,7 +357,8 @@ pub fn parse_section_header(
     section_entry(input, &header, u64::from(index))
 }
 
-// The section header at any index, refused as by `parse_section_header` but for `ReservedIndex`.
+// The section header at any index; the errors are those of `parse_section_header` except
+// `ReservedIndex`.
 #[tactic(auto, unfolding(crate::specs::SectionHeader::section_entry))]
 #[inline(always)]
 pub(crate) fn section_entry(
@@ -375,14 +374,14 @@ pub(crate) fn section_entry(
     let Some(place) = entry_at(input, header.pt2.sh_offset(), entry_size, index) else {
         return Err(ElfError::ShortSectionHeader);
     };
-    // One choice of the order for all fields.
+    // The byte order is chosen once for all fields.
     match byte_order(header.pt1.encoding) {
         Order::Little => read_at_place(input, place, header, Order::Little),
         Order::Big => read_at_place(input, place, header, Order::Big),
     }
 }
 
-// The section header at a place of the input, its width by the class.
+// The section header at `place`, in the layout of the class.
 #[inline(always)]
 fn read_at_place(
     input: &[u8],
@@ -420,13 +419,13 @@ fn read_at_place(
     }
 }
 
-// The section header at a place of the input, of 32 bits for class 1 and else of 64.
+// The section header at `place`, in the layout of class 32 for class 1, otherwise of class 64.
 #[inline(always)]
 pub(crate) fn section_at_place(input: &[u8], place: usize, class: u8, order: Order) -> SectionHeader
     requires { place + section_header_size class ≤ length input.now }
     ensures { result ≡ section_at_place class order place input.now }
 {
-    // One choice of the order for all fields.
+    // The byte order is chosen once for all fields.
     match (class, order) {
         (1, Order::Little) => {
             SectionHeader::Sh32(SectionHeader_::<P32>::read(input, place, Order::Little))

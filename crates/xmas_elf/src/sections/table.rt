@@ -1,33 +1,30 @@
-//! The section header table, prepared once for many calls
+//! The section header table, prepared for repeated access
 //! (gABI, "Sections": the section header table).
 
 ghost use Rattle.std.specs.Prelude.{◌≡◌, ◌+◌, ◌^◌, ◌<◌, ◌≤◌, ◌∷◌, [], drop, length, slice_get};
 ghost use Rattle.std.specs.Prelude.{Err, MatchOption, Ok, ℕ};
 ghost use Rattle.std.specs.Result.{ForErr, ForOk};
 ghost use Rattle.std.specs.Iterator.{YieldsFirst, item_count};
-ghost use Rattle.elf_base.specs.FileHeader.{file_class, file_order};
-ghost use Rattle.elf_base.specs.HeaderLayout.{header_fields};
+ghost use Rattle.elf_base.specs.FileHeader.{file_class, file_order, header_fields};
 ghost use Rattle.elf_base.specs.Lent.{Answers, Lends, LendsOnly};
-ghost use Rattle.xmas_elf.specs.Counts.{section_count_of};
-ghost use Rattle.xmas_elf.specs.First.{FindsFirstAt};
-ghost use Rattle.xmas_elf.specs.HeaderTable.{IsLaid, IsLongest};
-ghost use Rattle.xmas_elf.specs.NameTable.{Bears, FindsNamed, IsNameAt, IsNameTable, name_of};
-ghost use Rattle.xmas_elf.specs.NameTable.{name_table_of, section_named, shstr_of};
 ghost use Rattle.xmas_elf.specs.SectionHeader.{HasSectionEntry, section_at_index, section_at_place};
-ghost use Rattle.xmas_elf.specs.SectionHeader.{section_header_size, section_of};
-ghost use Rattle.xmas_elf.specs.SectionList.{section_list};
+ghost use Rattle.xmas_elf.specs.SectionHeader.{section_count_of, section_header_size, section_list};
+ghost use Rattle.xmas_elf.specs.SectionHeader.{section_of};
+ghost use Rattle.xmas_elf.specs.First.{FindsFirstAt};
+ghost use Rattle.xmas_elf.specs.HeaderTable.{IsLaidOut, IsLongest};
+ghost use Rattle.xmas_elf.specs.NameTable.{HasName, FindsNamed, IsNameAt, IsNameTable, name_of};
+ghost use Rattle.xmas_elf.specs.NameTable.{name_table_of, section_named, shstr_of};
 
 use crate::bytes::{Order, Record, text_at};
 use crate::header::Class::{SixtyFour, ThirtyTwo};
 use crate::ranges::entries_within;
 use crate::sections::{SectionHeader, SectionHeader_, ShType, section_at_place};
 use crate::{ElfError, ElfFile, P32, P64};
-use elf_base::header::byte_order;
 
-/// The section headers of a file, for many calls: where they lie, their width and their order are
-/// asked once, and so is the name table.
+/// The section headers of a file, for repeated access: their place, class and byte order are
+/// determined once, and so is the name table.
 ///
-/// It is a view: it holds no headers, and each call decodes what it gives.
+/// The table borrows the file, and each call decodes the header that it returns.
 #[derive(Clone, Copy, Debug)]
 pub struct SectionTable<'b, 'a> {
     pub(crate) file: &'b ElfFile<'a>,
@@ -40,7 +37,7 @@ pub struct SectionTable<'b, 'a> {
     ghost counted: { len ≡ length (section_list file.now) },
     ghost named: { ForOk names (λ table. name_table_of file.now ≡ Ok table.now) },
     ghost nameless: { ForErr names (λ error. name_table_of file.now ≡ Err error) },
-    ghost laid: { IsLaid (section_of file.now)
+    ghost laid: { IsLaidOut (section_of file.now)
         (λ place. section_at_place class order place file.now.input.now) offset entry_size
         (section_header_size class) len (length file.now.input.now) },
 }
@@ -48,7 +45,7 @@ pub struct SectionTable<'b, 'a> {
 impl<'a> ElfFile<'a> {
     ghost use Rattle.xmas_elf.specs.SectionTable.{section_table_file, table_sections};
 
-    /// The section headers for many calls: the same as by `section_iter`.
+    /// The section headers for repeated access: those of `section_iter`.
     #[inline(always)]
     pub fn section_table(&self) -> SectionTable<'_, 'a>
         ensures file { section_table_file result ≡ self.now }
@@ -57,30 +54,17 @@ impl<'a> ElfFile<'a> {
     {
         SectionTable {
             file: self,
-            names: self.kept_names(),
+            names: self.name_table(),
             offset: self.header.pt2.sh_offset() as usize,
             entry_size: usize::from(self.header.pt2.sh_entry_size()),
-            len: readable_sections(self),
+            len: whole_sections(self),
             class: self.header.pt1.class.raw(),
-            order: byte_order(self.header.pt1.encoding),
+            order: self.byte_order(),
         }
     }
 }
 
-// How many section headers can be read, from index 0 on, and where they lie.
-#[inline(always)]
-fn readable_sections(file: &ElfFile<'_>) -> usize
-    ensures counted { result ≡ length (section_list file.now) }
-    ensures laid { IsLaid (section_of file.now) (λ place. section_at_place
-        (file_class file.now.header) (file_order file.now.header) place file.now.input.now)
-        (header_fields file.now.header.pt2).sh_offset
-        (header_fields file.now.header.pt2).sh_entry_size
-        (section_header_size (file_class file.now.header)) result (length file.now.input.now) }
-{
-    whole_sections(file)
-}
-
-// How many entries of the section header table are whole and large enough, from index 0 on.
+// The number of section headers that lie within the input and are large enough, from index 0 on.
 #[inline(always)]
 fn whole_sections(file: &ElfFile<'_>) -> usize
     ensures few { result ≤ section_count_of file.now }
@@ -107,7 +91,7 @@ impl<'b, 'a> SectionTable<'b, 'a> {
     ghost use Rattle.xmas_elf.specs.SectionTable.{section_table_file, table_sections};
     ghost use Rattle.xmas_elf.specs.SectionTable.{table_sections_rest};
 
-    /// How many section headers it has.
+    /// The number of section headers.
     #[inline(always)]
     pub fn len(&self) -> usize
         ensures { result ≡ length (table_sections self.now) }
@@ -115,7 +99,7 @@ impl<'b, 'a> SectionTable<'b, 'a> {
         self.len
     }
 
-    /// The section header at an index, which is `None` from `len` on.
+    /// The section header at `index`, or `None` if `index` is `len` or more.
     #[inline(always)]
     pub fn get(&self, index: usize) -> Option<SectionHeader>
         ensures item { result ≡ slice_get (table_sections self.now) index }
@@ -131,12 +115,12 @@ impl<'b, 'a> SectionTable<'b, 'a> {
         Some(section_at_place(self.file.input, place, self.class, self.order))
     }
 
-    /// The name of a section, with the answer of `SectionHeader::get_name`.
+    /// The name of a section, as in `SectionHeader::get_name`.
     #[tactic(auto, unfolding(crate::specs::NameTable::name_of))]
     #[inline(always)]
     pub fn name_of(&self, section: &SectionHeader) -> Result<&'a str, ElfError>
-        ensures name { Lends (Bears (section_table_file self.now) section.now) result }
-        ensures only { LendsOnly (Bears (section_table_file self.now) section.now) result }
+        ensures name { Lends (HasName (section_table_file self.now) section.now) result }
+        ensures only { LendsOnly (HasName (section_table_file self.now) section.now) result }
         ensures exact { Answers (name_of (section_table_file self.now) section.now) result }
     {
         match section.get_type()? {
@@ -145,7 +129,7 @@ impl<'b, 'a> SectionTable<'b, 'a> {
         }
     }
 
-    // The text at an index of the name table, with the answer of `ElfFile::get_shstr`.
+    // The text at byte `index` of the name table, as in `ElfFile::get_shstr`.
     #[tactic(auto, unfolding(crate::specs::NameTable::shstr_of))]
     #[inline(always)]
     fn text(&self, index: u32) -> Result<&'a str, ElfError>
@@ -156,7 +140,8 @@ impl<'b, 'a> SectionTable<'b, 'a> {
         text_at(self.name_table()?, index as usize)
     }
 
-    // The name table, or why there is none.
+    // The name table, or the error for it. A function by itself: its proof turns the ghost fields
+    // `named` and `nameless` into the clauses by which `text` and `position_of_name` prove theirs.
     #[inline(always)]
     fn name_table(&self) -> Result<&'a [u8], ElfError>
         ensures table { Lends (IsNameTable (section_table_file self.now)) result }
@@ -166,37 +151,31 @@ impl<'b, 'a> SectionTable<'b, 'a> {
         self.names
     }
 
-    /// The first section that bears this name, with the answer of `ElfFile::find_section_by_name`.
+    /// The first section with this name, as in `ElfFile::find_section_by_name`.
     #[inline(always)]
     pub fn find_by_name(&self, name: &str) -> Option<SectionHeader>
         ensures list { FindsNamed (section_table_file self.now) name.now result }
         ensures exact { result ≡ section_named (section_table_file self.now) name.now }
     {
-        self.first_named(name)
-    }
-
-    // The first section that bears this name. It is read whole only once it is found.
-    #[inline(always)]
-    fn first_named(&self, name: &str) -> Option<SectionHeader>
-        ensures { FindsNamed (section_table_file self.now) name.now result }
-    {
+        // A header is decoded whole only when it is found.
         let position = self.position_of_name(name)?;
         self.get(position)
     }
 
-    // The position of that section.
+    // The index of the first section with this name.
     #[inline(always)]
     fn position_of_name(&self, name: &str) -> Option<usize>
-        ensures { FindsFirstAt (λ section. Bears (section_table_file self.now) section name.now)
+        ensures { FindsFirstAt (λ section. HasName (section_table_file self.now) section name.now)
             (table_sections self.now) result }
     {
         let Ok(names) = self.name_table() else {
             return None;
         };
-        self.iter().position(|section| section.bears(names, name))
+        self.iter()
+            .position(|section| section.has_name(names, name))
     }
 
-    // The section header at an index, and the index after it.
+    // The section header at `index`, and the next index.
     #[inline(always)]
     fn step(&self, index: usize) -> Option<(SectionHeader, usize)>
         ensures { MatchOption result (drop index (table_sections self.now) ≡ [])
@@ -204,18 +183,18 @@ impl<'b, 'a> SectionTable<'b, 'a> {
             ≡ step.0 ∷ drop step.1 (table_sections self.now)) }
     {
         let section = self.get(index)?;
-        // By this the sum is known to be a number of 64 bits.
+        // This tells the proof that the sum is a number of 64 bits.
         prove!(index < self.len());
         Some((section, index + 1))
     }
 
-    /// The section headers in order.
+    /// An iterator over the section headers, in order.
     #[inline(always)]
     pub fn iter(&self) -> SectionTableIter<'b, 'a>
         ensures all { table_sections_rest result ≡ table_sections self.now }
         ensures fits { length (table_sections_rest result) < 2 ^ 64 }
     {
-        // By this the proof of `fits` knows that the length is a number of 64 bits.
+        // This tells the proof of `fits` that the length is a number of 64 bits.
         let _count = self.len();
         SectionTableIter {
             table: *self,
@@ -224,7 +203,7 @@ impl<'b, 'a> SectionTable<'b, 'a> {
     }
 }
 
-/// The section headers of a table in order.
+/// An iterator over the section headers of a table, in order.
 #[derive(Clone, Debug, Drop)]
 pub struct SectionTableIter<'b, 'a> {
     table: SectionTable<'b, 'a>,

@@ -1,4 +1,4 @@
-//! How a section header is printed: a line for each field but `info`.
+//! The printed form of a section header: one line per field, except `info`.
 
 ghost use Rattle.std.specs.Prelude.{◌≡◌, Some};
 ghost use Rattle.elf_records.specs.SectionNumbers.{sh_type_number};
@@ -11,7 +11,7 @@ use elf_base::print::{Field, PrintedResult};
 use std::fmt;
 use std::fmt::Display;
 
-// What the number of a type means, or why it means nothing.
+// The type of a section, or the error for an unknown number.
 #[derive(Clone, Copy)]
 pub(crate) struct SectionType(pub(crate) ShType_);
 
@@ -23,7 +23,7 @@ impl Display for SectionType {
     }
 }
 
-// The fields, each on a line.
+// The fields, one per line.
 #[derive(Clone, Copy)]
 struct SectionFields(SectionHeader_<P64>);
 

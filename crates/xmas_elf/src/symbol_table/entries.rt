@@ -1,5 +1,5 @@
-//! The entries of symbol tables, kept as their bytes; what each says, read from these, and where its
-//! name stands, for all four types at once (gABI, "Symbol Table": Elf32_Sym and Elf64_Sym).
+//! The entries of symbol tables, stored as their bytes, with their fields and names, for all four
+//! types (gABI, "Symbol Table": Elf32_Sym and Elf64_Sym).
 
 ghost use Rattle.std.specs.Prelude.{◌≡◌, Bool, false, true};
 ghost use Rattle.std.proofs.Common.{lit<};
@@ -15,32 +15,32 @@ use crate::symbol_table::{Entry, Visibility_};
 use crate::{ElfError, ElfFile};
 use elf_base::bytes::{read_u16, read_u32, read_u64};
 
-/// A symbol of class 32 (gABI, "Symbol Table", Elf32_Sym). Its name stands in `.strtab`: `get_name`
-/// has the answer of `ElfFile::get_string`.
+/// A symbol of class 32 (gABI, "Symbol Table", Elf32_Sym). Its name is in `.strtab`: `get_name`
+/// returns it as in `ElfFile::get_string`.
 #[derive(Clone, Copy, Debug)]
 pub struct Entry32 {
     bytes: [u8; 16],
     order: Order,
 }
 
-/// A symbol of class 64 (gABI, "Symbol Table", Elf64_Sym). Its name stands in `.strtab`: `get_name`
-/// has the answer of `ElfFile::get_string`.
+/// A symbol of class 64 (gABI, "Symbol Table", Elf64_Sym). Its name is in `.strtab`: `get_name`
+/// returns it as in `ElfFile::get_string`.
 #[derive(Clone, Copy, Debug)]
 pub struct Entry64 {
     bytes: [u8; 24],
     order: Order,
 }
 
-/// A symbol of the dynamic linker in class 32 (gABI, "Symbol Table"). Its name stands in `.dynstr`:
-/// `get_name` has the answer of `ElfFile::get_dyn_string`.
+/// A symbol for dynamic linking of class 32 (gABI, "Symbol Table"). Its name is in `.dynstr`:
+/// `get_name` returns it as in `ElfFile::get_dyn_string`.
 #[derive(Clone, Copy, Debug)]
 pub struct DynEntry32 {
     bytes: [u8; 16],
     order: Order,
 }
 
-/// A symbol of the dynamic linker in class 64 (gABI, "Symbol Table"). Its name stands in `.dynstr`:
-/// `get_name` has the answer of `ElfFile::get_dyn_string`.
+/// A symbol for dynamic linking of class 64 (gABI, "Symbol Table"). Its name is in `.dynstr`:
+/// `get_name` returns it as in `ElfFile::get_dyn_string`.
 #[derive(Clone, Copy, Debug)]
 pub struct DynEntry64 {
     bytes: [u8; 24],
@@ -115,17 +115,17 @@ impl Record for DynEntry64 {
     }
 }
 
-// The bytes of a symbol and their order, in the layout of its class.
+// The bytes of a symbol and their byte order, by class.
 pub(crate) enum Layout<'e> {
     Narrow(&'e [u8; 16], Order),
     Wide(&'e [u8; 24], Order),
 }
 
-// A type that keeps a symbol's bytes.
+// A type that stores the bytes of a symbol.
 pub(crate) trait Kept {
     ghost fields: { Self → SymbolFields };
 
-    // Whether its names stand in `.dynstr`, and not in `.strtab`.
+    // Whether its names are in `.dynstr`, and not in `.strtab`.
     ghost DYNAMIC: { Bool };
 
     const DYNAMIC: bool;
@@ -194,8 +194,8 @@ impl<K: Kept> Entry for K {
         }
     }
 
-    /// The text at the symbol's name in `.strtab`, with the answer of `ElfFile::get_string`; for a
-    /// symbol of the dynamic linker in `.dynstr`, with the answer of `ElfFile::get_dyn_string`.
+    /// The name of the symbol in `.strtab`, as in `ElfFile::get_string`; for a symbol for dynamic
+    /// linking in `.dynstr`, as in `ElfFile::get_dyn_string`.
     fn get_name<'a>(&self, file: &ElfFile<'a>) -> Result<&'a str, ElfError>
         ensures text { Lends (IsSymbolString K.DYNAMIC file.now (K.fields self.now).name) result }
         ensures only { LendsOnly
@@ -210,13 +210,12 @@ impl<K: Kept> Entry for K {
         }
     }
 
-    /// The data of `.strtab`. Refused with `NoStrtab` where no section bears that name, with
-    /// `StrtabType` where the first that does isn't a string table, and with `DataRange` where it
-    /// passes the end of the input.
+    /// The data of `.strtab`. Errors: `NoStrtab` if no section has that name; `StrtabType` if the
+    /// type of the first such section is not StrTab; `DataRange` if it extends past the end of the
+    /// input.
     ///
-    /// For symbols of the dynamic linker the data of `.dynstr`. Refused with `NoDynstr`
-    /// where no section bears that name, and with `DataRange` where the first that does
-    /// passes the end of the input.
+    /// For symbols for dynamic linking, the data of `.dynstr`. Errors: `NoDynstr` if no section has
+    /// that name; `DataRange` if the first such section extends past the end of the input.
     #[tactic(auto, using(crate::proofs::SymbolNames::holds_found))]
     fn string_table<'a>(file: &ElfFile<'a>) -> Option<Result<&'a [u8], ElfError>>
         ensures table { IsSomeAnd result (Answers (symbol_strings_of K.DYNAMIC file.now)) }

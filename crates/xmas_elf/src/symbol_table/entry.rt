@@ -1,4 +1,4 @@
-//! What the entries of all symbol tables have in common (gABI, "Symbol Table").
+//! The trait of the entries of all symbol tables (gABI, "Symbol Table").
 
 ghost use Rattle.std.specs.Prelude.{◌≡◌, ℕ, IfOk, IfSome, List};
 ghost use Rattle.std.specs.Prelude.{MatchResult, None, Ok, Option, Some};
@@ -18,56 +18,54 @@ use crate::symbol_table::wide_index::wide_index;
 use crate::symbol_table::{Binding, Binding_, Type, Type_, Visibility, Visibility_};
 use crate::{ElfError, ElfFile};
 
-/// A symbol: an entry of a symbol table, of whatever layout (gABI, "Symbol Table").
+/// A symbol: an entry of a symbol table, of any type (gABI, "Symbol Table").
 ///
-/// The ghost members of an implementation say which numbers it has, and which text it bears in a
-/// file.
+/// The ghost members of an implementation say what its fields are, and its name in a file.
 pub trait Entry {
-    /// What the symbol says, in numbers.
+    /// The fields of the symbol, as numbers.
     ghost fields: { Self → SymbolFields };
 
-    /// The text that it bears in a file, if any.
+    /// The name of the symbol in a file, if it has one.
     ghost text_in: { Self → ElfFile → Option (List ℕ) };
 
-    /// The index of the symbol's name in its string table, in bytes; 0 if it has none (st_name).
+    /// The offset of the symbol's name in its string table, in bytes; 0 if it has none (st_name).
     fn name(&self) -> u32
         ensures { result ≡ (fields self.now).name };
 
-    /// The symbol's binding and type in one number (st_info).
+    /// The binding and the type of the symbol in one number (st_info).
     fn info(&self) -> u8
         ensures { result ≡ (fields self.now).info };
 
-    /// Who sees the symbol (st_other).
+    /// The visibility of the symbol, as a number (st_other).
     fn other(&self) -> Visibility_
         ensures { result ≡ visibility_raw (fields self.now).other };
 
-    /// The index of the section that the symbol belongs to, or one with a meaning of its own
-    /// (st_shndx).
+    /// The index of the symbol's section, or a reserved index (st_shndx).
     fn shndx(&self) -> u16
         ensures { result ≡ (fields self.now).shndx };
 
-    /// The symbol's address or offset, as the type of the file and the section have it (st_value).
+    /// The value of the symbol: an address or an offset, depending on the types of the file and the
+    /// section (st_value).
     fn value(&self) -> u64
         ensures { result ≡ (fields self.now).value };
 
-    /// How many bytes what it stands for has, or 0 (st_size).
+    /// The size of the symbol's object in bytes, or 0 (st_size).
     fn size(&self) -> u64
         ensures { result ≡ (fields self.now).size };
 
-    /// The text that the symbol bears in a file. It lives as long as the input, and an
-    /// implementation says why there is none.
+    /// The name of the symbol in a file. It lives as long as the input; an implementation documents
+    /// its errors.
     ///
-    /// The four types of this crate look for their string table by its name at each
-    /// call, in one pass over the section headers. For many symbols, take `string_table`
-    /// once, and then `name_in`.
+    /// The four types of this crate search the section headers for their string table in each call.
+    /// For many symbols, call `string_table` once, and then `name_in`.
     fn get_name<'a>(&self, file: &ElfFile<'a>) -> Result<&'a str, ElfError>
         ensures { MatchResult result
             (λ text. text_in self.now file.now ≡ Some text.now)
             (λ _. text_in self.now file.now ≡ None) };
 
-    /// The string table of a file in which the names of such symbols stand at `name`, to be taken
-    /// once for many of them; or why there is none. `None`, as by default, where names are not
-    /// texts of one table: `name_in` then answers as `get_name`.
+    /// The string table with the names of such symbols of a file, by their `name`, or the error for
+    /// it; one call is enough for many symbols. `None`, the default, if names are not texts of one
+    /// table: `name_in` is then `get_name`.
     fn string_table<'a>(file: &ElfFile<'a>) -> Option<Result<&'a [u8], ElfError>>
         ensures { IfSome result (HoldsNames fields (λ entry. text_in entry file.now)) }
     {
@@ -75,9 +73,9 @@ pub trait Entry {
         None
     }
 
-    /// The text that the symbol bears in a file, by what `string_table` answers for that file.
+    /// The name of the symbol in a file, by the result of `string_table` for that file.
     ///
-    /// Refused as the string table is, and then as `bytes::text_at` of it at `name`.
+    /// Errors: that of the string table; those of `bytes::text_at` in it at `name`.
     fn name_in<'a>(
         &self,
         strings: Option<Result<&'a [u8], ElfError>>,
@@ -97,38 +95,36 @@ pub trait Entry {
         }
     }
 
-    /// Who sees the symbol: `other` by its remainder by four (ELF32_ST_VISIBILITY).
+    /// The visibility of the symbol: the low two bits of `other` (ELF32_ST_VISIBILITY).
     fn get_other(&self) -> Visibility
         ensures { result ≡ symbol_visibility (fields self.now) }
     {
         self.other().as_visibility()
     }
 
-    /// How files share the symbol: `info` divided by 16, or `InvalidBinding` (ELF32_ST_BIND).
+    /// The binding of the symbol: `info` divided by 16, or `InvalidBinding` (ELF32_ST_BIND).
     fn get_binding(&self) -> Result<Binding, ElfError>
         ensures { result ≡ symbol_binding (fields self.now) }
     {
         Binding_::from_raw(self.info() / 16).as_binding()
     }
 
-    /// What the symbol stands for: `info` by its remainder by 16, or `InvalidSymbolType`
-    /// (ELF32_ST_TYPE).
+    /// The type of the symbol: the low four bits of `info`, or `InvalidSymbolType` (ELF32_ST_TYPE).
     fn get_type(&self) -> Result<Type, ElfError>
         ensures { result ≡ symbol_type (fields self.now) }
     {
         Type_::from_raw(self.info() % 16).as_type()
     }
 
-    /// The header of the section that the symbol belongs to, which is symbol `self_index` of its
-    /// table.
+    /// The header of the symbol's section; `self_index` is the index of the symbol in its table.
     ///
-    /// Refused with `ReservedSymbolIndex` for `SHN_UNDEF`, `SHN_ABS` and `SHN_COMMON`, and else as
-    /// `ElfFile::section_header` of `shndx` is. For `SHN_XINDEX` it is that at the index in word
-    /// `self_index` of `.symtab_shndx`: refused with `NoShIndex` where no section bears that name,
-    /// with `ExpectedShIndex` where the first that does has another type than SymTabShIndex, with
-    /// `DataRange` where its data passes the end of the input, with `NotMultiple` where that isn't
-    /// a whole number of words, with `SymbolIndex` where it has no such word, with
-    /// `ReservedSymbolIndex` for 0, and as `ElfFile::section_header_at` is.
+    /// Errors: `ReservedSymbolIndex` for `SHN_UNDEF`, `SHN_ABS` and `SHN_COMMON`; those of
+    /// `ElfFile::section_header` for `shndx`. For `SHN_XINDEX` the section index is word
+    /// `self_index` of `.symtab_shndx`, and the errors are: `NoShIndex` if no section has that
+    /// name; `ExpectedShIndex` if the type of the first such section is not SymTabShIndex;
+    /// `DataRange` if its data extends past the end of the input; `NotMultiple` if that is not a
+    /// whole number of words; `SymbolIndex` if it has no such word; `ReservedSymbolIndex` for 0;
+    /// those of `ElfFile::section_header_at`.
     #[tactic(auto, unfolding(crate::specs::SymbolSection::symbol_section_of))]
     fn get_section_header(
         &self,
@@ -155,7 +151,7 @@ pub trait Entry {
         }
     }
 
-    /// An entry bears at most one text in a file.
+    /// An entry has at most one name in a file.
     ghost one_text: { (entry : Self) (file : ElfFile) (one other : List ℕ)
         → text_in entry file ≡ Some one → text_in entry file ≡ Some other
         → one ≡ other } = { λ entry file one other a b. Prim.search rules };

@@ -10,7 +10,7 @@ use crate::sections::ShType;
 use crate::{ElfError, ElfFile};
 use elf_base::header::byte_order;
 
-// The word of `.symtab_shndx` that belongs to the symbol at this index of its table.
+// The word of `.symtab_shndx` for the symbol at this index of its table.
 #[tactic(auto, unfolding(crate::specs::SymbolSection::wide_index_of))]
 pub(crate) fn wide_index(file: &ElfFile<'_>, self_index: usize) -> Result<u32, ElfError>
     ensures is { IfOk result (IsWideIndex file.now self_index) }

@@ -1,5 +1,5 @@
 use Rattle.std.proofs.Common.{rules}
-use Rattle.xmas_elf.specs.Symbols.{symbols_of}
+use Rattle.xmas_elf.specs.SymbolTable.{table_symbols}
 use Rattle.elf_c.proofs.Looking.{finds_name, looks_for_name}
 use Rattle.elf_c.proofs.hash.look_up.Goals as goal
 
@@ -8,7 +8,7 @@ pub returns : goal.returns
 returns g c = (
   c.lookup_counted-found.result.0,
   c.lookup_counted-found.result.1,
-  looks_for_name _ _ (λ e. search rules) _ (symbols_of g.E.Entry.fields g.E.Entry.text_in c.args.symbols.now c.args.file.now) _ _ _ (c.lookup_counted-found.ensures.answer (λ e within yes no. search rules)),
-  (λ good. finds_name _ _ (λ e. search rules) (symbols_of g.E.Entry.fields g.E.Entry.text_in c.args.symbols.now c.args.file.now) _ _ (c.lookup_counted-found.ensures.good (λ e within yes no. search rules) good)),
+  looks_for_name _ _ (λ e. search rules) _ (table_symbols c.args.symbols.now) _ _ _ (c.lookup_counted-found.ensures.answer (λ e within yes no. search rules)),
+  (λ good. finds_name _ _ (λ e. search rules) _ (table_symbols c.args.symbols.now) _ _ (c.lookup_counted-found.ensures.good (λ e within yes no. search rules) good)),
   c.said.ensures,
 )

@@ -1,4 +1,4 @@
-use Rattle.xmas_elf.specs.Symbols.{symbols_of}
+use Rattle.xmas_elf.specs.SymbolTable.{table_symbols}
 use Rattle.elf_c.specs.Lookup.{IsLookUp}
 use Rattle.elf_c.specs.LookUps.{IfUtf8}
 use Rattle.elf_c.proofs.Answering.{AreSoFar}
@@ -6,5 +6,5 @@ use Rattle.elf_c.proofs.hash.look_ups.Given as goal
 
 abbrev pub invariant-loop-place : goal.invariant-loop-place
 invariant-loop-place g l =
-    AreSoFar (IfUtf8 (λ name. IsLookUp l.table name (symbols_of g.E.Entry.fields g.E.Entry.text_in l.symbols l.file)))
+    AreSoFar (IfUtf8 (λ name. IsLookUp l.table name (table_symbols l.symbols)))
     l.names l.ranges l.initial.out l.place l.out

@@ -1,5 +1,5 @@
 use Rattle.std.proofs.Common.{◌≡◌, ◌+◌, ◌^◌, ◌<◌, length}
-use Rattle.xmas_elf.specs.SectionList.{section_list, section_rest}
+use Rattle.xmas_elf.specs.SectionHeader.{section_list, section_rest}
 use Rattle.elf_callers.proofs.callers.counted_sections.Given as goal
 
 -- the count so far and what is left make up all sections

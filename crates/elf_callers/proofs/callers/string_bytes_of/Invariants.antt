@@ -1,6 +1,6 @@
 use Rattle.elf_callers.proofs.Totals.{HasAdded}
 use Rattle.elf_callers.specs.StringBytes.{LiesThere, string_size}
-use Rattle.xmas_elf.specs.SectionList.{section_list, section_rest}
+use Rattle.xmas_elf.specs.SectionHeader.{section_list, section_rest}
 use Rattle.elf_callers.proofs.callers.string_bytes_of.Given as goal
 
 -- the string tables so far are added

@@ -10,4 +10,4 @@ returns-in-Ok-Some g c =
     let is : c.lookup.result ≡ Ok (Some c.in-Ok-Some.found) = c.in-Ok-Some.is ∙ ap (λ x. Ok x) c.in-Ok-Some.field-0-is in
     let finds = c.lookup.ensures.good c.requires.decides c.requires.good in
     let found = subst (λ r. FindsAll c.args.table.now all c.args.name.now (IsMatch all g.F.Fn c.args.f c.args.name.now) r) is finds in
-    (found.2, found.3.0, found.3.1)
+    (found.0, found.1, found.2, found.3.0, found.3.1)

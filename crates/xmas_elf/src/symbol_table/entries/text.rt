@@ -1,4 +1,4 @@
-//! How symbols are printed: a line for each field, by one form for all layouts.
+//! The printed form of symbols: one line per field, the same for all types.
 
 ghost use Rattle.std.specs.Prelude.{◌≡◌, Some};
 ghost use Rattle.xmas_elf.specs.Symbol.{dyn_entry_32_fields, dyn_entry_64_fields};
@@ -11,7 +11,7 @@ use elf_base::print::{Field, PrintedResult};
 use std::fmt;
 use std::fmt::Display;
 
-// The fields of any symbol, each on a line.
+// The fields of any symbol, one per line.
 #[derive(Clone, Copy)]
 struct SymbolLines<'e, E>(&'e E);
 

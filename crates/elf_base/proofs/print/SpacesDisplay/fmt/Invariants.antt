@@ -2,6 +2,6 @@ use Rattle.std.proofs.Common.{replicate}
 use Rattle.std.specs.Fmt.{HasWritten, IsPlainFormatter}
 use Rattle.elf_base.proofs.print.SpacesDisplay.fmt.Given as goal
 
--- as many spaces were written as there were turns
+-- each iteration has written one space
 abbrev pub invariant-loop-space : goal.invariant-loop-space
 invariant-loop-space g l = IsPlainFormatter l.initial.f → HasWritten g.W.Write.write_str_gives l.initial.f (replicate l._space 32) l.f

@@ -1,6 +1,6 @@
 use Rattle.std.proofs.Common.{rules, sym, ◌∙◌}
 use Rattle.elf_callers.specs.Executable.{IsExecutable}
-use Rattle.xmas_elf.specs.Counts.{program_count_of}
+use Rattle.xmas_elf.specs.SectionHeader.{program_count_of}
 use Rattle.xmas_elf.specs.ProgramHeader.{program_of}
 use Rattle.xmas_elf.proofs.lemmas.HeaderList.{first_of_rest, has_passed_one}
 use Rattle.elf_callers.proofs.callers.indices.executable_with_index.Goals as goal

@@ -1,8 +1,7 @@
 use Rattle.std.proofs.Common.{◌^◌, ◌<◌, length}
 use Rattle.elf_callers.specs.Executable.{IsExecutable}
-use Rattle.xmas_elf.specs.Counts.{program_count_of}
-use Rattle.xmas_elf.specs.ProgramHeader.{program_of}
-use Rattle.xmas_elf.specs.ProgramList.{program_list, program_rest}
+use Rattle.xmas_elf.specs.SectionHeader.{program_count_of}
+use Rattle.xmas_elf.specs.ProgramHeader.{program_list, program_of, program_rest}
 use Rattle.xmas_elf.proofs.lemmas.HeaderList.{HasPassed}
 use Rattle.elf_callers.proofs.callers.indices.executable_with_index.Given as goal
 

@@ -2,7 +2,7 @@ use Rattle.std.proofs.Common.{rules, ◌≡◌, ◌++◌, ◌∷◌, [], All, Bo
 use Rattle.std.proofs.lemmas.List.{map-append}
 use Rattle.std.proofs.lemmas.List.Elements.{All-tail}
 use Rattle.elf_callers.specs.Loaded.{Image, LiesInFile, image, image_of, images, is_load}
-use Rattle.xmas_elf.specs.ProgramList.{program_rest}
+use Rattle.xmas_elf.specs.ProgramHeader.{program_rest}
 use Rattle.xmas_elf.specs.Types.{ElfFile, ProgramHeader}
 use Rattle.elf_callers.proofs.callers.loader.pieces.Goals as goal
 

@@ -1,6 +1,6 @@
 use Rattle.std.proofs.Common.{◌≡◌, ◌++◌, All, map}
 use Rattle.elf_callers.specs.Loaded.{LiesInFile, image, images}
-use Rattle.xmas_elf.specs.ProgramList.{program_list, program_rest}
+use Rattle.xmas_elf.specs.ProgramHeader.{program_list, program_rest}
 use Rattle.elf_callers.proofs.callers.loader.pieces.Given as goal
 
 -- the pieces so far and those of what is left make up all, and what is left lies in the file

@@ -1,7 +1,7 @@
 use Rattle.std.proofs.Common.{◌^◌, ◌<◌, length}
 use Rattle.elf_callers.proofs.Sizes.{IsCounted}
 use Rattle.elf_callers.specs.declared.callers.size_report.SizeKind.TheVariants.{Code, Constants, Initialised, ZeroInitialised, Other}
-use Rattle.xmas_elf.specs.SectionList.{section_list, section_rest}
+use Rattle.xmas_elf.specs.SectionHeader.{section_list, section_rest}
 use Rattle.elf_callers.proofs.callers.size_report.size_report.Given as goal
 
 -- each kind is counted so far

@@ -1,8 +1,6 @@
 use Rattle.std.proofs.Common.{◌<◌, ◌≤◌, length, is_ok, refl, sym, ap, ◌∙◌, arith}
 use Rattle.xmas_elf.proofs.lemmas.HeaderList.{first_item}
-use Rattle.xmas_elf.specs.Counts.{section_count_of}
-use Rattle.xmas_elf.specs.SectionHeader.{section_of}
-use Rattle.xmas_elf.specs.SectionList.{section_list}
+use Rattle.xmas_elf.specs.SectionHeader.{section_count_of, section_list, section_of}
 use Rattle.elf_callers.proofs.callers.size_report.whole_size_report.Goals.{then-readable-section_count+in_ok-section_header_at, else-readable-section_count}
 use Rattle.elf_callers.proofs.callers.size_report.whole_size_report.Goals as goal
 

@@ -1,7 +1,7 @@
 use Rattle.std.proofs.Common.{◌≡◌, inl, inr, sym, ◌∙◌, subst, arith}
-use Rattle.elf_base.specs.Table.{table_items}
 use Rattle.elf_linking.specs.GnuHash.{bucket_word}
 use Rattle.elf_linking.specs.GoodGnu.{IsCut, cut, too_early}
+use Rattle.xmas_elf.specs.SymbolTable.{table_symbols}
 use Rattle.elf_linking.proofs.gnu_hash.GnuHashTable.check_bucket.Goals as goal
 
 pub returns-then-from-eq0 : goal.returns-then-from-eq0
@@ -25,4 +25,4 @@ reason-requires-clause-endless g c = λ i above there ends. c.requires.last i (o
 pub returns : goal.returns
 returns g c =
     let same : c.bucket-from.result ≡ bucket_word c.args.self.now c.args.bucket = c.bucket-from.ensures in
-    cut c.reason.result (omega arith) (omega arith) (subst (λ from. IsCut c.args.self.now (table_items c.args.symbols.now) from c.reason.result) same c.reason.ensures)
+    cut c.reason.result (omega arith) (omega arith) (subst (λ from. IsCut c.args.self.now (table_symbols c.args.symbols.now).items from c.reason.result) same c.reason.ensures)

@@ -1,8 +1,7 @@
 use Rattle.std.proofs.Common.{arith, ℕ, ◌<◌, ◌≤◌, length, sym, ◌∙◌, below_more}
 use Rattle.std.proofs.lemmas.Option.{slice_get_within}
-use Rattle.elf_base.specs.Table.{table_items}
-use Rattle.xmas_elf.specs.Symbols.{symbols_of}
 use Rattle.elf_linking.specs.GnuHash.{first_symbol_of}
+use Rattle.xmas_elf.specs.SymbolTable.{table_symbols}
 use Rattle.elf_linking.proofs.GnuChecks.{Held, held_absent, held_entry}
 use Rattle.elf_linking.proofs.Runs.{come_first}
 use Rattle.elf_linking.proofs.gnu_hash.GnuHashTable.holds_all.Goals as goal
@@ -21,7 +20,7 @@ returns-then-not-holds-clause-no g c = λ _.
       c.in-Some.entry,
       lost.0,
       record {
-        global = record { not_first = omega arith; stands = sym c.get.ensures.item ∙ c.in-Some.is; binding = lost.1; named = lost.3 };
+        global = record { not_first = omega arith; stands = sym c.get.ensures ∙ c.in-Some.is; binding = lost.1; named = lost.3 };
         from_first = omega arith;
         defined = lost.2;
       },
@@ -30,11 +29,11 @@ returns-then-not-holds-clause-no g c = λ _.
 
 pub loop-index-preserved : goal.loop-index-preserved
 loop-index-preserved g c =
-    let all = symbols_of g.E.Entry.fields g.E.Entry.text_in c.args.symbols.now c.args.file.now in
+    let all = table_symbols c.args.symbols.now in
     let here : Held c.args.self.now all c.loop-index.index =
     elim c.match-get.branch [
-      | in-Some+else-not-holds w ↦ held_entry c.args.self.now all c.loop-index.index w.in-Some.entry (sym c.get.ensures.item ∙ w.in-Some.is) (w.holds.ensures.yes w.if-not-holds.false)
-      | in_default w ↦ held_absent c.args.self.now all c.loop-index.index (sym c.get.ensures.item ∙ w.in_default.is)
+      | in-Some+else-not-holds w ↦ held_entry c.args.self.now all c.loop-index.index w.in-Some.entry (sym c.get.ensures ∙ w.in-Some.is) (w.holds.ensures.yes w.if-not-holds.false)
+      | in_default w ↦ held_absent c.args.self.now all c.loop-index.index (sym c.get.ensures ∙ w.in_default.is)
     ] in
     let Kept : ℕ → Type 0 = λ i. c.max-first.result ≤ i → Held c.args.self.now all i in
     record {
@@ -44,7 +43,7 @@ loop-index-preserved g c =
 
 pub returns-clause-yes : goal.returns-clause-yes
 returns-clause-yes g c = λ _ i e name exported.
-    let within : i < length (table_items c.args.symbols.now) = slice_get_within (table_items c.args.symbols.now) i e exported.global.stands in
+    let within : i < length (table_symbols c.args.symbols.now).items = slice_get_within (table_symbols c.args.symbols.now).items i e exported.global.stands in
     let positive : 0 < i = exported.global.not_first in
     let begins : first_symbol_of c.args.self.now ≤ i = exported.from_first in
     c.loop-index.invariant.held i (omega arith) (omega arith) e name exported

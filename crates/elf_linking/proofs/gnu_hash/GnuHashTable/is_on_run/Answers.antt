@@ -1,9 +1,9 @@
 use Rattle.std.proofs.Common.{◌≡◌, ◌≤◌, ◌<◌, ◌/◌, Some, refl, sym, subst, arith}
 use Rattle.std.proofs.lemmas.Bool.{eq-eqb, eqb-true}
-use Rattle.elf_base.specs.Table.{table_items}
 use Rattle.elf_linking.specs.GnuHash.{HasChain, chain_word, start_of}
 use Rattle.elf_linking.specs.GnuHashNumber.{gnu_hash_number}
 use Rattle.elf_linking.specs.Run.{symbol_end}
+use Rattle.xmas_elf.specs.SymbolTable.{table_symbols}
 use Rattle.elf_linking.proofs.Looks.{start_bucket}
 use Rattle.elf_linking.proofs.gnu_hash.GnuHashTable.is_on_run.Goals as goal
 use Rattle.elf_linking.proofs.gnu_hash.GnuHashTable.is_on_run.Goals.{then-start-from-via-then-start-from, then-start-from-via-else-start-from+then-start-index, then-start-from-via-else-start-from+else-start-index+then-index}
@@ -12,7 +12,7 @@ pub returns-then-start-from : goal.returns-then-start-from
 returns-then-start-from g c = (
   λ no. absurd (cc),
   λ held.
-      let items = table_items c.args.symbols.now in
+      let items = (table_symbols c.args.symbols.now).items in
       let starts : start_of c.args.self.now c.args.name.now ≡ Some c.in-Some.start = cc in
       let starts' : start_of c.args.self.now c.args.name.now ≡ Some held.from = held.starts in
       let same : held.from ≡ c.in-Some.start = cc in
@@ -29,7 +29,7 @@ returns-then-start-from g c = (
 
 pub returns-in-Ok : goal.returns-in-Ok
 returns-in-Ok g c =
-    let items = table_items c.args.symbols.now in
+    let items = (table_symbols c.args.symbols.now).items in
     let starts : start_of c.args.self.now c.args.name.now ≡ Some c.in-Some.start = cc in
     let word : HasChain c.args.self.now c.args.index = c.in-Ok.ensures.readable.0 refl in
     let same : c.in-Ok.word ≡ chain_word c.args.self.now c.args.index = c.in-Ok.ensures.value in

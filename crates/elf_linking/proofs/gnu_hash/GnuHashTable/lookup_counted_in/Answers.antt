@@ -2,7 +2,7 @@ use Rattle.elf_linking.proofs.Looks.{finds_all, looks_once}
 use Rattle.elf_linking.proofs.gnu_hash.GnuHashTable.lookup_counted_in.Goals as goal
 
 pub returns-clause-only : goal.returns-clause-only
-returns-clause-only g c = λ names d other count h. looks_once _ _ _ _ _ _ _ _ h (c.search.ensures.answer names d)
+returns-clause-only g c = λ d other count h. looks_once _ _ _ _ _ _ _ _ h (c.search.ensures.answer d)
 
 pub returns-clause-good : goal.returns-clause-good
-returns-clause-good g c = λ names d sound. finds_all _ _ _ _ _ _ sound (c.search.ensures.answer names d)
+returns-clause-good g c = λ d sound. finds_all _ _ _ _ _ _ sound (c.search.ensures.answer d)

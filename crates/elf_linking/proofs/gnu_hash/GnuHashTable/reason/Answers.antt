@@ -1,21 +1,21 @@
 use Rattle.std.proofs.Common.{◌≡◌, ◌-◌, ◌≤◌, ◌<◌, ℕ, refl, arith}
-use Rattle.elf_base.specs.Table.{table_items}
 use Rattle.elf_linking.specs.GnuHash.{HasChain, first_symbol_of}
 use Rattle.elf_linking.specs.Run.{IsThere, no_symbol, no_word, symbol_end}
+use Rattle.xmas_elf.specs.SymbolTable.{table_symbols}
 use Rattle.elf_linking.proofs.Runs.{run_first, run_to}
 use Rattle.elf_linking.proofs.Words.{chain_before, chain_end}
 use Rattle.elf_linking.proofs.gnu_hash.GnuHashTable.reason.Goals as goal
 
 pub returns-then-from-end : goal.returns-then-from-end
 returns-then-from-end g c =
-    let items = table_items c.args.symbols.now in
+    let items = (table_symbols c.args.symbols.now).items in
     let past : symbol_end items ≤ c.args.from = omega arith in
     record { last = c.args.from; run = run_first c.args.self.now items c.args.from; lacks = no_symbol past }
 
 pub returns-in-Ok : goal.returns-in-Ok
 returns-in-Ok g c =
     let table = c.args.self.now in
-    let items = table_items c.args.symbols.now in
+    let items = (table_symbols c.args.symbols.now).items in
     let word : HasChain table (c.symbol_end-end.result - 1) = c.in-Ok.ensures.readable.0 refl in
     let begins : first_symbol_of table ≤ c.args.from = c.requires.begins in
     let same : c.symbol_end-end.result ≡ symbol_end items = c.symbol_end-end.ensures in
@@ -31,7 +31,7 @@ returns-in-Ok g c =
 pub returns-in-Err : goal.returns-in-Err
 returns-in-Err g c =
     let table = c.args.self.now in
-    let items = table_items c.args.symbols.now in
+    let items = (table_symbols c.args.symbols.now).items in
     let begins : first_symbol_of table ≤ c.args.from = c.requires.begins in
     let same : c.symbol_end-end.result ≡ symbol_end items = c.symbol_end-end.ensures in
     let before : c.args.from < symbol_end items = omega arith in

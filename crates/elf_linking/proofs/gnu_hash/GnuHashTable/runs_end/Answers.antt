@@ -1,8 +1,8 @@
 use Rattle.std.proofs.Common.{◌≡◌, ◌+◌, ◌≤◌, ◌<◌, ◌%◌, ◌⊎◌, inl, inr, refl, sym, subst, arith}
 use Rattle.std.proofs.lemmas.Bool.{cases_lt}
-use Rattle.elf_base.specs.Table.{table_items}
 use Rattle.elf_linking.specs.GnuHash.{HasChain, chain_word}
 use Rattle.elf_linking.specs.Run.{IsThere, symbol_end}
+use Rattle.xmas_elf.specs.SymbolTable.{table_symbols}
 use Rattle.elf_linking.proofs.Scans.{Scanned, scanned_end, scanned_first, scanned_on}
 use Rattle.elf_linking.proofs.Words.{chain_before}
 use Rattle.elf_linking.proofs.gnu_hash.GnuHashTable.runs_end.Goals as goal
@@ -14,7 +14,7 @@ loop-index-init g c = scanned_first _ _ _ (omega arith)
 pub loop-index-preserved : goal.loop-index-preserved
 loop-index-preserved g c =
     let table = c.args.self.now in
-    let items = table_items c.args.symbols.now in
+    let items = (table_symbols c.args.symbols.now).items in
     let word : HasChain table c.loop-index.index = c.in-Ok.ensures.readable.0 refl in
     let there : IsThere table items c.loop-index.index = record { symbol = omega arith; word = word } in
     let same : c.in-Ok.word ≡ chain_word table c.loop-index.index = c.in-Ok.ensures.value in
@@ -41,5 +41,5 @@ returns-clause-ends g c = c.loop-index.invariant.ends
 
 pub returns-clause-last : goal.returns-clause-last
 returns-clause-last g c = λ i begins above there ends.
-    let below : i < symbol_end (table_items c.args.symbols.now) = there.symbol in
+    let below : i < symbol_end (table_symbols c.args.symbols.now).items = there.symbol in
     c.loop-index.invariant.last i begins above (omega arith) ends

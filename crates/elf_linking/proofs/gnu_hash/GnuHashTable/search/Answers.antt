@@ -11,16 +11,16 @@ walk-requires-clause-above g c =
     (start_bucket _ _ _ starts).2
 
 pub returns-in_default-clause-answer : goal.returns-in_default-clause-answer
-returns-in_default-clause-answer g c = λ names d.
+returns-in_default-clause-answer g c = λ d.
     let none : start_of c.args.self.now c.args.name.now ≡ None = cc in
     no_run none
 
 pub returns-then-from-first_symbol-clause-answer : goal.returns-then-from-first_symbol-clause-answer
-returns-then-from-first_symbol-clause-answer g c = λ names d.
+returns-then-from-first_symbol-clause-answer g c = λ d.
     let starts : start_of c.args.self.now c.args.name.now ≡ Some c.in-Some.from = cc in
     too_early c.in-Some.from starts (omega arith)
 
 pub returns-clause-answer : goal.returns-clause-answer
-returns-clause-answer g c = λ names d.
+returns-clause-answer g c = λ d.
     let starts : start_of c.args.self.now c.args.name.now ≡ Some c.in-Some.from = cc in
-    goes_by _ _ _ _ _ _ _ _ c.gnu_hash-hash.ensures starts (omega arith) (c.walk.ensures.answer (c.strings_of-strings.ensures names) d)
+    goes_by _ _ _ _ _ _ _ _ c.gnu_hash-hash.ensures starts (omega arith) (c.walk.ensures.answer d)

@@ -1,15 +1,15 @@
 use Rattle.std.proofs.Common.{◌≡◌, ◌≤◌, ◌<◌, ◌%◌, ◌/◌, Err, refl, sym, ◌∙◌, subst, arith}
-use Rattle.elf_base.specs.Table.{table_items}
 use Rattle.elf_linking.specs.GnuHash.{HasChain, chain_of, chain_word, first_symbol_of}
 use Rattle.elf_linking.specs.Run.{IsThere, ended, found, refused, symbol_end}
+use Rattle.xmas_elf.specs.SymbolTable.{table_symbols}
 use Rattle.elf_linking.proofs.Runs.{looks_past}
 use Rattle.elf_linking.proofs.Words.{chain_refused}
 use Rattle.elf_linking.proofs.gnu_hash.GnuHashTable.walk.Goals as goal
 use Rattle.elf_linking.proofs.gnu_hash.GnuHashTable.walk.Goals.{then-word-hash+in_default, else-word-hash}
 
 pub returns-in-Err-clause-answer : goal.returns-in-Err-clause-answer
-returns-in-Err-clause-answer g c = λ names d.
-    let items = table_items c.args.symbols.now in
+returns-in-Err-clause-answer g c = λ d.
+    let items = (table_symbols c.args.symbols.now).items in
     let ordered : c.args.from ≤ c.loop-index.index = c.loop-index.invariant.run.ordered in
     let begins : first_symbol_of c.args.self.now ≤ c.args.from = c.requires.begins in
     let below : c.loop-index.index < symbol_end items = omega arith in
@@ -18,30 +18,30 @@ returns-in-Err-clause-answer g c = λ names d.
       last = c.loop-index.index;
       here = 0;
       run = c.loop-index.invariant.run;
-      missed = c.loop-index.invariant.missed names d;
+      missed = c.loop-index.invariant.missed d;
       stop = refused c.in-Err.error (chain_refused c.args.self.now items c.loop-index.index c.in-Err.error below (omega arith) refuses);
       counted = omega arith;
     }
 
 pub returns-in-Some-clause-answer : goal.returns-in-Some-clause-answer
-returns-in-Some-clause-answer g c = λ names d.
-    let items = table_items c.args.symbols.now in
+returns-in-Some-clause-answer g c = λ d.
+    let items = (table_symbols c.args.symbols.now).items in
     let word : HasChain c.args.self.now c.loop-index.index = c.in-Ok.ensures.readable.0 refl in
     let there : IsThere c.args.self.now items c.loop-index.index = record { symbol = omega arith; word = word } in
-    let matched = c.in-Some.ensures.yes names c.in-Some.entry refl in
+    let matched = c.in-Some.ensures.yes c.in-Some.entry refl in
     let agrees : chain_word c.args.self.now c.loop-index.index / 2 ≡ c.args.hash / 2 = subst (λ w. w / 2 ≡ c.args.hash / 2) c.in-Ok.ensures.value c.if-word-hash.true in
     record {
       last = c.loop-index.index;
       here = 1;
       run = c.loop-index.invariant.run;
-      missed = c.loop-index.invariant.missed names d;
+      missed = c.loop-index.invariant.missed d;
       stop = found c.in-Some.entry (record { there = there; symbol = matched.0; agrees = agrees; holds = matched.1 });
       counted = omega arith;
     }
 
 pub returns-then-word-eq1-clause-answer : goal.returns-then-word-eq1-clause-answer
-returns-then-word-eq1-clause-answer g c = λ names d.
-    let items = table_items c.args.symbols.now in
+returns-then-word-eq1-clause-answer g c = λ d.
+    let items = (table_symbols c.args.symbols.now).items in
     let word : HasChain c.args.self.now c.loop-index.index = c.in-Ok.ensures.readable.0 refl in
     let there : IsThere c.args.self.now items c.loop-index.index = record { symbol = omega arith; word = word } in
     let same : c.in-Ok.word ≡ chain_word c.args.self.now c.loop-index.index = c.in-Ok.ensures.value in
@@ -50,14 +50,14 @@ returns-then-word-eq1-clause-answer g c = λ names d.
       last = c.loop-index.index;
       here = 1;
       run = c.loop-index.invariant.run;
-      missed = c.loop-index.invariant.missed names d;
+      missed = c.loop-index.invariant.missed d;
       stop = ended there ends (λ e hit. elim c.if-word-hash.branch [
-        | then-word-hash+in_default w ↦ w.symbol_at.ensures.no names d w.in_default.is e hit.symbol hit.holds
+        | then-word-hash+in_default w ↦ w.symbol_at.ensures.no d w.in_default.is e hit.symbol hit.holds
         | else-word-hash w ↦ w.if-word-hash.false (subst (λ x. x / 2 ≡ c.args.hash / 2) (sym same) hit.agrees)
       ]);
       counted = omega arith;
     }
 
 pub returns-clause-answer : goal.returns-clause-answer
-returns-clause-answer g c = λ names d.
-    looks_past _ _ _ _ _ _ _ c.loop-index.invariant.run (c.loop-index.invariant.missed names d) (omega arith) (λ h. omega arith) (omega arith)
+returns-clause-answer g c = λ d.
+    looks_past _ _ _ _ _ _ _ c.loop-index.invariant.run (c.loop-index.invariant.missed d) (omega arith) (λ h. omega arith) (omega arith)

@@ -1,8 +1,8 @@
 use Rattle.std.proofs.Common.{◌≡◌}
 use Rattle.std.specs.List.{find}
-use Rattle.elf_linking.specs.DynamicEntries.{entries_left, has_tag, pairs_of, until_null}
+use Rattle.elf_linking.specs.DynamicView.{entries_left, has_tag, pairs_of, until_null}
 use Rattle.elf_linking.proofs.view.dynamic.first_number.Given as goal
 
--- a search among the entries that are left gives what one among all does
+-- a search of the remaining entries has the result of a search of all entries
 abbrev pub invariant-loop-entry : goal.invariant-loop-entry
 invariant-loop-entry l = find (has_tag l.tag) (entries_left l.entry-iterator) ≡ find (has_tag l.tag) (until_null (pairs_of l.pairs))

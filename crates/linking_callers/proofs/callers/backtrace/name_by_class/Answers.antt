@@ -1,34 +1,30 @@
 use Rattle.std.proofs.Common.{sym, subst, ◌∙◌}
 use Rattle.elf_base.specs.FileHeader.{file_class}
 use Rattle.elf_base.specs.Table.{table_data}
-use Rattle.linking_callers.proofs.Classes.{is_narrow, is_wide, narrow_is, wide_is}
-use Rattle.linking_callers.specs.LinkedFunction.{IsNameAmong, narrow, no_class, no_narrow, no_wide, wide}
-use Rattle.linking_callers.specs.LinkedValue.{linked_symbols_32, linked_symbols_64}
+use Rattle.elf_linking.proofs.Classes.{is_narrow, narrow_is, wide_else}
+use Rattle.elf_linking.specs.DynamicView.{view_entries}
+use Rattle.linking_callers.specs.LinkedFunction.{IsNameAmong, narrow, no_narrow, no_wide, wide}
+use Rattle.elf_linking.specs.AnyTable.{linked_symbols_32, linked_symbols_64}
 use Rattle.linking_callers.proofs.callers.backtrace.name_by_class.Goals as goal
 
 pub returns-in-Ok : goal.returns-in-Ok
 returns-in-Ok c =
     let file = c.args.file.now in
     let bytes = table_data c.in-Ok.symbols in
-    let (are, order) = c.in-Ok.ensures in
+    let (are, order) = c.in-Ok.ensures.exact in
     narrow bytes _ (is_narrow (file_class file.header) (sym c.in-ThirtyTwo.ensures)) are
-    (subst (λ o. IsNameAmong (linked_symbols_32 file o bytes) c.args.address c.name_among.result) order c.name_among.ensures)
+    (subst (λ o. IsNameAmong file (linked_symbols_32 file o bytes).fields (linked_symbols_32 file o bytes).items c.args.address c.name_among.result) order c.name_among.ensures)
 
 pub returns-in-Err : goal.returns-in-Err
-returns-in-Err c = no_narrow c.in-Err.error (is_narrow (file_class c.args.file.now.header) (sym c.in-ThirtyTwo.ensures)) c.in-Err.ensures
+returns-in-Err c = no_narrow c.in-Err.error (is_narrow (file_class c.args.file.now.header) (sym c.in-ThirtyTwo.ensures)) c.in-Err.ensures.exact
 
 pub returns-in-Ok-symbols_64 : goal.returns-in-Ok-symbols_64
 returns-in-Ok-symbols_64 c =
     let file = c.args.file.now in
     let bytes = table_data c.in-Ok-symbols_64.symbols in
-    let (are, order) = c.in-Ok-symbols_64.ensures in
-    wide bytes _ (is_wide (file_class file.header) (sym c.in-SixtyFour.ensures)) are
-    (subst (λ o. IsNameAmong (linked_symbols_64 file o bytes) c.args.address c.name_among-in-Ok-symbols_64.result) order c.name_among-in-Ok-symbols_64.ensures)
+    let (are, order) = c.in-Ok-symbols_64.ensures.exact in
+    wide bytes _ (wide_else file (view_entries c.args.view.now) c.requires (λ is. c.in_default.not-ThirtyTwo (c.class.ensures ∙ narrow_is (file_class file.header) is))) are
+    (subst (λ o. IsNameAmong file (linked_symbols_64 file o bytes).fields (linked_symbols_64 file o bytes).items c.args.address c.name_among-in-Ok-symbols_64.result) order c.name_among-in-Ok-symbols_64.ensures)
 
 pub returns-in-Err-symbols_64 : goal.returns-in-Err-symbols_64
-returns-in-Err-symbols_64 c = no_wide c.in-Err-symbols_64.error (is_wide (file_class c.args.file.now.header) (sym c.in-SixtyFour.ensures)) c.in-Err-symbols_64.ensures
-
-pub returns-in_default : goal.returns-in_default
-returns-in_default c = no_class
-    (λ is. c.in_default.not-ThirtyTwo (c.class.ensures ∙ narrow_is (file_class c.args.file.now.header) is))
-    (λ is. c.in_default.not-SixtyFour (c.class.ensures ∙ wide_is (file_class c.args.file.now.header) is))
+returns-in-Err-symbols_64 c = no_wide c.in-Err-symbols_64.error (wide_else c.args.file.now (view_entries c.args.view.now) c.requires (λ is. c.in_default.not-ThirtyTwo (c.class.ensures ∙ narrow_is (file_class c.args.file.now.header) is))) c.in-Err-symbols_64.ensures.exact

@@ -1,13 +1,13 @@
 use Rattle.std.proofs.Common.{arith, below_more}
-use Rattle.elf_base.specs.Table.{table_items}
 use Rattle.xmas_elf.specs.Good.{Ends}
+use Rattle.xmas_elf.specs.SymbolTable.{table_symbols}
 use Rattle.xmas_elf.proofs.hash.HashTable.check_buckets.Goals as goal
 
 pub returns-in-Err : goal.returns-in-Err
 returns-in-Err g c = (c.loop-bucket.bucket, omega arith, c.loop-bucket.invariant, c.in-Err.ensures)
 
 pub loop-bucket-preserved : goal.loop-bucket-preserved
-loop-bucket-preserved g c = below_more (Ends c.args.self.now (table_items c.args.symbols.now)) c.loop-bucket.bucket c.loop-bucket.invariant c.in-Ok.ensures
+loop-bucket-preserved g c = below_more (Ends c.args.self.now (table_symbols c.args.symbols.now).items) c.loop-bucket.bucket c.loop-bucket.invariant c.in-Ok.ensures
 
 pub returns : goal.returns
 returns g c = λ k h. c.loop-bucket.invariant k (omega arith)

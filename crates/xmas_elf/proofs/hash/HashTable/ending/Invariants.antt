@@ -1,7 +1,7 @@
 use Rattle.std.proofs.Common.{ℕ, ◌<◌}
-use Rattle.elf_base.specs.Table.{table_items}
 use Rattle.xmas_elf.specs.Chain.{Reaches, chains_of}
+use Rattle.xmas_elf.specs.SymbolTable.{table_symbols}
 use Rattle.xmas_elf.proofs.hash.HashTable.ending.Given as goal
 
 abbrev pub invariant-loop-index : goal.invariant-loop-index
-invariant-loop-index g l = (i : ℕ) → i < l.index-counter → Reaches (chains_of l.self (table_items l.symbols)) i 0
+invariant-loop-index g l = (i : ℕ) → i < l.index-counter → Reaches (chains_of l.self (table_symbols l.symbols).items) i 0

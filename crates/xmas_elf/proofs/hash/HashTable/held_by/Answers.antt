@@ -1,8 +1,7 @@
 use Rattle.std.proofs.Common.{arith, ◌≡◌, Ok, sym, ◌∙◌, subst}
-use Rattle.elf_base.specs.Table.{table_items}
 use Rattle.xmas_elf.specs.Chain.{Comes, chains_of, starts}
 use Rattle.xmas_elf.specs.HashTable.{bucket_of}
-use Rattle.xmas_elf.specs.Symbols.{symbols_of}
+use Rattle.xmas_elf.specs.SymbolTable.{table_symbols}
 use Rattle.xmas_elf.proofs.ChainChecks.{bad_at_fault}
 use Rattle.xmas_elf.proofs.ChainCounts.{belongs_by, picked_held}
 use Rattle.xmas_elf.proofs.ChainPaths.{comes_next, picked_first, picked_next}
@@ -21,7 +20,7 @@ loop-index-init g c = record { few = omega arith; comes = starts; picked = picke
 
 pub loop-index-preserved : goal.loop-index-preserved
 loop-index-preserved g c =
-    let all = symbols_of g.E.Entry.fields g.E.Entry.text_in c.args.symbols.now c.args.file.now in
+    let all = table_symbols c.args.symbols.now in
     let (stands, next, within, fits) = c.in-Ok-step.ensures in
     let belongs = belongs_by c.args.self.now all c.args.bucket c.loop-index.index c.in-Ok-step.both.0 c.belongs.result stands.symbol (omega arith) c.belongs.ensures in
     record {
@@ -32,9 +31,9 @@ loop-index-preserved g c =
 
 pub returns : goal.returns
 returns g c =
-    let all = symbols_of g.E.Entry.fields g.E.Entry.text_in c.args.symbols.now c.args.file.now in
+    let all = table_symbols c.args.symbols.now in
     let at : bucket_of c.args.self.now c.args.bucket ≡ Ok c.in-Ok.first = cc in
     let comes = c.loop-index.invariant.comes in (
-      (c.in-Ok.first, at, subst (λ i. Comes (chains_of c.args.self.now (table_items c.args.symbols.now)) c.in-Ok.first c.loop-index.count i) c.loop-index-test.false comes),
+      (c.in-Ok.first, at, subst (λ i. Comes (chains_of c.args.self.now (table_symbols c.args.symbols.now).items) c.in-Ok.first c.loop-index.count i) c.loop-index-test.false comes),
       picked_held c.args.self.now all c.args.bucket c.in-Ok.first c.loop-index.count c.loop-index.index c.loop-index.held at c.loop-index-test.false comes c.loop-index.invariant.picked,
     )

@@ -1,16 +1,15 @@
 use Rattle.std.proofs.Common.{◌≤◌, ◌-◌}
-use Rattle.elf_base.specs.Table.{table_items}
 use Rattle.xmas_elf.specs.Chain.{Comes, chains_of}
 use Rattle.xmas_elf.specs.Good.{Belongs}
 use Rattle.xmas_elf.specs.HashTable.{chain_count_of}
-use Rattle.xmas_elf.specs.Symbols.{symbols_of}
+use Rattle.xmas_elf.specs.SymbolTable.{table_symbols}
 use Rattle.xmas_elf.proofs.ChainPaths.{Picked}
 use Rattle.xmas_elf.proofs.hash.HashTable.held_by.Given as goal
 
 abbrev pub invariant-loop-index : goal.invariant-loop-index
 invariant-loop-index g l =
-    let all = symbols_of g.E.Entry.fields g.E.Entry.text_in l.symbols l.file in
-    let chains = chains_of l.self (table_items l.symbols) in
+    let all = table_symbols l.symbols in
+    let chains = chains_of l.self (table_symbols l.symbols).items in
     record {
       few : l.held ≤ l.count;
       comes : Comes chains l.first l.count l.index;

@@ -1,12 +1,11 @@
 use Rattle.std.proofs.Common.{arith, below_more, ◌<◌, length}
+use Rattle.xmas_elf.specs.SymbolTable.{table_symbols}
 use Rattle.std.proofs.lemmas.Option.{slice_get_within}
-use Rattle.elf_base.specs.Table.{table_items}
-use Rattle.xmas_elf.specs.Symbols.{symbols_of}
 use Rattle.xmas_elf.proofs.ChainChecks.{Held, held_first}
 use Rattle.xmas_elf.proofs.hash.HashTable.holds_all.Goals as goal
 
 pub loop-index-init : goal.loop-index-init
-loop-index-init g c = held_first c.args.self.now (symbols_of g.E.Entry.fields g.E.Entry.text_in c.args.symbols.now c.args.file.now)
+loop-index-init g c = held_first c.args.self.now (table_symbols c.args.symbols.now)
 
 pub returns-then-not-holds-clause-no : goal.returns-then-not-holds-clause-no
 returns-then-not-holds-clause-no g c = λ _.
@@ -14,9 +13,9 @@ returns-then-not-holds-clause-no g c = λ _.
 
 pub loop-index-preserved : goal.loop-index-preserved
 loop-index-preserved g c =
-    below_more (Held c.args.self.now (symbols_of g.E.Entry.fields g.E.Entry.text_in c.args.symbols.now c.args.file.now)) c.loop-index.index c.loop-index.invariant (c.holds.ensures.yes c.if-not-holds.false)
+    below_more (Held c.args.self.now (table_symbols c.args.symbols.now)) c.loop-index.index c.loop-index.invariant (c.holds.ensures.yes c.if-not-holds.false)
 
 pub returns-clause-yes : goal.returns-clause-yes
 returns-clause-yes g c = λ _ i e name global.
-    let within : i < length (table_items c.args.symbols.now) = slice_get_within (table_items c.args.symbols.now) i e global.stands in
+    let within : i < length (table_symbols c.args.symbols.now).items = slice_get_within (table_symbols c.args.symbols.now).items i e global.stands in
     c.loop-index.invariant i (omega arith) e name global

@@ -1,13 +1,13 @@
 use Rattle.std.proofs.Common.{arith}
 use Rattle.xmas_elf.specs.Good.{good, missing}
-use Rattle.xmas_elf.specs.Symbols.{symbols_of}
+use Rattle.xmas_elf.specs.SymbolTable.{table_symbols}
 use Rattle.xmas_elf.proofs.ChainCounts.{all_held, one_missing}
 use Rattle.xmas_elf.proofs.hash.HashTable.verdict.Goals as goal
 
 pub returns-then-held-global : goal.returns-then-held-global
 returns-then-held-global g c =
     let (ends, count) = rw c.in-Ok-Some.field-0-is at c.in-Ok-Some.ensures in
-    let (i, e, name, global, lost) = one_missing c.args.self.now (symbols_of g.E.Entry.fields g.E.Entry.text_in c.args.symbols.now c.args.file.now) _ _ (omega arith) count c.global_count-global.ensures in
+    let (i, e, name, global, lost) = one_missing c.args.self.now (table_symbols c.args.symbols.now) _ _ (omega arith) count c.global_count-global.ensures in
     missing i e name ends global lost
 
 pub returns-else-held-global : goal.returns-else-held-global

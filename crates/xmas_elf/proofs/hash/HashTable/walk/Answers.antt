@@ -1,7 +1,7 @@
 use Rattle.std.proofs.Common.{◌≡◌, true, false, arith, refl, rules, subst, sym, ◌∙◌}
 use Rattle.std.specs.Fn.{FnReturnsAt}
-use Rattle.elf_base.specs.Table.{table_items}
 use Rattle.xmas_elf.specs.Chain.{breaks, chains_of, ends, halts, stops}
+use Rattle.xmas_elf.specs.SymbolTable.{table_symbols}
 use Rattle.xmas_elf.proofs.ChainPaths.{contains_at, walked_first, walked_next}
 use Rattle.xmas_elf.proofs.hash.HashTable.walk.Goals as goal
 
@@ -12,9 +12,9 @@ pub returns-in-Err-clause-answer : goal.returns-in-Err-clause-answer
 returns-in-Err-clause-answer g c = halts _ _ _ c.loop-index.invariant.walked (omega arith) c.in-Err.ensures
 
 pub stops-requires : goal.stops-requires
-stops-requires g c = c.requires _ (contains_at (chains_of c.args.self.now (table_items c.args.symbols.now)) _ c.in-Ok.entry c.in-Ok.ensures.0)
+stops-requires g c = c.requires _ (contains_at (chains_of c.args.self.now (table_symbols c.args.symbols.now).items) _ c.in-Ok.entry c.in-Ok.ensures.0)
 
--- what the test returned at the symbol
+-- the result of the test for the symbol
 pub returns-then-stops-clause-answer : goal.returns-then-stops-clause-answer
 returns-then-stops-clause-answer g c =
     let called : FnReturnsAt g.F.Fn c.args.stops (c.loop-index.index, c.in-Ok.entry) c.stops.result = record { shown = _; shows = refl; says = record { met = c.stops.ensures } } in

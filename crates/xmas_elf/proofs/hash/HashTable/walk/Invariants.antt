@@ -1,15 +1,15 @@
 use Rattle.std.proofs.Common.{◌≤◌, ◌-◌, false, length}
 use Rattle.std.specs.Fn.{FnReturnsAt}
-use Rattle.elf_base.specs.Table.{table_items}
 use Rattle.xmas_elf.specs.Chain.{Walked, chains_of}
 use Rattle.xmas_elf.specs.HashTable.{chain_count_of}
+use Rattle.xmas_elf.specs.SymbolTable.{table_symbols}
 use Rattle.xmas_elf.proofs.hash.HashTable.walk.Given as goal
 
 abbrev pub invariant-loop-index : goal.invariant-loop-index
 invariant-loop-index g l = record {
   in_chains : l.count ≤ chain_count_of l.self;
-  in_symbols : l.count ≤ length (table_items l.symbols);
-  walked : Walked (λ at. FnReturnsAt g.F.Fn l.stops at false) (chains_of l.self (table_items l.symbols)) l.first l.count l.index;
+  in_symbols : l.count ≤ length (table_symbols l.symbols).items;
+  walked : Walked (λ at. FnReturnsAt g.F.Fn l.stops at false) (chains_of l.self (table_symbols l.symbols).items) l.first l.count l.index;
 }
 
 abbrev pub decreases-loop-index : goal.decreases-loop-index

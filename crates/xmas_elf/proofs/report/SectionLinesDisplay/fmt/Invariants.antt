@@ -1,4 +1,4 @@
-use Rattle.xmas_elf.specs.SectionList.{section_rest}
+use Rattle.xmas_elf.specs.SectionHeader.{section_rest}
 use Rattle.xmas_elf.specs.Report.{section_line, section_lines}
 use Rattle.xmas_elf.proofs.ReportLines.{LinesSoFar}
 use Rattle.xmas_elf.proofs.report.SectionLinesDisplay.fmt.Given as goal

@@ -1,4 +1,4 @@
-use Rattle.xmas_elf.specs.ProgramList.{program_rest}
+use Rattle.xmas_elf.specs.ProgramHeader.{program_rest}
 use Rattle.xmas_elf.specs.Report.{segment_line, segment_lines}
 use Rattle.xmas_elf.proofs.ReportLines.{LinesSoFar}
 use Rattle.xmas_elf.proofs.report.SegmentLinesDisplay.fmt.Given as goal

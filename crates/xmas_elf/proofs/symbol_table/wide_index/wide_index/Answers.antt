@@ -1,7 +1,7 @@
 use Rattle.std.proofs.Common.{◌≡◌, ℕ, ◌*◌, ◌<◌, ◌∙◌, length, take, drop}
 use Rattle.elf_base.specs.FileHeader.{file_order}
 use Rattle.elf_base.specs.Number.{number}
-use Rattle.xmas_elf.specs.Prelude.{SymbolIndex}
+use Rattle.elf_base.specs.declared.error.ElfError.TheVariants.{SymbolIndex}
 use Rattle.xmas_elf.proofs.SymbolSections.{word_there}
 use Rattle.xmas_elf.proofs.symbol_table.wide_index.wide_index.Goals as goal
 

@@ -1,6 +1,5 @@
 use Rattle.std.proofs.Common.{◌≡◌, length}
-use Rattle.elf_linking.specs.DynamicEntries.{entries_left}
-use Rattle.elf_linking.specs.DynamicView.{needed_left}
+use Rattle.elf_linking.specs.DynamicView.{entries_left, needed_left}
 use Rattle.elf_linking.proofs.view.needed.NeededIterator.next.Given as goal
 
 abbrev pub invariant-loop-entry : goal.invariant-loop-entry

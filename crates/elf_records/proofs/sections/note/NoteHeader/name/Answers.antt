@@ -5,12 +5,12 @@ use Rattle.elf_base.specs.declared.error.ElfError.TheVariants.{NoteName}
 use Rattle.elf_records.specs.Note.{NoteNameRefused}
 use Rattle.elf_records.proofs.sections.note.NoteHeader.name.Goals as goal
 
--- without a text a name is refused as the text is
+-- if there is no text, the name is refused as the text is
 no_text : (body : List ℕ) (size : ℕ) (why : ElfError) → ((t : List ℕ) → IsText body 0 t → ⊥) → NoteNameRefused body size why → TextRefused body 0 why
 no_text body size NoteName none refused = absurd (none refused.0 refused.1)
 no_text body size why none refused = refused
 
--- with a text a name is refused for its size
+-- if there is a text, the name is refused only for its size
 wrong_size : (body : List ℕ) (size : ℕ) (why : ElfError) (t : List ℕ) → ((s : List ℕ) → IsText body 0 s → t ≡ s) → ((w : ElfError) → TextRefused body 0 w → ⊥) → NoteNameRefused body size why → (why ≡ NoteName) × (length t + 1 ≢ size)
 wrong_size body size NoteName t only never refused =
     (refl, subst (λ s. length s + 1 ≢ size) (sym (only refused.0 refused.1)) refused.2)

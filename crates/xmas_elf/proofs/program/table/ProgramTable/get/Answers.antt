@@ -1,5 +1,5 @@
 use Rattle.std.proofs.Common.{arith}
-use Rattle.xmas_elf.specs.Counts.{program_count_of}
+use Rattle.xmas_elf.specs.SectionHeader.{program_count_of}
 use Rattle.xmas_elf.proofs.HeaderLists.{table-item}
 use Rattle.xmas_elf.proofs.ProgramLists.{programs}
 use Rattle.xmas_elf.proofs.program.table.ProgramTable.get.Goals as goal

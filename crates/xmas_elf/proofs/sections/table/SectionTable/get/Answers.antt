@@ -1,5 +1,5 @@
 use Rattle.std.proofs.Common.{arith}
-use Rattle.xmas_elf.specs.Counts.{section_count_of}
+use Rattle.xmas_elf.specs.SectionHeader.{section_count_of}
 use Rattle.xmas_elf.proofs.HeaderLists.{table-item}
 use Rattle.xmas_elf.proofs.SectionLists.{sections}
 use Rattle.xmas_elf.proofs.sections.table.SectionTable.get.Goals as goal

@@ -1,6 +1,6 @@
 use Rattle.std.proofs.Common.{sym}
 use Rattle.std.proofs.Math.ListN.{drop_of_length-le}
-use Rattle.xmas_elf.specs.SectionList.{section_list}
+use Rattle.xmas_elf.specs.SectionHeader.{section_list}
 use Rattle.xmas_elf.proofs.HeaderLists.{item_before}
 use Rattle.xmas_elf.proofs.sections.table.SectionTable.step.Goals as goal
 

@@ -1,0 +1,297 @@
+/* every FILE: calls each export of xmas_elf.h over a program with both kinds of hash tables and packed relocations, and tests what the
+ * header says of statuses, outputs, alignment and null pointers. It prints what it finds at fault. */
+#include "xmas_elf.h"
+#include <stdio.h>
+#include <stdlib.h>
+#include <string.h>
+
+struct asked {
+    const uint8_t *bytes;
+    size_t size;
+    xmas_elf_header_t header;
+    const uint8_t *name; /* of a symbol or a section */
+    size_t name_size;
+    uint64_t section; /* the section that the row is about */
+    uint64_t index;
+    xmas_elf_range_t part;
+};
+
+/* A row of calls.h for each export of the list. */
+#include "calls.h"
+
+/* The outputs of a call; an array has a record more than the call may write. */
+struct outputs {
+    union {
+        xmas_elf_header_t header;
+        xmas_elf_counts_t counts;
+        uint32_t number;
+        xmas_elf_section_t sections[3];
+        xmas_elf_range_t range;
+        xmas_elf_name_t names[3];
+        xmas_elf_segment_t segments[3];
+        xmas_elf_symbol_t symbols[3];
+        xmas_elf_relocation_t relocations[3];
+        xmas_elf_dynamic_t dynamics[3];
+        uint64_t addresses[3];
+        xmas_elf_note_t note;
+        xmas_elf_look_up_t look_up;
+        xmas_elf_answer_t answers[3];
+        uint8_t text[XMAS_ELF_LONGEST_MESSAGE];
+    } of;
+    uint64_t count;
+};
+
+#define FILE_OF(asked) (asked)->bytes, (asked)->size, &(asked)->header
+#define CALL(name) static uint32_t name##_call(const struct asked *a, struct outputs *out)
+
+/* A call for many: with no room it answers the same status, and that there are none. */
+#define CALL_MANY(name, array, ...) \
+    CALL(name) \
+    { \
+        uint64_t none = 7; \
+        uint32_t status = xmas_elf_##name(FILE_OF(a), __VA_ARGS__, NULL, 0, &none); \
+        if (none != (status == XMAS_ELF_OK ? 0 : 7)) return 999; \
+        return xmas_elf_##name(FILE_OF(a), __VA_ARGS__, out->of.array, 2, &out->count) == status ? status : 998; \
+    }
+
+CALL(open) { return xmas_elf_open(a->bytes, a->size < a->index ? a->size : (size_t)a->index, &out->of.header); }
+CALL(check_header) { (void)out; return xmas_elf_check_header(FILE_OF(a)); }
+CALL(counts) { return xmas_elf_counts(FILE_OF(a), &out->of.counts); }
+CALL(names_index) { return xmas_elf_names_index(FILE_OF(a), &out->of.number); }
+CALL(section) { return xmas_elf_section(FILE_OF(a), a->index, &out->of.sections[0]); }
+CALL_MANY(sections, sections, a->index)
+CALL(find_section) { return xmas_elf_find_section(FILE_OF(a), a->name, a->name_size, &out->of.sections[0]); }
+CALL(section_data) { return xmas_elf_section_data(FILE_OF(a), a->index, &out->of.range); }
+CALL(section_name) { return xmas_elf_section_name(FILE_OF(a), a->index, &out->of.range); }
+CALL_MANY(section_names, names, a->index)
+CALL(names) { return xmas_elf_names(FILE_OF(a), &out->of.range); }
+CALL(text)
+{
+    const xmas_elf_range_t magic = {1, 60}; /* "ELF" and zeros follow */
+    return xmas_elf_text(a->bytes, a->size, &magic, a->index, &out->of.range);
+}
+CALL(section_text) { return xmas_elf_section_text(FILE_OF(a), a->section, a->index, &out->of.range); }
+CALL(segment) { return xmas_elf_segment(FILE_OF(a), (uint32_t)a->index, &out->of.segments[0]); }
+CALL_MANY(segments, segments, a->index)
+CALL(segment_data) { return xmas_elf_segment_data(FILE_OF(a), (uint32_t)a->index, &out->of.range); }
+CALL(symbol) { return xmas_elf_symbol(FILE_OF(a), a->section, a->index, &out->of.symbols[0]); }
+CALL_MANY(symbols, symbols, a->section, a->index)
+CALL_MANY(symbol_names, names, a->section, a->index)
+CALL(relocation) { return xmas_elf_relocation(FILE_OF(a), a->section, a->index, &out->of.relocations[0]); }
+CALL_MANY(relocations, relocations, a->section, a->index)
+CALL_MANY(packed_relocations, addresses, a->section, a->index)
+CALL(dynamic) { return xmas_elf_dynamic(FILE_OF(a), a->section, a->index, &out->of.dynamics[0]); }
+CALL_MANY(dynamics, dynamics, a->section, a->index)
+CALL(note)
+{
+    xmas_elf_range_t part = {a->index, 1};
+    xmas_elf_section_t section;
+    if (xmas_elf_section(FILE_OF(a), a->section, &section) == XMAS_ELF_OK && a->index == 0) part.offset = section.offset, part.size = section.size;
+    return xmas_elf_note(FILE_OF(a), &part, 4, &out->of.note);
+}
+CALL(build_id) { return xmas_elf_build_id(FILE_OF(a), &out->of.range); }
+CALL(bytes_at) { return xmas_elf_bytes_at(FILE_OF(a), a->index, 1, &out->of.range); }
+CALL(dynamic_text) { return xmas_elf_dynamic_text(FILE_OF(a), a->index, &out->of.range); }
+CALL_MANY(needed, names, a->index)
+CALL(look_up) { return xmas_elf_look_up(FILE_OF(a), a->section, a->name, a->name_size, &out->of.look_up); }
+CALL(gnu_look_up) { return xmas_elf_gnu_look_up(FILE_OF(a), a->section, a->name, a->name_size, &out->of.look_up); }
+CALL(check_hash) { (void)out; return xmas_elf_check_hash(FILE_OF(a), a->section); }
+CALL(check_gnu_hash) { (void)out; return xmas_elf_check_gnu_hash(FILE_OF(a), a->section); }
+
+typedef void many_call(const uint8_t *, size_t, const xmas_elf_header_t *, uint64_t, const uint8_t *, size_t,
+                       const xmas_elf_range_t *, size_t, xmas_elf_answer_t *, size_t);
+
+/* A call for many look-ups answers nothing: the status of its first answer stands for it. */
+static uint32_t first_status(many_call *call, const struct asked *a, struct outputs *out)
+{
+    const xmas_elf_range_t ranges[2] = {{0, a->name_size}, {0, a->name_size}};
+    struct outputs untouched = *out;
+    call(FILE_OF(a), a->section, a->name, a->name_size, NULL, 0, out->of.answers, 2);
+    call(FILE_OF(a), a->section, a->name, a->name_size, ranges, 2, NULL, 0);
+    if (memcmp(&untouched, out, sizeof untouched) != 0) return 999;
+    call(FILE_OF(a), a->section, a->name, a->name_size, ranges, 2, out->of.answers, 2);
+    uint32_t status = out->of.answers[0].status;
+    if (status != out->of.answers[1].status) return 998;
+    if (status != XMAS_ELF_OK) *out = untouched;
+    return status;
+}
+CALL(look_ups) { return first_status(xmas_elf_look_ups, a, out); }
+CALL(gnu_look_ups) { return first_status(xmas_elf_gnu_look_ups, a, out); }
+CALL(message) /* OK where the status `index` has a text */
+{
+    size_t whole = xmas_elf_message((uint32_t)a->index, NULL, 0);
+    if (xmas_elf_message((uint32_t)a->index, out->of.text, sizeof out->of.text) != whole) return 999;
+    return whole > 0 && whole <= sizeof out->of.text ? XMAS_ELF_OK : XMAS_ELF_NOT_FOUND;
+}
+
+enum table { NONE, SYMBOLS = 11, STRINGS = 3, RELOCATIONS = 4, DYNAMIC = 6, NOTES = 7, PACKED = 19, HASH = 5, GNU_HASH = 0x6ffffff6 };
+#define FAR (UINT64_C(1) << 40)
+#define SHORT XMAS_ELF_SHORT_SECTION_HEADER
+
+/* For each export the index that is good and one that is not, and the statuses of the refused call and of a call over no
+ * bytes. The refused call has a damaged header and another table and name, too. */
+static const struct row {
+    const char *name;
+    uint32_t (*call)(const struct asked *, struct outputs *);
+    enum table table;
+    uint64_t good, bad;
+    uint32_t refused, empty;
+} rows[] = {
+    {"open", open_call, NONE, FAR, 15, XMAS_ELF_SHORT_PART_1, XMAS_ELF_SHORT_PART_1},
+    {"check_header", check_header_call, NONE, 0, 0, XMAS_ELF_HEADER_SIZE, XMAS_ELF_PH_TABLE_RANGE},
+    {"counts", counts_call, NONE, 0, 0, XMAS_ELF_OK, XMAS_ELF_OK},
+    {"names_index", names_index_call, NONE, 0, 0, XMAS_ELF_RESERVED_INDEX, XMAS_ELF_OK},
+    {"section", section_call, NONE, 1, FAR, SHORT, SHORT},
+    {"sections", sections_call, NONE, 1, FAR, XMAS_ELF_NO_RECORD, XMAS_ELF_NO_RECORD},
+    {"find_section", find_section_call, NONE, 0, 0, XMAS_ELF_NOT_FOUND, XMAS_ELF_NOT_FOUND},
+    {"section_data", section_data_call, NONE, 1, 0, XMAS_ELF_NULL_DATA, SHORT},
+    {"section_name", section_name_call, NONE, 1, 0, XMAS_ELF_NULL_NAME, SHORT},
+    {"section_names", section_names_call, NONE, 1, FAR, XMAS_ELF_NO_RECORD, XMAS_ELF_NO_RECORD},
+    {"names", names_call, NONE, 0, 0, XMAS_ELF_RESERVED_INDEX, SHORT},
+    {"text", text_call, NONE, 0, 61, XMAS_ELF_TEXT_START, XMAS_ELF_DATA_RANGE},
+    {"section_text", section_text_call, STRINGS, 0, FAR, XMAS_ELF_TEXT_START, SHORT},
+    {"segment", segment_call, NONE, 0, 60000, XMAS_ELF_NO_PROGRAM_HEADERS, XMAS_ELF_SHORT_PROGRAM_HEADER},
+    {"segments", segments_call, NONE, 0, FAR, XMAS_ELF_NO_RECORD, XMAS_ELF_NO_RECORD},
+    {"segment_data", segment_data_call, NONE, 0, 60000, XMAS_ELF_NO_PROGRAM_HEADERS, XMAS_ELF_SHORT_PROGRAM_HEADER},
+    {"symbol", symbol_call, SYMBOLS, 1, FAR, XMAS_ELF_NO_RECORD, SHORT},
+    {"symbols", symbols_call, SYMBOLS, 1, FAR, XMAS_ELF_NO_RECORD, SHORT},
+    {"symbol_names", symbol_names_call, SYMBOLS, 1, FAR, XMAS_ELF_NO_RECORD, SHORT},
+    {"relocation", relocation_call, RELOCATIONS, 0, FAR, XMAS_ELF_NO_RECORD, SHORT},
+    {"relocations", relocations_call, RELOCATIONS, 0, FAR, XMAS_ELF_NO_RECORD, SHORT},
+    {"packed_relocations", packed_relocations_call, PACKED, 0, FAR, XMAS_ELF_NO_RECORD, SHORT},
+    {"dynamic", dynamic_call, DYNAMIC, 0, FAR, XMAS_ELF_NO_RECORD, SHORT},
+    {"dynamics", dynamics_call, DYNAMIC, 0, FAR, XMAS_ELF_NO_RECORD, SHORT},
+    {"note", note_call, NOTES, 0, FAR, XMAS_ELF_DATA_RANGE, XMAS_ELF_DATA_RANGE},
+    {"build_id", build_id_call, NONE, 0, 0, XMAS_ELF_NOT_FOUND, XMAS_ELF_NOT_FOUND},
+    {"bytes_at", bytes_at_call, NONE, 0, FAR, XMAS_ELF_LINK_ADDRESS, XMAS_ELF_LINK_ADDRESS},
+    {"dynamic_text", dynamic_text_call, NONE, 1, FAR, XMAS_ELF_NOT_FOUND, XMAS_ELF_LINK_NO_DYNAMIC},
+    {"needed", needed_call, NONE, 0, FAR, XMAS_ELF_NO_RECORD, XMAS_ELF_LINK_NO_DYNAMIC},
+    {"look_up", look_up_call, HASH, 0, 0, XMAS_ELF_TEXT_UTF_8, SHORT},
+    {"look_ups", look_ups_call, HASH, 0, 0, XMAS_ELF_TEXT_UTF_8, SHORT},
+    {"check_hash", check_hash_call, HASH, 0, 0, XMAS_ELF_OK, SHORT},
+    {"gnu_look_up", gnu_look_up_call, GNU_HASH, 0, 0, XMAS_ELF_TEXT_UTF_8, SHORT},
+    {"gnu_look_ups", gnu_look_ups_call, GNU_HASH, 0, 0, XMAS_ELF_TEXT_UTF_8, SHORT},
+    {"check_gnu_hash", check_gnu_hash_call, GNU_HASH, 0, 0, XMAS_ELF_OK, SHORT},
+    {"message", message_call, NONE, XMAS_ELF_NOT_FOUND, 0, XMAS_ELF_NOT_FOUND, XMAS_ELF_OK},
+};
+
+static int faults;
+
+/* A call with outputs filled by a pattern: its status is the wanted one, and a refused call leaves the pattern. */
+static void expect(const struct row *row, const char *how, const struct asked *asked, uint32_t wanted, struct outputs *out)
+{
+    struct outputs before;
+    memset(&before, 0xa5, sizeof before);
+    *out = before;
+    uint32_t status = row->call(asked, out);
+    int changed = memcmp(&before, out, sizeof before) != 0;
+    if (status != wanted) printf("%s, %s: status %u and not %u\n", row->name, how, status, wanted), faults++;
+    if (status != XMAS_ELF_OK && changed) printf("%s, %s: refused, and it wrote\n", row->name, how), faults++;
+}
+
+static uint64_t section_of_type(const struct asked *asked, uint32_t type)
+{
+    xmas_elf_section_t section;
+    uint64_t index = 0;
+    while (xmas_elf_section(FILE_OF(asked), index, &section) == XMAS_ELF_OK && section.type != type) index++;
+    return index;
+}
+
+static void visit(const struct row *row, struct asked good, const uint8_t *unaligned)
+{
+    struct outputs out, again;
+    good.index = row->good;
+    good.section = row->table ? section_of_type(&good, row->table) : 0;
+    /* Section 1 and the symbols have these names. */
+    good.name = (const uint8_t *)(row->table ? "every_finds_this" : ".dynamic");
+    good.name_size = strlen((const char *)good.name);
+    expect(row, "good", &good, XMAS_ELF_OK, &out);
+
+    struct asked moved = good;
+    moved.bytes = unaligned;
+    expect(row, "unaligned", &moved, XMAS_ELF_OK, &again);
+    if (memcmp(&out, &again, sizeof out) != 0) printf("%s: the answer depends on the address\n", row->name), faults++;
+
+    struct asked bad = good;
+    bad.index = row->bad;
+    bad.header.header_size = 0;
+    bad.header.sh_str_index = 0xff00;
+    bad.name = (const uint8_t *)"\xff";
+    bad.name_size = 1;
+    expect(row, "bad", &bad, row->refused, &out);
+
+    struct asked empty = good;
+    empty.bytes = empty.name = NULL;
+    empty.size = empty.name_size = 0;
+    expect(row, "empty", &empty, row->empty, &out);
+}
+
+static int is_listed(const struct any *any, uint32_t status)
+{
+    for (size_t i = 0; i < any->answers_count; i++)
+        if (any->answers[i] == status) return 1;
+    return 0;
+}
+
+/* Two calls with outputs that are filled by a pattern, the second over the bytes at another address: they answer the same,
+ * a status of the list, and a refused call leaves the pattern. */
+static void try_any(const struct any *any, const struct asked *asked, const uint8_t *elsewhere)
+{
+    union output before[2], out[2], again[2];
+    struct asked moved = *asked;
+    moved.bytes = elsewhere;
+    memset(before, 0xa5, sizeof before);
+    memset(out, 0xa5, sizeof out);
+    memset(again, 0xa5, sizeof again);
+    uint32_t status = any->call(asked, out);
+    if (!is_listed(any, status)) printf("%s: status %u is not listed\n", any->name, status), faults++;
+    if (status != XMAS_ELF_OK && memcmp(before, out, sizeof out) != 0) printf("%s: refused, and it wrote\n", any->name), faults++;
+    if (any->call(&moved, again) != status || memcmp(out, again, sizeof out) != 0)
+        printf("%s: the answer depends on the address\n", any->name), faults++;
+}
+
+/* Each export over the sections and segments of the file, over no bytes, and with indices that are past all. */
+static void visit_any(const struct any *any, const struct asked *file, const uint8_t *unaligned)
+{
+    static const uint64_t indices[] = {0, 1, 2, 7, FAR, UINT64_MAX};
+    struct asked asked = *file;
+    for (asked.section = 0; asked.section < 40; asked.section++)
+        for (size_t i = 0; i < sizeof indices / sizeof *indices; i++) {
+            struct asked empty = asked;
+            asked.index = indices[i];
+            asked.part = (xmas_elf_range_t){indices[i], 64};
+            asked.name = (const uint8_t *)"every_finds_this";
+            asked.name_size = indices[i] == 7 ? 0 : 16;
+            try_any(any, &asked, unaligned);
+            empty.index = indices[i];
+            empty.bytes = empty.name = NULL;
+            empty.size = empty.name_size = 0;
+            try_any(any, &empty, NULL);
+        }
+}
+
+/* Exported, so that both hash tables have it. */
+#ifdef __GNUC__
+__attribute__((visibility("default"), used))
+#endif
+int every_finds_this;
+
+int main(int argc, char **argv)
+{
+    struct asked file = {0};
+    FILE *stream = argc == 2 ? fopen(argv[1], "rb") : NULL;
+    uint8_t *bytes = malloc(2 * ((size_t)1 << 24) + 1);
+    if (stream == NULL || bytes == NULL) return 2;
+    file.bytes = bytes;
+    file.size = fread(bytes, 1, (size_t)1 << 24, stream);
+    fclose(stream);
+    uint8_t *unaligned = bytes + file.size + 1 + file.size % 2;
+    memcpy(unaligned, bytes, file.size);
+    if (xmas_elf_open(file.bytes, file.size, &file.header) != XMAS_ELF_OK) return 2;
+    for (size_t i = 0; i < sizeof rows / sizeof *rows; i++) visit(&rows[i], file, unaligned);
+    for (size_t i = 0; i < sizeof every / sizeof *every; i++) visit_any(&every[i], &file, unaligned);
+    free(bytes);
+    if (sizeof rows / sizeof *rows != sizeof every / sizeof *every) printf("an export has no row\n"), faults++;
+    printf("%zu exports, %d faults\n", sizeof every / sizeof *every, faults);
+    return faults != 0;
+}

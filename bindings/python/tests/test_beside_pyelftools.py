@@ -1,0 +1,146 @@
+"""All parts of files beside what pyelftools reads."""
+import subprocess
+
+import beside
+
+from xmas_elf import ElfError, ElfFile, Status
+
+# Types whose data the archive doesn't give: SHT_NULL, and those that it doesn't know.
+REFUSED = (Status.NULL_DATA, Status.INVALID_SH_TYPE, Status.INVALID_PH_TYPE)
+
+
+def header(ours):
+    it = ours.header
+    sizes = (it.header_size, it.ph_entry_size, it.ph_count, it.sh_entry_size, it.sh_count, it.sh_str_index)
+    return (it.entry_point, it.ph_offset, it.sh_offset, it.flags, *sizes, it.type, it.machine, it.os_abi, it.abi_version)
+
+
+def section(it):
+    return (it.name, it.type, it.flags, it.address, it.offset, it.size, it.align, it.entry_size, it.name_index, it.link, it.info)
+
+
+def segment(it):
+    return (it.type, it.offset, it.virtual_addr, it.physical_addr, it.file_size, it.mem_size, it.align, it.flags)
+
+
+def symbol(it):
+    return (it.name, it.value, it.size, it.name_index, it.shndx, it.binding, it.type, it.visibility)
+
+
+def relocation(it):
+    return (it.offset, it.symbol, it.type, it.addend, it.has_addend)
+
+
+def note(it):
+    return (it.name.tobytes().decode("latin-1"), it.type, it.desc)
+
+
+def compare_data(ours, theirs, refused):
+    try:
+        data = ours.data()
+    except ElfError as error:
+        assert error.status in refused
+    else:
+        assert data == theirs.data()
+
+
+def compare_section(ours, theirs):
+    assert section(ours) == beside.section(theirs)
+    if ours.type != 8:  # SHT_NOBITS has no data: pyelftools gives zero bytes.
+        compare_data(ours, theirs, REFUSED)
+    if ours.type in (2, 11):
+        assert list(map(symbol, ours.symbols())) == list(map(beside.symbol, theirs.iter_symbols()))
+    elif ours.type in (4, 9):
+        assert list(map(relocation, ours.relocations())) == list(map(beside.relocation, theirs.iter_relocations()))
+    elif ours.type == 7:
+        # pyelftools pads each note to four bytes, also where the section's alignment is 8.
+        shared = 1 if ours.align == 8 else None
+        assert list(map(note, ours.notes()))[:shared] == list(map(beside.note, theirs.iter_notes()))[:shared]
+
+
+def compare_dynamic(ours, theirs):
+    table = next((it for it in theirs.iter_sections() if it["sh_type"] == "SHT_DYNAMIC"), None)
+    tags = list(table.iter_tags()) if table else []
+    assert list(ours.dynamic()) == list(map(beside.dynamic, tags))
+    assert ours.needed == [tag.needed for tag in tags if tag.entry.d_tag == "DT_NEEDED"]
+    assert ours.soname == next((tag.soname for tag in tags if tag.entry.d_tag == "DT_SONAME"), None)
+    paths = {tag.entry.d_tag: getattr(tag, tag.entry.d_tag[3:].lower()) for tag in tags if tag.entry.d_tag in ("DT_RUNPATH", "DT_RPATH")}
+    assert ours.run_path == paths.get("DT_RUNPATH", paths.get("DT_RPATH"))
+
+
+def build_id(theirs):
+    table = theirs.get_section_by_name(".note.gnu.build-id")
+    return next((note["n_desc"] for note in table.iter_notes() if note["n_type"] == "NT_GNU_BUILD_ID"), None) if table else None
+
+
+def compare(data):
+    ours, theirs = ElfFile(data), beside.opened(data)
+    assert header(ours) == beside.header(theirs)
+    assert (ours.elfclass, ours.little_endian) == (theirs.elfclass, theirs.little_endian)
+    assert (ours.num_sections(), ours.num_segments()) == (theirs.num_sections(), theirs.num_segments())
+    sections = list(ours.sections())
+    assert len(sections) == theirs.num_sections()
+    for one, other in zip(sections, theirs.iter_sections()):
+        compare_section(one, other)
+        assert ours.section(one.index) == one
+    for one, other in zip(ours.segments(), theirs.iter_segments()):
+        assert segment(one) == beside.segment(other)
+        compare_data(one, other, REFUSED)
+    compare_dynamic(ours, theirs)
+    assert (ours.build_id.hex() if ours.build_id is not None else None) == build_id(theirs)
+
+
+def compare_look_ups(data):
+    """Each dynamic symbol that is defined is found by its name."""
+    ours, theirs = ElfFile(data), beside.opened(data)
+    table = theirs.get_section_by_name(".dynsym")
+    names = {}
+    for symbol in table.iter_symbols() if table else ():
+        if symbol["st_shndx"] != "SHN_UNDEF" and symbol["st_info"]["bind"] != "STB_LOCAL":
+            names.setdefault(symbol.name, set()).add(symbol["st_value"])
+    for name, values in list(names.items())[:100]:
+        assert ours.symbol(name).value in values
+    assert ours.symbol("no such name") is None
+
+
+def test_file_of_the_system(path):
+    data = path.read_bytes()
+    compare(data)
+    compare_look_ups(data)
+
+
+def with_string_table(data):
+    """The file with the address and the size of its string table in the dynamic entries 1 and 3."""
+    file, changed = ElfFile(data), bytearray(data)
+    dynamic, strings = file.section(".dynamic"), file.section(".dynstr")
+    width, order = file.elfclass // 8, "little" if file.little_endian else "big"
+    for entry, value in ((1, strings.address), (3, strings.size)):
+        place = dynamic.offset + (2 * entry + 1) * width
+        changed[place : place + width] = value.to_bytes(width, order)
+    return bytes(changed)
+
+
+def test_file_of_each_class_and_order(worked):
+    compare(with_string_table(worked))
+
+
+def test_packed_relocations(tmp_path):
+    """The addresses in a section of type SHT_RELR, which few files of the system have."""
+    source, built = tmp_path / "packed.c", tmp_path / "packed"
+    source.write_text("int a; int *p[200] = {&a, 0, &a, [9] = &a, [150] = &a, [199] = &a}; int main(void) { return 0; }\n")
+    subprocess.run(["gcc", source, "-o", built, "-Wl,-z,pack-relative-relocs"], check=True)
+    ours = ElfFile(built.read_bytes()).section(".relr.dyn")
+    theirs = beside.opened(built.read_bytes()).get_section_by_name(".relr.dyn")
+    addresses = list(ours.packed_relocations())
+    assert addresses == [it["r_offset"] for it in theirs.iter_relocations()] and len(addresses) > 5
+
+
+def test_dynamic_texts_without_sections(tmp_path):
+    built = tmp_path / "libnamed.so"
+    words = ["-Wl,-soname,libnamed.so.1", "-Wl,-rpath,/a:/b", "-Wl,--enable-new-dtags"]
+    subprocess.run(["gcc", "-shared", "-fPIC", "-x", "c", "/dev/null", "-o", built, "-Wl,--no-as-needed", "-lm", *words], check=True)
+    data = bytearray(built.read_bytes())
+    whole = ElfFile(bytes(data))
+    data[40:48] = bytes(8)  # e_shoff
+    cut = ElfFile(data)
+    assert (cut.needed, cut.soname, cut.run_path) == (whole.needed, "libnamed.so.1", "/a:/b") and whole.needed

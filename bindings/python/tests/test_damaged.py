@@ -1,0 +1,73 @@
+"""Damaged files: each call returns, or raises ElfError, and nothing else."""
+import damage
+import pytest
+
+from xmas_elf import ElfError, ElfFile
+
+
+def tried(call):
+    """What a call gives, or None where it is refused."""
+    try:
+        return call()
+    except ElfError as error:
+        assert str(error) and error.status
+        return None
+
+
+def spent(items):
+    """The items up to the first refusal."""
+    found = []
+    tried(lambda: found.extend(items()))
+    return found
+
+
+def walk_section(section):
+    tried(section.data)
+    for items in (section.symbols, section.relocations, section.dynamic, section.notes):
+        spent(items)
+    for index in (0, 1, 1 << 40):
+        tried(lambda: section.symbol(index))
+        tried(lambda: section.text(index))
+
+
+def walk(data):
+    file = tried(lambda: ElfFile(data))
+    if file is None:
+        return 0
+    tried(file.check_header)
+    for section in spent(file.sections):
+        walk_section(section)
+    for segment in spent(file.segments):
+        tried(segment.data)
+        spent(segment.notes)
+    for items in (file.symbols, file.relocations, file.notes, file.dynamic):
+        spent(items)
+    for property in ("needed", "soname", "run_path", "build_id"):
+        tried(lambda: getattr(file, property))
+    for name in ("malloc", "one", "", "\udcff", "ä"):
+        tried(lambda: file.symbol(name))
+        tried(lambda: file.section(name))
+    tried(lambda: file.bytes_at(1 << 63, 1 << 63))
+    return 1
+
+
+@pytest.mark.parametrize("seed", (1, 2))
+def test_damaged_files(seed):
+    opened = sum(walk(damage.damaged(seed, index)) for index in range(300))
+    assert opened > 200
+
+
+@pytest.mark.parametrize("size", (0, 1, 4, 16, 51, 52, 63, 64, 65))
+def test_short_files(size):
+    whole = damage.worked(True, "little")
+    walk(whole[:size])
+
+
+def test_file_cut_in_its_sections():
+    whole = damage.worked(True, "little")
+    file = ElfFile(whole[:-1])
+    sections = iter(file.sections())
+    for _ in range(file.num_sections() - 1):
+        next(sections)
+    with pytest.raises(ElfError, match="section header offset"):
+        next(sections)

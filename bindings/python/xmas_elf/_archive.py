@@ -1,0 +1,50 @@
+"""The exports of the archive, as a shared object beside this file."""
+from __future__ import annotations
+
+import ctypes
+import pathlib
+from typing import Union
+
+from ._declarations import EXPORTS, LONGEST_MESSAGE, Status
+
+_PATH = pathlib.Path(__file__).with_name("libxmas_elf.so")
+
+
+def _loaded() -> ctypes.CDLL:
+    try:
+        library = ctypes.CDLL(str(_PATH))
+        for name, (result, parameters) in EXPORTS.items():
+            export = getattr(library, name)
+            export.restype, export.argtypes = result, parameters
+    except (OSError, AttributeError) as error:
+        wanted = "install the wheel for this system, or build it by tools/python.sh of the repository"
+        raise ImportError(f"{_PATH} can't be loaded ({error}): {wanted}", path=str(_PATH)) from error
+    return library
+
+
+library = _loaded()
+
+
+class ElfError(Exception):
+    """A file, or a part of it, is refused. Its text is that of the status."""
+
+    status: Union[Status, int]
+    """Why it is refused; a number alone where the package doesn't know the status."""
+
+    def __init__(self, status: int) -> None:
+        super().__init__(status)
+        try:
+            self.status = Status(status)
+        except ValueError:
+            self.status = status
+
+    def __str__(self) -> str:
+        text = ctypes.create_string_buffer(LONGEST_MESSAGE)
+        size = library.xmas_elf_message(int(self.status), text, LONGEST_MESSAGE)
+        return text.raw[:size].decode("ascii") or f"status {int(self.status)}"
+
+
+def check(status: int) -> None:
+    """Raises where a call is refused."""
+    if status:
+        raise ElfError(status)

@@ -1,0 +1,462 @@
+"""The records, exports and statuses of the archive. Written by tools/python_declarations.py."""
+from __future__ import annotations
+
+from ctypes import c_size_t, c_uint32, c_uint64, c_void_p
+from enum import IntEnum
+from struct import Struct
+from typing import TYPE_CHECKING, Any, Dict, NamedTuple, Optional, Tuple
+
+if TYPE_CHECKING:
+    from ._file import ElfFile
+
+
+
+class HeaderRecord(NamedTuple):
+    """The ELF header of a file (gABI, "ELF Header")."""
+
+    entry_point: int
+    """The address at which a program begins to run, or 0 (e_entry)."""
+    ph_offset: int
+    """The offset of the program header table in the file, in bytes, or 0 (e_phoff)."""
+    sh_offset: int
+    """The offset of the section header table in the file, in bytes, or 0 (e_shoff)."""
+    version: int
+    """The version of the file (e_version)."""
+    flags: int
+    """Flags of the processor (e_flags)."""
+    type: int
+    """The kind of file (e_type)."""
+    machine: int
+    """The processor that the file is for (e_machine)."""
+    header_size: int
+    """The size of the ELF header in bytes, as the file says (e_ehsize)."""
+    ph_entry_size: int
+    """The size of an entry of the program header table in bytes (e_phentsize)."""
+    ph_count: int
+    """The number of program headers, or 0xffff where it needs more than 16 bits (e_phnum)."""
+    sh_entry_size: int
+    """The size of an entry of the section header table in bytes (e_shentsize)."""
+    sh_count: int
+    """The number of section headers, or 0 where it needs more than 16 bits (e_shnum)."""
+    sh_str_index: int
+    """The index of the section with the names of sections, or 0xffff where it needs more than 16 bits
+    (e_shstrndx)."""
+    file_class: int
+    """1: class 32, 2: class 64 (EI_CLASS)."""
+    encoding: int
+    """2: big-endian; any other number is read as little-endian (EI_DATA)."""
+    header_version: int
+    """The version of the header (EI_VERSION)."""
+    os_abi: int
+    """The operating system whose extensions the file uses (EI_OSABI)."""
+    abi_version: int
+    """The version of these extensions (EI_ABIVERSION)."""
+
+
+HEADER = Struct("@QQQIIHHHHHHHHBBBBB7x0Q")
+
+
+class CountsRecord(NamedTuple):
+    """The numbers of sections and segments, also those that need more than 16 bits."""
+
+    sections: int
+    """The number of sections."""
+    segments: int
+    """The number of segments."""
+
+
+COUNTS = Struct("@QI0Q")
+
+
+class RangeRecord(NamedTuple):
+    """A byte range of the input: `input[offset .. offset + size]`. A range that a call answers lies in the input."""
+
+    offset: int
+    """The offset of the first byte, in bytes from the start of the input."""
+    size: int
+    """The number of bytes."""
+
+
+RANGE = Struct("@QQ0Q")
+
+
+class NameRecord(NamedTuple):
+    """The range of one name of many."""
+
+    range_offset: int
+    """The bytes of the name without the zero byte that ends it; offset and size are 0 where the name is refused. The
+    offset of the first byte, in bytes from the start of the input."""
+    range_size: int
+    """The bytes of the name without the zero byte that ends it; offset and size are 0 where the name is refused. The
+    number of bytes."""
+    status: int
+    """The status of this name."""
+
+
+NAME = Struct("@QQI0Q")
+
+
+class SectionRecord(NamedTuple):
+    """A section header (gABI, "Sections")."""
+
+    file: ElfFile
+    """The file."""
+    index: int  # type: ignore[assignment]
+    """The index of the section."""
+    name: Optional[str]
+    """The name, or None where it is refused."""
+    name_status: int
+    """The status of the name."""
+    flags: int
+    """The flags of the section (sh_flags)."""
+    address: int
+    """The address of the section in memory, or 0 (sh_addr)."""
+    offset: int
+    """The offset of the section's data in the file, in bytes (sh_offset)."""
+    size: int
+    """The size of the section in bytes (sh_size)."""
+    align: int
+    """The alignment of the section's address, in bytes (sh_addralign)."""
+    entry_size: int
+    """The size of an entry of the section in bytes, or 0 (sh_entsize)."""
+    name_index: int
+    """The index of the section's name in the name table, in bytes (sh_name)."""
+    type: int
+    """The type of the section (sh_type)."""
+    link: int
+    """The index of a linked section; its meaning depends on the type (sh_link)."""
+    info: int
+    """More about the section; its meaning depends on the type (sh_info)."""
+
+
+SECTION = Struct("@QQQQQQIIII0Q")
+
+
+class SegmentRecord(NamedTuple):
+    """A program header (gABI, "Program Header")."""
+
+    file: ElfFile
+    """The file."""
+    index: int  # type: ignore[assignment]
+    """The index of the segment."""
+    offset: int
+    """The offset of the segment's data in the file, in bytes (p_offset)."""
+    virtual_addr: int
+    """The address of the segment in memory (p_vaddr)."""
+    physical_addr: int
+    """The physical address of the segment, where that matters (p_paddr)."""
+    file_size: int
+    """The size of the segment in the file, in bytes (p_filesz)."""
+    mem_size: int
+    """The size of the segment in memory, in bytes (p_memsz)."""
+    align: int
+    """The alignment of the segment in memory and in the file, in bytes; 0 and 1 mean none (p_align)."""
+    type: int
+    """The type of the segment (p_type)."""
+    flags: int
+    """The permissions of the segment's memory (p_flags)."""
+
+
+SEGMENT = Struct("@QQQQQQII0Q")
+
+
+class SymbolRecord(NamedTuple):
+    """A symbol (gABI, "Symbol Table")."""
+
+    name: Optional[str]
+    """The name, or None where it is refused."""
+    name_status: int
+    """The status of the name."""
+    value: int
+    """The address of the symbol, or an offset in its section (st_value)."""
+    size: int
+    """The size of the function or object in bytes, or 0 (st_size)."""
+    name_index: int
+    """The index of the symbol's name in its string table, in bytes; 0 where it has none (st_name)."""
+    shndx: int
+    """The index of the section that the symbol belongs to, or a reserved index (st_shndx)."""
+    info: int
+    """The binding times 16, plus the type (st_info)."""
+    other: int
+    """The visibility: the remainder of this number by 4 (st_other)."""
+
+
+SYMBOL = Struct("@QQIHBB0Q")
+
+
+class RelocationRecord(NamedTuple):
+    """A relocation (gABI, "Relocation")."""
+
+    offset: int
+    """The place that is changed: an offset in its section, or an address (r_offset)."""
+    addend: int
+    """The addend; 32 bits of it count in class 32, and it is 0 in a table without addends (r_addend)."""
+    symbol: int
+    """The index of the symbol (r_info)."""
+    type: int
+    """The type of the relocation, by the processor (r_info)."""
+    has_addend: int
+    """1 in a table with addends (SHT_RELA), 0 in one without (SHT_REL)."""
+
+
+RELOCATION = Struct("@QQIII0Q")
+
+
+class DynamicRecord(NamedTuple):
+    """A dynamic entry (gABI, "Dynamic Section")."""
+
+    tag: int
+    """The tag (d_tag)."""
+    value: int
+    """A value or an address, by the tag (d_un)."""
+
+
+DYNAMIC = Struct("@QQ0Q")
+
+
+class NoteRecord(NamedTuple):
+    """A note (gABI, "Note Section"), and the notes that follow it."""
+
+    name_offset: int
+    """The name, with the zero byte that ends it (namesz bytes). The offset of the first byte, in bytes from the start
+    of the input."""
+    name_size: int
+    """The name, with the zero byte that ends it (namesz bytes). The number of bytes."""
+    desc_offset: int
+    """The description (descsz bytes). The offset of the first byte, in bytes from the start of the input."""
+    desc_size: int
+    """The description (descsz bytes). The number of bytes."""
+    rest_offset: int
+    """The bytes after the note and its padding: the next notes. The offset of the first byte, in bytes from the start
+    of the input."""
+    rest_size: int
+    """The bytes after the note and its padding: the next notes. The number of bytes."""
+    type: int
+    """The type of the note; its meaning depends on the name."""
+
+
+NOTE = Struct("@QQQQQQI0Q")
+
+
+class LookUpRecord(NamedTuple):
+    """The answer of a look-up."""
+
+    found: int
+    """1 where a symbol is found, and else 0."""
+    index: int  # type: ignore[assignment]
+    """The index of the symbol, or 0."""
+    looked_at: int
+    """The number of chain entries that the look-up read."""
+
+
+LOOK_UP = Struct("@III0I")
+
+
+class AnswerRecord(NamedTuple):
+    """The answer of one look-up of many."""
+
+    status: int
+    """The status of this look-up; where it is not OK, the numbers after it are 0."""
+    found: int
+    """1 where a symbol is found, and else 0."""
+    index: int  # type: ignore[assignment]
+    """The index of the symbol, or 0."""
+    looked_at: int
+    """The number of chain entries that the look-up read."""
+
+
+ANSWER = Struct("@IIII0I")
+
+
+# What each export answers, and its parameters: a slice is a pointer and a count.
+EXPORTS: Dict[str, Tuple[Any, Tuple[Any, ...]]] = {
+    "xmas_elf_open": (c_uint32, (c_void_p, c_size_t, c_void_p,)),
+    "xmas_elf_check_header": (c_uint32, (c_void_p, c_size_t, c_void_p,)),
+    "xmas_elf_counts": (c_uint32, (c_void_p, c_size_t, c_void_p, c_void_p,)),
+    "xmas_elf_names_index": (c_uint32, (c_void_p, c_size_t, c_void_p, c_void_p,)),
+    "xmas_elf_section": (c_uint32, (c_void_p, c_size_t, c_void_p, c_uint64, c_void_p,)),
+    "xmas_elf_sections": (c_uint32, (c_void_p, c_size_t, c_void_p, c_uint64, c_void_p, c_size_t, c_void_p,)),
+    "xmas_elf_find_section": (c_uint32, (c_void_p, c_size_t, c_void_p, c_void_p, c_size_t, c_void_p,)),
+    "xmas_elf_section_data": (c_uint32, (c_void_p, c_size_t, c_void_p, c_uint64, c_void_p,)),
+    "xmas_elf_section_name": (c_uint32, (c_void_p, c_size_t, c_void_p, c_uint64, c_void_p,)),
+    "xmas_elf_section_names": (c_uint32, (c_void_p, c_size_t, c_void_p, c_uint64, c_void_p, c_size_t, c_void_p,)),
+    "xmas_elf_names": (c_uint32, (c_void_p, c_size_t, c_void_p, c_void_p,)),
+    "xmas_elf_text": (c_uint32, (c_void_p, c_size_t, c_void_p, c_uint64, c_void_p,)),
+    "xmas_elf_section_text": (c_uint32, (c_void_p, c_size_t, c_void_p, c_uint64, c_uint64, c_void_p,)),
+    "xmas_elf_segment": (c_uint32, (c_void_p, c_size_t, c_void_p, c_uint32, c_void_p,)),
+    "xmas_elf_segments": (c_uint32, (c_void_p, c_size_t, c_void_p, c_uint64, c_void_p, c_size_t, c_void_p,)),
+    "xmas_elf_segment_data": (c_uint32, (c_void_p, c_size_t, c_void_p, c_uint32, c_void_p,)),
+    "xmas_elf_symbol": (c_uint32, (c_void_p, c_size_t, c_void_p, c_uint64, c_uint64, c_void_p,)),
+    "xmas_elf_symbols": (c_uint32, (c_void_p, c_size_t, c_void_p, c_uint64, c_uint64, c_void_p, c_size_t, c_void_p,)),
+    "xmas_elf_symbol_names": (c_uint32, (c_void_p, c_size_t, c_void_p, c_uint64, c_uint64, c_void_p, c_size_t, c_void_p,)),
+    "xmas_elf_relocation": (c_uint32, (c_void_p, c_size_t, c_void_p, c_uint64, c_uint64, c_void_p,)),
+    "xmas_elf_relocations": (c_uint32, (c_void_p, c_size_t, c_void_p, c_uint64, c_uint64, c_void_p, c_size_t, c_void_p,)),
+    "xmas_elf_packed_relocations": (c_uint32, (c_void_p, c_size_t, c_void_p, c_uint64, c_uint64, c_void_p, c_size_t, c_void_p,)),
+    "xmas_elf_dynamic": (c_uint32, (c_void_p, c_size_t, c_void_p, c_uint64, c_uint64, c_void_p,)),
+    "xmas_elf_dynamics": (c_uint32, (c_void_p, c_size_t, c_void_p, c_uint64, c_uint64, c_void_p, c_size_t, c_void_p,)),
+    "xmas_elf_note": (c_uint32, (c_void_p, c_size_t, c_void_p, c_void_p, c_uint64, c_void_p,)),
+    "xmas_elf_build_id": (c_uint32, (c_void_p, c_size_t, c_void_p, c_void_p,)),
+    "xmas_elf_bytes_at": (c_uint32, (c_void_p, c_size_t, c_void_p, c_uint64, c_uint64, c_void_p,)),
+    "xmas_elf_dynamic_text": (c_uint32, (c_void_p, c_size_t, c_void_p, c_uint64, c_void_p,)),
+    "xmas_elf_needed": (c_uint32, (c_void_p, c_size_t, c_void_p, c_uint64, c_void_p, c_size_t, c_void_p,)),
+    "xmas_elf_look_up": (c_uint32, (c_void_p, c_size_t, c_void_p, c_uint64, c_void_p, c_size_t, c_void_p,)),
+    "xmas_elf_look_ups": (None, (c_void_p, c_size_t, c_void_p, c_uint64, c_void_p, c_size_t, c_void_p, c_size_t, c_void_p, c_size_t,)),
+    "xmas_elf_check_hash": (c_uint32, (c_void_p, c_size_t, c_void_p, c_uint64,)),
+    "xmas_elf_gnu_look_up": (c_uint32, (c_void_p, c_size_t, c_void_p, c_uint64, c_void_p, c_size_t, c_void_p,)),
+    "xmas_elf_gnu_look_ups": (None, (c_void_p, c_size_t, c_void_p, c_uint64, c_void_p, c_size_t, c_void_p, c_size_t, c_void_p, c_size_t,)),
+    "xmas_elf_check_gnu_hash": (c_uint32, (c_void_p, c_size_t, c_void_p, c_uint64,)),
+    "xmas_elf_message": (c_size_t, (c_uint32, c_void_p, c_size_t,)),
+}
+
+
+class Status(IntEnum):
+    """What a call says: OK, or why it is refused. The numbers never change."""
+
+    OK = 0
+    """No refusal."""
+    SHORT_PART_1 = 1
+    """File is shorter than the first ELF header part."""
+    NO_MAGIC = 2
+    """Did not find ELF magic number."""
+    INVALID_CLASS = 3
+    """Invalid ELF class."""
+    SHORT_HEADERS = 4
+    """File is shorter than ELF headers."""
+    RESERVED_INDEX = 5
+    """Attempt to get section for a reserved index."""
+    SHORT_SECTION_HEADER = 6
+    """File is shorter than section header offset."""
+    UNKNOWN_CLASS = 7
+    """Unknown ELF class."""
+    SMALL_ENTRY = 8
+    """Entry size is smaller than the record."""
+    NO_PROGRAM_HEADERS = 9
+    """There are no program headers in this file."""
+    SHORT_PROGRAM_HEADER = 10
+    """File is shorter than program header offset."""
+    INVALID_SH_TYPE = 11
+    """Invalid sh type."""
+    NULL_NAME = 12
+    """Attempt to get name of null section."""
+    SHORT_SECTION_OFFSET = 13
+    """File is shorter than section offset."""
+    TEXT_START = 14
+    """Text starts past the end of its data."""
+    TEXT_END = 15
+    """Text has no terminating zero."""
+    TEXT_UTF_8 = 16
+    """Text is not valid UTF-8."""
+    NULL_DATA = 17
+    """Attempt to get data of a null header."""
+    DATA_RANGE = 18
+    """Data is out of range."""
+    NOT_MULTIPLE = 19
+    """Data is not a whole number of records."""
+    SHORT_DATA = 20
+    """Data is too short."""
+    NOTE_32 = 21
+    """32-bit binaries not implemented."""
+    NOTE_NAME = 22
+    """Note name does not match its size."""
+    NOTE_DESC = 23
+    """Note description is out of range."""
+    NO_STRTAB = 24
+    """no .strtab section."""
+    STRTAB_TYPE = 25
+    """expected .strtab to be StrTab."""
+    NO_DYNSTR = 26
+    """no .dynstr section."""
+    INVALID_PH_TYPE = 27
+    """Invalid type."""
+    INVALID_TAG = 28
+    """Invalid tag value."""
+    INVALID_VALUE = 29
+    """Invalid value."""
+    INVALID_PTR = 30
+    """Invalid ptr."""
+    INVALID_BINDING = 31
+    """Invalid value for binding."""
+    INVALID_SYMBOL_TYPE = 32
+    """Invalid value for type."""
+    RESERVED_SYMBOL_INDEX = 33
+    """Reserved section header index."""
+    NO_SH_INDEX = 34
+    """no .symtab_shndx section."""
+    EXPECTED_SH_INDEX = 35
+    """Expected SymTabShIndex."""
+    SYMBOL_INDEX = 36
+    """Symbol index is out of range."""
+    WIDE_INDEX = 37
+    """Section index does not fit in 16 bits."""
+    BAD_MAGIC = 38
+    """bad magic number."""
+    HEADER_SIZE = 39
+    """header_size does not match size of header."""
+    NO_CLASS = 40
+    """No class."""
+    CLASS_MISMATCH = 41
+    """Mismatch between specified and actual class."""
+    NO_VERSION = 42
+    """no version."""
+    NO_DATA_FORMAT = 43
+    """no data format."""
+    PH_TABLE_RANGE = 44
+    """program header table out of range."""
+    SH_TABLE_RANGE = 45
+    """section header table out of range."""
+    PH_SIZE_MISMATCH = 46
+    """program header size mismatch."""
+    ENTRY_POINT_RANGE = 47
+    """entry point out of range."""
+    SH_LIB_USED = 48
+    """Shouldn't use ShLib."""
+    BAD_ALIGN = 49
+    """Invalid combination of virtual_addr, offset, and align."""
+    BUCKET_INDEX = 50
+    """Bucket index is out of range."""
+    CHAIN_INDEX = 51
+    """Chain index is out of range."""
+    CHAIN_SUM = 52
+    """Chain position does not fit in 32 bits."""
+    HASH_DATA = 53
+    """Hash table data is too short."""
+    HASH_CYCLE = 54
+    """Hash chain never ends."""
+    HASH_MISSING = 55
+    """Symbol is missing from the hash table."""
+    LINK_SHORT_TABLE = 101
+    """GNU hash table is too short."""
+    LINK_UNKNOWN_CLASS = 102
+    """Class is neither 1 nor 2."""
+    LINK_BLOOM_COUNT = 103
+    """Number of Bloom words is not a power of two."""
+    LINK_BUCKET_INDEX = 104
+    """Bucket index is out of range."""
+    LINK_CHAIN_INDEX = 105
+    """Symbol index is before the first of the table."""
+    LINK_CHAIN_DATA = 106
+    """Chain is not in the data."""
+    LINK_SYMBOL_INDEX = 107
+    """Symbol index is out of range."""
+    LINK_MISSING = 108
+    """Symbol is missing from the GNU hash table."""
+    LINK_NO_DYNAMIC = 109
+    """No dynamic segment."""
+    LINK_NO_ENTRY = 110
+    """Dynamic segment has no such entry."""
+    LINK_ADDRESS = 111
+    """Address is in no loaded segment."""
+    LINK_SHORT_NOTE = 112
+    """Note is cut off."""
+    LINK_NOT_MULTIPLE = 113
+    """Data is not a whole number of words."""
+    OTHER_DATA = 201
+    """A section holds other data than what is asked for."""
+    NO_RECORD = 202
+    """A table has no record with this index."""
+    NOT_FOUND = 203
+    """Nothing has this name."""
+
+
+# The size of the longest text of a status, in bytes.
+LONGEST_MESSAGE = 54

@@ -1,0 +1,33 @@
+"""The records of a table, from the archive's memory to tuples."""
+from __future__ import annotations
+
+from ctypes import byref, c_uint64, create_string_buffer
+from itertools import chain
+from struct import Struct
+from typing import Any, Iterator, Tuple
+
+from ._archive import check, library
+from ._declarations import Status
+
+Row = Tuple[Any, ...]
+# How many records a call fills.
+ROOM = 512
+
+
+def batches(export: str, layout: Struct, *arguments: Any) -> Iterator[Iterator[Row]]:
+    """The records of a table from index 0 on, call by call. The next call fills the memory of the last one anew."""
+    call, first, filled = getattr(library, export), 0, c_uint64()
+    room = create_string_buffer(ROOM * layout.size)
+    memory = memoryview(room)
+    while True:
+        status = call(*arguments, first, room, ROOM, byref(filled))
+        if status == Status.NO_RECORD:
+            return
+        check(status)
+        yield layout.iter_unpack(memory[: filled.value * layout.size])
+        first += filled.value
+
+
+def rows(export: str, layout: Struct, *arguments: Any) -> Iterator[Row]:
+    """The records of a table from index 0 on."""
+    return chain.from_iterable(batches(export, layout, *arguments))

@@ -1,0 +1,207 @@
+//! The structs of the archive. Written by tools/exports.py.
+
+/// The ELF header of a file (gABI, "ELF Header").
+#[repr(C)]
+#[derive(Clone, Copy, Debug, Default, PartialEq, Eq)]
+pub struct Header {
+    /// The address at which a program begins to run, or 0 (e_entry).
+    pub entry_point: u64,
+    /// The offset of the program header table in the file, in bytes, or 0 (e_phoff).
+    pub ph_offset: u64,
+    /// The offset of the section header table in the file, in bytes, or 0 (e_shoff).
+    pub sh_offset: u64,
+    /// The version of the file (e_version).
+    pub version: u32,
+    /// Flags of the processor (e_flags).
+    pub flags: u32,
+    /// The kind of file (e_type).
+    pub type_: u16,
+    /// The processor that the file is for (e_machine).
+    pub machine: u16,
+    /// The size of the ELF header in bytes, as the file says (e_ehsize).
+    pub header_size: u16,
+    /// The size of an entry of the program header table in bytes (e_phentsize).
+    pub ph_entry_size: u16,
+    /// The number of program headers, or 0xffff where it needs more than 16 bits (e_phnum).
+    pub ph_count: u16,
+    /// The size of an entry of the section header table in bytes (e_shentsize).
+    pub sh_entry_size: u16,
+    /// The number of section headers, or 0 where it needs more than 16 bits (e_shnum).
+    pub sh_count: u16,
+    /// The index of the section with the names of sections, or 0xffff where it needs more than 16 bits (e_shstrndx).
+    pub sh_str_index: u16,
+    /// 1: class 32, 2: class 64 (EI_CLASS).
+    pub class: u8,
+    /// 2: big-endian; any other number is read as little-endian (EI_DATA).
+    pub encoding: u8,
+    /// The version of the header (EI_VERSION).
+    pub header_version: u8,
+    /// The operating system whose extensions the file uses (EI_OSABI).
+    pub os_abi: u8,
+    /// The version of these extensions (EI_ABIVERSION).
+    pub abi_version: u8,
+    /// Bytes without a meaning (EI_PAD).
+    pub padding: [u8; 7],
+}
+
+/// The numbers of sections and segments, also those that need more than 16 bits.
+#[repr(C)]
+#[derive(Clone, Copy, Debug, Default, PartialEq, Eq)]
+pub(crate) struct Counts {
+    /// The number of sections.
+    pub(crate) sections: u64,
+    /// The number of segments.
+    pub(crate) segments: u32,
+}
+
+/// A byte range of the input: `input[offset .. offset + size]`. A range that a call answers lies in the input.
+#[repr(C)]
+#[derive(Clone, Copy, Debug, Default, PartialEq, Eq)]
+pub struct Range {
+    /// The offset of the first byte, in bytes from the start of the input.
+    pub offset: u64,
+    /// The number of bytes.
+    pub size: u64,
+}
+
+/// The range of one name of many.
+#[repr(C)]
+#[derive(Clone, Copy, Debug, Default, PartialEq, Eq)]
+pub struct Name {
+    /// The bytes of the name without the zero byte that ends it; offset and size are 0 where the name is refused.
+    pub(crate) range: Range,
+    /// The status of this name.
+    pub(crate) status: u32,
+}
+
+/// A section header (gABI, "Sections").
+#[repr(C)]
+#[derive(Clone, Copy, Debug, Default, PartialEq, Eq)]
+pub struct SectionHeader {
+    /// The flags of the section (sh_flags).
+    pub flags: u64,
+    /// The address of the section in memory, or 0 (sh_addr).
+    pub address: u64,
+    /// The offset of the section's data in the file, in bytes (sh_offset).
+    pub offset: u64,
+    /// The size of the section in bytes (sh_size).
+    pub size: u64,
+    /// The alignment of the section's address, in bytes (sh_addralign).
+    pub align: u64,
+    /// The size of an entry of the section in bytes, or 0 (sh_entsize).
+    pub entry_size: u64,
+    /// The index of the section's name in the name table, in bytes (sh_name).
+    pub name: u32,
+    /// The type of the section (sh_type).
+    pub type_: u32,
+    /// The index of a linked section; its meaning depends on the type (sh_link).
+    pub link: u32,
+    /// More about the section; its meaning depends on the type (sh_info).
+    pub info: u32,
+}
+
+/// A program header (gABI, "Program Header").
+#[repr(C)]
+#[derive(Clone, Copy, Debug, Default, PartialEq, Eq)]
+pub struct ProgramHeader {
+    /// The offset of the segment's data in the file, in bytes (p_offset).
+    pub offset: u64,
+    /// The address of the segment in memory (p_vaddr).
+    pub virtual_addr: u64,
+    /// The physical address of the segment, where that matters (p_paddr).
+    pub physical_addr: u64,
+    /// The size of the segment in the file, in bytes (p_filesz).
+    pub file_size: u64,
+    /// The size of the segment in memory, in bytes (p_memsz).
+    pub mem_size: u64,
+    /// The alignment of the segment in memory and in the file, in bytes; 0 and 1 mean none (p_align).
+    pub align: u64,
+    /// The type of the segment (p_type).
+    pub type_: u32,
+    /// The permissions of the segment's memory (p_flags).
+    pub flags: u32,
+}
+
+/// A symbol (gABI, "Symbol Table").
+#[repr(C)]
+#[derive(Clone, Copy, Debug, Default, PartialEq, Eq)]
+pub struct Entry {
+    /// The address of the symbol, or an offset in its section (st_value).
+    pub value: u64,
+    /// The size of the function or object in bytes, or 0 (st_size).
+    pub size: u64,
+    /// The index of the symbol's name in its string table, in bytes; 0 where it has none (st_name).
+    pub name: u32,
+    /// The index of the section that the symbol belongs to, or a reserved index (st_shndx).
+    pub shndx: u16,
+    /// The binding times 16, plus the type (st_info).
+    pub info: u8,
+    /// The visibility: the remainder of this number by 4 (st_other).
+    pub other: u8,
+}
+
+/// A relocation (gABI, "Relocation").
+#[repr(C)]
+#[derive(Clone, Copy, Debug, Default, PartialEq, Eq)]
+pub struct Relocation {
+    /// The place that is changed: an offset in its section, or an address (r_offset).
+    pub offset: u64,
+    /// The addend; 32 bits of it count in class 32, and it is 0 in a table without addends (r_addend).
+    pub addend: u64,
+    /// The index of the symbol (r_info).
+    pub symbol: u32,
+    /// The type of the relocation, by the processor (r_info).
+    pub type_: u32,
+    /// 1 in a table with addends (SHT_RELA), 0 in one without (SHT_REL).
+    pub has_addend: u32,
+}
+
+/// A dynamic entry (gABI, "Dynamic Section").
+#[repr(C)]
+#[derive(Clone, Copy, Debug, Default, PartialEq, Eq)]
+pub struct Dynamic {
+    /// The tag (d_tag).
+    pub tag: u64,
+    /// A value or an address, by the tag (d_un).
+    pub value: u64,
+}
+
+/// A note (gABI, "Note Section"), and the notes that follow it.
+#[repr(C)]
+#[derive(Clone, Copy, Debug, Default, PartialEq, Eq)]
+pub(crate) struct NoteRange {
+    /// The name, with the zero byte that ends it (namesz bytes).
+    pub(crate) name: Range,
+    /// The description (descsz bytes).
+    pub(crate) desc: Range,
+    /// The bytes after the note and its padding: the next notes.
+    pub(crate) rest: Range,
+    /// The type of the note; its meaning depends on the name.
+    pub(crate) type_: u32,
+}
+
+/// The answer of a look-up.
+#[repr(C)]
+#[derive(Clone, Copy, Debug, Default, PartialEq, Eq)]
+pub struct LookUp {
+    /// 1 where a symbol is found, and else 0.
+    pub found: u32,
+    /// The index of the symbol, or 0.
+    pub index: u32,
+    /// The number of chain entries that the look-up read.
+    pub looked_at: u32,
+}
+
+/// The answer of one look-up of many.
+#[repr(C)]
+#[derive(Clone, Copy, Debug, Default, PartialEq, Eq)]
+pub struct Answer {
+    /// The status of this look-up; where it is not OK, the numbers after it are 0.
+    pub(crate) status: u32,
+    /// 1 where a symbol is found, and else 0.
+    pub(crate) found: u32,
+    /// The index of the symbol, or 0.
+    pub(crate) index: u32,
+    /// The number of chain entries that the look-up read.
+    pub(crate) looked_at: u32,
+}

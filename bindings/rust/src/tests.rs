@@ -1,0 +1,160 @@
+//! Each declaration of ffi.rs is called over the test itself, which is a file, and over no bytes.
+
+use crate::calls::{every, Asked};
+use crate::constants::*;
+use crate::records::{Answer, Dynamic, Entry, Header, Name, ProgramHeader, Range, Relocation, SectionHeader};
+use crate::{ffi, Error};
+extern crate std;
+use std::vec::Vec;
+
+fn whole() -> Vec<u8> {
+    std::fs::read(std::env::current_exe().expect("a path")).expect("the test itself is a file")
+}
+
+fn section_of_type(input: &[u8], header: &Header, wanted: u32) -> (u64, SectionHeader) {
+    let mut sections = (0..).map_while(|index| Some((index, ffi::section(input, header, index).ok()?)));
+    sections.find(|(_, section)| section.type_ == wanted).expect("the test has such a section")
+}
+
+#[test]
+fn parts_of_a_file() {
+    let input = whole();
+    let header = ffi::open(&input).expect("an ELF file");
+    assert_eq!(ffi::check_header(&input, &header), Ok(()));
+    let counts = ffi::counts(&input, &header).expect("never refused");
+    let names_index = ffi::names_index(&input, &header).expect("an index");
+    assert!(u64::from(names_index) < counts.sections && counts.segments > 0);
+    assert_eq!(ffi::segment(&input, &header, 0).map(|segment| segment.type_), Ok(PT_PHDR));
+    let size = ffi::segment(&input, &header, 0).map(|segment| segment.file_size);
+    assert_eq!(ffi::segment_data(&input, &header, 0).map(|range| range.size), size);
+    assert_eq!(ffi::segment(&input, &header, counts.segments), Err(Error::NoProgramHeaders));
+    let mut headers = [ProgramHeader::default(); 2];
+    assert_eq!(ffi::segments(&input, &header, 0, &mut headers[..1]), Ok(1));
+    assert_eq!((Ok(headers[0]), headers[1]), (ffi::segment(&input, &header, 0), ProgramHeader::default()));
+    assert_eq!(ffi::segments(&input, &header, counts.segments.into(), &mut headers), Err(Error::NoRecord));
+    let load = (0..counts.segments).filter_map(|index| ffi::segment(&input, &header, index).ok()).find(|one| one.type_ == PT_LOAD);
+    let start = load.expect("a loaded segment").virtual_addr;
+    assert_eq!(ffi::bytes_at(&input, &header, start, 4), Ok(Range { offset: 0, size: 4 }));
+    assert_eq!(ffi::bytes_at(&input, &header, u64::MAX, 1), Err(Error::LinkAddress));
+    assert_eq!(ffi::open(&input[..15]), Err(Error::ShortPart1));
+}
+
+#[test]
+fn sections_and_names() {
+    let input = whole();
+    let header = ffi::open(&input).expect("an ELF file");
+    let (index, dynamic) = section_of_type(&input, &header, SHT_DYNAMIC);
+    assert_eq!(ffi::find_section(&input, &header, b".dynamic"), Ok(dynamic));
+    assert_eq!(ffi::find_section(&input, &header, b"\xff"), Err(Error::NotFound));
+    assert_eq!(ffi::section_data(&input, &header, index), Ok(Range { offset: dynamic.offset, size: dynamic.size }));
+    let name = ffi::section_name(&input, &header, index).expect("a name");
+    assert_eq!(name.bytes_in(&input), b".dynamic");
+    let table = ffi::names(&input, &header).expect("a name table");
+    assert_eq!(ffi::text(&input, &table, u64::from(dynamic.name)), Ok(name));
+    let (mut headers, mut names) = ([SectionHeader::default(); 2], [Name::default(); 2]);
+    assert_eq!(ffi::sections(&input, &header, index, &mut headers[..1]), Ok(1));
+    assert_eq!(ffi::section_names(&input, &header, index, &mut names[..1]), Ok(1));
+    assert_eq!((headers[0], names[0].range(), names[1]), (dynamic, Ok(name), Name::default()));
+}
+
+#[test]
+fn records_of_sections() {
+    let input = whole();
+    let header = ffi::open(&input).expect("an ELF file");
+    let (symbols, symbols_header) = section_of_type(&input, &header, SHT_DYNSYM);
+    let (mut entries, mut names) = ([Entry::default(); 2], [Name::default(); 2]);
+    assert_eq!(ffi::symbols(&input, &header, symbols, 1, &mut entries[..1]), Ok(1));
+    assert_eq!(ffi::symbol(&input, &header, symbols, 1), Ok(entries[0]));
+    assert_eq!(ffi::symbol_names(&input, &header, symbols, 1, &mut names[..1]), Ok(1));
+    let strings = ffi::section_data(&input, &header, u64::from(symbols_header.link)).expect("a string table");
+    assert_eq!(names[0].range(), ffi::text(&input, &strings, u64::from(entries[0].name)));
+    assert_eq!(ffi::section_text(&input, &header, symbols_header.link.into(), entries[0].name.into()), names[0].range());
+    let relocations = section_of_type(&input, &header, SHT_RELA).0;
+    assert_eq!(ffi::relocation(&input, &header, relocations, 0).map(|one| one.has_addend), Ok(1));
+    let mut many = [Relocation::default(); 2];
+    assert_eq!(ffi::relocations(&input, &header, relocations, 1, &mut many[..1]), Ok(1));
+    assert_eq!((Ok(many[0]), many[1]), (ffi::relocation(&input, &header, relocations, 1), Relocation::default()));
+    assert_eq!(ffi::packed_relocations(&input, &header, relocations, 0, &mut [0; 2]), Err(Error::OtherData));
+    let dynamic = section_of_type(&input, &header, SHT_DYNAMIC).0;
+    assert_eq!(ffi::dynamic(&input, &header, dynamic, 0).map(|one| one.tag), Ok(DT_NEEDED));
+    assert_eq!(ffi::dynamic(&input, &header, symbols, 0), Err(Error::OtherData));
+    let mut tags = [Dynamic::default(); 2];
+    assert_eq!(ffi::dynamics(&input, &header, dynamic, 1, &mut tags[..1]), Ok(1));
+    assert_eq!((Ok(tags[0]), tags[1]), (ffi::dynamic(&input, &header, dynamic, 1), Dynamic::default()));
+    let notes = ffi::find_section(&input, &header, b".note.gnu.build-id").expect("a build id");
+    let part = Range { offset: notes.offset, size: notes.size };
+    let note = ffi::note(&input, &header, &part, notes.align).expect("a note");
+    assert_eq!((note.type_, note.rest.size), (NT_GNU_BUILD_ID, 0));
+    assert_eq!(ffi::build_id(&input, &header), Ok(note.desc));
+}
+
+#[test]
+fn texts_of_the_dynamic_segment() {
+    let input = whole();
+    let header = ffi::open(&input).expect("an ELF file");
+    let (dynamic, section) = section_of_type(&input, &header, SHT_DYNAMIC);
+    let mut names = [Name::default(); 8];
+    let count = ffi::needed(&input, &header, 0, &mut names).expect("the test needs libraries");
+    let tags = (0..).map_while(|index| ffi::dynamic(&input, &header, dynamic, index).ok());
+    let named: Vec<_> = tags.take_while(|one| one.tag != DT_NULL).filter(|one| one.tag == DT_NEEDED).collect();
+    assert!(count == named.len() as u64 && count < 8);
+    for (name, tag) in names.iter().zip(&named) {
+        assert_eq!(name.range(), ffi::section_text(&input, &header, section.link.into(), tag.value));
+    }
+    assert_eq!(ffi::dynamic_text(&input, &header, DT_NEEDED), names[0].range());
+    assert_eq!(ffi::dynamic_text(&input, &header, DT_NULL), Err(Error::NotFound));
+    assert_eq!(ffi::needed(&input, &header, count, &mut names), Err(Error::NoRecord));
+    let mut second = [Name::default(); 8];
+    assert_eq!(ffi::needed(&input, &header, 1, &mut second), if count > 1 { Ok(count - 1) } else { Err(Error::NoRecord) });
+    assert!(count < 2 || second[0] == names[1]);
+}
+
+#[test]
+fn look_ups() {
+    let input = whole();
+    let header = ffi::open(&input).expect("an ELF file");
+    let table = section_of_type(&input, &header, SHT_GNU_HASH).0;
+    assert_eq!(ffi::check_gnu_hash(&input, &header, table), Ok(()));
+    let said = ffi::gnu_look_up(&input, &header, table, b"no_such_name").expect("not refused");
+    assert_eq!((said.found, said.index), (0, 0));
+    let names = b"no_such_name\xff";
+    let ranges = [Range { offset: 0, size: 12 }, Range { offset: 12, size: 1 }, Range { offset: 13, size: 1 }];
+    let mut answers = [Answer::default(); 3];
+    ffi::gnu_look_ups(&input, &header, table, names, &ranges, &mut answers);
+    assert_eq!(answers.map(|one| one.look_up()), [Ok(said), Err(Error::TextUtf8), Err(Error::DataRange)]);
+    // The linker makes no table of this kind: the declarations of both kinds are the same.
+    assert_eq!(ffi::check_hash(&input, &header, table), Err(Error::OtherData));
+    assert_eq!(ffi::look_up(&input, &header, table, b"main"), Err(Error::OtherData));
+    ffi::look_ups(&input, &header, table, names, &ranges, &mut answers);
+    assert_eq!(answers.map(|one| one.index()), [Err(Error::OtherData), Err(Error::TextUtf8), Err(Error::DataRange)]);
+}
+
+#[test]
+fn empty_slices() {
+    let header = ffi::open(&whole()).expect("an ELF file");
+    assert_eq!(ffi::open(&[]), Err(Error::ShortPart1));
+    assert_eq!(ffi::section(&[], &header, 0), Err(Error::ShortSectionHeader));
+    assert_eq!(ffi::find_section(&[], &header, &[]), Err(Error::NotFound));
+    ffi::gnu_look_ups(&[], &header, 0, &[], &[], &mut []);
+    assert_eq!(ffi::message(203, &mut []), "Nothing has this name".len());
+}
+
+#[test]
+fn each_call_answers_what_is_listed() {
+    let whole = whole();
+    let header = ffi::open(&whole).expect("an ELF file");
+    let (mut calls, mut read) = (0, 0);
+    for (input, name) in [(&*whole, &b"main"[..]), (&[], &[])] {
+        for (section, index) in (0..40).flat_map(|section| [0, 1, 7, 1 << 40, u64::MAX].map(|index| (section, index))) {
+            let asked = Asked { input, header, part: Range { offset: index, size: 64 }, name, section, index };
+            every(&asked, |call, answer, listed| {
+                calls += 1;
+                match answer {
+                    Ok(()) => read += 1,
+                    Err(error) => assert!(listed.contains(&error), "{call}: {error:?}"),
+                }
+            });
+        }
+    }
+    assert!(calls > 400 * 20 && read > calls / 10);
+}

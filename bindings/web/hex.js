@@ -1,0 +1,153 @@
+// The bytes of the file in base 16, with the part that was chosen, and the field under the pointer or the cursor named.
+import { element } from "./dom.js";
+import { recordOf } from "./inspect.js";
+import { Pages } from "./pages.js";
+import { partsAt } from "./parts.js";
+import { escaped, hex, hexDigits, sizeText } from "./text.js";
+import { VirtualRows } from "./virtual.js";
+
+const ROW = 16;
+const ROW_HEIGHT = 22;
+const PAGE = 4096;
+
+function printable(byte) {
+  return byte >= 0x20 && byte < 0x7f ? String.fromCharCode(byte) : "·";
+}
+
+export class HexView {
+  /** @param nodes the elements `grid`, `title`, `fields` and `place`, and `follow`, which is called with an address */
+  constructor(nodes) {
+    Object.assign(this, nodes, { file: null, part: null, cursor: 0, field: null, record: null, asked: 0 });
+    this.rows = new VirtualRows({ scroller: this.grid, rowHeight: ROW_HEIGHT, make: () => this.rowNode(),
+      fill: (node, index) => this.fill(node, index) });
+    this.grid.addEventListener("keydown", (event) => this.key(event));
+    this.grid.addEventListener("pointermove", ({ target }) => this.pointAt(target));
+    this.grid.addEventListener("pointerleave", () => this.lookAt(this.cursor));
+    this.grid.addEventListener("click", ({ target }) => this.pointAt(target, true));
+  }
+
+  open(file, client) {
+    Object.assign(this, { file, client, part: null, record: null, field: null, cursor: 0 });
+    const bytes = (offset, size) => client.ask("bytes", { offset, size: Math.max(0, Math.min(size, file.size - offset)) });
+    this.pages = new Pages(PAGE, bytes, () => this.rows.draw());
+    this.digits = Math.max(8, hexDigits(file.size).length);
+    this.rows.exact = 0;
+    this.grid.scrollTop = 0;
+    this.rows.setCount(Math.ceil(file.size / ROW));
+  }
+
+  /** Shows a part from its first byte on, or from another of its bytes. */
+  show(part, offset = part.start) {
+    this.part = part;
+    this.record = null;
+    const range = `${hex(part.start)} to ${hex(part.end)}, ${sizeText(part.end - part.start)}`;
+    this.title.replaceChildren(element("strong", {}, escaped(part.label)), ` ${range}`);
+    const row = Math.floor(offset / ROW);
+    if (row < this.rows.exact || row >= this.rows.exact + this.rows.visible - 2) this.rows.goTo(row - 1);
+    this.moveTo(offset);
+  }
+
+  rowNode() {
+    const cells = Array.from({ length: ROW }, () => element("span", { class: "byte", role: "gridcell" }));
+    const texts = Array.from({ length: ROW }, () => element("span", { class: "letter" }));
+    return element("div", { class: "hexrow", role: "row" }, element("span", { class: "offset", role: "rowheader" }),
+      element("span", { class: "bytes" }, cells), element("span", { class: "letters", "aria-hidden": true }, texts));
+  }
+
+  fill(node, row) {
+    const [offset, bytes, letters] = node.children;
+    offset.textContent = hexDigits(row * ROW, this.digits);
+    node.setAttribute("aria-rowindex", row + 1);
+    for (let at = 0; at < ROW; at += 1) this.fillByte(bytes.children[at], letters.children[at], row * ROW + at);
+  }
+
+  fillByte(cell, letter, offset) {
+    const byte = offset < this.file.size ? this.pages.at(offset) : undefined;
+    cell.textContent = byte === undefined ? "  " : hexDigits(byte, 2);
+    letter.textContent = byte === undefined ? " " : printable(byte);
+    const said = this.classOf(offset, byte);
+    cell.className = `byte ${said}`;
+    letter.className = `letter ${said}`;
+    cell.id = `byte-${offset}`;
+    cell.dataset.offset = offset;
+    letter.dataset.offset = offset;
+  }
+
+  classOf(offset, byte) {
+    const holds = (range) => range && range.start <= offset && offset < range.end;
+    const words = [[holds(this.part), "inside"], [holds(this.record), "inrecord"], [holds(this.field), "infield"],
+      [offset === this.cursor, "cursor"], [byte === 0, "zero"]];
+    return words.filter(([is]) => is).map(([, word]) => word).join(" ");
+  }
+
+  pointAt(target, isClick = false) {
+    const offset = Number(target.dataset?.offset ?? NaN);
+    if (Number.isNaN(offset) || offset >= this.file.size) return;
+    if (isClick) this.moveTo(offset);
+    else this.lookAt(offset);
+  }
+
+  moveTo(offset) {
+    this.cursor = Math.max(0, Math.min(offset, this.file.size - 1));
+    this.rows.reveal(Math.floor(this.cursor / ROW));
+    this.grid.setAttribute("aria-activedescendant", `byte-${this.cursor}`);
+    this.lookAt(this.cursor);
+  }
+
+  /** Names the field at an offset, and marks its bytes. */
+  async lookAt(offset) {
+    this.asked += 1;
+    const asked = this.asked;
+    const holds = this.part && this.part.start <= offset && offset < this.part.end;
+    const part = holds ? this.part : partsAt(this.file, offset)[0];
+    const isSame = this.record && this.record.part === part && this.record.start <= offset && offset < this.record.end;
+    if (!isSame) {
+      const record = part ? await recordOf(this.file, this.client, part, offset).catch(() => null) : null;
+      if (asked !== this.asked) return;
+      this.record = record && { ...record, part };
+    }
+    this.field = this.record?.fields.find((it) => it.start <= offset && offset < it.end) ?? null;
+    this.rows.draw();
+    this.describe(offset, part);
+  }
+
+  describe(offset, part) {
+    const where = [hex(offset, this.digits), part ? escaped(part.label) : null, this.record?.title, this.field?.name];
+    this.place.textContent = where.filter((it, at, all) => it && it !== all[at - 1]).join(" › ");
+    const others = partsAt(this.file, offset).filter((it) => it !== part);
+    const rows = (this.record?.fields ?? []).map((field) => this.fieldRow(field));
+    const none = element("p", { class: "hint" }, part?.sort === "gap" ? "No part of the file claims these bytes."
+      : "The reader knows no fields in these bytes.");
+    const shared = others.length ? element("p", { class: "hint" }, `Also in: ${others.map((it) => escaped(it.label)).join(", ")}`) : null;
+    const list = rows.length ? element("div", { class: "fieldlist" }, rows) : none;
+    this.fields.replaceChildren(...[list, this.followed(), shared].filter(Boolean));
+    this.fields.querySelector(".current")?.scrollIntoView({ block: "nearest" });
+  }
+
+  // Buttons to the bytes at the addresses that the record has, in a file with loaded segments.
+  followed() {
+    const fields = (this.record?.fields ?? []).filter(({ address }) => typeof address === "bigint");
+    if (!fields.length || !this.file.segmentParts.some(({ kind }) => kind.includes("load"))) return null;
+    return element("p", { class: "follow" }, fields.map(({ name, address }) =>
+      element("button", { type: "button", onclick: () => this.follow(address) }, `Bytes at ${name}, ${hex(address)}`)));
+  }
+
+  fieldRow(field) {
+    const isCurrent = field === this.field;
+    return element("button", { type: "button", tabindex: -1, class: isCurrent ? "fieldrow current" : "fieldrow",
+      title: field.means, onclick: () => this.moveTo(field.start) },
+    element("span", { class: "fieldname" }, field.name), element("span", { class: "fieldvalue" }, field.value),
+    element("span", { class: "fieldmeans" }, field.means));
+  }
+
+  key(event) {
+    const page = this.rows.visible * ROW;
+    const start = this.cursor - (this.cursor % ROW);
+    const moves = { ArrowRight: this.cursor + 1, ArrowLeft: this.cursor - 1, ArrowDown: this.cursor + ROW,
+      ArrowUp: this.cursor - ROW, PageDown: this.cursor + page, PageUp: this.cursor - page,
+      Home: event.ctrlKey ? 0 : start, End: event.ctrlKey ? this.file?.size - 1 : start + ROW - 1 };
+    if (!this.file?.size || !(event.key in moves) || event.altKey || event.metaKey) return;
+    event.preventDefault();
+    this.moveTo(moves[event.key]);
+  }
+}

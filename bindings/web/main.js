@@ -1,0 +1,200 @@
+// The page: choosing a file, its tabs, the hex view and the progress bar.
+import { byId, element } from "./dom.js";
+import { Client } from "./client.js";
+import { HexView } from "./hex.js";
+import { LayoutMap } from "./map.js";
+import { Strip } from "./strip.js";
+import { checkHashes, stopCheck } from "./checks.js";
+import { dynamicPanel, hashesPanel, notesPanel, relocationsPanel } from "./linking.js";
+import { escaped, grouped, plural, sizeText } from "./text.js";
+import { fieldsOf } from "./fields.js";
+import { kindWords, overviewPanel } from "./overview.js";
+import { load, survey } from "./opening.js";
+import { panel, sectionsPanel, segmentsPanel } from "./tables.js";
+import { KINDS, partsAt } from "./parts.js";
+import { Progress } from "./progress.js";
+import { SymbolsPanel } from "./symbols.js";
+import { Tabs } from "./tabs.js";
+import { takeFiles } from "./choosing.js";
+
+// A module of one memory with 64-bit addresses: what the reader's module needs of the browser.
+const WIDE_MEMORY = Uint8Array.of(0, 0x61, 0x73, 0x6d, 1, 0, 0, 0, 5, 3, 1, 4, 1);
+const RECORDS = { symbols: "symbol", relocations: "rela", dynamic: "dynamic" };
+
+const page = { client: null, module: null, file: null, source: null };
+const progress = new Progress(() => page.client?.ask("stop"));
+const hexView = new HexView({ grid: byId("bytes"), title: byId("hextitle"), fields: byId("fields"), place: byId("place"),
+  follow: (address) => goToAddress(address) });
+const strip = new Strip(byId("strip"), (part) => choose(part));
+const map = new LayoutMap((part) => choose(part));
+const tabs = new Tabs(byId("tabs"), byId("panels"));
+
+function show(view) {
+  for (const name of ["welcome", "viewer"]) byId(name).hidden = name !== view;
+  document.body.dataset.view = view;
+}
+
+function say(message) {
+  byId("message").hidden = !message;
+  byId("message").replaceChildren(...(message ? [element("strong", {}, escaped(message.title)), " ", element("span", {}, escaped(message.text))] : []));
+}
+
+/** Chooses a part: marks it in the pictures and shows its bytes. */
+function choose(part, offset = part.start) {
+  byId("dock").classList.remove("closed");
+  byId("togglehex").setAttribute("aria-expanded", true);
+  strip.mark(part);
+  map.mark(part);
+  hexView.show(part, offset);
+}
+
+function chooseSection(index) {
+  const part = page.file.parts.find(({ id }) => id === `section-${index}`);
+  const headers = page.file.parts.find(({ id }) => id === "sections");
+  if (part) choose(part);
+  else if (headers) choose(headers, Math.min(headers.start + index * page.file.header.sh_entry_size, headers.end - 1));
+}
+
+function chooseSegment(index) {
+  const part = page.file.segmentParts.find(({ segment }) => segment.index === index);
+  const headers = page.file.parts.find(({ id }) => id === "segments");
+  if (part) choose(part);
+  else if (headers) choose(headers, Math.min(headers.start + index * page.file.header.ph_entry_size, headers.end - 1));
+}
+
+/** Shows the bytes of a record of a section: the record's size by its class comes from the labels of its fields. */
+function chooseRecord(record, section, row) {
+  const part = page.file.parts.find(({ id }) => id === `section-${section}`);
+  const name = record === "rela" && !row.has_addend ? "rel" : record;
+  if (part) choose(part, part.start + row.index * fieldsOf(name, page.file.header.file_class).size);
+}
+
+function layoutPanel(file) {
+  const legend = element("ul", { class: "legend" }, Object.entries({ ...KINDS, gap: "No part", overlap: "Overlap" }).map(([kind, text]) =>
+    element("li", {}, element("span", { class: `swatch ${kind}` }), text)));
+  const said = `${plural(file.parts.length, "part")} in order of their offsets. Heights grow with the logarithm of the size; the strip above is at true scale.`;
+  const node = panel("Layout", said, element("div", { class: "fill" }, map.node), legend);
+  return { node, shown: () => map.draw() };
+}
+
+function fillTabs(file, client) {
+  const records = (name) => (section, row) => chooseRecord(RECORDS[name], section, row);
+  const sum = (tables) => tables.reduce((total, { count }) => total + count, 0);
+  const notes = (note) => choose(page.file.parts.find((it) => it.start <= note.start && note.start < it.end) ?? page.file.parts[0], note.start);
+  const header = () => file.parts.find(({ id }) => id === "header");
+  tabs.fill([
+    ["Overview", null, () => overviewPanel(file, (at) => choose(header(), at))],
+    ["Layout", null, () => layoutPanel(file)],
+    ["Sections", file.sections.length, () => sectionsPanel(file, chooseSection)],
+    ["Segments", file.segments.length, () => segmentsPanel(file, chooseSegment)],
+    ["Symbols", sum(file.symbolTables), () => new SymbolsPanel(file, client, records("symbols"))],
+    ["Relocations", sum(file.relocationTables), () => relocationsPanel(file, client, records("relocations"))],
+    ["Dynamic", sum(file.dynamicTables), () => dynamicPanel(file, client, records("dynamic"))],
+    ["Notes", file.notes.length, () => notesPanel(file, client, notes)],
+    ["Hash tables", file.hashTables.length, () => hashesPanel(file, client, { choose: chooseSection, check: { stop: stopCheck } })],
+  ]);
+}
+
+function fillHead(file) {
+  byId("filename").textContent = escaped(file.name);
+  byId("filesize").textContent = sizeText(file.size);
+  byId("filesize").title = `${grouped(file.size)} bytes`;
+  byId("kinds").replaceChildren(...kindWords(file).map((word) => element("li", {}, word)));
+  document.title = `${escaped(file.name)} · ELF viewer`;
+}
+
+function refuse(message) {
+  say(message);
+  show("welcome");
+  progress.end();
+  byId("choose").focus();
+}
+
+/** Opens a file in the place of the one before. */
+async function open(source) {
+  page.client?.end("Another file is opened.");
+  const client = new Client((said) => progress.show(said));
+  Object.assign(page, { client, source, file: null });
+  document.body.dataset.state = "busy";
+  say(null);
+  progress.begin(source.name);
+  try {
+    await lookInto(client, source);
+  } catch (error) {
+    if (page.client === client) refuse({ title: `Looking into “${source.name}” ended.`, text: error.message });
+  }
+  if (page.client === client) document.body.dataset.state = "ready";
+}
+
+async function lookInto(client, source) {
+  const failure = await load(client, page.module, source);
+  if (failure) return page.client === client ? refuse(failure) : null;
+  const file = await survey(client, source);
+  if (page.client !== client) return null;
+  if (file.refused) return refuse({ title: `“${source.name}” is not opened:`, text: file.refused.message });
+  page.file = file;
+  show("viewer");
+  fillHead(file);
+  strip.open(file);
+  map.open(file);
+  hexView.open(file, client);
+  fillTabs(file, client);
+  choose(file.parts.find(({ id }) => id === "header"));
+  byId("filename").focus();
+  progress.end();
+  checkHashes(file, page.module, source);
+  return null;
+}
+
+async function example() {
+  const answer = await fetch("example.elf");
+  return open(new File([await answer.blob()], "example.elf"));
+}
+
+/** Takes an offset or an address of the field, and shows the byte there. */
+async function goTo(event) {
+  event.preventDefault();
+  const form = event.currentTarget.elements;
+  const text = form.where.value.trim();
+  if (!/^(0x)?[0-9a-f]{1,16}$/i.test(text)) return tell("Write a number in base 16, as 0x401000.");
+  const number = BigInt(`0x${text.replace(/^0x/i, "")}`);
+  if (form.what.value === "offset") return goToOffset(number);
+  return goToAddress(number);
+}
+
+async function goToAddress(address) {
+  const { offset, message } = await page.client.ask("bytesAt", { address });
+  return message ? tell(message) : goToOffset(offset);
+}
+
+function tell(text) {
+  byId("goanswer").textContent = text;
+}
+
+function goToOffset(offset) {
+  if (offset >= BigInt(page.file.size)) return tell("The file ends before this offset.");
+  tell("");
+  choose(partsAt(page.file, Number(offset))[0], Number(offset));
+  return hexView.grid.focus();
+}
+
+function toggleHex() {
+  const isClosed = byId("dock").classList.toggle("closed");
+  byId("togglehex").setAttribute("aria-expanded", !isClosed);
+}
+
+async function start() {
+  byId("example").addEventListener("click", example);
+  byId("go").addEventListener("submit", goTo);
+  byId("togglehex").addEventListener("click", toggleHex);
+  if (!WebAssembly.validate(WIDE_MEMORY)) {
+    byId("unsupported").hidden = false;
+    document.body.dataset.state = "unsupported";
+    return;
+  }
+  page.module = await WebAssembly.compile(await (await fetch("elf_c.wasm")).arrayBuffer());
+  takeFiles(open);
+  document.body.dataset.state = "ready";
+}
+
+start();

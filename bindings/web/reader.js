@@ -1,0 +1,144 @@
+// Calls the exports of the reader's module, and reads the records that they answer by.
+//
+// The file lies in the module's memory, behind room for one record of each sort, for a batch of records and for
+// the bytes of a name. How records lie in memory and which parameters a function has comes from records.js.
+import { FUNCTIONS, LONGEST_MESSAGE, RECORDS, STATUS } from "./records.js";
+
+export { STATUS };
+
+/** How many records one call for many asks for. */
+export const BATCH = 2048;
+/** How many bytes a name to look up may have. */
+export const LONGEST_NAME = 65536;
+
+const PAGE = 65536;
+const WIDEST = Math.max(...Object.values(RECORDS).map((record) => record.size));
+const ROOMS = { header: WIDEST, part: WIDEST, out: BATCH * WIDEST, count: 8, message: LONGEST_MESSAGE, name: LONGEST_NAME };
+
+/** The file is larger than the memory that the browser gives the module. */
+export class DoesNotFit extends Error {}
+
+/** The reader of one file. */
+export class Reader {
+  /** @param {WebAssembly.Module} module @param {number} size of the file, in bytes */
+  constructor(module, size) {
+    this.exports = new WebAssembly.Instance(module).exports;
+    this.memory = this.exports.memory;
+    this.size = size;
+    this.texts = new Map();
+    this.places = {};
+    let place = Math.ceil(Number(this.exports.__heap_base.value) / 16) * 16;
+    for (const [room, bytes] of Object.entries(ROOMS)) {
+      this.places[room] = place;
+      place += Math.ceil(bytes / 16) * 16;
+    }
+    this.places.input = place;
+    this.grow(place + size);
+  }
+
+  grow(needed) {
+    const missing = Math.ceil((needed - this.memory.buffer.byteLength) / PAGE);
+    if (missing <= 0) return;
+    try {
+      this.memory.grow(BigInt(missing));
+    } catch {
+      throw new DoesNotFit();
+    }
+  }
+
+  /** Puts a piece of the file to its place. */
+  put(offset, bytes) {
+    new Uint8Array(this.memory.buffer).set(bytes, this.places.input + offset);
+  }
+
+  /** The bytes `offset .. offset + size` of the file, as a view of the module's memory. */
+  bytes(offset, size) {
+    return new Uint8Array(this.memory.buffer, this.places.input + Number(offset), Number(size));
+  }
+
+  /** Whether this build of the module has an export. */
+  has(name) {
+    return `xmas_elf_${name}` in this.exports;
+  }
+
+  /** Calls an export by its name without `xmas_elf_`, with its numbers by the names of the header's parameters. */
+  call(name, given = {}) {
+    const parameters = FUNCTIONS[name].parameters.map((it) => this.argument(it, given));
+    return Number(this.exports[`xmas_elf_${name}`](...parameters));
+  }
+
+  argument(parameter, given) {
+    const { name, pointer, wide } = parameter;
+    if (name === "part") this.write("range", this.places.part, given.part);
+    if (pointer) return BigInt(this.places[name]);
+    if (name === "input_size") return BigInt(this.size);
+    return wide ? BigInt(given[name]) : Number(given[name]);
+  }
+
+  /** One record, or number of 32 bits: `{ status, record }`, without a record where the call is refused. */
+  one(name, given = {}) {
+    const status = this.call(name, given);
+    const { record } = FUNCTIONS[name].parameters.find((it) => it.name === "out");
+    const said = () => this.value({ record, size: 4 }, this.places.out);
+    return status === STATUS.OK ? { status, record: said() } : { status };
+  }
+
+  /** Many records from index `first` on: `{ status, records }`, of no records where the call is refused. */
+  many(name, given, room = BATCH) {
+    const status = this.call(name, { ...given, out_count: Math.min(room, BATCH) });
+    if (status !== STATUS.OK) return { status, records: [] };
+    const { record } = FUNCTIONS[name].parameters.find((it) => it.name === "out");
+    const count = Number(this.view().getBigUint64(this.places.count, true));
+    const at = (index) => this.read(record, this.places.out + index * RECORDS[record].size);
+    return { status, records: Array.from({ length: count }, (_, index) => at(index)) };
+  }
+
+  /** The header of the file, which the calls that follow take. */
+  open() {
+    const opened = this.one("open");
+    const { out, header } = this.places;
+    if (opened.record) new Uint8Array(this.memory.buffer).copyWithin(header, out, out + RECORDS.header.size);
+    return opened;
+  }
+
+  /** Looks a name, which is bytes, up by a hash table: `look_up` or `gnu_look_up`. */
+  lookUp(call, section, name) {
+    new Uint8Array(this.memory.buffer).set(name, this.places.name);
+    return this.one(call, { section, name_size: name.length });
+  }
+
+  /** The text of a status. */
+  message(status) {
+    if (!this.texts.has(status)) this.texts.set(status, this.textOf(status));
+    return this.texts.get(status);
+  }
+
+  textOf(status) {
+    const { message } = this.places;
+    const size = Number(this.exports.xmas_elf_message(status, BigInt(message), BigInt(LONGEST_MESSAGE)));
+    return new TextDecoder().decode(new Uint8Array(this.memory.buffer, message, size).slice());
+  }
+
+  view() {
+    if (this.held?.buffer !== this.memory.buffer) this.held = new DataView(this.memory.buffer);
+    return this.held;
+  }
+
+  read(name, place) {
+    const found = {};
+    for (const member of RECORDS[name].members) found[member.name] = this.value(member, place + member.at);
+    return found;
+  }
+
+  value({ record, size }, place) {
+    if (record) return this.read(record, place);
+    if (size === 8) return this.view().getBigUint64(place, true);
+    if (size === 4) return this.view().getUint32(place, true);
+    return size === 2 ? this.view().getUint16(place, true) : this.view().getUint8(place);
+  }
+
+  write(name, place, values) {
+    const eight = (member) => this.view().setBigUint64(place + member.at, BigInt(values[member.name]), true);
+    RECORDS[name].members.forEach(eight);
+  }
+}

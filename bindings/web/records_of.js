@@ -1,0 +1,85 @@
+// Rows of the tables in sections: symbols, relocations, dynamic entries and notes, from an index on.
+import { BATCH, STATUS } from "./reader.js";
+import { rangeText, refusal, textAt } from "./survey.js";
+
+/**
+ * How many records the section has, and why it has none, where it is refused. An index is refused with NO_RECORD from
+ * the number of records on, so that doubling and halving finds the number.
+ */
+export function count(reader, { call, section }) {
+  const first = reader.call(call, { section, index: 0 });
+  if (first !== STATUS.OK) return { count: 0, refused: first === STATUS.NO_RECORD ? null : refusal(reader, first) };
+  const has = (index) => reader.call(call, { section, index }) === STATUS.OK;
+  let below = 1;
+  while (has(below)) below *= 2;
+  return { count: between(Math.floor(below / 2), below, has), refused: null };
+}
+
+// The first index that isn't there: `there` is, `gone` isn't.
+function between(there, gone, has) {
+  while (gone - there > 1) {
+    const middle = Math.floor((there + gone) / 2);
+    if (has(middle)) there = middle;
+    else gone = middle;
+  }
+  return gone;
+}
+
+/** Symbols with their names. */
+export function symbolRows(reader, { section, first, size }) {
+  const room = Math.min(size, BATCH);
+  const symbols = reader.many("symbols", { section, first }, room);
+  const names = reader.many("symbol_names", { section, first }, room);
+  return symbols.records.map((symbol, at) => symbolRow(reader, symbol, first + at, names.records[at]));
+}
+
+function symbolRow(reader, symbol, index, name) {
+  const refused = name ? refusal(reader, name.status) : null;
+  return { index, ...symbol, text: name && !refused ? rangeText(reader, name.range) : null, refused };
+}
+
+/** One symbol with its name. */
+export function symbolAt(reader, section, index) {
+  return symbolRows(reader, { section, first: index, size: 1 })[0] ?? null;
+}
+
+/** Relocations, each with the symbol that it names in the section `symbols`. */
+export function relocationRows(reader, { section, symbols, first, size }) {
+  const rows = [];
+  for (let index = first; index < first + size; index += 1) {
+    const { record } = reader.one("relocation", { section, index });
+    if (!record) break;
+    const named = record.symbol && symbols !== null ? symbolAt(reader, symbols, record.symbol) : null;
+    rows.push({ index, ...record, named, unnamed: record.symbol && !named ? whyNot(reader, symbols, record) : null });
+  }
+  return rows;
+}
+
+function whyNot(reader, section, record) {
+  return section === null ? null : refusal(reader, reader.call("symbol", { section, index: record.symbol }));
+}
+
+/** Dynamic entries, each with the text that its value is an index of, where its tag is one of `texts`. */
+export function dynamicRows(reader, { section, strings, texts, first, size }) {
+  const rows = [];
+  for (let index = first; index < first + size; index += 1) {
+    const { record } = reader.one("dynamic", { section, index });
+    if (!record) break;
+    const isText = strings !== null && texts.includes(record.tag);
+    rows.push({ index, ...record, ...(isText ? textAt(reader, strings, record.value) : {}) });
+  }
+  return rows;
+}
+
+/** The names and descriptions of notes, of which at most `most` bytes each. */
+export function noteRows(reader, { notes, most }) {
+  const front = ({ offset, size }) => reader.bytes(offset, size > most ? most : size).slice();
+  return notes.map((note) => ({ name: front(note.name), desc: front(note.desc) }));
+}
+
+/** What a hash table says of a name, with the symbol that it finds in the section `symbols`. */
+export function lookUp(reader, { section, symbols, gnu, name }) {
+  const { status, record } = reader.lookUp(gnu ? "gnu_look_up" : "look_up", section, new TextEncoder().encode(name));
+  if (!record) return { refused: refusal(reader, status) };
+  return { ...record, symbol: record.found ? symbolAt(reader, symbols, record.index) : null };
+}

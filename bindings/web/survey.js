@@ -1,0 +1,114 @@
+// What the file has: its header, sections, segments and notes. Each answer of the reader that is a refusal becomes
+// `{ status, message }` beside what is refused.
+import { BATCH, STATUS } from "./reader.js";
+import { textOf } from "./text.js";
+
+/** At most so many notes of one section or segment are listed. */
+const MOST_NOTES = 20000;
+
+export function refusal(reader, status) {
+  return status === STATUS.OK ? null : { status, message: reader.message(status) };
+}
+
+/** The text at an index of a range: `{ text }` or `{ refused }`. */
+export function textAt(reader, part, index) {
+  const { status, record } = reader.one("text", { part, index });
+  return record ? { text: rangeText(reader, record) } : { refused: refusal(reader, status) };
+}
+
+export function rangeText(reader, { offset, size }) {
+  return textOf(reader.bytes(offset, size));
+}
+
+/** The header, what the checks of it say, and how much there is of the rest. */
+export function headerOf(reader) {
+  const { status, record: header } = reader.open();
+  if (!header) return { refused: refusal(reader, status) };
+  const names = reader.one("names");
+  const index = reader.one("names_index");
+  const buildId = reader.one("build_id");
+  return {
+    header,
+    check: refusal(reader, reader.call("check_header")),
+    counts: reader.one("counts").record,
+    names: names.record ?? null,
+    namesRefused: refusal(reader, names.status),
+    namesIndex: index.record ?? null,
+    buildId: buildId.record ? [...reader.bytes(buildId.record.offset, buildId.record.size)] : null,
+    buildIdRange: buildId.record ?? null,
+    buildIdRefused: refusal(reader, buildId.status),
+  };
+}
+
+/** The sections in order, and why they end before their count, where they do. */
+export async function sectionsOf(reader, turns) {
+  const { sections: total } = reader.one("counts").record;
+  const work = turns.begin("Sections", total);
+  const names = reader.one("names");
+  const sections = [];
+  while (!work.stopped) {
+    const { records } = reader.many("sections", { first: sections.length });
+    if (!records.length) break;
+    for (const header of records) sections.push(sectionOf(reader, header, sections.length, names));
+    await work.turn(sections.length);
+  }
+  work.end();
+  const isCut = !work.stopped && BigInt(sections.length) < total;
+  const ended = isCut ? refusal(reader, reader.call("section", { index: sections.length })) : null;
+  return { sections, total, ended, stopped: work.stopped };
+}
+
+function sectionOf(reader, header, index, names) {
+  const named = names.record ? textAt(reader, names.record, header.name) : { refused: refusal(reader, names.status) };
+  const data = reader.one("section_data", { index });
+  return { index, header, name: named.text ?? null, nameRefused: named.refused ?? null,
+    data: data.record ?? null, dataRefused: refusal(reader, data.status), check: checked(reader, "section", index) };
+}
+
+// What the check of one section or segment says, in a build of the module that exports these checks.
+function checked(reader, what, index) {
+  const call = `check_${what}`;
+  return reader.has(call) ? refusal(reader, reader.call(call, { index })) : undefined;
+}
+
+/** The segments in order, and why they end before their count, where they do. */
+export async function segmentsOf(reader, turns) {
+  const { segments: total } = reader.one("counts").record;
+  const work = turns.begin("Segments", total);
+  const segments = [];
+  let ended = null;
+  while (segments.length < total && !ended && !work.stopped) {
+    const index = segments.length;
+    const { status, record } = reader.one("segment", { index });
+    if (record) segments.push(segmentOf(reader, record, index));
+    else ended = refusal(reader, status);
+    if (index % 256 === 0) await work.turn(index);
+  }
+  work.end();
+  return { segments, total, ended, stopped: work.stopped };
+}
+
+function segmentOf(reader, header, index) {
+  const data = reader.one("segment_data", { index });
+  return { index, header, isSegment: true, data: data.record ?? null, dataRefused: refusal(reader, data.status),
+    check: checked(reader, "segment", index) };
+}
+
+/** The notes of a range, by the alignment of its section or segment. */
+export async function notesOf(reader, turns, { part, align }) {
+  const work = turns.begin("Notes", Number(part.size));
+  const notes = [];
+  let rest = part;
+  let status = STATUS.OK;
+  while (notes.length < MOST_NOTES && !work.stopped) {
+    const next = reader.one("note", { part: rest, align });
+    status = next.status;
+    if (!next.record) break;
+    notes.push({ ...next.record, start: rest.offset });
+    rest = next.record.rest;
+    if (notes.length % BATCH === 0) await work.turn(notes.length);
+  }
+  work.end();
+  const refused = status === STATUS.OK || status === STATUS.NO_RECORD ? null : refusal(reader, status);
+  return { notes, refused, cut: notes.length === MOST_NOTES };
+}

@@ -1,0 +1,2 @@
+pub mod SegmentShapes
+pub mod Shapes

@@ -1,0 +1,5 @@
+pub mod Parts
+pub mod Reported
+pub mod SegmentShapes
+pub mod Shapes
+pub mod Sound

@@ -1,0 +1,58 @@
+-- The class of a file, by its number.
+use Rattle.std.proofs.Common.{◌≡◌, ◌≢◌, ℕ, ◌==◌, Bool, true, false, List, Option, None, Some, Result, Ok, Err, if◌then◌else◌, refl, ap}
+use Rattle.std.proofs.lemmas.Bool.{eqb-true, ne_eqb}
+use Rattle.elf_base.specs.FileHeader.{file_class, file_order}
+use Rattle.elf_base.specs.HeaderNumbers.{class_of}
+use Rattle.elf_base.specs.declared.header.numbers.Class.TheVariants as class
+use Rattle.elf_base.specs.declared.bytes.Order.{Order}
+use Rattle.elf_base.specs.declared.error.ElfError.{ElfError}
+use Rattle.elf_linking.specs.DynamicView.{all_entries, before_null, dynamic_entries_of, dynamic_segment_of, entries_in, entries_of_segment, whole_entries}
+use Rattle.elf_linking.specs.Layouts.{dynamic_entry_32, dynamic_entry_64}
+use Rattle.elf_linking.specs.declared.error.LinkError.{LinkError}
+use Rattle.elf_linking.specs.declared.view.entry.DynamicEntry.{DynamicEntry}
+use Rattle.xmas_elf.specs.ProgramHeader.{program_fields, segment_data_of}
+use Rattle.xmas_elf.specs.Types.{ElfFile, ProgramHeader}
+
+narrow_pick : (a b c : Bool) (n : ℕ) → (if a then class.None else (if b then class.ThirtyTwo else (if c then class.SixtyFour else class.Other n))) ≡ class.ThirtyTwo → b ≡ true
+narrow_pick true b c n e = absurd (cc)
+narrow_pick false true c n e = refl
+narrow_pick false false true n e = absurd (cc)
+narrow_pick false false false n e = absurd (cc)
+
+wide_pick : (a b c : Bool) (n : ℕ) → (if a then class.None else (if b then class.ThirtyTwo else (if c then class.SixtyFour else class.Other n))) ≡ class.SixtyFour → c ≡ true
+wide_pick true b c n e = absurd (cc)
+wide_pick false true c n e = absurd (cc)
+wide_pick false false true n e = refl
+wide_pick false false false n e = absurd (cc)
+
+pub is_narrow : (n : ℕ) → class_of n ≡ class.ThirtyTwo → n ≡ 1
+is_narrow n e = eqb-true n 1 (narrow_pick (n == 0) (n == 1) (n == 2) n e)
+
+pub is_wide : (n : ℕ) → class_of n ≡ class.SixtyFour → n ≡ 2
+is_wide n e = eqb-true n 2 (wide_pick (n == 0) (n == 1) (n == 2) n e)
+
+pub narrow_is : (n : ℕ) → n ≡ 1 → class_of n ≡ class.ThirtyTwo
+narrow_is n e = ap class_of e
+
+pub wide_is : (n : ℕ) → n ≡ 2 → class_of n ≡ class.SixtyFour
+wide_is n e = ap class_of e
+
+-- a file that has dynamic entries, and isn't of class 32, is of class 64
+pick : (b : Bool) (class : ℕ) (one two : Result (List (DynamicEntry ℕ)) LinkError) (entries : List (DynamicEntry ℕ)) (error : LinkError) → (class == 2) ≡ b → (class == 1) ≡ false
+    → before_null (if class == 1 then one else (if class == 2 then two else Err error)) ≡ Ok entries → class ≡ 2
+pick true class one two entries error is other found = eqb-true class 2 is
+pick false class one two entries error is other found =
+    let none : before_null (if class == 1 then one else (if class == 2 then two else Err error)) ≡ Err error = rw other (rw is refl) in absurd (cc)
+
+wide_in : (file : ElfFile) (entries : List (DynamicEntry ℕ)) (found : Result (List ℕ) ElfError) → entries_in file found ≡ Ok entries → file_class file.header ≢ 1 → file_class file.header ≡ 2
+wide_in file entries (Ok bytes) found other =
+    pick (file_class file.header == 2) (file_class file.header) (whole_entries 8 (dynamic_entry_32 (file_order file.header)) bytes) (whole_entries 16 (dynamic_entry_64 (file_order file.header)) bytes) entries _ refl (ne_eqb (file_class file.header) 1 other) found
+wide_in file entries (Err error) found other = absurd (cc)
+
+wide_of : (file : ElfFile) (entries : List (DynamicEntry ℕ)) (segment : Option ProgramHeader) → entries_of_segment file segment ≡ Ok entries → file_class file.header ≢ 1 → file_class file.header ≡ 2
+wide_of file entries (Some program) found other = wide_in file entries (segment_data_of file (program_fields program)) found other
+wide_of file entries None found other = absurd (cc)
+
+pub wide_else : (file : ElfFile) (entries : List (DynamicEntry ℕ)) → dynamic_entries_of file ≡ Ok entries → file_class file.header ≢ 1 → file_class file.header ≡ 2
+unfolding dynamic_entries_of
+wide_else file entries found other = wide_of file entries (dynamic_segment_of file) found other

@@ -1,0 +1,166 @@
+-- Hash tables of either kind: their check, and look-ups (gABI, "Hash Table"; the convention of GNU binutils
+-- and glibc).
+-- The value of a name in a file, found like a dynamic linker does: by the dynamic segment, without section
+-- headers.
+use Rattle.std.specs.Prelude.{◌≡◌, ◌≢◌, ◌<◌, ◌≤◌, ℕ, List, Option, Some, None, MatchOption, MatchResult, Result, Ok, Err, slice_get, option_map}
+use Rattle.std.specs.Result.{result_ok}
+use Rattle.elf_base.specs.FileHeader.{file_order, file_class}
+use Rattle.elf_base.specs.declared.error.ElfError.TheVariants.{HashCycle}
+use Rattle.elf_base.specs.Table.{records}
+use Rattle.xmas_elf.specs.HashTable.{chain_count_of, hash_data, hash_order}
+use Rattle.xmas_elf.specs.Types.{ElfError, ElfFile, HashTable, DynEntry32, DynEntry64, Order}
+use Rattle.xmas_elf.specs.Symbol.{IsGlobal, Symbols, dyn_entry_32, dyn_entry_32_fields, dyn_entry_64, dyn_entry_64_fields}
+use Rattle.elf_linking.specs.DynamicView.{number_with, as_link_error, dynamic_entries_of}
+use Rattle.elf_linking.specs.DynamicTables.{gnu_hash_table_of, hash_table_of, IsGnuTableBy, linked_text_of, AreSymbols}
+use Rattle.elf_linking.specs.GnuHash.{first_symbol_of}
+use Rattle.elf_linking.specs.declared.any_table.AnyTable.{AnyTable}
+use Rattle.elf_linking.specs.declared.any_table.AnyTable.TheVariants.{Gnu, Sysv}
+use Rattle.elf_linking.specs.declared.error.LinkError.{LinkError}
+use Rattle.elf_linking.specs.declared.error.LinkError.TheVariants.{Elf, UnknownClass}
+use Rattle.elf_linking.specs.declared.gnu_hash.GnuHashTable.{GnuHashTable}
+use Rattle.elf_linking.specs.declared.view.entry.DynamicEntry.{DynamicEntry}
+use Rattle.elf_linking.specs.declared.view.tags.TheConstants.{DT_GNU_HASH}
+use Rattle.elf_linking.specs.declared.view.linked_entry.Linked.{Linked}
+use Rattle.elf_linking.specs.GoodGnu as gnu
+use Rattle.elf_linking.specs.Run as gnu_run
+use Rattle.xmas_elf.specs.Chain as gabi_chain
+use Rattle.xmas_elf.specs.Good as gabi
+
+-- the table is GNU's if there is an entry for it (DT_GNU_HASH), otherwise that of the standard
+pub data IsLinkedTable (file : ElfFile) (entries : List (DynamicEntry ℕ)) : AnyTable → Type 0 where
+  by_gnu : (address : ℕ) (table : GnuHashTable) → number_with DT_GNU_HASH entries ≡ Some address
+      → IsGnuTableBy file entries table → IsLinkedTable file entries (Gnu table)
+  by_hash : (table : HashTable) → number_with DT_GNU_HASH entries ≡ None
+      → hash_table_of file entries ≡ Ok (hash_data table) → hash_order table ≡ file_order file.header
+      → IsLinkedTable file entries (Sysv table)
+
+-- why there is no such table
+pub data IsTableRefused (file : ElfFile) (entries : List (DynamicEntry ℕ)) : LinkError → Type 0 where
+  no_gnu : (address : ℕ) (error : LinkError) → number_with DT_GNU_HASH entries ≡ Some address
+      → gnu_hash_table_of file entries ≡ Err error → IsTableRefused file entries error
+  no_hash : (error : LinkError) → number_with DT_GNU_HASH entries ≡ None
+      → hash_table_of file entries ≡ Err error → IsTableRefused file entries error
+
+-- look-ups in the table find what they must
+abbrev pub IsGoodBy : {E : Type 0} → AnyTable → Symbols E → Type 0
+IsGoodBy (Sysv table) symbols = gabi.IsGood table symbols
+IsGoodBy (Gnu table) symbols = gnu.IsGood table symbols
+
+-- the result of the table's check
+abbrev pub IsCheckBy : {E : Type 0} → AnyTable → Symbols E → Result (Unit {0}) LinkError → Type 0
+IsCheckBy (Sysv table) symbols (Ok _) = gabi.IsCheck table symbols (Ok tt)
+IsCheckBy (Sysv table) symbols (Err (Elf error)) = gabi.IsCheck table symbols (Err error)
+IsCheckBy (Sysv table) symbols (Err _) = ⊥
+IsCheckBy (Gnu table) symbols answer = gnu.IsCheck table symbols answer
+
+-- the result of a look-up for the name and P, and the number of symbols or chain words read
+abbrev pub LooksBy : {E : Type 0} → (E → Type 0) → AnyTable → List E → List ℕ → Result (Option (ℕ × E)) LinkError → ℕ → Type 0
+LooksBy {E} P (Sysv table) symbols name answer count = (found : Result (Option (ℕ × E)) ElfError)
+    × gabi_chain.Looks P table symbols name found count × (answer ≡ as_link_error found)
+LooksBy P (Gnu table) symbols name answer count = gnu_run.Looks P table symbols name answer count
+
+-- a bound on the number of symbols read: the chain count of the standard's table; GNU's table has no such count
+abbrev pub IsCountBy : AnyTable → ℕ → Type 0
+IsCountBy (Sysv table) count = count ≤ chain_count_of table
+IsCountBy (Gnu table) count = Unit {0}
+
+-- the number read is this one, except in a chain of the standard's table that never ends
+abbrev pub IsSameCountBy : {E : Type 0} → AnyTable → Result (Option (ℕ × E)) LinkError → ℕ → ℕ → Type 0
+IsSameCountBy (Sysv table) answer count same = answer ≢ Err (Elf HashCycle) → count ≡ same
+IsSameCountBy (Gnu table) answer count same = count ≡ same
+
+-- look-ups for the name must find symbol e at index i
+abbrev pub IsFor : {E : Type 0} → AnyTable → Symbols E → ℕ → E → List ℕ → Type 0
+IsFor (Sysv table) symbols i e name = IsGlobal symbols i e name
+IsFor (Gnu table) symbols i e name = gnu.IsExported table symbols i e name
+
+-- an index that a look-up can return: index 0 is no symbol, and GNU's tables begin at their first symbol
+abbrev pub IsIndexBy : AnyTable → ℕ → Type 0
+IsIndexBy (Sysv table) i = 0 < i
+IsIndexBy (Gnu table) i = (0 < i) × (first_symbol_of table ≤ i)
+
+-- there is no error; what is found is one of the symbols and has P, and if nothing is found, there is no such
+-- symbol that look-ups must find
+abbrev pub FindsAllBy : {E : Type 0} → AnyTable → Symbols E → List ℕ → (E → Type 0) → Result (Option (ℕ × E)) LinkError → Type 0
+FindsAllBy {E} table symbols name P answer = MatchResult answer
+    (λ found. MatchOption found ((i : ℕ) (e : E) → IsFor table symbols i e name → ¬ P e)
+    (λ (p : ℕ × E). IsIndexBy table p.0 × (slice_get symbols.items p.0 ≡ Some p.1) × P p.1))
+    (λ error. ⊥)
+
+-- symbol e at index i, which a look-up can return, has the name and is defined (its section index is not 0,
+-- SHN_UNDEF)
+pub record IsDefined {E : Type 0} (table : AnyTable) (symbols : Symbols E) (i : ℕ) (e : E) (name : List ℕ) : Type 0 where
+  pub index : IsIndexBy table i
+  pub symbol : slice_get symbols.items i ≡ Some e
+  pub named : symbols.text e ≡ Some name
+  pub defined : (symbols.fields e).shndx ≢ 0
+
+-- each symbol that look-ups for the name must find is undefined
+abbrev pub NoneDefined : {E : Type 0} → AnyTable → Symbols E → List ℕ → Type 0
+NoneDefined {E} table symbols name =
+    (i : ℕ) (e : E) → IsFor table symbols i e name → (symbols.fields e).shndx ≡ 0
+
+-- what is found is a defined symbol with the name; if nothing is found, look-ups must find none
+abbrev pub IsDefinedBy : {E : Type 0} → AnyTable → Symbols E → List ℕ → Option (ℕ × E) → Type 0
+IsDefinedBy table symbols name found = MatchOption found
+    (NoneDefined table symbols name) (λ p. IsDefined table symbols p.0 p.1 name)
+
+-- a symbol has the name and is defined
+abbrev pub HasDefinedName : {E : Type 0} → Symbols E → List ℕ → E → Type 0
+HasDefinedName symbols name e = (symbols.text e ≡ Some name) × ((symbols.fields e).shndx ≢ 0)
+
+-- the result of a look-up for a defined symbol with the name; a look-up has only one
+abbrev pub LooksForDefined : {E : Type 0} → AnyTable → Symbols E → List ℕ → Option (ℕ × E) → Type 0
+LooksForDefined table symbols name found =
+    (count : ℕ) × LooksBy (HasDefinedName symbols name) table symbols.items name (Ok found) count
+
+-- the value found is that of the symbol that a look-up for a defined symbol with the name has as its result;
+-- if there is none, look-ups must find none
+pub record IsDefinedValue {E : Type 0} (table : AnyTable) (symbols : Symbols E) (name : List ℕ) (found : Option ℕ) : Type 0 where
+  pub entry : Option (ℕ × E)
+  pub answer : LooksForDefined table symbols name entry
+  pub defined : IsDefinedBy table symbols name entry
+  pub value : found ≡ option_map (λ p. (symbols.fields p.1).value) entry
+
+-- the symbols in bytes, of either class, with their names in the string table of the dynamic segment
+abbrev pub linked_symbols_32 : ElfFile → Order → List ℕ → Symbols (Linked DynEntry32)
+linked_symbols_32 file order bytes = record {
+  items = records 16 (λ part. record { 0 = dyn_entry_32 order part }) bytes;
+  fields = λ e. dyn_entry_32_fields e.0;
+  text = λ e. result_ok (linked_text_of file (dyn_entry_32_fields e.0).name);
+}
+
+abbrev pub linked_symbols_64 : ElfFile → Order → List ℕ → Symbols (Linked DynEntry64)
+linked_symbols_64 file order bytes = record {
+  items = records 24 (λ part. record { 0 = dyn_entry_64 order part }) bytes;
+  fields = λ e. dyn_entry_64_fields e.0;
+  text = λ e. result_ok (linked_text_of file (dyn_entry_64_fields e.0).name);
+}
+
+-- the result for some symbols, after the check: the value of the name, or the error of the check
+pub data IsChecked {E : Type 0} (table : AnyTable) (symbols : Symbols E) (name : List ℕ) : Result (Option ℕ) LinkError → Type 0 where
+  passed : (found : Option ℕ) → IsGoodBy table symbols → IsDefinedValue table symbols name found
+      → IsChecked table symbols name (Ok found)
+  faulty : (error : LinkError) → IsCheckBy table symbols (Err error) → IsChecked table symbols name (Err error)
+
+-- the result for a table, by the class of the file
+pub data IsByClass (file : ElfFile) (entries : List (DynamicEntry ℕ)) (table : AnyTable) (name : List ℕ) : Result (Option ℕ) LinkError → Type 0 where
+  narrow : (bytes : List ℕ) (answer : Result (Option ℕ) LinkError) → file_class file.header ≡ 1
+      → AreSymbols file entries 16 (Ok bytes) → IsChecked table (linked_symbols_32 file (file_order file.header) bytes) name answer
+      → IsByClass file entries table name answer
+  no_narrow : (error : LinkError) → file_class file.header ≡ 1 → AreSymbols file entries 16 (Err error)
+      → IsByClass file entries table name (Err error)
+  wide : (bytes : List ℕ) (answer : Result (Option ℕ) LinkError) → file_class file.header ≡ 2
+      → AreSymbols file entries 24 (Ok bytes) → IsChecked table (linked_symbols_64 file (file_order file.header) bytes) name answer
+      → IsByClass file entries table name answer
+  no_wide : (error : LinkError) → file_class file.header ≡ 2 → AreSymbols file entries 24 (Err error)
+      → IsByClass file entries table name (Err error)
+
+-- the result for a file: the entries of its dynamic segment, then the table, then the symbols
+pub data IsFileAnswer (file : ElfFile) (name : List ℕ) : Result (Option ℕ) LinkError → Type 0 where
+  no_view : (error : LinkError) → dynamic_entries_of file ≡ Err error → IsFileAnswer file name (Err error)
+  no_table : (entries : List (DynamicEntry ℕ)) (error : LinkError) → dynamic_entries_of file ≡ Ok entries
+      → IsTableRefused file entries error → IsFileAnswer file name (Err error)
+  by_table : (entries : List (DynamicEntry ℕ)) (table : AnyTable) (answer : Result (Option ℕ) LinkError)
+      → dynamic_entries_of file ≡ Ok entries → IsLinkedTable file entries table
+      → IsByClass file entries table name answer → IsFileAnswer file name answer

@@ -1,0 +1,68 @@
+-- The layout of an entry of a dynamic segment (gABI, "Dynamic Section": Elf32_Dyn and Elf64_Dyn).
+-- The layout of a GNU hash table (the convention of GNU binutils and glibc: sections of type 0x6ffffff6,
+-- SHT_GNU_HASH, and the dynamic entry DT_GNU_HASH).
+use Rattle.std.specs.Prelude.{ℕ, List, ◌+◌, ◌*◌, ◌≤◌, Bool, true, false, IsTrue, not, nat_lt, [], ◌∷◌, length, Result}
+use Rattle.std.specs.Int.{is_power_of_two}
+use Rattle.elf_base.specs.Number.{number}
+use Rattle.elf_base.specs.declared.bytes.Order.{Order}
+use Rattle.elf_base.specs.declared.header.numbers.Class.{Class}
+use Rattle.elf_base.specs.declared.header.numbers.Class.TheVariants.{SixtyFour, ThirtyTwo}
+use Rattle.elf_base.specs.Refusal.{unless}
+use Rattle.elf_linking.specs.declared.view.entry.DynamicEntry.{DynamicEntry}
+use Rattle.elf_linking.specs.declared.error.LinkError.{LinkError}
+use Rattle.elf_linking.specs.declared.error.LinkError.TheVariants.{BloomCount, ShortTable, UnknownClass}
+
+-- an entry of class 32, of 8 bytes, and of class 64, of 16
+abbrev pub dynamic_entry_32 : Order → List ℕ → DynamicEntry ℕ
+dynamic_entry_32 order bytes = record { tag = number order 4 0 bytes; number = number order 4 4 bytes }
+
+abbrev pub dynamic_entry_64 : Order → List ℕ → DynamicEntry ℕ
+dynamic_entry_64 order bytes = record { tag = number order 8 0 bytes; number = number order 8 8 bytes }
+
+-- whether the class is 32 or 64
+abbrev pub is_known : Class → Bool
+is_known ThirtyTwo = true
+is_known SixtyFour = true
+is_known _ = false
+
+-- the size of a Bloom word of the class in bytes
+abbrev pub bloom_size : Class → ℕ
+bloom_size ThirtyTwo = 4
+bloom_size _ = 8
+
+-- the four words at its start, of four bytes each: the number of buckets, the index of the first symbol, the
+-- number of Bloom words, and the shift of the hash number for the second bit
+abbrev pub bucket_count_in : Order → List ℕ → ℕ
+bucket_count_in order bytes = number order 4 0 bytes
+
+abbrev pub first_symbol_in : Order → List ℕ → ℕ
+first_symbol_in order bytes = number order 4 4 bytes
+
+abbrev pub bloom_count_in : Order → List ℕ → ℕ
+bloom_count_in order bytes = number order 4 8 bytes
+
+abbrev pub bloom_shift_in : Order → List ℕ → ℕ
+bloom_shift_in order bytes = number order 4 12 bytes
+
+-- the offset of the buckets, after the Bloom words, and of the chain words, after the buckets
+abbrev pub buckets_in : Class → Order → List ℕ → ℕ
+buckets_in class order bytes = 16 + bloom_size class * bloom_count_in order bytes
+
+abbrev pub chains_in : Class → Order → List ℕ → ℕ
+chains_in class order bytes = buckets_in class order bytes + 4 * bucket_count_in order bytes
+
+-- the bytes are a table of this class
+pub record IsGnuTable (class : Class) (order : Order) (bytes : List ℕ) : Type 0 where
+  pub known : IsTrue (is_known class)
+  pub long : 16 ≤ length bytes
+  pub bloom : IsTrue (is_power_of_two (bloom_count_in order bytes))
+  pub whole : chains_in class order bytes ≤ length bytes
+
+-- whether the bytes are a table of this class, or the first reason why not
+unfoldable pub gnu_table_of : Class → Order → List ℕ → Result (Unit {0}) LinkError
+gnu_table_of class order bytes = unless (
+    (not (is_known class), UnknownClass)
+    ∷ (nat_lt (length bytes) 16, ShortTable)
+    ∷ (not (is_power_of_two (bloom_count_in order bytes)), BloomCount)
+    ∷ (nat_lt (length bytes) (chains_in class order bytes), ShortTable)
+    ∷ []) tt

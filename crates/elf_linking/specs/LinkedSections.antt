@@ -1,0 +1,34 @@
+-- The sections that a dynamic linker reads (gABI, "Sections": SHT_RELR; SHT_GNU_HASH of GNU binutils and
+-- glibc), in the class and byte order of the file.
+use Rattle.std.specs.Prelude.{◌≡◌, ◌≢◌, List, Option, None, Some, Result, Ok, Err, ℕ}
+use Rattle.elf_base.specs.FileHeader.{file_class, file_order}
+use Rattle.elf_base.specs.HeaderNumbers.{class_of}
+use Rattle.elf_linking.specs.DynamicTables.{checked}
+use Rattle.elf_linking.specs.DynamicView.{as_link_error}
+use Rattle.elf_linking.specs.Layouts.{gnu_table_of}
+use Rattle.elf_linking.specs.Relr.{relr_of}
+use Rattle.elf_linking.specs.declared.error.LinkError.{LinkError}
+use Rattle.xmas_elf.specs.Ranges.{range_of}
+use Rattle.xmas_elf.specs.SectionData.{section_data_of}
+use Rattle.xmas_elf.specs.SectionHeader.{section_fields}
+use Rattle.xmas_elf.specs.Types.{ElfFile, SectionHeader}
+
+-- the result is `None` if a section is of another type than this, otherwise a result with the property
+abbrev pub OnType : {A : Type 0} → ℕ → SectionHeader → (A → Type 0) → Option A → Type 0
+OnType kind section P None = (section_fields section).type_ ≢ kind
+OnType kind section P (Some answer) = ((section_fields section).type_ ≡ kind) × P answer
+
+-- the bytes of the GNU hash table in a section's data, or why there is none
+abbrev pub gnu_hash_in : ElfFile → SectionHeader → Result (List ℕ) LinkError
+gnu_hash_in file section = checked (gnu_table_of (class_of (file_class file.header)) (file_order file.header))
+    (as_link_error (section_data_of file section))
+
+-- the byte range of a section in the input, by its offset and its size, whatever its type
+abbrev pub section_range_of : ElfFile → SectionHeader → Result (List ℕ) LinkError
+section_range_of file section =
+    as_link_error (range_of file.input.now (section_fields section).offset (section_fields section).size)
+
+-- the addresses of the packed relocations in bytes, if there are bytes
+abbrev pub relr_in : ElfFile → Result (List ℕ) LinkError → Result (List ℕ) LinkError
+relr_in file (Ok bytes) = relr_of (class_of (file_class file.header)) (file_order file.header) bytes
+relr_in file (Err error) = Err error

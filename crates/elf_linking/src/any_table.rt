@@ -1,0 +1,149 @@
+//! The hash table of the symbols of a file, of either kind (gABI, "Hash Table"; the convention of
+//! GNU binutils and glibc).
+
+ghost use Rattle.std.specs.Borrow.{Bor};
+ghost use Rattle.std.specs.Prelude.{◌≡◌, ◌≢◌, ◌≤◌, ◌↔◌, ℕ, Contains, IsOk, IsTrue, MatchResult};
+ghost use Rattle.std.specs.Prelude.{Option, Result, length};
+ghost use Rattle.elf_linking.specs.declared.error.LinkError.{LinkError};
+ghost use Rattle.elf_linking.specs.DynamicView.{view_entries};
+ghost use Rattle.xmas_elf.specs.SymbolTable.{table_symbols};
+ghost use Rattle.xmas_elf.specs.Symbols.{Decides, IsMatch};
+
+use crate::LinkError;
+use crate::gnu_hash::GnuHashTable;
+use crate::view::{DT_GNU_HASH, DynamicView};
+use xmas_elf::ElfFile;
+use xmas_elf::bytes::Record;
+use xmas_elf::hash::HashTable;
+use xmas_elf::symbol_table::{Entry, SymbolTable};
+
+/// A hash table of symbols, of either kind.
+#[derive(Clone, Copy, Debug)]
+pub enum AnyTable<'a> {
+    /// The hash table of the ELF standard (`.hash`).
+    Sysv(HashTable<'a>),
+    /// GNU's hash table (`.gnu.hash`).
+    Gnu(GnuHashTable<'a>),
+}
+
+impl<'a> AnyTable<'a> {
+    ghost use Rattle.elf_linking.specs.AnyTable.{FindsAllBy, IsCheckBy, IsCountBy, IsDefinedBy};
+    ghost use Rattle.elf_linking.specs.AnyTable.{IsGoodBy, IsLinkedTable, IsSameCountBy};
+    ghost use Rattle.elf_linking.specs.AnyTable.{IsTableRefused, LooksBy, LooksForDefined};
+
+    /// The hash table of the dynamic segment: GNU's if there is an entry GnuHash, otherwise that of
+    /// the ELF standard.
+    ///
+    /// Errors: those of `DynamicView::gnu_hash_table` if there is such an entry, otherwise those of
+    /// `hash_table`.
+    pub fn read(view: &DynamicView<'a>, file: &ElfFile<'a>) -> Result<AnyTable<'a>, LinkError>
+        ensures { MatchResult result
+            (IsLinkedTable file.now (view_entries view.now))
+            (IsTableRefused file.now (view_entries view.now)) }
+    {
+        match view.entry(DT_GNU_HASH) {
+            Some(_) => match view.gnu_hash_table(file) {
+                Ok(table) => Ok(AnyTable::Gnu(table)),
+                Err(error) => Err(error),
+            },
+            None => match view.hash_table(file) {
+                Ok(table) => Ok(AnyTable::Sysv(table)),
+                Err(error) => Err(error),
+            },
+        }
+    }
+
+    /// Checks that look-ups find every symbol that the table is for: the result of the table's own
+    /// `check`, which documents the cost.
+    pub fn check<E: Entry + Record>(&self, symbols: &SymbolTable<'_, E>) -> Result<(), LinkError>
+        ensures accepts { IsOk result ↔ IsGoodBy self.now (table_symbols symbols.now) }
+        ensures exact { IsCheckBy self.now (table_symbols symbols.now) result }
+    {
+        match self {
+            AnyTable::Sysv(table) => match table.check_in(symbols) {
+                Ok(()) => Ok(()),
+                Err(error) => Err(LinkError::Elf(error)),
+            },
+            AnyTable::Gnu(table) => table.check_in(symbols),
+        }
+    }
+
+    /// The result of the table's own `lookup_in`, with the same contract.
+    pub fn lookup<E: Entry + Record, F: Fn(&E) -> bool>(
+        &self,
+        name: &str,
+        symbols: &SymbolTable<'_, E>,
+        f: F,
+    ) -> Result<Option<(u32, E)>, LinkError>
+        requires callable { (e : Bor E) → Contains (table_symbols symbols.now).items e.now
+            → F.pre f e }
+        ensures answer { let all = table_symbols symbols.now in Decides all F.Fn f → (count : ℕ)
+            × LooksBy (IsMatch all F.Fn f name.now) self.now all.items name.now result count }
+        ensures only { let all = table_symbols symbols.now in
+            Decides all F.Fn f → (other : Result (Option (ℕ × E)) LinkError) (count : ℕ)
+            → LooksBy (IsMatch all F.Fn f name.now) self.now all.items name.now other count
+            → other ≡ result }
+        ensures good { let all = table_symbols symbols.now in Decides all F.Fn f
+            → IsGoodBy self.now all
+            → FindsAllBy self.now all name.now (IsMatch all F.Fn f name.now) result }
+    {
+        self.lookup_counted(name, symbols, f).0
+    }
+
+    /// The result of the table's own `lookup_counted_in`, with the same contract.
+    pub fn lookup_counted<E: Entry + Record, F: Fn(&E) -> bool>(
+        &self,
+        name: &str,
+        symbols: &SymbolTable<'_, E>,
+        f: F,
+    ) -> (Result<Option<(u32, E)>, LinkError>, u32)
+        requires callable { (e : Bor E) → Contains (table_symbols symbols.now).items e.now
+            → F.pre f e }
+        ensures in_chains { IsCountBy self.now result.1 }
+        ensures in_symbols { result.1 ≤ length (table_symbols symbols.now).items }
+        ensures answer { let all = table_symbols symbols.now in Decides all F.Fn f
+            → LooksBy (IsMatch all F.Fn f name.now) self.now all.items name.now result.0 result.1 }
+        ensures only { let all = table_symbols symbols.now in
+            Decides all F.Fn f → (other : Result (Option (ℕ × E)) LinkError) (count : ℕ)
+            → LooksBy (IsMatch all F.Fn f name.now) self.now all.items name.now other count
+            → (other ≡ result.0) × IsSameCountBy self.now other count result.1 }
+        ensures good { let all = table_symbols symbols.now in Decides all F.Fn f
+            → IsGoodBy self.now all
+            → FindsAllBy self.now all name.now (IsMatch all F.Fn f name.now) result.0 }
+    {
+        match self {
+            AnyTable::Sysv(table) => {
+                let (found, count) = table.lookup_counted_in(name, symbols, f);
+                match found {
+                    Ok(found) => (Ok(found), count),
+                    Err(error) => (Err(LinkError::Elf(error)), count),
+                }
+            }
+            AnyTable::Gnu(table) => table.lookup_counted_in(name, symbols, f),
+        }
+    }
+
+    /// The first defined symbol with this name that a look-up comes to, by a table that has passed
+    /// its check; `None` if it comes to none, and then no symbol that look-ups must find is one.
+    pub fn defined_symbol<E: Entry + Record>(
+        &self,
+        name: &str,
+        symbols: &SymbolTable<'_, E>,
+    ) -> Option<(u32, E)>
+        requires good { IsGoodBy self.now (table_symbols symbols.now) }
+        ensures found { IsDefinedBy self.now (table_symbols symbols.now) name.now result }
+        ensures answer { LooksForDefined self.now (table_symbols symbols.now) name.now result }
+    {
+        match self.lookup(
+            name,
+            symbols,
+            |symbol| -> bool
+                ensures { IsTrue result ↔ ((E.fields symbol.now).shndx ≢ 0) }
+            { symbol.shndx() != 0 },
+        ) {
+            Ok(Some(found)) => Some(found),
+            Ok(None) => None,
+            Err(_) => unreachable!(),
+        }
+    }
+}

@@ -1,0 +1,202 @@
+//! Prints what sections hold that linkers write for loaders: `elfsections PATH..` shows notes,
+//! packed relative relocations and GNU hash tables.
+//!
+//! For each file there is a line with its path; for each such section a line with what it holds and
+//! its name; and behind that a line for each note or address, or for a hash table a line with what
+//! its check says and one for each symbol that has a name: its index, the index that a look-up of
+//! the name finds, or `-`, and the name. What is refused is a line `! ` with the reason.
+#![tactic(auto)]
+
+use elf_base::bytes::{Record, Table};
+use elf_linking::LinkError;
+use elf_linking::gnu_hash::GnuHashTable;
+use elf_linking::notes::{Note, section_notes};
+use elf_linking::relr::Relr;
+use elf_linking::sections::{section_gnu_hash, section_relr};
+use program_ends::{Stop, read_whole};
+use std::alloc::Global;
+use std::fs::File;
+use std::io::{BufWriter, Read, Write};
+use std::process::ExitCode;
+use std::{env, io};
+use thiserror::Error;
+use xmas_elf::sections::{SectionData, SectionHeader, ShType};
+use xmas_elf::symbol_table::{Entry, SymbolTable};
+use xmas_elf::{ElfError, ElfFile};
+
+/// Why a file isn't printed to its end.
+#[derive(Debug, Drop, Error)]
+enum Fault {
+    #[error("cannot read it")]
+    Read,
+    #[error("{0}")]
+    Refused(ElfError),
+    #[error("cannot write")]
+    Write,
+}
+
+fn print_note<W: Write>(note: &Note<'_>, out: &mut W) -> io::Result<()> {
+    let sizes = (note.name_bytes().len(), note.desc().len());
+    match note.name() {
+        Ok(name) => writeln!(out, "{:x} {} {} {}", note.type_(), sizes.0, sizes.1, name),
+        Err(error) => writeln!(
+            out,
+            "{:x} {} {} ! {}",
+            note.type_(),
+            sizes.0,
+            sizes.1,
+            error
+        ),
+    }
+}
+
+fn print_notes<W: Write>(
+    file: &ElfFile<'_>,
+    section: &SectionHeader,
+    out: &mut W,
+) -> io::Result<()> {
+    let notes = match section_notes(file, section) {
+        Ok(notes) => notes,
+        Err(error) => return writeln!(out, "! {}", error),
+    };
+    for note in notes {
+        match note {
+            Ok(note) => print_note(&note, out)?,
+            Err(error) => writeln!(out, "! {}", error)?,
+        }
+    }
+    Ok(())
+}
+
+fn print_addresses<W: Write>(
+    addresses: Result<Relr<'_>, LinkError>,
+    out: &mut W,
+) -> io::Result<()> {
+    let addresses = match addresses {
+        Ok(addresses) => addresses,
+        Err(error) => return writeln!(out, "! {}", error),
+    };
+    for address in addresses {
+        writeln!(out, "{:x}", address)?;
+    }
+    Ok(())
+}
+
+fn print_symbols<E: Entry + Record, W: Write>(
+    table: &GnuHashTable<'_>,
+    symbols: &Table<'_, E>,
+    file: &ElfFile<'_>,
+    out: &mut W,
+) -> io::Result<()> {
+    let named = SymbolTable::new(*symbols, file);
+    match table.check_in(&named) {
+        Ok(()) => writeln!(out, "ok")?,
+        Err(error) => writeln!(out, "! {}", error)?,
+    }
+    for (index, symbol) in symbols.iter().enumerate().skip(1) {
+        let Ok(name) = named.name_of(&symbol) else {
+            continue;
+        };
+        match table.lookup_in(name, &named, |_| true) {
+            Ok(Some((found, _))) => writeln!(out, "{} {} {}", index, found, name)?,
+            Ok(None) => writeln!(out, "{} - {}", index, name)?,
+            Err(error) => return writeln!(out, "! {}", error),
+        }
+    }
+    Ok(())
+}
+
+// The data of the section that a GNU hash table is linked to.
+fn linked_data<'a>(
+    file: &ElfFile<'a>,
+    section: &SectionHeader,
+) -> Result<SectionData<'a>, ElfError> {
+    file.section_header_at(u64::from(section.link()))?
+        .get_data(file)
+}
+
+fn print_table<W: Write>(
+    table: Result<GnuHashTable<'_>, LinkError>,
+    file: &ElfFile<'_>,
+    section: &SectionHeader,
+    out: &mut W,
+) -> io::Result<()> {
+    let table = match table {
+        Ok(table) => table,
+        Err(error) => return writeln!(out, "! {}", error),
+    };
+    match linked_data(file, section) {
+        Ok(SectionData::DynSymbolTable32(symbols)) => print_symbols(&table, &symbols, file, out),
+        Ok(SectionData::DynSymbolTable64(symbols)) => print_symbols(&table, &symbols, file, out),
+        Ok(_) => Ok(()),
+        Err(error) => writeln!(out, "! {}", error),
+    }
+}
+
+fn print_section<W: Write>(
+    file: &ElfFile<'_>,
+    section: &SectionHeader,
+    out: &mut W,
+) -> io::Result<()> {
+    let name = file.get_shstr(section.name()).unwrap_or("?");
+    if section.get_type() == Ok(ShType::Note) {
+        writeln!(out, "notes {}", name)?;
+        print_notes(file, section, out)?;
+    }
+    if let Some(addresses) = section_relr(file, section) {
+        writeln!(out, "relr {}", name)?;
+        print_addresses(addresses, out)?;
+    }
+    if let Some(table) = section_gnu_hash(file, section) {
+        writeln!(out, "hash {}", name)?;
+        print_table(table, file, section, out)?;
+    }
+    Ok(())
+}
+
+fn print_file<W: Write>(path: &str, input: &[u8], out: &mut W) -> Result<(), Stop<ElfError>> {
+    let file = ElfFile::new(input).map_err(Stop::Refused)?;
+    writeln!(out, "{}", path)?;
+    for section in file.section_iter() {
+        print_section(&file, &section, out)?;
+    }
+    Ok(())
+}
+
+fn print_path<R: Read + Drop, W: Write>(
+    alloc: Global,
+    path: &str,
+    from: Option<R>,
+    out: &mut W,
+) -> Result<(), Fault> {
+    let input = read_whole(alloc, from).ok_or(Fault::Read)?;
+    print_file(path, &input, out).map_err(|stop| match stop {
+        Stop::Refused(error) => Fault::Refused(error),
+        Stop::Write => Fault::Write,
+    })
+}
+
+// Whether all files were printed; those that couldn't be are told of on standard error.
+fn print_files(rt: &HostRuntime) -> io::Result<bool> {
+    let mut arguments = env::args(rt)?;
+    let _program = arguments.next();
+    let mut out = BufWriter::new(rt.alloc(), rt.stdout())?;
+    let mut all = true;
+    for path in arguments {
+        let path = path.as_str();
+        let file = File::open(rt, path).ok();
+        if let Err(fault) = print_path(rt.alloc(), path, file, &mut out) {
+            all = false;
+            writeln!(rt.stderr(), "elfsections: {}: {}", path, fault)?;
+        }
+    }
+    out.flush()?;
+    Ok(all)
+}
+
+fn main(rt: HostRuntime) -> ExitCode {
+    match print_files(&rt) {
+        Ok(true) => ExitCode::from(0),
+        _ => ExitCode::from(1),
+    }
+}

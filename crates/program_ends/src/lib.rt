@@ -1,0 +1,97 @@
+//! How the programs read a file, write to its end, and say why they stop.
+#![tactic(auto)]
+
+ghost use Rattle.std.specs.Prelude.{◌≡◌, [], IfOk, IfSome, IsSomeAnd, List, OnOk, Option, ℕ};
+ghost use Rattle.std.specs.Io.Buffered.{writer_buffer, writer_inner};
+ghost use Rattle.std.specs.Io.KnownBytes.{Keeps};
+
+use std::alloc::Global;
+use std::fmt::Display;
+use std::io;
+use std::io::{BufWriter, Read, Write};
+
+/// Why an output isn't written to its end.
+#[derive(Clone, Copy, Debug, Drop)]
+pub enum Stop<E> {
+    /// The input is refused, and this is why.
+    Refused(E),
+    /// The writer failed, or there was no memory for its buffer.
+    Write,
+}
+
+impl<E> From<io::Error> for Stop<E> {
+    fn from(_error: io::Error) -> Self {
+        Stop::Write
+    }
+}
+
+/// What a program writes.
+pub trait Output {
+    /// What the writer holds before and after the whole output, where it tells that.
+    ghost Writes: { Self → Option (List ℕ) → Option (List ℕ) → Type 0 };
+
+    /// A flush behind the output, which keeps what the writer holds, takes nothing from it.
+    ghost flushed: { (output : Self) (old new kept : Option (List ℕ)) → Writes output old new
+        → Keeps new kept → Writes output old kept };
+
+    /// Why the input is refused that the output is of.
+    type Refusal;
+
+    /// Writes the output.
+    fn write_to<W: Write>(&self, out: &mut W) -> Result<(), Stop<Self::Refusal>>
+        ensures { OnOk result (Writes self.now (W.contents out.old) (W.contents out.new)) };
+}
+
+/// All bytes that a reader has left; `None` where there is no reader, a read fails or memory is
+/// short.
+pub fn read_whole<R: Read + Drop>(alloc: Global, file: Option<R>) -> Option<Vec<u8>>
+    ensures { IfSome result (λ input. IsSomeAnd file (λ reader. IfSome (R.remaining reader)
+        (λ bytes. input.items ≡ bytes))) }
+{
+    let mut file = file?;
+    let mut input = Vec::new(alloc);
+    match file.read_to_end(&mut input) {
+        Ok(_) => Some(input),
+        Err(_) => None,
+    }
+}
+
+/// Writes an output through a buffer, flushes it, and gives the writer back. After a fault the
+/// buffer is thrown away.
+pub fn write_buffered<O: Output, W: Write + Drop>(
+    alloc: Global,
+    output: &O,
+    out: W,
+) -> Result<W, Stop<O::Refusal>>
+    ensures { IfOk result (λ back. O.Writes output.now (W.contents out) (W.contents back)) }
+{
+    let mut buffered = BufWriter::new(alloc, out).map_err(|_| Stop::Write)?;
+    let written = write_flushed(output, &mut buffered);
+    // Unlike a drop, this writes nothing more after a fault.
+    let (out, _) = buffered.into_parts();
+    match written {
+        Ok(()) => Ok(out),
+        Err(stop) => Err(stop),
+    }
+}
+
+fn write_flushed<O: Output, W: Write + Drop>(
+    output: &O,
+    buffered: &mut BufWriter<W>,
+) -> Result<(), Stop<O::Refusal>>
+    requires { writer_buffer buffered.old ≡ [] }
+    ensures { OnOk result (O.Writes output.now
+        (W.contents (writer_inner buffered.old)) (W.contents (writer_inner buffered.new))) }
+{
+    output.write_to(buffered)?;
+    buffered.flush()?;
+    Ok(())
+}
+
+/// Says why a program ends with status 1, as far as the writer takes it, and answers that status.
+pub fn say<F: Display, W: Write>(fault: &F, to: &mut W) -> u8
+    ensures { result ≡ 1 }
+{
+    let _ = writeln!(to, "{fault}");
+    1
+}

@@ -1,6 +1,0 @@
-//! Expected values are worked out by hand from the format,
-//! and never taken from the program's output.
-
-mod segments;
-mod want;
-mod wide;

@@ -1,5 +1,0 @@
-//! Tests of symbols and their sections.
-#![tactic(auto)]
-
-#[cfg(test)]
-mod tests;

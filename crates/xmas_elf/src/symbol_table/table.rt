@@ -1,0 +1,116 @@
+//! A symbol table with the names of its symbols (gABI, "Symbol Table" and "String Table").
+
+ghost use Rattle.std.specs.Option.{ForSome};
+ghost use Rattle.std.specs.Prelude.{◌≡◌, ◌↔◌, ◌<◌, ◌^◌, IsNone, IsSomeAnd, IsTrue, MatchOption};
+ghost use Rattle.std.specs.Prelude.{MatchResult, None, Some, length, slice_get};
+ghost use Rattle.xmas_elf.specs.SymbolName.{HoldsNames};
+ghost use Rattle.xmas_elf.specs.Symbols.{symbols_of};
+
+use crate::bytes::{Record, Table, TableIter};
+use crate::symbol_table::Entry;
+use crate::{ElfError, ElfFile};
+use elf_base::bytes::stands_at;
+
+/// A symbol table that carries the names of its symbols: the table, the string table of the names,
+/// which is found once, and the file.
+#[derive(Drop)]
+pub struct SymbolTable<'a, E: Entry + Record> {
+    table: Table<'a, E>,
+    strings: Option<Result<&'a [u8], ElfError>>,
+    file: ElfFile<'a>,
+    ghost named: { ForSome strings (HoldsNames E.fields (λ e. E.text_in e file)) },
+}
+
+impl<'a, E: Entry + Record> SymbolTable<'a, E> {
+    ghost use Rattle.elf_base.specs.Table.{table_items, table_rest};
+    ghost use Rattle.xmas_elf.specs.SymbolTable.{carried_table, table_symbols};
+
+    /// The symbols of a table of this file; their string table is found by `Entry::string_table`.
+    #[inline(always)]
+    pub fn new(table: Table<'a, E>, file: &ElfFile<'a>) -> Self
+        ensures symbols { table_symbols result
+            ≡ symbols_of E.fields E.text_in table.entry file.now }
+        ensures table { carried_table result ≡ table.entry }
+    {
+        Self {
+            table,
+            strings: E::string_table(file),
+            file: ElfFile {
+                input: file.input,
+                header: file.header,
+            },
+        }
+    }
+
+    /// The number of symbols.
+    #[inline(always)]
+    pub fn len(&self) -> usize
+        ensures { result ≡ length (table_symbols self.now).items }
+    {
+        self.table.len()
+    }
+
+    /// The table without the names.
+    #[inline(always)]
+    pub fn table(&self) -> Table<'a, E>
+        ensures { result ≡ carried_table self.now }
+    {
+        self.table
+    }
+
+    /// The symbol at an index, or `None` past the end of the table.
+    #[inline(always)]
+    pub fn get(&self, index: usize) -> Option<E>
+        ensures { result ≡ slice_get (table_symbols self.now).items index }
+    {
+        self.table.get(index)
+    }
+
+    /// An iterator over the symbols, in order.
+    #[inline(always)]
+    pub fn iter(&self) -> TableIter<'a, E>
+        ensures starts { table_rest result ≡ carried_table self.now }
+        ensures items { table_items (table_rest result) ≡ (table_symbols self.now).items }
+        ensures fits { length (table_items (table_rest result)) < 2 ^ 64 }
+    {
+        self.table.iter()
+    }
+
+    /// The name of the symbol at an index, or `None` past the end of the table. The errors are
+    /// those of `name_of`.
+    #[inline(always)]
+    pub fn name(&self, index: usize) -> Option<Result<&'a str, ElfError>>
+        ensures { MatchOption (slice_get (table_symbols self.now).items index)
+            (IsNone result)
+            (λ symbol. IsSomeAnd result (λ found. MatchResult found
+            (λ name. (table_symbols self.now).text symbol ≡ Some name.now)
+            (λ _. (table_symbols self.now).text symbol ≡ None))) }
+    {
+        let symbol = self.table.get(index)?;
+        Some(self.name_of(&symbol))
+    }
+
+    /// The name of a symbol of such a table. The errors are those of `Entry::name_in`.
+    #[inline(always)]
+    pub fn name_of(&self, symbol: &E) -> Result<&'a str, ElfError>
+        ensures { MatchResult result
+            (λ name. (table_symbols self.now).text symbol.now ≡ Some name.now)
+            (λ _. (table_symbols self.now).text symbol.now ≡ None) }
+    {
+        symbol.name_in(self.strings, &self.file)
+    }
+
+    /// Whether a symbol has this name, which is compared in place.
+    #[inline(always)]
+    pub fn has_name(&self, symbol: &E, name: &str) -> bool
+        ensures { IsTrue result ↔ ((table_symbols self.now).text symbol.now ≡ Some name.now) }
+    {
+        match self.strings {
+            Some(found) => match found {
+                Ok(strings) => stands_at(strings, symbol.name() as usize, name),
+                Err(_) => false,
+            },
+            None => matches!(symbol.get_name(&self.file), Ok(text) if text == name),
+        }
+    }
+}

@@ -1,0 +1,233 @@
+#!/usr/bin/env python3
+"""What the gate costs, in processor minutes by part.
+
+    tools/budget.py run COMMAND..   runs a part of `.ci/run`, and says behind its output what it took
+    tools/budget.py write OUTPUT    writes the table of docs/TESTS.md from the stored output of `.ci/run`
+    tools/budget.py check           fails where that table's total passes the budget, or its numbers don't add up
+    tools/budget.py dearest CRATE   the functions at which the first check of a crate stayed longest
+
+`rt ci` proves, tests and tries edits of many crates side by side and doesn't say what each took. So while it runs,
+the processes below it are looked at twice a second: a prover's command line names the crate, and whether it proves
+the tests; its folder tells a must-fail edit. What stands between two looks counts as `rest`. `tools/wrong_bodies.py`
+says itself what the checks of each crate took.
+
+`dearest` goes by the times of the files that a check keeps in out/. It tells only of a check from nothing by one job,
+as `rt check --jobs 1` is where neither this checkout nor another on the machine has kept work of the crate.
+"""
+import collections
+import datetime
+import os
+import pathlib
+import re
+import subprocess
+import sys
+import threading
+import time
+
+ROOT = pathlib.Path(__file__).resolve().parent.parent
+PAGE = ROOT / "docs" / "TESTS.md"
+HEADING = "## What the gate costs"
+
+# In processor minutes.
+BUDGET = 230
+
+TICKS = os.sysconf("SC_CLK_TCK")
+LOOKS = 0.5  # seconds between two looks
+SHOWN = 20  # functions that `dearest` lists
+
+TOOK = re.compile(r"^-- (.+): (\d+) s, (\d+) processor s$", re.M)
+PART = re.compile(r"^--   (proof|tests|must-fail|batches|rest) of (\S+): (\d+) processor s$", re.M)
+BATCHES = re.compile(r"^(\w+|the crates as they stand): (\d+) processor seconds$", re.M)
+DONE = re.compile(r"done in this run: (\d+ of the \d+) proofs")
+MACHINE = re.compile(r"^-- (\d+) processors, (.*)$", re.M)
+TOTAL = re.compile(r"^\| \*\*total\*\* \|.*\| ([\d.]+) \|$", re.M)
+KINDS = ("proof", "tests", "must-fail", "batches")
+
+
+def words_of(process: int) -> list:
+    return pathlib.Path(f"/proc/{process}/cmdline").read_bytes().decode(errors="replace").split("\0")
+
+
+def part_of(process: int):
+    """The part that a prover works for, as `tests of file_tests`; None of any other process."""
+    words = words_of(process)
+    if "--crate-name" not in words:
+        return None
+    name = words[words.index("--crate-name") + 1]
+    folder = os.readlink(f"/proc/{process}/cwd")
+    kind = "must-fail" if "/rt-edit-" in folder else "tests" if "--test" in words else "proof"
+    return f"{kind} of {name}"
+
+
+class Looks:
+    """What the processes below one have taken, by part."""
+
+    def __init__(self, top: int):
+        self.top, self.seconds, self.parts, self.is_done = top, {}, {}, threading.Event()
+
+    def look(self):
+        stats = {}
+        for name in filter(str.isdigit, os.listdir("/proc")):
+            try:
+                fields = pathlib.Path(f"/proc/{name}/stat").read_text(errors="replace").rpartition(")")[2].split()
+                stats[int(name)] = (int(fields[1]), (int(fields[11]) + int(fields[12])) / TICKS, fields[19])
+            except (OSError, IndexError):
+                continue
+        for process, (_, seconds, began) in stats.items():
+            part = self.part_above(process, stats)
+            if part:
+                # A number is used again, by a process that began at another time.
+                self.seconds[process, began], self.parts[process, began] = seconds, part
+
+    def part_above(self, process: int, stats: dict):
+        """The part of the nearest prover at or above a process, below the top."""
+        found = None
+        while process in stats and process != self.top:
+            try:
+                found = found or part_of(process)
+            except OSError:
+                return None
+            process = stats[process][0]
+        return found if process == self.top else None
+
+    def run(self):
+        while not self.is_done.wait(LOOKS):
+            self.look()
+
+    def sums(self) -> collections.Counter:
+        sums = collections.Counter()
+        for process, seconds in self.seconds.items():
+            sums[self.parts[process]] += seconds
+        return sums
+
+
+def run(words: list) -> int:
+    """Runs a command, and says what it took, and of `rt ci` what each of its parts did."""
+    began = time.monotonic()
+    with subprocess.Popen(words) as started:
+        looks = Looks(started.pid)
+        watching = threading.Thread(target=looks.run) if words[0] == "rt" else None
+        if watching:
+            watching.start()
+        _, status, used = os.wait4(started.pid, 0)
+        started.returncode = os.waitstatus_to_exitcode(status)
+        looks.is_done.set()
+        if watching:
+            watching.join()
+    whole, sums = used.ru_utime + used.ru_stime, looks.sums()
+    for part, seconds in sorted(sums.items()):
+        print(f"--   {part}: {seconds:.0f} processor s")
+    if sums:
+        print(f"--   rest of rt: {max(whole - sum(sums.values()), 0):.0f} processor s")
+    print(f"-- {' '.join(words)}: {time.monotonic() - began:.0f} s, {whole:.0f} processor s", flush=True)
+    return started.returncode if started.returncode >= 0 else 1
+
+
+def minutes(seconds: float) -> str:
+    return f"{seconds / 60:.1f}"
+
+
+def table(output: str) -> str:
+    """The section of the page, from the output of a run of the gate."""
+    took = TOOK.findall(output)
+    cells = collections.defaultdict(collections.Counter)
+    for kind, name, seconds in PART.findall(output):
+        cells[name][kind] += int(seconds)
+    for name, seconds in BATCHES.findall(output):
+        cells[name]["batches"] += int(seconds)
+    # What stands in no row of a crate: the scripts, and of the two watched parts what is left.
+    watched = {"rt ci": sum(cells[name][kind] for name in cells for kind in KINDS[:3])}
+    batches = sum(cells[name]["batches"] for name in cells)
+    rows = []
+    for name in sorted(cells, key=lambda it: -sum(cells[it][kind] for kind in KINDS)):
+        of = [cells[name][kind] for kind in KINDS]
+        if sum(of):
+            rows.append(f"| {name} | " + " | ".join(minutes(it) if it else "" for it in of) + f" | {minutes(sum(of))} |")
+    for what, _, seconds in took:
+        own = watched.get(what, batches if what.startswith("tools/wrong_bodies.py") and "--self-test" not in what else 0)
+        rest = max(int(seconds) - own, 0)
+        what = f"`{what}`" + (", the rest" if own else "")
+        if rest >= 3:
+            rows.append(f"| {what} | | | | | {minutes(rest)} |")
+    sums = [sum(cells[name][kind] for name in cells) for kind in KINDS]
+    whole = sum(int(seconds) for _, _, seconds in took)
+    wall = sum(int(seconds) for _, seconds, _ in took)
+    rows.append("| **total** | " + " | ".join(map(minutes, sums)) + f" | {minutes(whole)} |")
+    machine = MACHINE.search(output)
+    where = f"{machine[2].split(',')[0]} with {machine[1]} processors" if machine else "a machine"
+    done = DONE.search(output)
+    share = f" Of the proofs {done[1]} were done in this run; the others had been done on the machine before." if done else ""
+    commit = subprocess.run(["git", "rev-parse", "--short", "HEAD"], cwd=ROOT, capture_output=True, text=True, check=False).stdout.strip()
+    said = f"Measured at {commit} by `.ci/run` on {where}. Processor minutes by part; the run took {minutes(wall)} minutes, {datetime.date.today()}.{share}"
+    head = "| Part | proof | tests | must-fail | batches | together |\n|---|---:|---:|---:|---:|---:|"
+    return "\n\n".join([HEADING, ABOUT, said, "\n".join([head, *rows])]) + "\n"
+
+
+ABOUT = f"""Written by `tools/budget.py write OUTPUT` from the output of `.ci/run`, and checked in it: the total may be {BUDGET} processor minutes. `rt ci` takes what it proved earlier on the machine from there; a run that is to be measured has `rt ci --anew` in its place, or a machine that has proved nothing."""
+
+
+def write(path: str) -> int:
+    output, page = pathlib.Path(path).read_text(encoding="utf-8", errors="replace"), PAGE.read_text(encoding="utf-8")
+    if not TOOK.search(output):
+        print(f"{path}: no part of the gate stands there")
+        return 1
+    begin = page.find(HEADING)
+    end = page.find("\n## ", begin + 1) + 1 or len(page)
+    if begin < 0:
+        begin = end = page.index("\n## ") + 1
+    PAGE.write_text(page[:begin] + table(output) + "\n" + page[end:].lstrip("\n"), encoding="utf-8")
+    return check()
+
+
+def check() -> int:
+    page = PAGE.read_text(encoding="utf-8")
+    begin = page.find(HEADING)
+    section = page[begin : page.find("\n## ", begin + 1)] if begin >= 0 else ""
+    total = TOTAL.search(section)
+    if not total:
+        print("docs/TESTS.md: the table of what the gate costs has no total")
+        return 1
+    rows = re.findall(r"^\| (?!\*\*total|Part).*\| ([\d.]+) \|$", section, re.M)
+    whole, parts = float(total[1]), sum(map(float, rows))
+    # Each row is rounded, and parts below three seconds have none.
+    if abs(whole - parts) > 0.1 * (len(rows) + 1):
+        print(f"docs/TESTS.md: the parts are {parts:.1f} processor minutes, and the total is {whole:.1f}")
+        return 1
+    print(f"the gate took {whole:.1f} of {BUDGET} processor minutes when it was last measured")
+    if whole > BUDGET:
+        print("FAILED: that is more than the budget")
+    return 1 if whole > BUDGET else 0
+
+
+def dearest(name: str) -> int:
+    """Prints the functions whose files a check wrote after the longest waits, in seconds."""
+    folders = [it for it in ROOT.glob(f"crates/{name}/out/incremental/*") if it.is_dir()]
+    kept = sorted((it.stat().st_mtime, it.stem) for folder in folders for it in folder.glob(f"Rattle-{name}*.oantt"))
+    if not kept:
+        print(f"crates/{name}/out keeps no check")
+        return 1
+    waits = collections.Counter()
+    for (before, _), (after, stem) in zip(kept, kept[1:]):
+        # `Rattle-CRATE-proofs.PATH.PART`
+        waits[re.sub(r"^Rattle-\w+(-proofs)?\.(specs\.contracts\.)?|\.\w+$", "", stem)] += after - before
+    print(f"{name}: {kept[-1][0] - kept[0][0]:.0f} s")
+    for function, seconds in waits.most_common(SHOWN):
+        print(f"{seconds:6.1f} {function}")
+    return 0
+
+
+def main(words: list) -> int:
+    if words[:1] == ["run"] and len(words) > 1:
+        return run(words[1:])
+    if words[:1] == ["write"] and len(words) == 2:
+        return write(words[1])
+    if words == ["check"]:
+        return check()
+    if words[:1] == ["dearest"] and len(words) == 2:
+        return dearest(words[1])
+    print(__doc__, file=sys.stderr)
+    return 2
+
+
+if __name__ == "__main__":
+    sys.exit(main(sys.argv[1:]))

@@ -1,0 +1,77 @@
+#!/usr/bin/env bash
+# Builds the page that looks into a file, and serves it on the loopback address.
+#   tools/web.sh [--port N]   builds bindings/web/out/site and serves it at http://127.0.0.1:N, 8042 where none is given
+#   tools/web.sh --build      builds it alone: the folder can then be put on any server of static files
+#   tools/web.sh --test       builds it and tests it by tools/web_page.py, where Chromium is installed, and else says so
+# XMAS_ELF_MODULE: a file elf_c.wasm; where it isn't set, `rt lib` makes it of crates/elf_c and what that uses.
+set -euo pipefail
+cd "$(dirname "$0")/.."
+web=bindings/web
+site="$web/out/site"
+uses=(elf_base elf_records xmas_elf elf_linking elf_c)
+port=8042 does=serve
+case "${1:-}" in
+    --port) port="$2" ;;
+    --build | --test) does="${1#--}" ;;
+    "") ;;
+    *) sed -n '2,6s/^# //p' "$0"; exit 2 ;;
+esac
+
+# The checksum of all that the module is built of.
+sources() {
+    { cat crates.txt; find "${uses[@]/#/crates/}" -path '*/out' -prune -o \( -name '*.rt' -o -name '*.antt' \) -print0 | sort -z | xargs -0 cat; } | sha256sum
+}
+
+# crates.txt builds `elf_c` for x86-64. The module is built of a copy of the sources, whose line says wasm64; the copy begins
+# with what was proved here.
+module() {
+    local sum tree
+    sum="$(sources)"
+    if [ -f "$web/out/elf_c.wasm" ] && [ "$sum" = "$(cat "$web/out/sum" 2> /dev/null)" ]; then return; fi
+    tree="$(mktemp -d)"
+    trap 'rm -rf "$tree"' RETURN
+    cp HANDLES "$tree/"
+    sed -E -n "/^($(IFS='|'; echo "${uses[*]}"))[ :]/p" crates.txt | sed 's/^elf_c staticlib:/elf_c wasm64:/' > "$tree/crates.txt"
+    for crate in "${uses[@]}"; do
+        mkdir -p "$tree/crates/$crate"
+        for part in src specs proofs; do
+            if [ -d "crates/$crate/$part" ]; then cp -r "crates/$crate/$part" "$tree/crates/$crate/"; fi
+        done
+    done
+    echo "web: builds the module, which proves what of elf_c and below it isn't proved yet"
+    (cd "$tree/crates/elf_c" && rt lib) > "$web/out/log" 2>&1 || { tail -n 20 "$web/out/log"; exit 1; }
+    cp "$tree/crates/elf_c/out/elf_c.wasm" "$web/out/elf_c.wasm"
+    echo "$sum" > "$web/out/sum"
+}
+
+if [ "$does" = test ]; then
+    tools/web_records.py --check
+    if ! python3 -c 'import sys; sys.path.insert(0, "tools"); import chromium; sys.exit(not chromium.path())'; then
+        echo "web: Chromium is not installed: the page is not tested"
+        exit 0
+    fi
+fi
+mkdir -p "$web/out"
+if [ -z "${XMAS_ELF_MODULE:-}" ]; then
+    module
+    XMAS_ELF_MODULE="$web/out/elf_c.wasm"
+fi
+rm -rf "$site"
+mkdir -p "$site"
+cp "$web"/*.html "$web"/*.css "$web"/*.js "$web"/*.svg "$site/"
+cp "$XMAS_ELF_MODULE" "$site/elf_c.wasm"
+tools/web_records.py "$site/records.js"
+python3 - "$site/example.elf" << 'END'
+import pathlib
+import sys
+sys.path.insert(0, "tools")
+import damage
+pathlib.Path(sys.argv[1]).write_bytes(damage.worked(True, "little"))
+END
+echo "web: $site"
+if [ "$does" = test ]; then
+    tools/web_page.py
+elif [ "$does" = serve ]; then
+    echo "web: http://127.0.0.1:$port (stop with Ctrl-C)"
+    exec python3 -m http.server --bind 127.0.0.1 --directory "$site" "$port" > /dev/null 2>&1
+fi

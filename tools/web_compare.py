@@ -1,0 +1,98 @@
+"""Compares what the page of bindings/web shows of a file with what readelf says of it."""
+import re
+
+import web_readelf as readelf
+
+
+def compare_header(test, path):
+    said = readelf.header(path)
+    table = dict(test.page.run("Array.from(document.querySelectorAll('table.plain tbody tr'), (it) => [it.children[0].textContent, it.children[1].textContent])"))
+    pairs = {"e_entry": "Entry point address", "e_ehsize": "Size of this header", "e_phoff": "Start of program headers",
+             "e_shoff": "Start of section headers", "e_phentsize": "Size of program headers", "e_phnum": "Number of program headers",
+             "e_shentsize": "Size of section headers", "e_shnum": "Number of section headers", "e_shstrndx": "Section header string table index"}
+    for field, name in pairs.items():
+        test.same(f"{path}: {field}", int(table[field], 0), int(re.match(r"\w+", said[name])[0], 0))
+    build_id = readelf.build_id(path)
+    shown = test.page.run("document.querySelector('.facts .id')?.textContent ?? null")
+    test.same(f"{path}: build id", shown, build_id)
+
+
+def compare_sections(test, path):
+    wanted = readelf.sections(path)
+    test.tab("Sections")
+    count, rows = test.rows()
+    test.same(f"{path}: number of sections", count, len(wanted))
+    for row in wanted:
+        shown = rows.get(int(row[0]), [""] * 12)
+        test.same(f"{path}: section {row[0]}", shown[:2] + shown[3:11], row[:2] + row[3:])
+        test.same(f"{path}: type of section {row[0]}", shown[2], type_text(row[2]))
+
+
+def type_text(text):
+    """readelf's name of a type of sections that it doesn't know, as a number."""
+    based = re.fullmatch(r"(LOOS|LOPROC|LOUSER)\+(0x)?([0-9a-f]+)", text)
+    bases = {"LOOS": 0x60000000, "LOPROC": 0x70000000, "LOUSER": 0x80000000}
+    return hex(bases[based[1]] + int(based[3], 16)) if based else text
+
+
+def compare_segments(test, path):
+    wanted = readelf.segments(path)
+    test.tab("Segments")
+    count, rows = test.rows()
+    test.same(f"{path}: number of segments", count, len(wanted))
+    for index, (kind, offset, address, physical, in_file, in_memory, flags, align, held) in enumerate(wanted):
+        numbers = [text.removeprefix("0x") for text in (offset, address, physical, in_file, in_memory)]
+        test.same(f"{path}: segment {index}", rows.get(index, [])[1:10], [kind, *numbers, flags.replace(" ", ""), align, held])
+
+
+def compare_tables(test, path, tab, label, wanted, form):
+    """Compares rows of each section's table, which readelf has by the section's name."""
+    test.tab(tab)
+    for name, table in wanted.items():
+        if not test.choose(label, name):
+            test.same(f"{path}: {tab} of {name}", "no such choice", name)
+            continue
+        count, rows = test.rows()
+        test.same(f"{path}: number of {tab} of {name}", count, len(table))
+        for index, row in rows.items():
+            test.same(f"{path}: {tab} {index} of {name}", form(row), table[index] if index < len(table) else None)
+
+
+def symbol_form(row):
+    return [*row[:6], readelf.plain(row[7])]
+
+
+def compare_dynamic(test, path):
+    test.tab("Dynamic")
+    wanted = readelf.dynamic(path)
+    if not wanted:
+        return
+    count, rows = test.rows()
+    test.same(f"{path}: as many dynamic entries", count >= len(wanted), True)
+    for index, (tag, name, text) in enumerate(wanted):
+        shown = rows.get(index, [""] * 5)
+        test.same(f"{path}: dynamic entry {index}", shown[1:3], [f"0x{int(tag, 16):016x}", name])
+        if text:
+            test.same(f"{path}: text of dynamic entry {index}", shown[4], text)
+
+
+def compare_notes(test, path):
+    test.tab("Notes")
+    _, rows = test.rows()
+    test.same(f"{path}: notes", [[row[2], row[4]] for _, row in sorted(rows.items())], readelf.notes(path))
+
+
+def compare_file(test, path, drops=False):
+    test.open(path, drops)
+    test.same(f"{path}: is shown", test.page.run("document.body.dataset.view"), "viewer")
+    test.tab("Overview")
+    compare_header(test, path)
+    compare_sections(test, path)
+    compare_segments(test, path)
+    compare_tables(test, path, "Symbols", "Table", readelf.symbols(path), symbol_form)
+    wide = readelf.header(path)["Class"] == "ELF64"
+    wanted = {name: table for name, table in readelf.relocations(path, wide).items() if "relr" not in name}
+    compare_tables(test, path, "Relocations", "Section", wanted, lambda row: [row[1], row[2], row[3], row[4]])
+    if readelf.sections(path):
+        compare_dynamic(test, path)
+    compare_notes(test, path)

@@ -1,0 +1,400 @@
+#!/usr/bin/env python3
+"""Tests the page of bindings/web in headless Chromium.
+
+    tools/web_page.py [--site FOLDER] [--pictures FOLDER] [--files N] [--only WORD]
+
+Drops files on the page and compares what it shows with readelf; opens damaged and foreign files, an empty one and one that
+doesn't fit; filters and scrolls a long table; stops work; goes through the page by the keyboard; and takes pictures in
+light and dark where a folder for them is given. FOLDER is a built one, bindings/web/out/site where none is given. Where
+Chromium isn't installed it says so, and the status is 0.
+"""
+import argparse
+import functools
+import http.server
+import pathlib
+import sys
+import tempfile
+import threading
+import time
+
+import chromium
+import damage
+import web_readelf as readelf
+from web_compare import compare_file, symbol_form
+
+TOP = pathlib.Path(__file__).resolve().parent.parent
+MOST_ROWS = 800
+LARGE = ("/usr/lib/x86_64-linux-gnu/libLLVM-15.so.1", "/usr/lib/x86_64-linux-gnu/libLLVM-14.so.1", "/usr/bin/python3")
+
+# Texts in view whose contrast with what is behind them is below 4.5, as the accessibility guidelines ask for.
+CONTRAST = """
+(() => {
+  const parts = (color) => color.match(/[\\d.]+/g).map(Number);
+  const light = (channel) => (channel / 255 <= 0.04045 ? channel / 255 / 12.92 : ((channel / 255 + 0.055) / 1.055) ** 2.4);
+  const luminance = ([red, green, blue]) => 0.2126 * light(red) + 0.7152 * light(green) + 0.0722 * light(blue);
+  const behind = (node) => {
+    for (let it = node; it; it = it.parentElement) {
+      const color = parts(getComputedStyle(it).backgroundColor);
+      if (color.length === 3 || color[3] === 1) return color;
+    }
+    return [255, 255, 255];
+  };
+  const found = new Set();
+  for (const node of document.body.querySelectorAll("*")) {
+    const hasText = Array.from(node.childNodes).some((it) => it.nodeType === 3 && it.textContent.trim());
+    if (!hasText || node.closest("svg, .hidden") || !node.checkVisibility({ visibilityProperty: true })) continue;
+    const [one, other] = [luminance(parts(getComputedStyle(node).color)), luminance(behind(node))];
+    const contrast = (Math.max(one, other) + 0.05) / (Math.min(one, other) + 0.05);
+    if (contrast < 4.5) found.add(`${node.tagName} ${node.className} ${contrast.toFixed(2)}`);
+  }
+  return [...found].slice(0, 8);
+})()
+"""
+
+# Rows of the table in view: the first ones up to a number, and the last.
+ROWS = """
+async (most) => {
+  const table = document.querySelector("[role=tabpanel]:not([hidden]) .table");
+  const count = Number(table.getAttribute("aria-rowcount")) - 1;
+  const frame = () => new Promise((resume) => requestAnimationFrame(resume));
+  const found = {};
+  const take = async () => {
+    await frame();
+    await frame();
+    while (table.querySelector(".waiting")) await frame();
+    for (const row of table.querySelectorAll(".row")) {
+      found[row.dataset.index] = Array.from(row.children, (cell) => cell.textContent);
+    }
+  };
+  for (let top = 0; ; top += table.clientHeight - 120) {
+    table.scrollTop = top;
+    await take();
+    if (top + table.clientHeight >= table.scrollHeight || Object.keys(found).length >= most) break;
+  }
+  table.scrollTop = table.scrollHeight;
+  await take();
+  return { count, found };
+}
+"""
+
+
+class Test:
+    """The page, and what differed."""
+
+    def __init__(self, page, pictures):
+        self.page, self.pictures, self.differences, self.compared = page, pictures, [], 0
+
+    def same(self, where, shown, wanted):
+        self.compared += 1
+        if shown != wanted:
+            self.differences.append(f"{where}: the page says {shown!r}, and {wanted!r} is wanted")
+
+    def open(self, path, drops=False):
+        """Opens a file by the file dialog's input, or drops it."""
+        self.page.run("document.body.dataset.state = 'waiting'")
+        if drops:
+            self.page.drop([path])
+        else:
+            self.page.choose_files("#file", [path])
+        self.page.wait("document.body.dataset.state === 'ready'", 60)
+
+    def tab(self, title):
+        name = title.lower().replace(" ", "")
+        self.page.run(f"document.getElementById('tab-{name}').click()")
+
+    def rows(self, most=MOST_ROWS):
+        said = self.page.run(f"({ROWS})({most})")
+        return said["count"], {int(index): cells for index, cells in said["found"].items()}
+
+    def choose(self, label, text):
+        """Chooses, in the panel in view, the option that begins with a text."""
+        return self.page.run("""((label, text) => {
+          const panel = document.querySelector("[role=tabpanel]:not([hidden])");
+          const field = Array.from(panel.querySelectorAll("label")).find((it) => it.firstChild.textContent === label);
+          const chosen = field?.querySelector("select");
+          const option = chosen && Array.from(chosen.options).find((it) => it.textContent.startsWith(text + " ("));
+          if (!option) return false;
+          chosen.value = option.value;
+          chosen.dispatchEvent(new Event("change"));
+          return true;
+        })(%r, %r)""" % (label, text))
+
+    def picture(self, name):
+        if not self.pictures:
+            return
+        for scheme in ("dark", "light"):
+            self.page.look(scheme)
+            time.sleep(0.2)
+            self.page.picture(self.pictures / f"{name}-{scheme}.png")
+
+
+def system_files(count):
+    """Files of this system, of all sizes up to 8 MiB, and small ones of this repository."""
+    found = [TOP / "crates/elfnm/data/add.o", TOP / "crates/elfsym/data/stripped.so"]
+    found += [pathlib.Path(it) for it in ("/usr/lib/x86_64-linux-gnu/crt1.o", "/usr/lib/x86_64-linux-gnu/libc.so.6",
+                                          "/usr/lib/x86_64-linux-gnu/libm.so.6", "/usr/bin/readelf", "/usr/bin/python3")]
+    others = [it for folder in ("/usr/lib/x86_64-linux-gnu", "/usr/bin") for it in sorted(pathlib.Path(folder).iterdir())
+              if it.is_file() and not it.is_symlink() and it.stat().st_size < 8 << 20 and is_elf(it)]
+    step = max(1, len(others) // count)
+    return [it for it in [*found, *others[::step]] if it.exists()][:count]
+
+
+def is_elf(path):
+    with open(path, "rb") as file:
+        return file.read(4) == b"\x7fELF"
+
+
+def try_comparison(test, options):
+    for index, path in enumerate(system_files(options.files)):
+        compare_file(test, path, drops=index % 10 == 0)
+
+
+def refusal_of(test, path):
+    test.open(path)
+    return test.page.run("document.body.dataset.view === 'viewer' ? null : document.getElementById('message').textContent")
+
+
+def try_foreign(test, options, room):
+    """Files that are no ELF files, and one that doesn't fit, are refused by name and reason."""
+    foreign = {"a.txt": (b"plain text\n" * 9, "Did not find ELF magic number"), "empty": (b"", "File is shorter than the first ELF header part"),
+               "<img src=x onerror=alert(1)>": (b"\x7fELF", "File is shorter than the first ELF header part")}
+    for name, (data, text) in foreign.items():
+        (room / name).write_bytes(data)
+        said = refusal_of(test, room / name)
+        test.same(f"{name}: refused", bool(said) and name in said and text in said, True)
+    large = room / "too-large.elf"
+    with open(large, "wb") as file:
+        file.truncate(1 << 40)
+    said = refusal_of(test, large)
+    test.same("too large: refused by name", bool(said) and "too-large.elf" in said and "does not fit" in said, True)
+    test.picture("refused")
+
+
+def try_damaged(test, options, room):
+    """Damaged files are shown as far as they can be read, each tab of them."""
+    for index in range(30):
+        path = room / f"damaged-{index}"
+        path.write_bytes(damage.damaged(1, index))
+        test.open(path)
+        if test.page.run("document.body.dataset.view") == "viewer":
+            for tab in ("Layout", "Sections", "Segments", "Symbols", "Relocations", "Dynamic", "Notes", "Hash tables"):
+                test.tab(tab)
+            test.compared += 1
+    test.tab("Overview")
+
+
+def try_long_table(test, options):
+    """The longest table at hand: filtered, sorted, scrolled to its end, and kept short in the page."""
+    path = next((it for it in LARGE if pathlib.Path(it).exists()), None)
+    began = time.monotonic()
+    test.open(path)
+    opened = time.monotonic() - began
+    test.tab("Symbols")
+    count, rows = test.rows(200)
+    wanted = readelf.symbols(path)
+    table = max(wanted.values(), key=len)
+    test.same(f"{path}: number of symbols", count, len(table))
+    for index, row in rows.items():
+        test.same(f"{path}: symbol {index}", symbol_form(row), table[index])
+    test.same("rows in the page", test.page.run("document.querySelectorAll('[role=tabpanel]:not([hidden]) .row').length") < 400, True)
+    filtered(test, path, table)
+    test.picture("symbols")
+    print(f"web: {path} opens in {opened:.1f} s, with {count} symbols")
+
+
+def filtered(test, path, table):
+    test.page.run("(() => { const it = document.querySelector('[role=tabpanel]:not([hidden]) input[type=search]'); it.value = 'Vector'; it.dispatchEvent(new Event('input')); })()")
+    wanted = sum("vector" in row[6].lower() for row in table)
+    test.page.wait("/ of /.test(document.querySelector('[role=tabpanel]:not([hidden]) .said').textContent)")
+    shown = test.page.run("document.querySelector('[role=tabpanel]:not([hidden]) .said').textContent")
+    test.same(f"{path}: symbols with a text", int(shown.split()[0].replace(",", "")), wanted)
+
+
+def try_stop(test, options):
+    """Work stops at the button, and what is shown says so."""
+    path = next((it for it in LARGE if pathlib.Path(it).exists()), None)
+    test.page.run("document.body.dataset.state = 'waiting'")
+    test.page.choose_files("#file", [path])
+    test.page.run("document.getElementById('stop').click()")
+    test.page.wait("document.body.dataset.state === 'ready'", 60)
+    said = test.page.run("document.getElementById('message').textContent")
+    test.same("stopped", "was stopped" in said, True)
+
+
+def try_keyboard(test, options):
+    """The page by the keyboard alone: each stop has a name and is seen, tabs and tables move by arrows."""
+    page = test.page
+    test.open(TOP / "crates/elfnm/data/add.o")
+    page.run("document.activeElement?.blur(); window.getSelection()?.removeAllRanges(); document.querySelector('.skip').focus()")
+    stops = []
+    for _ in range(40):
+        page.key("Tab")
+        stops.append(page.run("(() => { const it = document.activeElement; return it.getAttribute('aria-label') || it.labels?.[0]?.textContent || it.textContent.slice(0, 40); })()"))
+    test.same("each stop of the keyboard has a name", all(stops), True)
+    test.same("the bytes are reached", any("Bytes, sixteen" in it for it in stops), True)
+    page.run("document.getElementById('tab-overview').focus(); document.getElementById('tab-overview').click()")
+    page.key("ArrowDown")
+    page.key("ArrowDown")
+    test.same("arrows change the tab", page.run("document.activeElement.textContent.startsWith('Sections')"), True)
+    page.run("document.querySelector('[role=tabpanel]:not([hidden]) .table').focus()")
+    for key in ("Home", "ArrowDown", "ArrowDown", "Enter"):
+        page.key(key)
+    test.same("Enter chooses a row", page.run("document.querySelector('[role=tabpanel]:not([hidden]) [aria-selected=true]').dataset.index"), "2")
+    page.run("document.getElementById('bytes').focus()")
+    before = page.run("document.getElementById('bytes').getAttribute('aria-activedescendant')")
+    page.key("ArrowRight")
+    after = page.run("document.getElementById('bytes').getAttribute('aria-activedescendant')")
+    test.same("arrows move in the bytes", int(after.split("-")[1]), int(before.split("-")[1]) + 1)
+
+
+def try_fields(test, options):
+    """The field under the pointer is named."""
+    page = test.page
+    test.open(TOP / "crates/elfsym/data/stripped.so")
+    test.tab("Overview")
+    page.run("(() => { document.querySelector('table.plain button').click(); })()")
+    place = page.run("(() => { const it = document.getElementById('byte-24').getBoundingClientRect(); return [it.x + 6, it.y + 6]; })()")
+    page.mouse("mouseMoved", *place)
+    page.wait("/e_entry/.test(document.getElementById('place').textContent)", 5)
+    entry = readelf.header(TOP / "crates/elfsym/data/stripped.so")["Entry point address"]
+    shown = page.run("document.querySelector('.fieldrow.current .fieldvalue').textContent")
+    test.same("the value of the field", int(shown.split()[0], 16), int(entry, 16))
+
+
+def try_addresses(test, options):
+    """Bytes are found by their address, by a record's button and by "Go to", and an address in no segment is refused."""
+    page, path = test.page, "/usr/lib/x86_64-linux-gnu/libc.so.6"
+    test.open(path)
+    entry = int(readelf.header(path)["Entry point address"], 16)
+    load = next(row for row in readelf.segments(path) if row[0] == "LOAD" and 0 <= entry - int(row[2], 16) < int(row[4], 16))
+    offset = entry - int(load[2], 16) + int(load[1], 16)
+    page.run("document.querySelector('.follow button').click()")
+    page.wait(f"document.getElementById('bytes').getAttribute('aria-activedescendant') === 'byte-{offset}'", 5)
+    go = "(() => { const it = document.getElementById('go'); it.elements.what.value = 'address'; it.elements.where.value = '%s'; it.requestSubmit(); })()"
+    page.run(go % "0xffffffffffff0000")
+    page.wait("/Address is in no loaded segment/.test(document.getElementById('goanswer').textContent)", 5)
+    page.run(go % hex(entry + 16))
+    page.wait(f"document.getElementById('bytes').getAttribute('aria-activedescendant') === 'byte-{offset + 16}'", 5)
+    test.compared += 3
+
+
+def try_contrast(test, options):
+    """All text of each view has enough contrast, in light and in dark."""
+    test.open(TOP / "bindings/web/out/site/example.elf")
+    for tab in ("Overview", "Layout", "Sections", "Symbols", "Relocations", "Dynamic", "Notes", "Hash tables"):
+        test.tab(tab)
+        for scheme in ("dark", "light"):
+            test.page.look(scheme)
+            test.same(f"contrast of {tab} in {scheme}", test.page.run(CONTRAST), [])
+
+
+def try_hostile_names(test, options, room):
+    """Names that look like markup stay text, and the policy refuses markup made of strings."""
+    data = damage.worked(True, "little").replace(b"gamma", b"<b>x<")
+    (room / "markup.elf").write_bytes(data)
+    test.open(room / "markup.elf")
+    test.tab("Symbols")
+    _, rows = test.rows()
+    test.same("markup stays text", any("<b>x<" in row[7] for row in rows.values()), True)
+    refused = test.page.run("(() => { try { document.createElement('p').innerHTML = '<b>x</b>'; return false; } catch { return true; } })()")
+    test.same("markup of strings is refused", refused, True)
+    test.page.faults()
+
+
+def slow_table(room):
+    """A file whose hash table has 60,000 buckets that all lead to a chain of 60,000 symbols."""
+    layout, count = damage.Layout(True, "little"), 60000
+    chain = [0, *range(2, count), 0]
+    contents = [(b".dynstr", 3, b"\0a\0", 0), (b".dynsym", 11, layout.symbol(0, 0, 0, 0) + layout.symbol(1, 0x12, 1, 0) * (count - 1), 1),
+                (b".hash", 5, layout.words(count, count, *[1] * count, *chain), 2)]
+    names, places = damage.texts([it[0] for it in contents] + [b".shstrtab"])
+    data, headers = bytearray(64), [bytes(64)]
+    for (_, kind, held, link), place in zip([*contents, (b"", 3, names, 0)], places):
+        headers.append(layout.words(place, kind) + layout.addresses(2, 0, len(data), len(held)) + layout.words(link, 0)
+                       + layout.addresses(8, 24 if kind == 11 else 4))
+        data += held + bytes(-len(held) % 8)
+    data[:7] = b"\x7fELF\2\1\1"
+    values = dict(type=3, machine=62, version=1, shoff=len(data), ehsize=64, shentsize=64, shnum=len(headers), shstrndx=len(headers) - 1)
+    for name, value in values.items():
+        layout.put(data, 0, layout.header[name], value)
+    path = room / "slow-table.elf"
+    path.write_bytes(bytes(data) + b"".join(headers))
+    return path
+
+
+def try_slow_check(test, options, room):
+    """The page answers while the check of a hash table takes long, and the check can be stopped."""
+    test.open(slow_table(room))
+    test.tab("Hash tables")
+    test.page.wait("document.querySelector('.checked button') !== null", 5)
+    test.tab("Symbols")
+    count, rows = test.rows(100)
+    test.same("symbols beside a running check", [count, rows[1][7]], [60000, "a"])
+    test.tab("Hash tables")
+    test.page.run("document.querySelector('.checked button').click()")
+    test.page.wait("/was stopped/.test(document.querySelector('.checked').textContent)", 5)
+    test.compared += 1
+
+
+def try_old_browser(test, options):
+    """Without memory64 the page says so, and offers no file."""
+    script = test.page.send("Page.addScriptToEvaluateOnNewDocument", source="WebAssembly.validate = () => false")["identifier"]
+    test.page.send("Page.reload")
+    test.page.wait("document.body?.dataset.state === 'unsupported'")
+    shown = test.page.run("document.getElementById('unsupported').checkVisibility() && !document.getElementById('choose').checkVisibility()")
+    test.same("an old browser is told", shown, True)
+    test.picture("unsupported")
+    test.page.send("Page.removeScriptToEvaluateOnNewDocument", identifier=script)
+    test.page.send("Page.reload")
+    test.page.wait("document.body?.dataset.state === 'ready'")
+
+
+def try_pictures(test, options):
+    """Pictures of each view, where they are wanted."""
+    if not test.pictures:
+        return
+    test.page.resize(1440, 900)
+    test.open("/usr/lib/x86_64-linux-gnu/libc.so.6")
+    for tab in ("Overview", "Layout", "Sections", "Segments", "Symbols", "Relocations", "Dynamic", "Notes", "Hash tables"):
+        test.tab(tab)
+        time.sleep(0.4)
+        test.picture(tab.lower().replace(" ", ""))
+
+
+def serve(site):
+    handler = functools.partial(http.server.SimpleHTTPRequestHandler, directory=str(site))
+    handler.func.log_message = lambda *_: None
+    server = http.server.ThreadingHTTPServer(("127.0.0.1", 0), handler)
+    threading.Thread(target=server.serve_forever, daemon=True).start()
+    return server.server_address[1]
+
+
+def main():
+    parser = argparse.ArgumentParser()
+    parser.add_argument("--site", type=pathlib.Path, default=TOP / "bindings/web/out/site")
+    parser.add_argument("--pictures", type=pathlib.Path)
+    parser.add_argument("--files", type=int, default=50)
+    parser.add_argument("--only", default="")
+    options = parser.parse_args()
+    if not chromium.path():
+        print("web: Chromium is not installed, so that the page is not tested")
+        return 0
+    with tempfile.TemporaryDirectory() as room, chromium.Chromium() as browser:
+        page = browser.page(f"http://127.0.0.1:{serve(options.site)}/", 1440, 2400)
+        test = Test(page, options.pictures)
+        page.wait("document.body?.dataset.state === 'ready'")
+        tries = {name: it for name, it in globals().items() if name.startswith("try_") and options.only in name}
+        for name, it in tries.items():
+            rooms = [pathlib.Path(room)] if it.__code__.co_argcount == 3 else []
+            began = time.monotonic()
+            it(test, options, *rooms)
+            print(f"web: {name.removeprefix('try_')}: {time.monotonic() - began:.1f} s", flush=True)
+            test.same(f"{name}: faults of the page", page.faults(), [])
+    for difference in test.differences[:40]:
+        print(f"web: {difference}")
+    print(f"web: {test.compared} comparisons, {len(test.differences)} differences")
+    return int(bool(test.differences))
+
+
+if __name__ == "__main__":
+    sys.exit(main())

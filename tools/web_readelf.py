@@ -1,0 +1,92 @@
+"""What readelf says of a file, as rows of texts in the form in which the page has them."""
+import re
+import subprocess
+
+SECTION = re.compile(r"\s*\[ *(\d+)\] (.*?) *(\S+) +([0-9a-f]{8,16}) ([0-9a-f]{6,}) ([0-9a-f]{6,}) ([0-9a-f]{2,}) +([A-Za-z]*) +(\d+) +(\d+) +(\d+)$")
+SEGMENT = re.compile(r"  (\S+) +(0x[0-9a-f]+) (0x[0-9a-f]+) (0x[0-9a-f]+) (0x[0-9a-f]+) (0x[0-9a-f]+) ([RWE ]{3}) (\S+)$")
+HELD = re.compile(r"   (\d\d+) +(.*)$")
+SYMBOL = re.compile(r" *(\d+): ([0-9a-f]+) +(0x[0-9a-f]+|\d+) (\S+) +(\S+) +(\S+)(?: +\[.*?\])? +(\S+) ?(.*)$")
+RELOCATION = re.compile(r"([0-9a-f]{8,16}) +([0-9a-f]{8,16}) (\S+) *(.*)$")
+DYNAMIC = re.compile(r" (0x[0-9a-f]+) \((\w+)\) +(.*)$")
+NOTE = re.compile(r"  (\S.*?) +(0x[0-9a-f]{8})\t(.*)$")
+
+
+def lines(path, *options):
+    said = subprocess.run(["readelf", "--wide", *options, str(path)], capture_output=True, env={"LC_ALL": "C.UTF-8"})
+    return said.stdout.decode("utf-8", "surrogateescape").splitlines()
+
+
+def header(path):
+    """The numbers of the header, by the names that readelf has for them."""
+    found = dict(re.findall(r"^  ([\w' /]+?): +(.*)$", "\n".join(lines(path, "--file-header")), re.M))
+    return {name: re.sub(r" \(.*", "", text) for name, text in found.items()}
+
+
+def sections(path):
+    found = filter(None, (SECTION.match(it) for it in lines(path, "--section-headers")))
+    return [list(it.groups()) for it in found]
+
+
+def segments(path):
+    """Each segment, and the names of the sections in it."""
+    said = lines(path, "--program-headers")
+    rows = [[it.strip() for it in found.groups()] for found in map(SEGMENT.match, said) if found]
+    held = {int(found[1]): found[2].strip() for found in map(HELD.match, said) if found}
+    return [[*row, held.get(index, "")] for index, row in enumerate(rows)]
+
+
+def plain(name):
+    """A symbol's name without its version, which stands behind an `@`."""
+    return re.sub(r"@.*", "", name)
+
+
+def symbols(path):
+    """For each table of symbols, by its name: number, value, size, type, binding, visibility and name."""
+    tables, rows = {}, []
+    for line in lines(path, "--syms"):
+        begun = re.match(r"Symbol table '(.*)' contains", line)
+        if begun:
+            rows = tables.setdefault(begun[1], [])
+        found = SYMBOL.match(line)
+        if found:
+            number, value, size, kind, binding, visibility, _, name = found.groups()
+            rows.append([number, value, str(int(size, 0)), kind, binding, visibility, plain(name)])
+    return tables
+
+
+def relocations(path, wide):
+    """For each section of relocations, by its name: offset, number of the type, addend and index of the symbol."""
+    tables, rows, shift = {}, [], 32 if wide else 8
+    for line in lines(path, "--relocs"):
+        begun = re.match(r"Relocation section '(.*)' at offset", line)
+        if begun:
+            rows = tables.setdefault(begun[1], [])
+        found = RELOCATION.match(line)
+        if found:
+            info, rest = int(found[2], 16), found[4]
+            rows.append([found[1], found[3], addend(rest), str(info >> shift)])
+    return tables
+
+
+def addend(rest):
+    signed = re.search(r"([+-]) ([0-9a-f]+)$", rest)
+    if signed:
+        return ("-" if signed[1] == "-" and int(signed[2], 16) else "") + signed[2]
+    return rest.strip() if re.fullmatch(r"-?[0-9a-f]+", rest.strip()) else ""
+
+
+def dynamic(path):
+    """Number and name of each tag, and the text that the value is."""
+    rows = []
+    for found in filter(None, map(DYNAMIC.match, lines(path, "--dynamic"))):
+        text = re.search(r"\[(.*)\]$", found[3])
+        rows.append([found[1], found[2], text[1] if text else None])
+    return rows
+
+
+def notes(path):
+    return [[found[1], str(int(found[2], 16))] for found in map(NOTE.match, lines(path, "--notes")) if found]
+
+
+def build_id(path):
+    return next(iter(re.findall(r"Build ID: ([0-9a-f]+)", "\n".join(lines(path, "--notes")))), None)
