@@ -146,10 +146,10 @@ fn check_look_ups<E: Entry + Record>(
 }
 
 // Wants each exported name by its index, and the values of the symbols in order.
-fn check_names<E: Entry + Record>(
+fn check_names<'a, E: Entry + Record>(
     rt: &impl Abort,
-    symbols: &Table<'_, E>,
-    file: &ElfFile<'_>,
+    symbols: &Table<'a, E>,
+    file: &ElfFile<'a>,
     values: [u64; 6],
 ) {
     let named = SymbolTable::new(*symbols, file);
