@@ -5,3 +5,4 @@ pub mod Batches
 pub mod Tables
 pub mod InOrder
 pub mod NeededNames
+pub mod DynamicSymbols

@@ -20,7 +20,7 @@ use elf_linking::view::{DT_NEEDED, DT_STRSZ, DT_STRTAB, DynamicEntries, DynamicV
 use xmas_elf::ElfFile;
 
 // The range of the string table of the dynamic segment.
-fn strings_of(file: &ElfFile<'_>, view: &DynamicView<'_>) -> Result<Range, Refusal>
+pub(crate) fn strings_of(file: &ElfFile<'_>, view: &DynamicView<'_>) -> Result<Range, Refusal>
     ensures { result ≡ strings_range file.now (view_entries view.now) }
 {
     match (view.entry(DT_STRTAB), view.entry(DT_STRSZ)) {
@@ -30,7 +30,11 @@ fn strings_of(file: &ElfFile<'_>, view: &DynamicView<'_>) -> Result<Range, Refus
 }
 
 // The range of the text at an offset in a string table, which may be an error.
-fn text_by(input: &[u8], strings: Result<Range, Refusal>, place: u64) -> Result<Range, Refusal>
+pub(crate) fn text_by(
+    input: &[u8],
+    strings: Result<Range, Refusal>,
+    place: u64,
+) -> Result<Range, Refusal>
     ensures { result ≡ range_in_strings input.now strings place }
 {
     match strings {
@@ -74,7 +78,7 @@ pub extern "C" fn xmas_elf_dynamic_text(
 }
 
 // The record for the range of a name, or for its error.
-fn name_of(answer: Result<Range, Refusal>) -> Name
+pub(crate) fn name_of(answer: Result<Range, Refusal>) -> Name
     ensures { result ≡ linked_name answer }
 {
     match answer {
