@@ -1,5 +1,5 @@
 -- The records that the exports fill, by the values of the library (this project's own).
-use Rattle.std.specs.Prelude.{◌≡◌, ℕ, ◌+◌, ◌-◌, ◌==◌, nat_lt, List, [], ◌∷◌, length, slice_get, Option, None, Some, Result, Ok, Err, if◌then◌else◌}
+use Rattle.std.specs.Prelude.{◌≡◌, ◌<◌, ◌≤◌, ℕ, ◌+◌, ◌-◌, ◌==◌, nat_lt, List, [], ◌∷◌, length, slice_get, Option, None, Some, Result, Ok, Err, if◌then◌else◌}
 use Rattle.std.specs.Str.{is_utf8}
 use Rattle.elf_base.specs.Message.{error_number}
 use Rattle.elf_base.specs.Refusal.{and_then, unless}
@@ -39,6 +39,14 @@ counts_of file = record { sections = section_count_of file; segments = program_c
 -- the byte range at an offset, of a size
 abbrev pub range_at : ℕ → ℕ → Range
 range_at offset size = record { offset = offset; size = size }
+
+-- a range lies in the input
+abbrev pub LiesIn : List ℕ → Range → Type 0
+LiesIn input range = range.offset + range.size ≤ length input
+
+-- the ranges of the first `count` names lie in the input
+abbrev pub AllLieIn : List ℕ → ℕ → List Name → Type 0
+AllLieIn input count names = (k : ℕ) (name : Name) → k < count → slice_get names k ≡ Some name → LiesIn input name.range
 
 -- the numbers of a section header
 abbrev pub section_record : SectionHeader → Section

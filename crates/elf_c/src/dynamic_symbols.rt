@@ -1,14 +1,14 @@
 //! The symbols of the dynamic segment, which is found without section headers
 //! (gABI, "Dynamic Section": DT_SYMTAB).
 
-ghost use Rattle.std.specs.Prelude.{◌≡◌, ◌==◌, ℕ, Result};
+ghost use Rattle.std.specs.Prelude.{◌≡◌, ◌==◌, ℕ, IfOk, Result};
 ghost use Rattle.elf_base.specs.FileHeader.{file_class};
 ghost use Rattle.elf_base.specs.Table.{table_items};
 ghost use Rattle.elf_c.specs.Batch.{Fills};
 ghost use Rattle.elf_c.specs.DynamicSymbols.{FillsFromDynamic, IsDynamicCount, dynamic_symbol_name};
 ghost use Rattle.elf_c.specs.DynamicTexts.{linked_name, range_in_strings};
 ghost use Rattle.elf_c.specs.Parsed.{file_of};
-ghost use Rattle.elf_c.specs.Records.{found_in};
+ghost use Rattle.elf_c.specs.Records.{AllLieIn, found_in};
 ghost use Rattle.elf_c.specs.Status.{GivesBy, GivesHere};
 ghost use Rattle.elf_c.specs.Symbols.{symbol_record};
 ghost use Rattle.elf_c.specs.declared.status.Refusal.{Refusal};
@@ -139,9 +139,10 @@ fn names<E: Entry + Record>(
     first: u64,
     out: &mut [Name],
 ) -> Result<u64, Refusal>
-    ensures { Fills (found_in
+    ensures exact { Fills (found_in
         (λ e. linked_name (range_in_strings input.now strings (E.fields e).name))
         (table_items symbols.now)) first out.old result out.new }
+    ensures within { IfOk result (λ count. AllLieIn input.now count out.new) }
 {
     let names = LinkedNames {
         symbols: *symbols,
@@ -154,8 +155,9 @@ fn names<E: Entry + Record>(
 // Stores the names of the symbols of the dynamic segment from an index on in `out`, and returns
 // their number.
 fn fill_names(file: &ElfFile<'_>, first: u64, out: &mut [Name]) -> Result<u64, Refusal>
-    ensures { FillsFromDynamic (dynamic_symbol_name file.now) file.now
+    ensures exact { FillsFromDynamic (dynamic_symbol_name file.now) file.now
         first out.old result out.new }
+    ensures within { IfOk result (λ count. AllLieIn file.now.input.now count out.new) }
 {
     let view = match DynamicView::read(file) {
         Ok(view) => view,
@@ -190,10 +192,11 @@ pub extern "C" fn xmas_elf_dynamic_symbol_names(
     out: &mut [Name],
     count: &mut u64,
 ) -> u32
-    ensures { (answer : Result ℕ Refusal)
+    ensures exact { (answer : Result ℕ Refusal)
         × FillsFromDynamic (dynamic_symbol_name (file_of input.entry header.now))
         (file_of input.entry header.now) first out.old answer out.new
         × GivesHere answer count.old result count.new }
+    ensures within { result ≡ 0 → AllLieIn input.now count.new out.new }
 {
     give(fill_names(&header.file(input), first, out), count)
 }

@@ -1,11 +1,11 @@
 //! The sections of a file (gABI, "Sections").
 
-ghost use Rattle.std.specs.Prelude.{◌≡◌, ◌↔◌, ℕ, IsTrue, Ok, Result};
+ghost use Rattle.std.specs.Prelude.{◌≡◌, ◌↔◌, ℕ, IfOk, IsTrue, Ok, Result};
 ghost use Rattle.elf_base.specs.Refusal.{and_then};
 ghost use Rattle.elf_c.specs.Batch.{Fills};
 ghost use Rattle.elf_c.specs.Parsed.{file_of};
 ghost use Rattle.elf_c.specs.Records.{FindsIndex, found_in, found_section, section_range};
-ghost use Rattle.elf_c.specs.Records.{section_record};
+ghost use Rattle.elf_c.specs.Records.{LiesIn, section_record};
 ghost use Rattle.elf_c.specs.Status.{Gives, GivesHere};
 ghost use Rattle.elf_c.specs.declared.status.Refusal.{Refusal};
 ghost use Rattle.xmas_elf.specs.First.{FindsFirstAt};
@@ -141,12 +141,14 @@ pub extern "C" fn xmas_elf_sections(
 // The range of the data of the section at an index.
 #[inline(always)]
 pub(crate) fn data_at(file: &ElfFile<'_>, index: u64) -> Result<Range, ElfError>
-    ensures { result ≡ and_then (section_of file.now index) (section_range file.now) }
+    ensures exact { result ≡ and_then (section_of file.now index) (section_range file.now) }
+    ensures within { IfOk result (LiesIn file.now.input.now) }
 {
-    let (offset, size) = file.section_header_at(index)?.file_range(file)?;
+    let section = file.section_header_at(index)?;
+    let range = section.file_range(file)?;
     Ok(Range {
-        offset: offset as u64,
-        size: size as u64,
+        offset: range.0 as u64,
+        size: range.1 as u64,
     })
 }
 
@@ -159,8 +161,9 @@ pub extern "C" fn xmas_elf_section_data(
     index: u64,
     out: &mut Range,
 ) -> u32
-    ensures { Gives (and_then (section_of (file_of input.entry header.now) index)
+    ensures exact { Gives (and_then (section_of (file_of input.entry header.now) index)
         (section_range (file_of input.entry header.now))) out.old result out.new }
+    ensures within { result ≡ 0 → LiesIn input.now out.new }
 {
     give(data_at(&header.file(input), index), out)
 }
