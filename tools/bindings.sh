@@ -92,6 +92,22 @@ for file in "$room/libnamed.so" /lib/x86_64-linux-gnu/libc.so.6 /lib/x86_64-linu
     "$CARGO_TARGET_DIR/release/examples/needed" "$file" | sort | diff - <(linked "$file")
 done
 "$CARGO_TARGET_DIR/release/examples/needed" "$room/libcut.so" | sort | diff - <(linked "$room/libnamed.so")
+# The symbols of the dynamic segment in order, also where the ELF header names no sections: those of readelf without the
+# versions that it adds to names.
+dynamic() {
+    readelf --wide --dyn-syms "$1" | awk '$1 ~ /^[0-9]+:$/ {
+        sub(/:/, "", $1); sub(/@.*/, "", $8); sub(/^UND$/, 0, $7); sub(/^ABS$/, 65521, $7); print $1, $2, $7, $8 }'
+}
+for file in "$room/libnamed.so" /lib/x86_64-linux-gnu/libc.so.6 /lib/x86_64-linux-gnu/libm.so.6; do
+    dynamic "$file" > "$room/dynamic"
+    [ -s "$room/dynamic" ] || { echo "readelf finds no symbols in $file"; exit 1; }
+    cp "$file" "$room/libcut.so"
+    printf '%0.s\0' {1..8} | dd of="$room/libcut.so" bs=1 seek=40 conv=notrunc status=none
+    for whole_or_cut in "$file" "$room/libcut.so"; do
+        "$CARGO_TARGET_DIR/release/examples/dynsym" "$whole_or_cut" | diff - "$room/dynamic" > "$room/difference" ||
+            { head "$room/difference"; exit 1; }
+    done
+done
 for file in "$room/nm_c" /lib/x86_64-linux-gnu/libc.so.6; do
     "$room/nm_c" "$file" > "$room/of_c"
     "$CARGO_TARGET_DIR/release/examples/nm" "$file" > "$room/of_rust"

@@ -48,6 +48,10 @@ static uint32_t any_find_section(const struct asked *a, union output *out)
 {
     return xmas_elf_find_section(a->bytes, a->size, &a->header, a->name, a->name_size, &out[0].of_section[0]);
 }
+static uint32_t any_find_section_index(const struct asked *a, union output *out)
+{
+    return xmas_elf_find_section_index(a->bytes, a->size, &a->header, a->name, a->name_size, &out[0].of_u64[0]);
+}
 static uint32_t any_section_data(const struct asked *a, union output *out)
 {
     return xmas_elf_section_data(a->bytes, a->size, &a->header, (uint64_t)a->index, &out[0].of_range[0]);
@@ -136,6 +140,18 @@ static uint32_t any_needed(const struct asked *a, union output *out)
 {
     return xmas_elf_needed(a->bytes, a->size, &a->header, (uint64_t)a->index, out[0].of_name, 3, &out[1].of_u64[0]);
 }
+static uint32_t any_dynamic_symbol_count(const struct asked *a, union output *out)
+{
+    return xmas_elf_dynamic_symbol_count(a->bytes, a->size, &a->header, &out[0].of_u64[0]);
+}
+static uint32_t any_dynamic_symbols(const struct asked *a, union output *out)
+{
+    return xmas_elf_dynamic_symbols(a->bytes, a->size, &a->header, (uint64_t)a->index, out[0].of_symbol, 3, &out[1].of_u64[0]);
+}
+static uint32_t any_dynamic_symbol_names(const struct asked *a, union output *out)
+{
+    return xmas_elf_dynamic_symbol_names(a->bytes, a->size, &a->header, (uint64_t)a->index, out[0].of_name, 3, &out[1].of_u64[0]);
+}
 static uint32_t any_look_up(const struct asked *a, union output *out)
 {
     return xmas_elf_look_up(a->bytes, a->size, &a->header, (uint64_t)a->section, a->name, a->name_size, &out[0].of_look_up[0]);
@@ -183,6 +199,7 @@ static const struct any {
     {"section", any_section, {XMAS_ELF_OK, XMAS_ELF_SHORT_SECTION_HEADER, XMAS_ELF_UNKNOWN_CLASS, XMAS_ELF_SMALL_ENTRY}, 4},
     {"sections", any_sections, {XMAS_ELF_OK, XMAS_ELF_NO_RECORD}, 2},
     {"find_section", any_find_section, {XMAS_ELF_OK, XMAS_ELF_NOT_FOUND}, 2},
+    {"find_section_index", any_find_section_index, {XMAS_ELF_OK, XMAS_ELF_NOT_FOUND}, 2},
     {"section_data", any_section_data, {XMAS_ELF_OK, XMAS_ELF_SHORT_SECTION_HEADER, XMAS_ELF_UNKNOWN_CLASS, XMAS_ELF_SMALL_ENTRY, XMAS_ELF_INVALID_SH_TYPE, XMAS_ELF_NULL_DATA, XMAS_ELF_DATA_RANGE}, 7},
     {"section_name", any_section_name, {XMAS_ELF_OK, XMAS_ELF_SHORT_SECTION_HEADER, XMAS_ELF_UNKNOWN_CLASS, XMAS_ELF_SMALL_ENTRY, XMAS_ELF_INVALID_SH_TYPE, XMAS_ELF_NULL_NAME, XMAS_ELF_RESERVED_INDEX, XMAS_ELF_SHORT_SECTION_OFFSET, XMAS_ELF_TEXT_START, XMAS_ELF_TEXT_END, XMAS_ELF_TEXT_UTF_8}, 11},
     {"section_names", any_section_names, {XMAS_ELF_OK, XMAS_ELF_NO_RECORD}, 2},
@@ -205,6 +222,9 @@ static const struct any {
     {"bytes_at", any_bytes_at, {XMAS_ELF_OK, XMAS_ELF_LINK_ADDRESS, XMAS_ELF_DATA_RANGE}, 3},
     {"dynamic_text", any_dynamic_text, {XMAS_ELF_OK, XMAS_ELF_LINK_NO_DYNAMIC, XMAS_ELF_DATA_RANGE, XMAS_ELF_NOT_MULTIPLE, XMAS_ELF_NOT_FOUND, XMAS_ELF_LINK_NO_ENTRY, XMAS_ELF_LINK_ADDRESS, XMAS_ELF_TEXT_START, XMAS_ELF_TEXT_END, XMAS_ELF_TEXT_UTF_8}, 10},
     {"needed", any_needed, {XMAS_ELF_OK, XMAS_ELF_LINK_NO_DYNAMIC, XMAS_ELF_DATA_RANGE, XMAS_ELF_NOT_MULTIPLE, XMAS_ELF_NO_RECORD}, 5},
+    {"dynamic_symbol_count", any_dynamic_symbol_count, {XMAS_ELF_OK, XMAS_ELF_LINK_NO_DYNAMIC, XMAS_ELF_DATA_RANGE, XMAS_ELF_NOT_MULTIPLE, XMAS_ELF_LINK_NO_ENTRY, XMAS_ELF_LINK_ADDRESS, XMAS_ELF_SHORT_DATA, XMAS_ELF_LINK_SHORT_TABLE, XMAS_ELF_LINK_BLOOM_COUNT, XMAS_ELF_LINK_CHAIN_INDEX, XMAS_ELF_LINK_CHAIN_DATA, XMAS_ELF_LINK_SYMBOL_INDEX}, 12},
+    {"dynamic_symbols", any_dynamic_symbols, {XMAS_ELF_OK, XMAS_ELF_LINK_NO_DYNAMIC, XMAS_ELF_DATA_RANGE, XMAS_ELF_NOT_MULTIPLE, XMAS_ELF_LINK_NO_ENTRY, XMAS_ELF_LINK_ADDRESS, XMAS_ELF_SHORT_DATA, XMAS_ELF_LINK_SHORT_TABLE, XMAS_ELF_LINK_BLOOM_COUNT, XMAS_ELF_LINK_CHAIN_INDEX, XMAS_ELF_LINK_CHAIN_DATA, XMAS_ELF_LINK_SYMBOL_INDEX, XMAS_ELF_NO_RECORD}, 13},
+    {"dynamic_symbol_names", any_dynamic_symbol_names, {XMAS_ELF_OK, XMAS_ELF_LINK_NO_DYNAMIC, XMAS_ELF_DATA_RANGE, XMAS_ELF_NOT_MULTIPLE, XMAS_ELF_LINK_NO_ENTRY, XMAS_ELF_LINK_ADDRESS, XMAS_ELF_SHORT_DATA, XMAS_ELF_LINK_SHORT_TABLE, XMAS_ELF_LINK_BLOOM_COUNT, XMAS_ELF_LINK_CHAIN_INDEX, XMAS_ELF_LINK_CHAIN_DATA, XMAS_ELF_LINK_SYMBOL_INDEX, XMAS_ELF_NO_RECORD}, 13},
     {"look_up", any_look_up, {XMAS_ELF_OK, XMAS_ELF_TEXT_UTF_8, XMAS_ELF_SHORT_SECTION_HEADER, XMAS_ELF_UNKNOWN_CLASS, XMAS_ELF_SMALL_ENTRY, XMAS_ELF_INVALID_SH_TYPE, XMAS_ELF_DATA_RANGE, XMAS_ELF_NOT_MULTIPLE, XMAS_ELF_NOTE_32, XMAS_ELF_SHORT_DATA, XMAS_ELF_OTHER_DATA, XMAS_ELF_HASH_DATA, XMAS_ELF_CHAIN_INDEX, XMAS_ELF_SYMBOL_INDEX, XMAS_ELF_CHAIN_SUM, XMAS_ELF_HASH_CYCLE}, 16},
     {"look_ups", any_look_ups, {XMAS_ELF_OK}, 1},
     {"check_hash", any_check_hash, {XMAS_ELF_OK, XMAS_ELF_SHORT_SECTION_HEADER, XMAS_ELF_UNKNOWN_CLASS, XMAS_ELF_SMALL_ENTRY, XMAS_ELF_INVALID_SH_TYPE, XMAS_ELF_DATA_RANGE, XMAS_ELF_NOT_MULTIPLE, XMAS_ELF_NOTE_32, XMAS_ELF_SHORT_DATA, XMAS_ELF_OTHER_DATA, XMAS_ELF_HASH_DATA, XMAS_ELF_CHAIN_INDEX, XMAS_ELF_SYMBOL_INDEX, XMAS_ELF_CHAIN_SUM, XMAS_ELF_HASH_CYCLE, XMAS_ELF_HASH_MISSING}, 16},

@@ -61,6 +61,7 @@ CALL(names_index) { return xmas_elf_names_index(FILE_OF(a), &out->of.number); }
 CALL(section) { return xmas_elf_section(FILE_OF(a), a->index, &out->of.sections[0]); }
 CALL_MANY(sections, sections, a->index)
 CALL(find_section) { return xmas_elf_find_section(FILE_OF(a), a->name, a->name_size, &out->of.sections[0]); }
+CALL(find_section_index) { return xmas_elf_find_section_index(FILE_OF(a), a->name, a->name_size, &out->of.addresses[0]); }
 CALL(section_data) { return xmas_elf_section_data(FILE_OF(a), a->index, &out->of.range); }
 CALL(section_name) { return xmas_elf_section_name(FILE_OF(a), a->index, &out->of.range); }
 CALL_MANY(section_names, names, a->index)
@@ -93,6 +94,9 @@ CALL(build_id) { return xmas_elf_build_id(FILE_OF(a), &out->of.range); }
 CALL(bytes_at) { return xmas_elf_bytes_at(FILE_OF(a), a->index, 1, &out->of.range); }
 CALL(dynamic_text) { return xmas_elf_dynamic_text(FILE_OF(a), a->index, &out->of.range); }
 CALL_MANY(needed, names, a->index)
+CALL(dynamic_symbol_count) { return xmas_elf_dynamic_symbol_count(FILE_OF(a), &out->of.addresses[0]); }
+CALL_MANY(dynamic_symbols, symbols, a->index)
+CALL_MANY(dynamic_symbol_names, names, a->index)
 CALL(look_up) { return xmas_elf_look_up(FILE_OF(a), a->section, a->name, a->name_size, &out->of.look_up); }
 CALL(gnu_look_up) { return xmas_elf_gnu_look_up(FILE_OF(a), a->section, a->name, a->name_size, &out->of.look_up); }
 CALL(check_hash) { (void)out; return xmas_elf_check_hash(FILE_OF(a), a->section); }
@@ -144,6 +148,7 @@ static const struct row {
     {"section", section_call, NONE, 1, FAR, SHORT, SHORT},
     {"sections", sections_call, NONE, 1, FAR, XMAS_ELF_NO_RECORD, XMAS_ELF_NO_RECORD},
     {"find_section", find_section_call, NONE, 0, 0, XMAS_ELF_NOT_FOUND, XMAS_ELF_NOT_FOUND},
+    {"find_section_index", find_section_index_call, NONE, 0, 0, XMAS_ELF_NOT_FOUND, XMAS_ELF_NOT_FOUND},
     {"section_data", section_data_call, NONE, 1, 0, XMAS_ELF_NULL_DATA, SHORT},
     {"section_name", section_name_call, NONE, 1, 0, XMAS_ELF_NULL_NAME, SHORT},
     {"section_names", section_names_call, NONE, 1, FAR, XMAS_ELF_NO_RECORD, XMAS_ELF_NO_RECORD},
@@ -166,6 +171,9 @@ static const struct row {
     {"bytes_at", bytes_at_call, NONE, 0, FAR, XMAS_ELF_LINK_ADDRESS, XMAS_ELF_LINK_ADDRESS},
     {"dynamic_text", dynamic_text_call, NONE, 1, FAR, XMAS_ELF_NOT_FOUND, XMAS_ELF_LINK_NO_DYNAMIC},
     {"needed", needed_call, NONE, 0, FAR, XMAS_ELF_NO_RECORD, XMAS_ELF_LINK_NO_DYNAMIC},
+    {"dynamic_symbol_count", dynamic_symbol_count_call, NONE, 0, 0, XMAS_ELF_OK, XMAS_ELF_LINK_NO_DYNAMIC},
+    {"dynamic_symbols", dynamic_symbols_call, NONE, 1, FAR, XMAS_ELF_NO_RECORD, XMAS_ELF_LINK_NO_DYNAMIC},
+    {"dynamic_symbol_names", dynamic_symbol_names_call, NONE, 1, FAR, XMAS_ELF_NO_RECORD, XMAS_ELF_LINK_NO_DYNAMIC},
     {"look_up", look_up_call, HASH, 0, 0, XMAS_ELF_TEXT_UTF_8, SHORT},
     {"look_ups", look_ups_call, HASH, 0, 0, XMAS_ELF_TEXT_UTF_8, SHORT},
     {"check_hash", check_hash_call, HASH, 0, 0, XMAS_ELF_OK, SHORT},

@@ -424,6 +424,11 @@ XMAS_ELF_NODISCARD uint32_t xmas_elf_find_section(const uint8_t *input, size_t i
     const xmas_elf_header_t *header, const uint8_t *name, size_t name_size, xmas_elf_section_t *out)
     XMAS_ELF_NOEXCEPT;
 
+/* The index of the first section with a name: that of the section that `xmas_elf_find_section` gives. The call is
+ * refused with XMAS_ELF_NOT_FOUND. */
+XMAS_ELF_NODISCARD uint32_t xmas_elf_find_section_index(const uint8_t *input, size_t input_size,
+    const xmas_elf_header_t *header, const uint8_t *name, size_t name_size, uint64_t *out) XMAS_ELF_NOEXCEPT;
+
 /* The range of a section's data. A section of type SHT_NOBITS has none in the file: its range belongs to other
  * sections. XMAS_ELF_NULL_DATA is for type SHT_NULL, XMAS_ELF_INVALID_SH_TYPE for a type that this reader does not
  * know. The range of an empty section begins at its offset. The call is refused with (in the order of the tests)
@@ -591,6 +596,38 @@ XMAS_ELF_NODISCARD uint32_t xmas_elf_dynamic_text(const uint8_t *input, size_t i
  * XMAS_ELF_TEXT_START, XMAS_ELF_TEXT_END, XMAS_ELF_TEXT_UTF_8. */
 XMAS_ELF_NODISCARD uint32_t xmas_elf_needed(const uint8_t *input, size_t input_size, const xmas_elf_header_t *header,
     uint64_t first, xmas_elf_name_t *out, size_t out_count, uint64_t *count) XMAS_ELF_NOEXCEPT;
+
+/* The number of symbols of the dynamic segment, which no entry says: the number of chains of the gABI's hash table
+ * (DT_HASH) where the segment names one, and else one more than the last index that GNU's (DT_GNU_HASH) reaches, or
+ * its first index where it reaches none; this one does not count symbols behind the last exported one. No section
+ * header is needed. The call is refused with (in the order of the tests) XMAS_ELF_LINK_NO_DYNAMIC,
+ * XMAS_ELF_DATA_RANGE, XMAS_ELF_NOT_MULTIPLE, XMAS_ELF_LINK_NO_ENTRY, XMAS_ELF_LINK_ADDRESS, XMAS_ELF_SHORT_DATA,
+ * XMAS_ELF_LINK_SHORT_TABLE, XMAS_ELF_LINK_BLOOM_COUNT, XMAS_ELF_LINK_CHAIN_INDEX, XMAS_ELF_LINK_CHAIN_DATA,
+ * XMAS_ELF_LINK_SYMBOL_INDEX. */
+XMAS_ELF_NODISCARD uint32_t xmas_elf_dynamic_symbol_count(const uint8_t *input, size_t input_size,
+    const xmas_elf_header_t *header, uint64_t *out) XMAS_ELF_NOEXCEPT;
+
+/* The symbols of the dynamic segment (DT_SYMTAB) from index `first` on, as many in all as
+ * `xmas_elf_dynamic_symbol_count` says. No section header is needed. Each call counts the symbols anew, so give room
+ * for all. The call is refused with (in the order of the tests) XMAS_ELF_LINK_NO_DYNAMIC, XMAS_ELF_DATA_RANGE,
+ * XMAS_ELF_NOT_MULTIPLE, XMAS_ELF_LINK_NO_ENTRY, XMAS_ELF_LINK_ADDRESS, XMAS_ELF_SHORT_DATA,
+ * XMAS_ELF_LINK_SHORT_TABLE, XMAS_ELF_LINK_BLOOM_COUNT, XMAS_ELF_LINK_CHAIN_INDEX, XMAS_ELF_LINK_CHAIN_DATA,
+ * XMAS_ELF_LINK_SYMBOL_INDEX, XMAS_ELF_NO_RECORD. */
+XMAS_ELF_NODISCARD uint32_t xmas_elf_dynamic_symbols(const uint8_t *input, size_t input_size,
+    const xmas_elf_header_t *header, uint64_t first, xmas_elf_symbol_t *out, size_t out_count, uint64_t *count)
+    XMAS_ELF_NOEXCEPT;
+
+/* The ranges of the names of these symbols, each with a status of its own: the texts at each symbol's `name` in the
+ * string table of the dynamic segment (DT_STRTAB). The call gives as many names as `xmas_elf_dynamic_symbols` gives
+ * symbols. The call is refused with (in the order of the tests) XMAS_ELF_LINK_NO_DYNAMIC, XMAS_ELF_DATA_RANGE,
+ * XMAS_ELF_NOT_MULTIPLE, XMAS_ELF_LINK_NO_ENTRY, XMAS_ELF_LINK_ADDRESS, XMAS_ELF_SHORT_DATA,
+ * XMAS_ELF_LINK_SHORT_TABLE, XMAS_ELF_LINK_BLOOM_COUNT, XMAS_ELF_LINK_CHAIN_INDEX, XMAS_ELF_LINK_CHAIN_DATA,
+ * XMAS_ELF_LINK_SYMBOL_INDEX, XMAS_ELF_NO_RECORD. Each record is refused with (in the order of the tests)
+ * XMAS_ELF_LINK_NO_ENTRY, XMAS_ELF_LINK_ADDRESS, XMAS_ELF_DATA_RANGE, XMAS_ELF_TEXT_START, XMAS_ELF_TEXT_END,
+ * XMAS_ELF_TEXT_UTF_8. */
+XMAS_ELF_NODISCARD uint32_t xmas_elf_dynamic_symbol_names(const uint8_t *input, size_t input_size,
+    const xmas_elf_header_t *header, uint64_t first, xmas_elf_name_t *out, size_t out_count, uint64_t *count)
+    XMAS_ELF_NOEXCEPT;
 
 /* Looks a name up in the hash table that is a section of type SHT_HASH, among the symbols of the section that it is
  * linked to: the first symbol on the chain of the name, defined or not. That no symbol is found is no refusal. A

@@ -1,7 +1,10 @@
-"""All parts of files beside what pyelftools reads."""
+"""All parts of files beside what pyelftools reads, and dynamic symbols beside those of readelf."""
+import pathlib
+import re
 import subprocess
 
 import beside
+import pytest
 
 from xmas_elf import ElfError, ElfFile, Status
 
@@ -109,15 +112,21 @@ def test_file_of_the_system(path):
     compare_look_ups(data)
 
 
+def with_entries(data, *entries):
+    """The file with other dynamic entries at some indices: each an index, a tag, and a value or the name of the section
+    whose address it is."""
+    file, changed = ElfFile(data), bytearray(data)
+    dynamic, width, order = file.section(".dynamic"), file.elfclass // 8, "little" if file.little_endian else "big"
+    for index, tag, value in entries:
+        value = file.section(value).address if isinstance(value, str) else value
+        place = dynamic.offset + 2 * index * width
+        changed[place : place + 2 * width] = tag.to_bytes(width, order) + value.to_bytes(width, order)
+    return bytes(changed)
+
+
 def with_string_table(data):
     """The file with the address and the size of its string table in the dynamic entries 1 and 3."""
-    file, changed = ElfFile(data), bytearray(data)
-    dynamic, strings = file.section(".dynamic"), file.section(".dynstr")
-    width, order = file.elfclass // 8, "little" if file.little_endian else "big"
-    for entry, value in ((1, strings.address), (3, strings.size)):
-        place = dynamic.offset + (2 * entry + 1) * width
-        changed[place : place + width] = value.to_bytes(width, order)
-    return bytes(changed)
+    return with_entries(data, (1, 5, ".dynstr"), (3, 10, ElfFile(data).section(".dynstr").size))
 
 
 def test_file_of_each_class_and_order(worked):
@@ -144,3 +153,56 @@ def test_dynamic_texts_without_sections(tmp_path):
     data[40:48] = bytes(8)  # e_shoff
     cut = ElfFile(data)
     assert (cut.needed, cut.soname, cut.run_path) == (whole.needed, "libnamed.so.1", "/a:/b") and whole.needed
+
+
+def without_sections(data):
+    """The file with no section header table in its header of class 64 (e_shoff, e_shnum and e_shstrndx)."""
+    changed = bytearray(data)
+    changed[40:48], changed[60:64] = bytes(8), bytes(4)
+    return changed
+
+
+def readelf_symbols(path):
+    """The dynamic symbols that readelf prints, without the versions that it adds to names."""
+    printed = subprocess.run(["readelf", "--wide", "--dyn-syms", path], check=True, capture_output=True, text=True).stdout
+    found = []
+    for line in printed.splitlines():
+        if words := re.fullmatch(r" *(\d+): (.*)", line):
+            value, size, kind, binding, visibility, section, *name = words[2].split()
+            section = {"UND": 0, "ABS": 0xFFF1}.get(section, section)
+            found.append((int(value, 16), int(size, 0), int(section), name[0].split("@")[0] if name else ""))
+    return found
+
+
+@pytest.mark.parametrize("name", ("libc.so.6", "libm.so.6", "libz.so.1"))
+def test_dynamic_symbols_without_sections(name):
+    path = pathlib.Path("/lib/x86_64-linux-gnu") / name
+    if not path.exists():
+        pytest.skip(f"{path} is missing")
+    data, wanted = path.read_bytes(), readelf_symbols(path)
+    assert len(wanted) > 20
+    whole, cut = ElfFile(data), ElfFile(without_sections(data))
+    assert not list(cut.sections()) and not list(cut.symbols())
+    for file in (whole, cut):
+        assert [(it.value, it.size, it.shndx, it.name) for it in file.dynamic_symbols()] == wanted
+    assert list(cut.dynamic_symbols()) == list(whole.section(".dynsym").symbols())
+
+
+def test_dynamic_symbols_of_each_class_and_order(worked):
+    """By a table of the gABI, which the dynamic entry 5 names; the symbols are those that the worked file is made of."""
+    data = with_entries(with_string_table(worked), (2, 6, ".dynsym"), (5, 4, ".hash"))
+    symbols = list(ElfFile(data).dynamic_symbols())
+    assert [it.name for it in symbols] == ["", "alpha", "beta", "gamma", "delta", "\xe9psilon", "zeta"]
+    assert [it.value for it in symbols] == [0, 0x1000, 0x1001, 0x1002, 0x1003, 0x1004, 0x1005]
+    assert [it.shndx for it in symbols] == [0, 1, 2, 0xFFF1, 0xFFFF, 3, 0]
+
+
+def test_dynamic_symbols_that_nothing_counts(worked, tmp_path):
+    """Refused where no entry names a hash table; none where there is no dynamic segment."""
+    with pytest.raises(ElfError) as caught:
+        list(ElfFile(with_entries(worked, (6, 0x6FFFFEF6, 0))).dynamic_symbols())
+    assert caught.value.status == Status.LINK_NO_ENTRY
+    source = tmp_path / "one.c"
+    source.write_text("int one;\n")
+    subprocess.run(["gcc", "-c", source, "-o", tmp_path / "one.o"], check=True)
+    assert list(ElfFile((tmp_path / "one.o").read_bytes()).dynamic_symbols()) == []

@@ -40,7 +40,7 @@ def walk(data):
     for segment in spent(file.segments):
         tried(segment.data)
         spent(segment.notes)
-    for items in (file.symbols, file.relocations, file.notes, file.dynamic):
+    for items in (file.symbols, file.relocations, file.notes, file.dynamic, file.dynamic_symbols):
         spent(items)
     for property in ("needed", "soname", "run_path", "build_id"):
         tried(lambda: getattr(file, property))

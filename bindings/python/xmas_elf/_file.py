@@ -13,8 +13,8 @@ from ._archive import ElfError, check, library
 from ._declarations import Status
 from ._input import address_of, view_of
 from ._parts import HASH_TABLES, TABLES_OF_RELOCATIONS, TABLES_OF_SYMBOLS, look_up_by
-from ._parts import Dynamic, Note, Relocation, Section, Segment, Symbol
-from ._rows import Row, batches, rows
+from ._parts import Dynamic, Note, Relocation, Section, Segment, Symbol, symbols_of
+from ._rows import NUMBER, Row, batches, rows
 from .constants import DT_NULL, DT_RPATH, DT_RUNPATH, DT_SONAME, PT_NOTE, SHT_DYNAMIC, SHT_NOTE
 
 # A name that is refused for the type of its section alone is read from the name table.
@@ -164,6 +164,19 @@ class ElfFile:
             if error.status == Status.LINK_NO_DYNAMIC:
                 return []
             raise
+
+    def dynamic_symbols(self) -> Iterator[Symbol]:
+        """The symbols of the dynamic segment with their names (DT_SYMTAB), as many as its hash tables count: GNU's alone
+        doesn't count symbols behind the last exported one. None where there is no such segment. It needs no sections."""
+        try:
+            (count,) = self._asked("xmas_elf_dynamic_symbol_count", NUMBER)
+        except ElfError as error:
+            if error.status == Status.LINK_NO_DYNAMIC:
+                return
+            raise
+        # Room for all, since each call counts anew; no symbol takes fewer than 16 bytes of the input.
+        room = max(1, min(count, len(self._view) // 16))
+        yield from symbols_of(self._view, "dynamic_symbol", *self._input, room=room)
 
     @property
     def soname(self) -> Optional[str]:

@@ -7,7 +7,7 @@ from typing import Any, Callable, Iterator, List, NamedTuple, Tuple, Type, TypeV
 
 from . import _declarations as declared
 from ._archive import ElfError, library
-from ._rows import Row, batches, rows
+from ._rows import NUMBER, ROOM, Row, batches, rows
 from .constants import SHN_UNDEF, SHT_DYNSYM, SHT_GNU_HASH, SHT_HASH, SHT_REL, SHT_RELA, SHT_SYMTAB
 
 _Record = TypeVar("_Record", bound=Tuple[Any, ...])
@@ -71,7 +71,6 @@ _RELOCATIONS = {
     64: Struct(declared.RELOCATION.format.replace("QQ", "Qq", 1)),
     32: Struct(declared.RELOCATION.format.replace("QQ", "Qi4x", 1)),
 }
-_ADDRESS = Struct("@Q")
 
 
 def _records(kind: Type[_Record], export: str, layout: Struct, *arguments: Any) -> Iterator[_Record]:
@@ -86,6 +85,13 @@ def _symbols_of_batch(view: memoryview, records: Iterator[Row], names: Iterator[
         new(Symbol, (None if status else str(view[offset : offset + size], "utf-8"), status) + fields)
         for fields, (offset, size, status) in zip(records, names)
     ]
+
+
+def symbols_of(view: memoryview, export: str, *arguments: Any, room: int = ROOM) -> Iterator[Symbol]:
+    """The symbols of a table with their names: `xmas_elf_EXPORTs` gives them, and `xmas_elf_EXPORT_names` the names."""
+    records = batches(f"xmas_elf_{export}s", declared.SYMBOL, *arguments, room=room)
+    names = batches(f"xmas_elf_{export}_names", declared.NAME, *arguments, room=room)
+    return chain.from_iterable(_symbols_of_batch(view, *both) for both in zip(records, names))
 
 
 class Section(declared.SectionRecord):
@@ -104,11 +110,7 @@ class Section(declared.SectionRecord):
 
     def symbols(self) -> Iterator[Symbol]:
         """The symbols with their names, from index 0 on. Refused where the section isn't a symbol table."""
-        table = (*self.file._input, self.index)
-        records = batches("xmas_elf_symbols", declared.SYMBOL, *table)
-        names = batches("xmas_elf_symbol_names", declared.NAME, *table)
-        view = self.file._view
-        return chain.from_iterable(_symbols_of_batch(view, *both) for both in zip(records, names))
+        return symbols_of(self.file._view, "symbol", *self.file._input, self.index)
 
     def symbol(self, index: int) -> Symbol:
         """The symbol at an index."""
@@ -125,7 +127,7 @@ class Section(declared.SectionRecord):
 
     def packed_relocations(self) -> Iterator[int]:
         """The addresses in the packed relative relocations. Refused where the section isn't of type SHT_RELR."""
-        return (address for (address,) in rows("xmas_elf_packed_relocations", _ADDRESS, *self.file._input, self.index))
+        return (address for (address,) in rows("xmas_elf_packed_relocations", NUMBER, *self.file._input, self.index))
 
     def dynamic(self) -> Iterator[Dynamic]:
         """The dynamic entries, those after the entry with tag 0 too. Refused where the section has none by its type."""

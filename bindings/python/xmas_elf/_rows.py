@@ -10,17 +10,19 @@ from ._archive import check, library
 from ._declarations import Status
 
 Row = Tuple[Any, ...]
+# A number of 64 bits.
+NUMBER = Struct("@Q")
 # How many records a call fills.
 ROOM = 512
 
 
-def batches(export: str, layout: Struct, *arguments: Any) -> Iterator[Iterator[Row]]:
+def batches(export: str, layout: Struct, *arguments: Any, room: int = ROOM) -> Iterator[Iterator[Row]]:
     """The records of a table from index 0 on, call by call. The next call fills the memory of the last one anew."""
     call, first, filled = getattr(library, export), 0, c_uint64()
-    room = create_string_buffer(ROOM * layout.size)
-    memory = memoryview(room)
+    records = create_string_buffer(room * layout.size)
+    memory = memoryview(records)
     while True:
-        status = call(*arguments, first, room, ROOM, byref(filled))
+        status = call(*arguments, first, records, room, byref(filled))
         if status == Status.NO_RECORD:
             return
         check(status)

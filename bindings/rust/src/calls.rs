@@ -30,6 +30,8 @@ pub(crate) fn every(asked: &Asked<'_>, mut heard: impl FnMut(&str, Result<(), Er
     heard("sections", answer, &[Error::NoRecord]);
     let answer = ffi::find_section(input, header, name).map(|_| ());
     heard("find_section", answer, &[Error::NotFound]);
+    let answer = ffi::find_section_index(input, header, name).map(|_| ());
+    heard("find_section_index", answer, &[Error::NotFound]);
     let answer = ffi::section_data(input, header, asked.index).map(|_| ());
     heard("section_data", answer, &[Error::ShortSectionHeader, Error::UnknownClass, Error::SmallEntry, Error::InvalidShType, Error::NullData, Error::DataRange]);
     let answer = ffi::section_name(input, header, asked.index).map(|_| ());
@@ -74,6 +76,12 @@ pub(crate) fn every(asked: &Asked<'_>, mut heard: impl FnMut(&str, Result<(), Er
     heard("dynamic_text", answer, &[Error::LinkNoDynamic, Error::DataRange, Error::NotMultiple, Error::NotFound, Error::LinkNoEntry, Error::LinkAddress, Error::TextStart, Error::TextEnd, Error::TextUtf8]);
     let answer = ffi::needed(input, header, asked.index, &mut [Name::default(); 3]).map(|_| ());
     heard("needed", answer, &[Error::LinkNoDynamic, Error::DataRange, Error::NotMultiple, Error::NoRecord]);
+    let answer = ffi::dynamic_symbol_count(input, header).map(|_| ());
+    heard("dynamic_symbol_count", answer, &[Error::LinkNoDynamic, Error::DataRange, Error::NotMultiple, Error::LinkNoEntry, Error::LinkAddress, Error::ShortData, Error::LinkShortTable, Error::LinkBloomCount, Error::LinkChainIndex, Error::LinkChainData, Error::LinkSymbolIndex]);
+    let answer = ffi::dynamic_symbols(input, header, asked.index, &mut [Entry::default(); 3]).map(|_| ());
+    heard("dynamic_symbols", answer, &[Error::LinkNoDynamic, Error::DataRange, Error::NotMultiple, Error::LinkNoEntry, Error::LinkAddress, Error::ShortData, Error::LinkShortTable, Error::LinkBloomCount, Error::LinkChainIndex, Error::LinkChainData, Error::LinkSymbolIndex, Error::NoRecord]);
+    let answer = ffi::dynamic_symbol_names(input, header, asked.index, &mut [Name::default(); 3]).map(|_| ());
+    heard("dynamic_symbol_names", answer, &[Error::LinkNoDynamic, Error::DataRange, Error::NotMultiple, Error::LinkNoEntry, Error::LinkAddress, Error::ShortData, Error::LinkShortTable, Error::LinkBloomCount, Error::LinkChainIndex, Error::LinkChainData, Error::LinkSymbolIndex, Error::NoRecord]);
     let answer = ffi::look_up(input, header, asked.section, name).map(|_| ());
     heard("look_up", answer, &[Error::TextUtf8, Error::ShortSectionHeader, Error::UnknownClass, Error::SmallEntry, Error::InvalidShType, Error::DataRange, Error::NotMultiple, Error::Note32, Error::ShortData, Error::OtherData, Error::HashData, Error::ChainIndex, Error::SymbolIndex, Error::ChainSum, Error::HashCycle]);
     ffi::look_ups(input, header, asked.section, name, ranges, &mut [Answer::default(); 3]);

@@ -25,6 +25,8 @@ extern "C" {
         out: *mut SectionHeader, out_len: usize, count: *mut u64) -> u32;
     fn xmas_elf_find_section(input: *const u8, input_len: usize, header: *const Header, name: *const u8,
         name_len: usize, out: *mut SectionHeader) -> u32;
+    fn xmas_elf_find_section_index(input: *const u8, input_len: usize, header: *const Header, name: *const u8,
+        name_len: usize, out: *mut u64) -> u32;
     fn xmas_elf_section_data(input: *const u8, input_len: usize, header: *const Header, index: u64,
         out: *mut Range) -> u32;
     fn xmas_elf_section_name(input: *const u8, input_len: usize, header: *const Header, index: u64,
@@ -66,6 +68,11 @@ extern "C" {
         out: *mut Range) -> u32;
     fn xmas_elf_needed(input: *const u8, input_len: usize, header: *const Header, first: u64, out: *mut Name,
         out_len: usize, count: *mut u64) -> u32;
+    fn xmas_elf_dynamic_symbol_count(input: *const u8, input_len: usize, header: *const Header, out: *mut u64) -> u32;
+    fn xmas_elf_dynamic_symbols(input: *const u8, input_len: usize, header: *const Header, first: u64,
+        out: *mut Entry, out_len: usize, count: *mut u64) -> u32;
+    fn xmas_elf_dynamic_symbol_names(input: *const u8, input_len: usize, header: *const Header, first: u64,
+        out: *mut Name, out_len: usize, count: *mut u64) -> u32;
     fn xmas_elf_look_up(input: *const u8, input_len: usize, header: *const Header, section: u64, name: *const u8,
         name_len: usize, out: *mut LookUp) -> u32;
     fn xmas_elf_look_ups(input: *const u8, input_len: usize, header: *const Header, section: u64, names: *const u8,
@@ -141,6 +148,16 @@ pub(crate) fn find_section(input: &[u8], header: &Header, name: &[u8]) -> Result
     // SAFETY: see the head of this file.
     let status = unsafe { xmas_elf_find_section(input.as_ptr(), input.len(), header, name.as_ptr(), name.len(), &mut
         out) };
+    answered(status, out)
+}
+
+/// The index of the first section with a name: that of the section that `find_section` gives. The call is refused
+/// with `NotFound`.
+pub(crate) fn find_section_index(input: &[u8], header: &Header, name: &[u8]) -> Result<u64, Error> {
+    let mut out = u64::default();
+    // SAFETY: see the head of this file.
+    let status = unsafe { xmas_elf_find_section_index(input.as_ptr(), input.len(), header, name.as_ptr(), name.len(),
+        &mut out) };
     answered(status, out)
 }
 
@@ -390,6 +407,46 @@ pub(crate) fn needed(input: &[u8], header: &Header, first: u64, out: &mut [Name]
     // SAFETY: see the head of this file.
     let status = unsafe { xmas_elf_needed(input.as_ptr(), input.len(), header, first, out.as_mut_ptr(), out.len(),
         &mut count) };
+    answered(status, count)
+}
+
+/// The number of symbols of the dynamic segment, which no entry says: the number of chains of the gABI's hash table
+/// (DT_HASH) where the segment names one, and else one more than the last index that GNU's (DT_GNU_HASH) reaches, or
+/// its first index where it reaches none; this one does not count symbols behind the last exported one. No section
+/// header is needed. The call is refused with (in the order of the tests) `LinkNoDynamic`, `DataRange`,
+/// `NotMultiple`, `LinkNoEntry`, `LinkAddress`, `ShortData`, `LinkShortTable`, `LinkBloomCount`, `LinkChainIndex`,
+/// `LinkChainData`, `LinkSymbolIndex`.
+pub(crate) fn dynamic_symbol_count(input: &[u8], header: &Header) -> Result<u64, Error> {
+    let mut out = u64::default();
+    // SAFETY: see the head of this file.
+    let status = unsafe { xmas_elf_dynamic_symbol_count(input.as_ptr(), input.len(), header, &mut out) };
+    answered(status, out)
+}
+
+/// The symbols of the dynamic segment (DT_SYMTAB) from index `first` on, as many in all as `dynamic_symbol_count`
+/// says. No section header is needed. Each call counts the symbols anew, so give room for all. The call is refused
+/// with (in the order of the tests) `LinkNoDynamic`, `DataRange`, `NotMultiple`, `LinkNoEntry`, `LinkAddress`,
+/// `ShortData`, `LinkShortTable`, `LinkBloomCount`, `LinkChainIndex`, `LinkChainData`, `LinkSymbolIndex`, `NoRecord`.
+pub(crate) fn dynamic_symbols(input: &[u8], header: &Header, first: u64, out: &mut [Entry]) -> Result<u64, Error> {
+    let mut count = u64::default();
+    // SAFETY: see the head of this file.
+    let status = unsafe { xmas_elf_dynamic_symbols(input.as_ptr(), input.len(), header, first, out.as_mut_ptr(),
+        out.len(), &mut count) };
+    answered(status, count)
+}
+
+/// The ranges of the names of these symbols, each with a status of its own: the texts at each symbol's `name` in the
+/// string table of the dynamic segment (DT_STRTAB). The call gives as many names as `dynamic_symbols` gives symbols.
+/// The call is refused with (in the order of the tests) `LinkNoDynamic`, `DataRange`, `NotMultiple`, `LinkNoEntry`,
+/// `LinkAddress`, `ShortData`, `LinkShortTable`, `LinkBloomCount`, `LinkChainIndex`, `LinkChainData`,
+/// `LinkSymbolIndex`, `NoRecord`. Each record is refused with (in the order of the tests) `LinkNoEntry`,
+/// `LinkAddress`, `DataRange`, `TextStart`, `TextEnd`, `TextUtf8`.
+pub(crate) fn dynamic_symbol_names(input: &[u8], header: &Header, first: u64,
+    out: &mut [Name]) -> Result<u64, Error> {
+    let mut count = u64::default();
+    // SAFETY: see the head of this file.
+    let status = unsafe { xmas_elf_dynamic_symbol_names(input.as_ptr(), input.len(), header, first, out.as_mut_ptr(),
+        out.len(), &mut count) };
     answered(status, count)
 }
 

@@ -60,7 +60,7 @@ pub use records::Range as ByteRange;
 pub use records::{Answer, Dynamic, Entry, Header, LookUp, Name, ProgramHeader, Relocation, SectionHeader};
 #[cfg(feature = "alloc")]
 pub use symbol_map::SymbolMap;
-pub use symbols::{Symbol, Symbols};
+pub use symbols::{DynamicSymbol, DynamicSymbols, Symbol, Symbols};
 
 /// An ELF file: its bytes, and its header.
 #[derive(Clone, Copy, Debug)]
@@ -135,18 +135,15 @@ impl<'a> ElfFile<'a> {
 
     /// The first section with this name.
     pub fn section_by_name(&self, name: &str) -> Option<Section<'_, 'a>> {
-        let (mut first, mut names) = (0, [Name::default(); 16]);
-        while let Ok(count @ 1..) = self.section_names_from(first, &mut names) {
-            let bears = |one: &Name| one.range().is_ok_and(|range| self.bytes(range) == name.as_bytes());
-            if let Some(place) = names.iter().take(count).position(bears) {
-                return self.section(first + place as u64).ok();
-            }
-            first += count as u64;
-        }
-        None
+        self.section(self.section_index_by_name(name)?).ok()
     }
 
-    /// The header of the first section with this name: one call, where `section_by_name` reads the names of the sections.
+    /// The index of the first section with this name.
+    pub fn section_index_by_name(&self, name: &str) -> Option<u64> {
+        ffi::find_section_index(self.input, &self.header, name.as_bytes()).ok()
+    }
+
+    /// The header of the first section with this name.
     pub fn section_header_by_name(&self, name: &str) -> Result<SectionHeader, Error> {
         ffi::find_section(self.input, &self.header, name.as_bytes())
     }
@@ -192,6 +189,31 @@ impl<'a> ElfFile<'a> {
             Some(folders) => Ok(Some(folders)),
             None => self.dynamic_text(DT_RPATH),
         }
+    }
+
+    /// The symbols of the dynamic segment (DT_SYMTAB), from index 0 on, as many as `dynamic_symbol_count` says; none
+    /// where that or they are refused. It needs no section header.
+    pub fn dynamic_symbols(&self) -> DynamicSymbols<'_, 'a> {
+        DynamicSymbols::new(self)
+    }
+
+    /// How many symbols the dynamic segment has, by the hash tables that it names: GNU's alone does not count symbols
+    /// behind the last exported one. It needs no section header.
+    pub fn dynamic_symbol_count(&self) -> Result<u64, Error> {
+        ffi::dynamic_symbol_count(self.input, &self.header)
+    }
+
+    /// Puts the symbols of the dynamic segment from an index on to the front of `out`, as many as it has room for or all
+    /// that follow, and says how many. Refused where there is none at that index. Each call counts the symbols anew, so
+    /// give room for all.
+    pub fn dynamic_symbols_from(&self, first: u64, out: &mut [Entry]) -> Result<usize, Error> {
+        ffi::dynamic_symbols(self.input, &self.header, first, out).map(|count| count as usize)
+    }
+
+    /// Puts where the names of the symbols of the dynamic segment from an index on stand to the front of `out`, as many
+    /// as `dynamic_symbols_from` gives, and says how many.
+    pub fn dynamic_symbol_names_from(&self, first: u64, out: &mut [Name]) -> Result<usize, Error> {
+        ffi::dynamic_symbol_names(self.input, &self.header, first, out).map(|count| count as usize)
     }
 
     // The text that the first dynamic entry with a tag names, if there is one.

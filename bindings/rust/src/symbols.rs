@@ -1,8 +1,8 @@
-//! The symbols of a section.
+//! The symbols of a section, and those of the dynamic segment.
 
 use crate::batch::Batch;
 use crate::ffi;
-use crate::{ByteRange, ElfFile, Entry, Error};
+use crate::{ByteRange, ElfFile, Entry, Error, Name};
 use core::ops::Deref;
 
 // The data of a string table.
@@ -55,7 +55,6 @@ impl<'a> Symbol<'a> {
         let whole = ByteRange { offset: 0, size: strings.len() as u64 };
         ffi::text(strings, &whole, u64::from(self.entry.name))
     }
-
 }
 
 /// The symbols of a section in order, which it asks the archive for by many at once.
@@ -81,5 +80,67 @@ impl<'a> Iterator for Symbols<'_, 'a> {
         let (file, section) = (self.file, self.section);
         let (index, entry) = self.batch.next(|first, out| ffi::symbols(file.input, &file.header, section, first, out))?;
         Some(Symbol { strings: self.strings, index, entry })
+    }
+}
+
+/// A symbol of the dynamic segment; its numbers are its own.
+#[derive(Clone, Copy, Debug)]
+pub struct DynamicSymbol<'a> {
+    name: Result<&'a [u8], Error>,
+    index: u64,
+    entry: Entry,
+}
+
+impl Deref for DynamicSymbol<'_> {
+    type Target = Entry;
+
+    fn deref(&self) -> &Entry {
+        &self.entry
+    }
+}
+
+impl<'a> DynamicSymbol<'a> {
+    /// The index of the symbol among those of the dynamic segment.
+    pub fn index(&self) -> u64 {
+        self.index
+    }
+
+    /// The name of the symbol, in the string table of the dynamic segment.
+    pub fn name(&self) -> Result<&'a str, Error> {
+        Ok(core::str::from_utf8(self.name?).unwrap_or_default())
+    }
+
+    /// The bytes of the name, which are UTF-8; refused as `name` is. Rust doesn't test them again.
+    pub fn name_bytes(&self) -> Result<&'a [u8], Error> {
+        self.name
+    }
+}
+
+// Each call of the archive counts the symbols anew, so many are asked for at once.
+const ROOM: usize = 256;
+
+/// The symbols of the dynamic segment in order, which it asks the archive for by many at once.
+#[derive(Clone, Debug)]
+pub struct DynamicSymbols<'f, 'a> {
+    file: &'f ElfFile<'a>,
+    entries: Batch<Entry, ROOM>,
+    names: Batch<Name, ROOM>,
+}
+
+impl<'f, 'a> DynamicSymbols<'f, 'a> {
+    pub(crate) fn new(file: &'f ElfFile<'a>) -> DynamicSymbols<'f, 'a> {
+        DynamicSymbols { file, entries: Batch::new(), names: Batch::new() }
+    }
+}
+
+impl<'a> Iterator for DynamicSymbols<'_, 'a> {
+    type Item = DynamicSymbol<'a>;
+
+    #[inline]
+    fn next(&mut self) -> Option<DynamicSymbol<'a>> {
+        let file = self.file;
+        let (index, entry) = self.entries.next(|first, out| ffi::dynamic_symbols(file.input, &file.header, first, out))?;
+        let (_, name) = self.names.next(|first, out| ffi::dynamic_symbol_names(file.input, &file.header, first, out))?;
+        Some(DynamicSymbol { name: name.range().map(|range| file.bytes(range)), index, entry })
     }
 }

@@ -46,6 +46,9 @@ fn sections_and_names() {
     let (index, dynamic) = section_of_type(&input, &header, SHT_DYNAMIC);
     assert_eq!(ffi::find_section(&input, &header, b".dynamic"), Ok(dynamic));
     assert_eq!(ffi::find_section(&input, &header, b"\xff"), Err(Error::NotFound));
+    assert_eq!(ffi::find_section_index(&input, &header, b".dynamic"), Ok(index));
+    assert_eq!(ffi::find_section_index(&input, &header, b"\xff"), Err(Error::NotFound));
+    assert_eq!(ffi::find_section_index(&input, &header, b""), Err(Error::NotFound));
     assert_eq!(ffi::section_data(&input, &header, index), Ok(Range { offset: dynamic.offset, size: dynamic.size }));
     let name = ffi::section_name(&input, &header, index).expect("a name");
     assert_eq!(name.bytes_in(&input), b".dynamic");
@@ -107,6 +110,33 @@ fn texts_of_the_dynamic_segment() {
     let mut second = [Name::default(); 8];
     assert_eq!(ffi::needed(&input, &header, 1, &mut second), if count > 1 { Ok(count - 1) } else { Err(Error::NoRecord) });
     assert!(count < 2 || second[0] == names[1]);
+}
+
+#[test]
+fn symbols_of_the_dynamic_segment() {
+    let mut input = whole();
+    let header = ffi::open(&input).expect("an ELF file");
+    let section = section_of_type(&input, &header, SHT_DYNSYM).0;
+    let count = ffi::dynamic_symbol_count(&input, &header).expect("a hash table") as usize;
+    assert!(count > 0);
+    let (mut entries, mut names) = (std::vec![Entry::default(); count + 1], std::vec![Name::default(); count + 1]);
+    let (mut wanted, mut wanted_names) = (entries.clone(), names.clone());
+    assert!(ffi::symbols(&input, &header, section, 0, &mut wanted[..count]).is_ok_and(|filled| filled == count as u64));
+    assert!(ffi::symbol_names(&input, &header, section, 0, &mut wanted_names[..count]).is_ok());
+    // The header that the calls are handed next names no sections, nor do the bytes.
+    input[40..48].fill(0);
+    let cut = ffi::open(&input).expect("an ELF file");
+    assert_eq!(ffi::section(&input, &cut, section).map(|one| one.type_).ok().filter(|kind| *kind == SHT_DYNSYM), None);
+    assert_eq!(ffi::dynamic_symbol_count(&input, &cut), Ok(count as u64));
+    assert_eq!(ffi::dynamic_symbols(&input, &cut, 0, &mut entries), Ok(count as u64));
+    assert_eq!(ffi::dynamic_symbol_names(&input, &cut, 0, &mut names), Ok(count as u64));
+    assert!(entries == wanted && names == wanted_names);
+    let (mut last, mut last_name) = ([Entry::default(); 2], [Name::default(); 2]);
+    assert_eq!(ffi::dynamic_symbols(&input, &cut, count as u64 - 1, &mut last), Ok(1));
+    assert_eq!(ffi::dynamic_symbol_names(&input, &cut, count as u64 - 1, &mut last_name), Ok(1));
+    assert_eq!((last, last_name), ([wanted[count - 1], Entry::default()], [wanted_names[count - 1], Name::default()]));
+    assert_eq!(ffi::dynamic_symbols(&input, &cut, count as u64, &mut last), Err(Error::NoRecord));
+    assert_eq!(ffi::dynamic_symbol_names(&input, &cut, count as u64, &mut last_name), Err(Error::NoRecord));
 }
 
 #[test]

@@ -53,6 +53,12 @@ fn visit_section_names(file: &ElfFile<'_>) {
     let mut headers = [SectionHeader::default(); 3];
     assert_eq!(file.sections_from(0, &mut headers).unwrap_or(0), file.sections().take(3).count());
     assert_eq!(file.section_names_from(0, &mut []).is_ok(), file.sections().next().is_some());
+    for section in file.sections().take(200) {
+        let Ok(name) = section.name() else { continue };
+        let first = file.sections().find(|one| one.name() == Ok(name)).map(|one| one.index());
+        assert!(first.is_some() && file.section_index_by_name(name) == first);
+        assert_eq!(file.section_by_name(name).map(|one| *one), file.section_header_by_name(name).ok());
+    }
 }
 
 // Names of symbols by many at once, as each by itself.
@@ -92,6 +98,22 @@ fn visit_segments(file: &ElfFile<'_>) {
     let mut headers = [ProgramHeader::default(); 3];
     let count = file.segments_from(1, &mut headers).unwrap_or(0);
     assert!(file.segments().skip(1).take(3).map(|one| *one).eq(headers[..count].iter().copied()));
+}
+
+// The symbols of the dynamic segment by many at once are those of the iterator, as many as are counted, and their names lie
+// in the input.
+fn visit_dynamic_symbols(file: &ElfFile<'_>) {
+    let (mut entries, mut names) = ([Entry::default(); 7], [Name::default(); 7]);
+    let count = file.dynamic_symbols_from(3, &mut entries).unwrap_or(0);
+    assert_eq!(file.dynamic_symbol_names_from(3, &mut names).unwrap_or(0), count);
+    let left = file.dynamic_symbols().skip(3).take(7);
+    assert_eq!(left.clone().count(), count);
+    for ((symbol, entry), name) in left.zip(&entries).zip(&names) {
+        assert!(*symbol == *entry && symbol.name() == file.name_of(name) && symbol.name().map(str::as_bytes) == symbol.name_bytes());
+        assert!(symbol.name().map_or(true, |name| lies_in(file.input(), name.as_bytes())));
+    }
+    let counted = file.dynamic_symbol_count().unwrap_or(0);
+    assert!(file.dynamic_symbols().take(2000).all(|symbol| symbol.index() < counted));
 }
 
 fn visit_section(input: &[u8], section: &Section<'_, '_>) -> usize {
@@ -160,6 +182,7 @@ fn visit(input: &[u8]) -> usize {
     file.sections().take(200).for_each(|section| visit_symbol_names(&file, &section));
     file.sections().take(200).for_each(|section| visit_batches(&file, &section));
     visit_segments(&file);
+    visit_dynamic_symbols(&file);
     assert!(file.build_id().map_or(true, |id| lies_in(input, id)));
     #[cfg(feature = "alloc")]
     visit_symbol_map(&file);

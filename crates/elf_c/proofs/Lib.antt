@@ -5,3 +5,8 @@ pub mod Batches
 pub mod Tables
 pub mod InOrder
 pub mod NeededNames
+pub mod DynamicSymbols
+pub mod Statuses
+pub mod Opened
+pub mod StoredNames
+pub mod GivenRanges

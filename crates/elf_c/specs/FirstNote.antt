@@ -1,5 +1,5 @@
 -- The note at the start of a part of the input, as in the list of notes (gABI, "Note Section").
-use Rattle.std.specs.Prelude.{ℕ, ◌+◌, ◌-◌, ◌==◌, nat_le, List, length, Result, Ok, Err, if◌then◌else◌}
+use Rattle.std.specs.Prelude.{ℕ, ◌≤◌, ◌+◌, ◌-◌, ◌==◌, nat_le, List, length, Result, Ok, Err, if◌then◌else◌}
 use Rattle.elf_base.specs.declared.bytes.Order.{Order}
 use Rattle.elf_linking.specs.Notes.{begins_with_note, desc_size, desc_start, name_size, next_note, type_word}
 use Rattle.elf_linking.specs.declared.error.LinkError.TheVariants.{ShortNote}
@@ -21,6 +21,11 @@ note_parts_at start align order bytes =
       rest = range_at (start + next) (length bytes - next);
       type_ = type_word order bytes;
     }
+
+-- the name, the description and the rest end at this offset or before
+abbrev pub EndsBy : ℕ → NoteRange → Type 0
+EndsBy end note = (note.name.offset + note.name.size ≤ end) × (note.desc.offset + note.desc.size ≤ end)
+    × (note.rest.offset + note.rest.size ≤ end)
 
 -- the ranges of the first note and of the rest, or why there is no note
 abbrev pub note_at : ℕ → ℕ → Order → List ℕ → Result NoteRange Refusal

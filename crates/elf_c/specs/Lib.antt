@@ -10,6 +10,7 @@ pub mod Texts
 pub mod BuildId
 pub mod Addresses
 pub mod DynamicTexts
+pub mod DynamicSymbols
 pub mod Batch
 pub mod HashTables
 pub mod Lookup

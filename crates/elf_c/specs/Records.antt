@@ -1,5 +1,5 @@
 -- The records that the exports fill, by the values of the library (this project's own).
-use Rattle.std.specs.Prelude.{ℕ, ◌+◌, ◌-◌, ◌==◌, nat_lt, List, [], ◌∷◌, length, slice_get, Option, None, Some, Result, Ok, Err, if◌then◌else◌}
+use Rattle.std.specs.Prelude.{◌≡◌, ◌<◌, ◌≤◌, ℕ, ◌+◌, ◌-◌, ◌==◌, nat_lt, List, [], ◌∷◌, length, slice_get, Option, None, Some, Result, Ok, Err, if◌then◌else◌}
 use Rattle.std.specs.Str.{is_utf8}
 use Rattle.elf_base.specs.Message.{error_number}
 use Rattle.elf_base.specs.Refusal.{and_then, unless}
@@ -9,8 +9,9 @@ use Rattle.elf_base.specs.declared.error.ElfError.TheVariants.{NullName, ShortSe
 use Rattle.elf_records.specs.ProgramNumbers.{ph_type_number}
 use Rattle.elf_records.specs.SectionNumbers.{is_sh_type}
 use Rattle.elf_records.specs.declared.sections.ShType.TheVariants.{Null}
-use Rattle.xmas_elf.specs.SectionHeader.{program_count_of, section_count_of, section_fields, section_of, section_type}
-use Rattle.xmas_elf.specs.NameTable.{names_section_of, section_named}
+use Rattle.xmas_elf.specs.First.{IsFirstAt, NoneBelow}
+use Rattle.xmas_elf.specs.SectionHeader.{program_count_of, section_count_of, section_fields, section_list, section_of, section_type}
+use Rattle.xmas_elf.specs.NameTable.{HasName, names_section_of, section_named}
 use Rattle.xmas_elf.specs.Ranges.{range_of}
 use Rattle.xmas_elf.specs.SectionData.{section_data_of}
 use Rattle.xmas_elf.specs.ProgramHeader.{segment_data_of}
@@ -39,6 +40,14 @@ counts_of file = record { sections = section_count_of file; segments = program_c
 abbrev pub range_at : ℕ → ℕ → Range
 range_at offset size = record { offset = offset; size = size }
 
+-- a range lies in the input
+abbrev pub LiesIn : List ℕ → Range → Type 0
+LiesIn input range = range.offset + range.size ≤ length input
+
+-- the ranges of the first `count` names lie in the input
+abbrev pub AllLieIn : List ℕ → ℕ → List Name → Type 0
+AllLieIn input count names = (k : ℕ) (name : Name) → k < count → slice_get names k ≡ Some name → LiesIn input name.range
+
 -- the numbers of a section header
 abbrev pub section_record : SectionHeader → Section
 section_record section = let fields = section_fields section in record {
@@ -62,6 +71,12 @@ section_found (Some section) = Ok (section_record section)
 -- the first section with a name, which must be UTF-8
 abbrev pub found_section : ElfFile → List ℕ → Result Section Refusal
 found_section file name = if is_utf8 name then section_found (section_named file name) else Err NotFound
+
+-- the result is the least index of a section with the name, or that no section has it
+abbrev pub FindsIndex : ElfFile → List ℕ → Result ℕ Refusal → Type 0
+FindsIndex file name (Ok index) = IsFirstAt (λ section. HasName file section name) (section_list file) index
+FindsIndex file name (Err why) =
+    (why ≡ NotFound) × NoneBelow (λ section. HasName file section name) (section_list file) (length (section_list file))
 
 -- the range of a section's data, or why it has none
 abbrev pub section_range : ElfFile → SectionHeader → Result Range ElfError

@@ -3,6 +3,7 @@
 ghost use Rattle.std.specs.Prelude.{◌≡◌};
 ghost use Rattle.elf_c.specs.Addresses.{range_at_address};
 ghost use Rattle.elf_c.specs.Parsed.{file_of};
+ghost use Rattle.elf_c.specs.Records.{LiesIn};
 ghost use Rattle.elf_c.specs.Status.{GivesHere};
 
 use crate::file::Parsed;
@@ -39,8 +40,9 @@ pub extern "C" fn xmas_elf_bytes_at(
     count: u64,
     out: &mut Range,
 ) -> u32
-    ensures { GivesHere (range_at_address (file_of input.entry header.now) address count)
+    ensures exact { GivesHere (range_at_address (file_of input.entry header.now) address count)
         out.old result out.new }
+    ensures within { result ≡ 0 → LiesIn input.now out.new }
 {
     give(range_at(&header.file(input), address, count), out)
 }

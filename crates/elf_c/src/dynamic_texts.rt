@@ -1,11 +1,12 @@
 //! Texts that entries of the dynamic segment name, such as the needed libraries
 //! (gABI, "Dynamic Section": DT_NEEDED, DT_SONAME and DT_RUNPATH).
 
-ghost use Rattle.std.specs.Prelude.{◌≡◌, ℕ, Result};
+ghost use Rattle.std.specs.Prelude.{◌≡◌, ℕ, IfOk, Result};
 ghost use Rattle.elf_c.specs.Batch.{Fills};
 ghost use Rattle.elf_c.specs.DynamicTexts.{dynamic_text_of, linked_name, needed_at, needed_names};
 ghost use Rattle.elf_c.specs.DynamicTexts.{range_in_strings, strings_range};
 ghost use Rattle.elf_c.specs.Parsed.{file_of};
+ghost use Rattle.elf_c.specs.Records.{AllLieIn, LiesIn};
 ghost use Rattle.elf_c.specs.Status.{GivesHere};
 ghost use Rattle.elf_c.specs.declared.status.Refusal.{Refusal};
 ghost use Rattle.elf_linking.specs.DynamicView.{entries_left, view_entries};
@@ -20,7 +21,7 @@ use elf_linking::view::{DT_NEEDED, DT_STRSZ, DT_STRTAB, DynamicEntries, DynamicV
 use xmas_elf::ElfFile;
 
 // The range of the string table of the dynamic segment.
-fn strings_of(file: &ElfFile<'_>, view: &DynamicView<'_>) -> Result<Range, Refusal>
+pub(crate) fn strings_of(file: &ElfFile<'_>, view: &DynamicView<'_>) -> Result<Range, Refusal>
     ensures { result ≡ strings_range file.now (view_entries view.now) }
 {
     match (view.entry(DT_STRTAB), view.entry(DT_STRSZ)) {
@@ -30,8 +31,13 @@ fn strings_of(file: &ElfFile<'_>, view: &DynamicView<'_>) -> Result<Range, Refus
 }
 
 // The range of the text at an offset in a string table, which may be an error.
-fn text_by(input: &[u8], strings: Result<Range, Refusal>, place: u64) -> Result<Range, Refusal>
-    ensures { result ≡ range_in_strings input.now strings place }
+pub(crate) fn text_by(
+    input: &[u8],
+    strings: Result<Range, Refusal>,
+    place: u64,
+) -> Result<Range, Refusal>
+    ensures exact { result ≡ range_in_strings input.now strings place }
+    ensures within { IfOk result (LiesIn input.now) }
 {
     match strings {
         Ok(part) => Ok(text_in(input, &part, place)?),
@@ -41,7 +47,8 @@ fn text_by(input: &[u8], strings: Result<Range, Refusal>, place: u64) -> Result<
 
 // The range of the text at the offset in the first entry with a tag.
 fn text_with(file: &ElfFile<'_>, tag: u64) -> Result<Range, Refusal>
-    ensures { result ≡ dynamic_text_of file.now tag }
+    ensures exact { result ≡ dynamic_text_of file.now tag }
+    ensures within { IfOk result (LiesIn file.now.input.now) }
 {
     let view = match DynamicView::read(file) {
         Ok(view) => view,
@@ -67,14 +74,15 @@ pub extern "C" fn xmas_elf_dynamic_text(
     tag: u64,
     out: &mut Range,
 ) -> u32
-    ensures { GivesHere (dynamic_text_of (file_of input.entry header.now) tag)
+    ensures exact { GivesHere (dynamic_text_of (file_of input.entry header.now) tag)
         out.old result out.new }
+    ensures within { result ≡ 0 → LiesIn input.now out.new }
 {
     give(text_with(&header.file(input), tag), out)
 }
 
 // The record for the range of a name, or for its error.
-fn name_of(answer: Result<Range, Refusal>) -> Name
+pub(crate) fn name_of(answer: Result<Range, Refusal>) -> Name
     ensures { result ≡ linked_name answer }
 {
     match answer {
@@ -113,7 +121,8 @@ impl Sequence for NeededNames<'_> {
 
 // Stores the names of the needed libraries from an index on in `out`, and returns their number.
 fn fill_needed(file: &ElfFile<'_>, first: u64, out: &mut [Name]) -> Result<u64, Refusal>
-    ensures { Fills (needed_at file.now) first out.old result out.new }
+    ensures exact { Fills (needed_at file.now) first out.old result out.new }
+    ensures within { IfOk result (λ count. AllLieIn file.now.input.now count out.new) }
 {
     let view = match DynamicView::read(file) {
         Ok(view) => view,
@@ -143,9 +152,10 @@ pub extern "C" fn xmas_elf_needed(
     out: &mut [Name],
     count: &mut u64,
 ) -> u32
-    ensures { (answer : Result ℕ Refusal)
+    ensures exact { (answer : Result ℕ Refusal)
         × Fills (needed_at (file_of input.entry header.now)) first out.old answer out.new
         × GivesHere answer count.old result count.new }
+    ensures within { result ≡ 0 → AllLieIn input.now count.new out.new }
 {
     give(fill_needed(&header.file(input), first, out), count)
 }

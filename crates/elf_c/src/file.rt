@@ -1,9 +1,9 @@
 //! A file: its header as numbers, and the number of its sections and segments.
 
-ghost use Rattle.std.specs.Prelude.{◌≡◌, Ok};
+ghost use Rattle.std.specs.Prelude.{◌≡◌, IfOk, Ok};
 ghost use Rattle.elf_base.specs.FileHeader.{header_fields, header_of};
 ghost use Rattle.elf_base.specs.Refusal.{and_then};
-ghost use Rattle.elf_c.specs.Parsed.{file_of, numbers_of, part_1, part_2_with};
+ghost use Rattle.elf_c.specs.Parsed.{file_of, header_from, numbers_of, part_1, part_2_with};
 ghost use Rattle.elf_c.specs.Records.{counts_of};
 ghost use Rattle.elf_c.specs.Status.{Gives};
 ghost use Rattle.xmas_elf.specs.Checks.{header_check};
@@ -182,17 +182,20 @@ fn processor_flags(part: &HeaderPt2) -> u32
 // The numbers of the header of these bytes.
 #[inline(always)]
 fn read_header(input: &[u8]) -> Result<Parsed, ElfError>
-    ensures { result ≡ and_then (header_of input.now) (λ header. Ok (numbers_of header)) }
+    ensures exact { result ≡ and_then (header_of input.now) (λ header. Ok (numbers_of header)) }
+    ensures opened { IfOk result (λ numbers. header_of input.now ≡ Ok (header_from numbers)) }
 {
     let file = ElfFile::new(input)?;
     Ok(Parsed::of(&file.header))
 }
 
-/// The header of the file in `input`; the errors are those of `ElfFile::new`.
+/// The header of the file in `input`; the errors are those of `ElfFile::new`. The calls that take
+/// these numbers with the same bytes read the file that `ElfFile::new` returns.
 #[unsafe(no_mangle)]
 pub extern "C" fn xmas_elf_open(input: &[u8], out: &mut Parsed) -> u32
-    ensures { Gives (and_then (header_of input.now) (λ header. Ok (numbers_of header)))
+    ensures exact { Gives (and_then (header_of input.now) (λ header. Ok (numbers_of header)))
         out.old result out.new }
+    ensures opened { result ≡ 0 → header_of input.now ≡ Ok (header_from out.new) }
 {
     give(read_header(input), out)
 }

@@ -11,6 +11,7 @@ pub mod addresses;
 mod batch;
 pub mod build_id;
 pub mod dynamic;
+pub mod dynamic_symbols;
 pub mod dynamic_texts;
 pub mod file;
 pub mod hash;

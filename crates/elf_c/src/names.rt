@@ -5,7 +5,7 @@ ghost use Rattle.elf_base.specs.Lent.{Answers};
 ghost use Rattle.elf_base.specs.Refusal.{and_then};
 ghost use Rattle.elf_c.specs.Batch.{Fills};
 ghost use Rattle.elf_c.specs.Parsed.{file_of};
-ghost use Rattle.elf_c.specs.Records.{found_in, name_answer, name_range};
+ghost use Rattle.elf_c.specs.Records.{AllLieIn, LiesIn, found_in, name_answer, name_range};
 ghost use Rattle.elf_c.specs.Records.{name_range_by, names_range, section_text_of, text_range};
 ghost use Rattle.elf_c.specs.Status.{Gives, GivesHere};
 ghost use Rattle.elf_c.specs.declared.status.Refusal.{Refusal};
@@ -76,9 +76,11 @@ pub(crate) fn bytes_in<'a>(input: &'a [u8], part: &Range) -> Result<&'a [u8], El
 // The range of the text at an index of a range.
 #[inline(always)]
 pub(crate) fn text_in(input: &[u8], part: &Range, index: u64) -> Result<Range, ElfError>
-    ensures { result ≡ text_range input.now part.now index }
+    ensures exact { result ≡ text_range input.now part.now index }
+    ensures within { IfOk result (LiesIn input.now) }
 {
-    let text = text_at(bytes_in(input, part)?, index as usize)?;
+    let bytes = bytes_in(input, part)?;
+    let text = text_at(bytes, index as usize)?;
     prove!(input.len() <= usize::MAX);
     Ok(Range {
         offset: part.offset + index,
@@ -92,7 +94,8 @@ pub(crate) fn text_in(input: &[u8], part: &Range, index: u64) -> Result<Range, E
 /// those of `bytes::text_at`.
 #[unsafe(no_mangle)]
 pub extern "C" fn xmas_elf_text(input: &[u8], part: &Range, index: u64, out: &mut Range) -> u32
-    ensures { Gives (text_range input.now part.now index) out.old result out.new }
+    ensures exact { Gives (text_range input.now part.now index) out.old result out.new }
+    ensures within { result ≡ 0 → LiesIn input.now out.new }
 {
     give(text_in(input, part, index), out)
 }
@@ -101,7 +104,8 @@ pub extern "C" fn xmas_elf_text(input: &[u8], part: &Range, index: u64, out: &mu
 #[tactic(auto, unfolding(xmas_elf::specs::NameTable::names_section_of))]
 #[inline(always)]
 fn names_in(file: &ElfFile<'_>) -> Result<Range, ElfError>
-    ensures { result ≡ names_range file.now }
+    ensures exact { result ≡ names_range file.now }
+    ensures within { IfOk result (LiesIn file.now.input.now) }
 {
     let index = file.shstr_index()?;
     let section = file.section_header_at(u64::from(index))?;
@@ -122,7 +126,8 @@ fn names_in(file: &ElfFile<'_>) -> Result<Range, ElfError>
 /// table.
 #[unsafe(no_mangle)]
 pub extern "C" fn xmas_elf_names(input: &[u8], header: &Parsed, out: &mut Range) -> u32
-    ensures { Gives (names_range (file_of input.entry header.now)) out.old result out.new }
+    ensures exact { Gives (names_range (file_of input.entry header.now)) out.old result out.new }
+    ensures within { result ≡ 0 → LiesIn input.now out.new }
 {
     give(names_in(&header.file(input)), out)
 }
@@ -134,7 +139,8 @@ fn name_of(
     names: Result<Range, ElfError>,
     section: &SectionHeader,
 ) -> Result<Range, ElfError>
-    ensures { result ≡ name_range_by input.now names section.now }
+    ensures exact { result ≡ name_range_by input.now names section.now }
+    ensures within { IfOk result (LiesIn input.now) }
 {
     match section.get_type()? {
         ShType::Null => Err(ElfError::NullName),
@@ -145,7 +151,8 @@ fn name_of(
 // The range of the name of the section at an index.
 #[inline(always)]
 fn name_at(file: &ElfFile<'_>, index: u64) -> Result<Range, ElfError>
-    ensures { result ≡ and_then (section_of file.now index) (name_range file.now) }
+    ensures exact { result ≡ and_then (section_of file.now index) (name_range file.now) }
+    ensures within { IfOk result (LiesIn file.now.input.now) }
 {
     let section = file.section_header_at(index)?;
     name_of(file.input, names_in(file), &section)
@@ -160,8 +167,9 @@ pub extern "C" fn xmas_elf_section_name(
     index: u64,
     out: &mut Range,
 ) -> u32
-    ensures { Gives (and_then (section_of (file_of input.entry header.now) index)
+    ensures exact { Gives (and_then (section_of (file_of input.entry header.now) index)
         (name_range (file_of input.entry header.now))) out.old result out.new }
+    ensures within { result ≡ 0 → LiesIn input.now out.new }
 {
     give(name_at(&header.file(input), index), out)
 }
@@ -212,11 +220,12 @@ pub extern "C" fn xmas_elf_section_names(
     out: &mut [Name],
     count: &mut u64,
 ) -> u32
-    ensures { (answer : Result ℕ Refusal)
+    ensures exact { (answer : Result ℕ Refusal)
         × Fills (found_in
         (λ section. name_answer (name_range (file_of input.entry header.now) section))
         (section_list (file_of input.entry header.now))) first out.old answer out.new
         × GivesHere answer count.old result count.new }
+    ensures within { result ≡ 0 → AllLieIn input.now count.new out.new }
 {
     let file = header.file(input);
     let names = SectionNames {
@@ -230,7 +239,8 @@ pub extern "C" fn xmas_elf_section_names(
 // The range of the text at an index of the data of a section.
 #[inline(always)]
 fn text_of_section(file: &ElfFile<'_>, section: u64, index: u64) -> Result<Range, ElfError>
-    ensures { result ≡ section_text_of file.now section index }
+    ensures exact { result ≡ section_text_of file.now section index }
+    ensures within { IfOk result (LiesIn file.now.input.now) }
 {
     text_in(file.input, &data_at(file, section)?, index)
 }
@@ -247,8 +257,9 @@ pub extern "C" fn xmas_elf_section_text(
     index: u64,
     out: &mut Range,
 ) -> u32
-    ensures { Gives (section_text_of (file_of input.entry header.now) section index)
+    ensures exact { Gives (section_text_of (file_of input.entry header.now) section index)
         out.old result out.new }
+    ensures within { result ≡ 0 → LiesIn input.now out.new }
 {
     give(text_of_section(&header.file(input), section, index), out)
 }

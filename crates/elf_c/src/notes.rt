@@ -1,8 +1,8 @@
 //! Notes, one after the other (gABI, "Note Section").
 
-ghost use Rattle.std.specs.Prelude.{◌≡◌, ◌+◌, ◌≤◌, ◌<◌, ◌^◌, length};
+ghost use Rattle.std.specs.Prelude.{◌≡◌, ◌+◌, ◌≤◌, ◌<◌, ◌^◌, ℕ, IfOk, length};
 ghost use Rattle.elf_base.specs.HeaderNumbers.{order_of};
-ghost use Rattle.elf_c.specs.FirstNote.{note_at, note_in};
+ghost use Rattle.elf_c.specs.FirstNote.{EndsBy, note_at, note_in};
 ghost use Rattle.elf_c.specs.Status.{GivesHere};
 ghost use Rattle.elf_linking.specs.Notes.{next_step};
 
@@ -50,7 +50,8 @@ pub(crate) fn first_note(
     align: u64,
 ) -> Result<NoteRange, Refusal>
     requires { start + length bytes.now < 2 ^ 64 }
-    ensures { result ≡ note_at start align order bytes.now }
+    ensures exact { result ≡ note_at start align order bytes.now }
+    ensures within { (end : ℕ) → start + length bytes.now ≤ end → IfOk result (EndsBy end) }
 {
     if bytes.is_empty() {
         return Err(Refusal::NoRecord);
@@ -87,7 +88,8 @@ pub(crate) fn first_note(
 // The note at the start of a range.
 #[inline(always)]
 fn note_in(input: &[u8], header: &Parsed, part: &Range, align: u64) -> Result<NoteRange, Refusal>
-    ensures { result ≡ note_in input.now (order_of header.now.encoding) part.now align }
+    ensures exact { result ≡ note_in input.now (order_of header.now.encoding) part.now align }
+    ensures within { IfOk result (EndsBy (length input.now)) }
 {
     let bytes = bytes_in(input, part)?;
     prove!(input.len() <= usize::MAX);
@@ -108,8 +110,9 @@ pub extern "C" fn xmas_elf_note(
     align: u64,
     out: &mut NoteRange,
 ) -> u32
-    ensures { GivesHere (note_in input.now (order_of header.now.encoding) part.now align)
+    ensures exact { GivesHere (note_in input.now (order_of header.now.encoding) part.now align)
         out.old result out.new }
+    ensures within { result ≡ 0 → EndsBy (length input.now) out.new }
 {
     give(note_in(input, header, part, align), out)
 }

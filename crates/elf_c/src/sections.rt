@@ -1,14 +1,17 @@
 //! The sections of a file (gABI, "Sections").
 
-ghost use Rattle.std.specs.Prelude.{◌≡◌, ℕ, Ok, Result};
+ghost use Rattle.std.specs.Prelude.{◌≡◌, ◌↔◌, ℕ, IfOk, IsTrue, Ok, Result};
 ghost use Rattle.elf_base.specs.Refusal.{and_then};
 ghost use Rattle.elf_c.specs.Batch.{Fills};
 ghost use Rattle.elf_c.specs.Parsed.{file_of};
-ghost use Rattle.elf_c.specs.Records.{found_in, found_section, section_range, section_record};
+ghost use Rattle.elf_c.specs.Records.{FindsIndex, found_in, found_section, section_range};
+ghost use Rattle.elf_c.specs.Records.{LiesIn, section_record};
 ghost use Rattle.elf_c.specs.Status.{Gives, GivesHere};
 ghost use Rattle.elf_c.specs.declared.status.Refusal.{Refusal};
+ghost use Rattle.xmas_elf.specs.First.{FindsFirstAt};
+ghost use Rattle.xmas_elf.specs.NameTable.{HasName};
 ghost use Rattle.xmas_elf.specs.SectionHeader.{section_list, section_of};
-ghost use Rattle.xmas_elf.specs.SectionTable.{table_sections};
+ghost use Rattle.xmas_elf.specs.SectionTable.{section_table_file, table_sections};
 
 use crate::batch::{Records, fill};
 use crate::file::Parsed;
@@ -138,12 +141,14 @@ pub extern "C" fn xmas_elf_sections(
 // The range of the data of the section at an index.
 #[inline(always)]
 pub(crate) fn data_at(file: &ElfFile<'_>, index: u64) -> Result<Range, ElfError>
-    ensures { result ≡ and_then (section_of file.now index) (section_range file.now) }
+    ensures exact { result ≡ and_then (section_of file.now index) (section_range file.now) }
+    ensures within { IfOk result (LiesIn file.now.input.now) }
 {
-    let (offset, size) = file.section_header_at(index)?.file_range(file)?;
+    let section = file.section_header_at(index)?;
+    let range = section.file_range(file)?;
     Ok(Range {
-        offset: offset as u64,
-        size: size as u64,
+        offset: range.0 as u64,
+        size: range.1 as u64,
     })
 }
 
@@ -156,8 +161,9 @@ pub extern "C" fn xmas_elf_section_data(
     index: u64,
     out: &mut Range,
 ) -> u32
-    ensures { Gives (and_then (section_of (file_of input.entry header.now) index)
+    ensures exact { Gives (and_then (section_of (file_of input.entry header.now) index)
         (section_range (file_of input.entry header.now))) out.old result out.new }
+    ensures within { result ≡ 0 → LiesIn input.now out.new }
 {
     give(data_at(&header.file(input), index), out)
 }
@@ -190,4 +196,54 @@ pub extern "C" fn xmas_elf_find_section(
         out.old result out.new }
 {
     give(section_with_name(&header.file(input), name), out)
+}
+
+// Whether a section of a table has a name.
+#[inline(always)]
+fn has_name(table: &SectionTable<'_, '_>, section: &SectionHeader, name: &str) -> bool
+    ensures { IsTrue result ↔ HasName (section_table_file table.now) section.now name.now }
+{
+    match table.name_of(section) {
+        Ok(text) => text == name,
+        Err(_) => false,
+    }
+}
+
+// The index of the first section of a table with a name.
+fn position_of_name(table: &SectionTable<'_, '_>, name: &str) -> Option<usize>
+    ensures { FindsFirstAt (λ section. HasName (section_table_file table.now) section name.now)
+        (table_sections table.now) result }
+{
+    table
+        .iter()
+        .position(|section| has_name(table, &section, name))
+}
+
+// The index of the first section with a name.
+fn index_with_name(file: &ElfFile<'_>, name: &[u8]) -> Result<u64, Refusal>
+    ensures { FindsIndex file.now name.now result }
+{
+    let Ok(name) = from_utf8(name) else {
+        return Err(Refusal::NotFound);
+    };
+    match position_of_name(&file.section_table(), name) {
+        Some(index) => Ok(index as u64),
+        None => Err(Refusal::NotFound),
+    }
+}
+
+/// The index of the first section with a name, that of `xmas_elf_find_section`. `NotFound` if no
+/// section has it, or if it isn't UTF-8.
+#[unsafe(no_mangle)]
+pub extern "C" fn xmas_elf_find_section_index(
+    input: &[u8],
+    header: &Parsed,
+    name: &[u8],
+    out: &mut u64,
+) -> u32
+    ensures { (answer : Result ℕ Refusal)
+        × FindsIndex (file_of input.entry header.now) name.now answer
+        × GivesHere answer out.old result out.new }
+{
+    give(index_with_name(&header.file(input), name), out)
 }

@@ -4,7 +4,7 @@ ghost use Rattle.std.specs.Prelude.{◌≡◌, ℕ, Ok, Result};
 ghost use Rattle.elf_base.specs.Refusal.{and_then};
 ghost use Rattle.elf_c.specs.Batch.{Fills};
 ghost use Rattle.elf_c.specs.Parsed.{file_of};
-ghost use Rattle.elf_c.specs.Records.{found_in, segment_range, segment_record};
+ghost use Rattle.elf_c.specs.Records.{LiesIn, found_in, segment_range, segment_record};
 ghost use Rattle.elf_c.specs.Status.{Gives, GivesHere};
 ghost use Rattle.elf_c.specs.declared.status.Refusal.{Refusal};
 ghost use Rattle.elf_records.specs.ProgramNumbers.{ph_type_number};
@@ -164,9 +164,10 @@ pub extern "C" fn xmas_elf_segment_data(
     index: u32,
     out: &mut Range,
 ) -> u32
-    ensures { Gives (and_then (program_of (file_of input.entry header.now) index)
+    ensures exact { Gives (and_then (program_of (file_of input.entry header.now) index)
         (λ program. segment_range (file_of input.entry header.now) (program_fields program)))
         out.old result out.new }
+    ensures within { result ≡ 0 → LiesIn input.now out.new }
 {
     give(data_at(&header.file(input), index), out)
 }

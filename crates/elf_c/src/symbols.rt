@@ -1,11 +1,11 @@
 //! The symbols of a section (gABI, "Symbol Table").
 
-ghost use Rattle.std.specs.Prelude.{◌≡◌, ℕ, Result};
+ghost use Rattle.std.specs.Prelude.{◌≡◌, ℕ, IfOk, Result};
 ghost use Rattle.elf_base.specs.Refusal.{and_then};
 ghost use Rattle.elf_base.specs.Table.{table_items};
 ghost use Rattle.elf_c.specs.Batch.{Fills};
 ghost use Rattle.elf_c.specs.Parsed.{file_of};
-ghost use Rattle.elf_c.specs.Records.{found_in, text_range};
+ghost use Rattle.elf_c.specs.Records.{AllLieIn, found_in, text_range};
 ghost use Rattle.elf_c.specs.Status.{GivesHere, and_so};
 ghost use Rattle.elf_c.specs.Symbols.{symbol_in, symbol_name, symbol_name_at, symbol_record};
 ghost use Rattle.elf_c.specs.declared.status.Refusal.{Refusal};
@@ -227,9 +227,10 @@ fn names<E: Entry + Record>(
     first: u64,
     out: &mut [Name],
 ) -> Result<u64, Refusal>
-    ensures { Fills
+    ensures exact { Fills
         (found_in (λ e. symbol_name input.now strings (E.fields e)) (table_items table.now))
         first out.old result out.new }
+    ensures within { IfOk result (λ count. AllLieIn input.now count out.new) }
 {
     let names = SymbolNames {
         symbols: *table,
@@ -246,7 +247,8 @@ fn fill_names(
     first: u64,
     out: &mut [Name],
 ) -> Result<u64, Refusal>
-    ensures { Fills (symbol_name_at file.now section) first out.old result out.new }
+    ensures exact { Fills (symbol_name_at file.now section) first out.old result out.new }
+    ensures within { IfOk result (λ count. AllLieIn file.now.input.now count out.new) }
 {
     let header = file.section_header_at(section)?;
     let strings = data_at(file, u64::from(header.link()));
@@ -276,10 +278,11 @@ pub extern "C" fn xmas_elf_symbol_names(
     out: &mut [Name],
     count: &mut u64,
 ) -> u32
-    ensures { (answer : Result ℕ Refusal)
+    ensures exact { (answer : Result ℕ Refusal)
         × Fills (symbol_name_at (file_of input.entry header.now) section)
         first out.old answer out.new
         × GivesHere answer count.old result count.new }
+    ensures within { result ≡ 0 → AllLieIn input.now count.new out.new }
 {
     give(fill_names(&header.file(input), section, first, out), count)
 }

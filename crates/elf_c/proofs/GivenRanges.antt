@@ -1,0 +1,101 @@
+-- The range that an export answers lies in the input.
+use Rattle.std.proofs.Common.{◌≡◌, ℕ, ◌+◌, ◌-◌, ◌<◌, ◌≤◌, ◌==◌, nat_lt, Bool, true, false, [], length, Option, None, Some, Result, Ok, Err, IfOk, drop, take, if◌then◌else◌, refl, sym, subst, arith}
+use Rattle.std.proofs.lemmas.Bool.{eqb-true, ltb-false}
+use Rattle.elf_base.specs.Refusal.{and_then}
+use Rattle.elf_base.specs.declared.error.ElfError.{ElfError}
+use Rattle.elf_base.specs.declared.error.ElfError.TheVariants.{DataRange, NullData}
+use Rattle.elf_linking.specs.Loaded.{segment_at_of}
+use Rattle.elf_linking.proofs.LoadedBytes.{first_segment_at}
+use Rattle.elf_records.specs.ProgramNumbers.{is_ph_type}
+use Rattle.elf_records.specs.declared.program.Type as the_type
+use Rattle.elf_records.specs.declared.program.Type.TheVariants.{Null}
+use Rattle.xmas_elf.specs.ProgramHeader.{program_fields, program_of, segment_data_of, segment_type}
+use Rattle.xmas_elf.specs.Ranges.{range_of}
+use Rattle.xmas_elf.specs.Types.{ElfFile, ProgramHeader, ProgramHeader64}
+use Rattle.elf_c.specs.Addresses.{range_at_address, range_in_segment}
+use Rattle.elf_c.specs.Records.{LiesIn, range_at, segment_range}
+use Rattle.elf_base.specs.Message.{error_number}
+use Rattle.elf_c.specs.Status.{Gives, GivesBy, GivesHere, and_so, refusal_number}
+use Rattle.elf_c.proofs.Statuses.{error_above, refusal_above}
+use Rattle.elf_c.specs.declared.names.Range.{Range}
+use Rattle.elf_c.specs.declared.status.Refusal.{Refusal}
+
+-- the record of a call that was not refused has the property that the value has
+gives : {T E : Type 0} (number_of : E → ℕ) (P : T → Type 0) (answer : Result T E) (old : T) (status : ℕ) (new : T) → ((error : E) → 0 < number_of error) → IfOk answer P → GivesBy number_of answer old status new → status ≡ 0 → P new
+gives number_of P (Ok value) old status new above has given zero = subst P (sym given.1) has
+gives number_of P (Err error) old status new above has given zero = absurd (omega (arith, given.0, zero, above error))
+
+pub given : {T : Type 0} (P : T → Type 0) (answer : Result T ElfError) (old : T) (status : ℕ) (new : T) → IfOk answer P → Gives answer old status new → status ≡ 0 → P new
+given P answer old status new has gave zero = gives error_number P answer old status new error_above has gave zero
+
+pub given_here : {T : Type 0} (P : T → Type 0) (answer : Result T Refusal) (old : T) (status : ℕ) (new : T) → IfOk answer P → GivesHere answer old status new → status ≡ 0 → P new
+given_here P answer old status new has gave zero = gives refusal_number P answer old status new refusal_above has gave zero
+
+pub given_range : (file known : ElfFile) (answer : Result Range ElfError) (old : Range) (status : ℕ) (new : Range) → file ≡ known → IfOk answer (LiesIn file.input.now) → Gives answer old status new → status ≡ 0 → LiesIn known.input.now new
+given_range file known answer old status new same has gave zero = subst (λ f. LiesIn f.input.now new) same (given (LiesIn file.input.now) answer old status new has gave zero)
+
+pub given_range_here : (file known : ElfFile) (answer : Result Range Refusal) (old : Range) (status : ℕ) (new : Range) → file ≡ known → IfOk answer (LiesIn file.input.now) → GivesHere answer old status new → status ≡ 0 → LiesIn known.input.now new
+given_range_here file known answer old status new same has gave zero = subst (λ f. LiesIn f.input.now new) same (given_here (LiesIn file.input.now) answer old status new has gave zero)
+
+-- the data of a segment that has some lie in the input
+segment_lies : (file : ElfFile) (segment : ProgramHeader64) (part : Range) → segment_range file segment ≡ Ok part → LiesIn file.input.now part × (part.size ≡ segment.file_size)
+unfolding segment_data_of
+segment_lies file segment part is = by_type (segment_type segment) is
+  where
+    by_range : (b : Bool) → (segment.file_size == 0) ≡ false → nat_lt (length file.input.now) (segment.offset + segment.file_size) ≡ b
+        → and_then (if b then Err DataRange else Ok (take segment.file_size (drop segment.offset file.input.now))) (λ _. Ok (range_at (if segment.file_size == 0 then 0 else segment.offset) segment.file_size)) ≡ Ok part → LiesIn file.input.now part × (part.size ≡ segment.file_size)
+    by_range true some test same = absurd (cc)
+    by_range false some test same =
+        let fits : segment.offset + segment.file_size ≤ length file.input.now = ltb-false _ _ test in
+        let own : range_at (if segment.file_size == 0 then 0 else segment.offset) segment.file_size ≡ part = cc in
+        let there : range_at segment.offset segment.file_size ≡ part = subst (λ b. range_at (if b then 0 else segment.offset) segment.file_size ≡ part) some own in
+        subst (λ r. LiesIn file.input.now r × (r.size ≡ segment.file_size)) there (fits, refl)
+
+    by_size : (b : Bool) → (segment.file_size == 0) ≡ b
+        → and_then (if b then Ok [] else range_of file.input.now segment.offset segment.file_size) (λ _. Ok (range_at (if segment.file_size == 0 then 0 else segment.offset) segment.file_size)) ≡ Ok part → LiesIn file.input.now part × (part.size ≡ segment.file_size)
+    by_size true none same =
+        let own : range_at (if segment.file_size == 0 then 0 else segment.offset) segment.file_size ≡ part = cc in
+        let there : range_at 0 segment.file_size ≡ part = subst (λ b. range_at (if b then 0 else segment.offset) segment.file_size ≡ part) none own in
+        let zero : segment.file_size ≡ 0 = eqb-true segment.file_size 0 none in
+        let sum : 0 + segment.file_size ≤ length file.input.now = omega (arith, zero) in
+        subst (λ r. LiesIn file.input.now r × (r.size ≡ segment.file_size)) there (sum, refl)
+    by_size false some same = by_range (nat_lt (length file.input.now) (segment.offset + segment.file_size)) some refl same
+
+    by_null : (b : Bool) → and_then (if b then Err NullData else (if segment.file_size == 0 then Ok [] else range_of file.input.now segment.offset segment.file_size)) (λ _. Ok (range_at (if segment.file_size == 0 then 0 else segment.offset) segment.file_size)) ≡ Ok part → LiesIn file.input.now part × (part.size ≡ segment.file_size)
+    by_null true same = absurd (cc)
+    by_null false same = by_size (segment.file_size == 0) refl same
+
+    by_type : (r : Result the_type.Type ElfError) → and_then (and_then r (λ kind. if is_ph_type Null kind then Err NullData else (if segment.file_size == 0 then Ok [] else range_of file.input.now segment.offset segment.file_size))) (λ _. Ok (range_at (if segment.file_size == 0 then 0 else segment.offset) segment.file_size)) ≡ Ok part → LiesIn file.input.now part × (part.size ≡ segment.file_size)
+    by_type (Ok kind) same = by_null (is_ph_type Null kind) same
+    by_type (Err error) same = absurd (cc)
+
+found_lies : {A : Type 0} (file : ElfFile) (r : Result A ElfError) (next : A → Result Range ElfError) → ((a : A) (part : Range) → next a ≡ Ok part → LiesIn file.input.now part) → IfOk (and_then r next) (LiesIn file.input.now)
+found_lies {A} file (Err error) next has = tt
+found_lies {A} file (Ok a) next has = by_next (next a) refl
+  where
+    by_next : (r : Result Range ElfError) → next a ≡ r → IfOk r (LiesIn file.input.now)
+    by_next (Ok part) is = has a part is
+    by_next (Err error) is = tt
+
+pub segment_data_lies : (file : ElfFile) (index : ℕ) → IfOk (and_then (program_of file index) (λ program. segment_range file (program_fields program))) (LiesIn file.input.now)
+segment_data_lies file index = found_lies file (program_of file index) (λ program. segment_range file (program_fields program))
+    (λ program part is. (segment_lies file (program_fields program) part is).0)
+
+-- the bytes at an address lie in the data of their segment
+pub address_lies : (file : ElfFile) (address count : ℕ) → IfOk (range_at_address file address count) (LiesIn file.input.now)
+address_lies file address count = by_segment (segment_at_of file address count) refl
+  where
+    by_part : (program : ProgramHeader) (r : Result Range ElfError) → segment_at_of file address count ≡ Some program → segment_range file (program_fields program) ≡ r
+        → IfOk (and_so r (λ part. Ok (range_at (part.offset + (address - (program_fields program).virtual_addr)) count))) (LiesIn file.input.now)
+    by_part program (Err error) is ranged = tt
+    by_part program (Ok part) is ranged =
+        let holds = (first_segment_at file address count program is).holds in
+        let begins = holds.begins in
+        let ends = holds.ends in
+        let (lies, long) = segment_lies file (program_fields program) part ranged in
+        let whole : part.offset + part.size ≤ length file.input.now = lies in
+        let sum : part.offset + (address - (program_fields program).virtual_addr) + count ≤ length file.input.now = omega (arith, begins, ends, whole, long) in sum
+
+    by_segment : (found : Option ProgramHeader) → segment_at_of file address count ≡ found → IfOk (range_in_segment file address count found) (LiesIn file.input.now)
+    by_segment None is = tt
+    by_segment (Some program) is = by_part program (segment_range file (program_fields program)) is refl

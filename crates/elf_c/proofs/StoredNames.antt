@@ -1,0 +1,121 @@
+-- The names that a call stores lie in the input.
+use Rattle.std.proofs.Common.{◌≡◌, ◌<◌, ◌≤◌, ◌+◌, ◌-◌, ◌==◌, ℕ, zero, suc, Bool, true, false, List, [], ◌∷◌, length, slice_get, Option, None, Some, Result, Ok, Err, IfOk, drop, take, if◌then◌else◌, refl, sym, ap, subst, ◌∙◌, arith}
+use Rattle.std.proofs.lemmas.List.{length-take-le, length-drop}
+use Rattle.elf_base.proofs.TextRanges.{text_ends}
+use Rattle.elf_base.proofs.lemmas.TextLemmas.{text_of-is}
+use Rattle.elf_base.specs.Refusal.{and_then}
+use Rattle.elf_base.specs.Text.{text_of}
+use Rattle.elf_base.specs.declared.error.ElfError.{ElfError}
+use Rattle.elf_base.specs.declared.error.ElfError.TheVariants.{DataRange, NullName}
+use Rattle.elf_linking.specs.declared.view.entry.DynamicEntry.{DynamicEntry}
+use Rattle.elf_linking.specs.declared.view.tags.TheConstants.{DT_NEEDED}
+use Rattle.elf_records.specs.SectionNumbers.{is_sh_type}
+use Rattle.elf_records.specs.declared.sections.ShType.TheVariants.{Null}
+use Rattle.std.proofs.lemmas.Bool.{ltb-false}
+use Rattle.std.specs.Prelude.{nat_lt}
+use Rattle.xmas_elf.specs.Ranges.{range_of}
+use Rattle.xmas_elf.specs.SectionHeader.{section_fields, section_type}
+use Rattle.xmas_elf.specs.declared.sections.section_header.SectionHeader.{SectionHeader}
+use Rattle.elf_c.specs.Batch.{Fills, FillsBy, IsBatch}
+use Rattle.elf_c.specs.DynamicTexts.{linked_name, needed_names, range_in_strings}
+use Rattle.elf_c.specs.Records.{AllLieIn, LiesIn, found_in, name_answer, name_range_by, range_at, taken_for, text_range}
+use Rattle.elf_c.specs.Status.{and_so}
+use Rattle.elf_c.specs.declared.names.Name.{Name}
+use Rattle.elf_c.specs.declared.names.Range.{Range}
+use Rattle.elf_c.specs.declared.status.Refusal.{Refusal}
+
+-- what is stored has each property that the items have
+stored : {T : Type 0} (P : T → Type 0) (item : ℕ → Result T Refusal) (first : ℕ) (old : List T) (answer : Result ℕ Refusal) (new : List T) → ((i : ℕ) (x : T) → item i ≡ Ok x → P x) → Fills item first old answer new → IfOk answer (λ count. (k : ℕ) (x : T) → k < count → slice_get new k ≡ Some x → P x)
+stored P item first old (Err why) new has fills = tt
+stored {T} P item first old (Ok count) new has fills = λ k x below at. has (first + k) x (sym ((batch (item first) fills).each k below) ∙ ap (taken_for (λ y. y)) at)
+  where
+    batch : (r : Result T Refusal) → FillsBy item first old r (Ok count) new → IsBatch item first old count new
+    batch (Ok y) is = is
+    batch (Err why) is = absurd is
+
+-- an item that is found has each property that all items have
+found_has : {A T : Type 0} (P : T → Type 0) (value : A → T) (r : Option A) (x : T) → ((a : A) → P (value a)) → taken_for value r ≡ Ok x → P x
+found_has P value None x has is = absurd (cc)
+found_has P value (Some a) x has is = let same : value a ≡ x = cc in subst P same (has a)
+
+pub stored_lie : {A : Type 0} (input : List ℕ) (value : A → Name) (items : List A) (first : ℕ) (old : List Name) (answer : Result ℕ Refusal) (new : List Name) → Fills (found_in value items) first old answer new → ((a : A) → LiesIn input (value a).range) → IfOk answer (λ count. AllLieIn input count new)
+stored_lie input value items first old answer new fills has =
+    stored (λ name. LiesIn input name.range) (found_in value items) first old answer new
+    (λ i x is. found_has (λ name. LiesIn input name.range) value (slice_get items i) x has is) fills
+
+-- a text lies in the part that it is read from
+part_within : (input : List ℕ) (start count : ℕ) (part : List ℕ) → range_of input start count ≡ Ok part → (start + count ≤ length input) × (length part ≡ count)
+part_within input start count part is = by_test (nat_lt (length input) (start + count)) refl is
+  where
+    by_test : (b : Bool) → nat_lt (length input) (start + count) ≡ b → (if b then Err DataRange else Ok (take count (drop start input))) ≡ Ok part → (start + count ≤ length input) × (length part ≡ count)
+    by_test true test same = absurd (cc)
+    by_test false test same =
+        let fits : start + count ≤ length input = ltb-false _ _ test in
+        let taken : take count (drop start input) ≡ part = cc in
+        let rest : length (drop start input) ≡ length input - start = length-drop start input in
+        (fits, ap length (sym taken) ∙ length-take-le count (drop start input) (omega (arith, fits, rest)))
+
+text_lies : (input : List ℕ) (part : Range) (index : ℕ) → IfOk (text_range input part index) (LiesIn input)
+text_lies input part index = by_part (range_of input part.offset part.size) refl
+  where
+    by_text : (bytes : List ℕ) (r : Result (List ℕ) ElfError) → range_of input part.offset part.size ≡ Ok bytes → text_of bytes index ≡ r → IfOk (and_then r (λ text. Ok (range_at (part.offset + index) (length text)))) (LiesIn input)
+    by_text bytes (Err error) is read = tt
+    by_text bytes (Ok text) is read =
+        let (fits, long) = part_within input part.offset part.size bytes is in
+        let ends = text_ends bytes index text (length text) (text_of-is bytes index text read) refl in
+        let sum : part.offset + index + length text ≤ length input = omega (arith, fits, long, ends) in sum
+
+    by_part : (r : Result (List ℕ) ElfError) → range_of input part.offset part.size ≡ r → IfOk (and_then r (λ bytes. and_then (text_of bytes index) (λ text. Ok (range_at (part.offset + index) (length text))))) (LiesIn input)
+    by_part (Err error) is = tt
+    by_part (Ok bytes) is = by_text bytes (text_of bytes index) is refl
+
+and_then_lies : {A : Type 0} (input : List ℕ) (r : Result A ElfError) (next : A → Result Range ElfError) → ((a : A) → IfOk (next a) (LiesIn input)) → IfOk (and_then r next) (LiesIn input)
+and_then_lies input (Ok a) next has = has a
+and_then_lies input (Err error) next has = tt
+
+unless_lies : (input : List ℕ) (refused : Bool) (error : ElfError) (r : Result Range ElfError) → IfOk r (LiesIn input) → IfOk (if refused then Err error else r) (LiesIn input)
+unless_lies input true error r has = tt
+unless_lies input false error r has = has
+
+answer_lies : (input : List ℕ) (r : Result Range ElfError) → IfOk r (LiesIn input) → LiesIn input (name_answer r).range
+answer_lies input (Ok range) has = has
+answer_lies input (Err error) has = let none : 0 + 0 ≤ length input = omega arith in none
+
+pub section_name_lies : (input : List ℕ) (names : Result Range ElfError) (section : SectionHeader) → LiesIn input (name_answer (name_range_by input names section)).range
+section_name_lies input names section = answer_lies input (name_range_by input names section)
+    (and_then_lies input (section_type section) (λ kind. if is_sh_type Null kind then Err NullName else and_then names (λ part. text_range input part (section_fields section).name))
+    (λ kind. unless_lies input (is_sh_type Null kind) NullName (and_then names (λ part. text_range input part (section_fields section).name))
+    (and_then_lies input names (λ part. text_range input part (section_fields section).name) (λ part. text_lies input part (section_fields section).name))))
+
+pub symbol_name_lies : (input : List ℕ) (strings : Result Range ElfError) (place : ℕ) → LiesIn input (name_answer (and_then strings (λ part. text_range input part place))).range
+symbol_name_lies input strings place = answer_lies input (and_then strings (λ part. text_range input part place))
+    (and_then_lies input strings (λ part. text_range input part place) (λ part. text_lies input part place))
+
+pub linked_name_lies : (input : List ℕ) (strings : Result Range Refusal) (place : ℕ) → LiesIn input (linked_name (range_in_strings input strings place)).range
+linked_name_lies input (Err error) place = let none : 0 + 0 ≤ length input = omega arith in none
+linked_name_lies input (Ok part) place = by_text (text_range input part place) (text_lies input part place)
+  where
+    by_text : (r : Result Range ElfError) → IfOk r (LiesIn input) → LiesIn input (linked_name (and_so r (λ range. Ok range))).range
+    by_text (Ok range) has = has
+    by_text (Err error) has = let none : 0 + 0 ≤ length input = omega arith in none
+
+-- each name of a needed library lies in the input
+one_more : (input : List ℕ) (b : Bool) (one : Name) (others : List Name) → LiesIn input one.range → ((i : ℕ) (x : Name) → slice_get others i ≡ Some x → LiesIn input x.range) → (i : ℕ) (x : Name) → slice_get (if b then one ∷ others else others) i ≡ Some x → LiesIn input x.range
+one_more input false one others has rest i x at = rest i x at
+one_more input true one others has rest zero x at = let same : one ≡ x = cc in subst (λ name. LiesIn input name.range) same has
+one_more input true one others has rest (suc i) x at = rest i x at
+
+needed_lie : (input : List ℕ) (strings : Result Range Refusal) (entries : List (DynamicEntry ℕ)) (i : ℕ) (x : Name) → slice_get (needed_names input strings entries) i ≡ Some x → LiesIn input x.range
+needed_lie input strings [] i x is = absurd (cc)
+needed_lie input strings (entry ∷ entries) i x is =
+    one_more input (entry.tag == DT_NEEDED) (linked_name (range_in_strings input strings entry.number)) (needed_names input strings entries)
+    (linked_name_lies input strings entry.number) (λ k name at. needed_lie input strings entries k name at) i x is
+
+pub stored_needed_lie : (input : List ℕ) (strings : Result Range Refusal) (entries : List (DynamicEntry ℕ)) (first : ℕ) (old : List Name) (answer : Result ℕ Refusal) (new : List Name) → Fills (found_in (λ name. name) (needed_names input strings entries)) first old answer new → IfOk answer (λ count. AllLieIn input count new)
+stored_needed_lie input strings entries first old answer new fills =
+    stored (λ name. LiesIn input name.range) (found_in (λ name. name) (needed_names input strings entries)) first old answer new
+    (λ i x is. found_some (slice_get (needed_names input strings entries) i) x (λ found. needed_lie input strings entries i x found) is) fills
+  where
+    found_some : (r : Option Name) (x : Name) → (r ≡ Some x → LiesIn input x.range) → taken_for (λ name. name) r ≡ Ok x → LiesIn input x.range
+    found_some None x has is = absurd (cc)
+    found_some (Some y) x has is = let same : y ≡ x = cc in has (ap Some same)

@@ -1,0 +1,79 @@
+-- The symbols of the dynamic segment, which is found without section headers (gABI, "Dynamic Section": DT_SYMTAB,
+-- and "Symbol Table"; their number is that of a hash table: "Hash Table", nchain, and the convention of GNU
+-- binutils and glibc).
+use Rattle.std.specs.Prelude.{◌≡◌, ℕ, ◌==◌, List, Result, Ok, Err, if◌then◌else◌}
+use Rattle.elf_base.specs.FileHeader.{file_class, file_order}
+use Rattle.elf_base.specs.Table.{records}
+use Rattle.elf_base.specs.declared.bytes.Order.{Order}
+use Rattle.elf_linking.specs.DynamicTables.{AreSymbols, IsSymbolCount}
+use Rattle.elf_linking.specs.DynamicView.{dynamic_entries_of}
+use Rattle.elf_linking.specs.declared.error.LinkError.{LinkError}
+use Rattle.elf_linking.specs.declared.view.entry.DynamicEntry.{DynamicEntry}
+use Rattle.elf_linking.specs.declared.view.linked_entry.Linked.{Linked}
+use Rattle.xmas_elf.specs.Symbol.{SymbolFields, dyn_entry_32, dyn_entry_32_fields, dyn_entry_64, dyn_entry_64_fields}
+use Rattle.xmas_elf.specs.declared.ElfFile.{ElfFile}
+use Rattle.xmas_elf.specs.declared.symbol_table.entries.DynEntry32.{DynEntry32}
+use Rattle.xmas_elf.specs.declared.symbol_table.entries.DynEntry64.{DynEntry64}
+use Rattle.elf_c.specs.Batch.{Fills}
+use Rattle.elf_c.specs.DynamicTexts.{linked_name, range_in_strings, strings_range}
+use Rattle.elf_c.specs.Records.{found_in}
+use Rattle.elf_c.specs.declared.names.Name.{Name}
+use Rattle.elf_c.specs.declared.names.Range.{Range}
+use Rattle.elf_c.specs.declared.status.Refusal.{Refusal}
+use Rattle.elf_c.specs.declared.status.Refusal.TheVariants.{Link}
+
+-- the number of symbols by the entries, or why there is none
+abbrev pub IsCountBy : ElfFile → Result (List (DynamicEntry ℕ)) LinkError → Result ℕ LinkError → Type 0
+IsCountBy file (Ok entries) count = IsSymbolCount file entries count
+IsCountBy file (Err error) count = count ≡ Err error
+
+-- the number of symbols of a file's dynamic segment, or why there is none
+abbrev pub IsDynamicCount : ElfFile → Result ℕ LinkError → Type 0
+IsDynamicCount file count = IsCountBy file (dynamic_entries_of file) count
+
+-- the size of a symbol in bytes, by the class
+abbrev pub symbol_size : ElfFile → ℕ
+symbol_size file = if file_class file.header == 1 then 16 else 24
+
+-- the bytes of the symbols by the entries, or why there are none
+abbrev pub AreSymbolsBy : ElfFile → Result (List (DynamicEntry ℕ)) LinkError → Result (List ℕ) LinkError → Type 0
+AreSymbolsBy file (Ok entries) bytes = AreSymbols file entries (symbol_size file) bytes
+AreSymbolsBy file (Err error) bytes = bytes ≡ Err error
+
+-- the bytes of the symbols of a file's dynamic segment, or why there are none
+abbrev pub AreDynamicSymbols : ElfFile → Result (List ℕ) LinkError → Type 0
+AreDynamicSymbols file bytes = AreSymbolsBy file (dynamic_entries_of file) bytes
+
+-- the symbols in bytes, in the layout of each class
+abbrev pub linked_32 : Order → List ℕ → List (Linked DynEntry32)
+linked_32 order bytes = records 16 (λ part. record { 0 = dyn_entry_32 order part }) bytes
+
+abbrev pub linked_64 : Order → List ℕ → List (Linked DynEntry64)
+linked_64 order bytes = records 24 (λ part. record { 0 = dyn_entry_64 order part }) bytes
+
+-- the value of the symbol at an index of these bytes, by the class, or that there is none
+abbrev pub linked_symbol_in : {T : Type 0} → (SymbolFields → T) → ElfFile → List ℕ → ℕ → Result T Refusal
+linked_symbol_in value file bytes index = let order = file_order file.header in
+    if file_class file.header == 1
+    then found_in (λ e. value (dyn_entry_32_fields e.0)) (linked_32 order bytes) index
+    else found_in (λ e. value (dyn_entry_64_fields e.0)) (linked_64 order bytes) index
+
+-- the value of the symbol at an index, if there are symbols
+abbrev pub dynamic_symbol_at : {T : Type 0} → (SymbolFields → T) → ElfFile → Result (List ℕ) LinkError → ℕ → Result T Refusal
+dynamic_symbol_at value file (Ok bytes) index = linked_symbol_in value file bytes index
+dynamic_symbol_at value file (Err error) index = Err (Link error)
+
+-- the result of a call for the values of many symbols of the dynamic segment
+abbrev pub FillsFromDynamic : {T : Type 0} → (SymbolFields → T) → ElfFile → ℕ → List T → Result ℕ Refusal → List T → Type 0
+FillsFromDynamic value file first old answer new = (bytes : Result (List ℕ) LinkError)
+    × AreDynamicSymbols file bytes × Fills (dynamic_symbol_at value file bytes) first old answer new
+
+-- the input range of the string table of the entries, or why there is none
+abbrev pub strings_by : ElfFile → Result (List (DynamicEntry ℕ)) LinkError → Result Range Refusal
+strings_by file (Ok entries) = strings_range file entries
+strings_by file (Err error) = Err (Link error)
+
+-- the range of a symbol's name in the string table of the dynamic segment, or why there is none
+abbrev pub dynamic_symbol_name : ElfFile → SymbolFields → Name
+dynamic_symbol_name file fields =
+    linked_name (range_in_strings file.input.now (strings_by file (dynamic_entries_of file)) fields.name)

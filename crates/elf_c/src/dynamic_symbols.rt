@@ -1,0 +1,202 @@
+//! The symbols of the dynamic segment, which is found without section headers
+//! (gABI, "Dynamic Section": DT_SYMTAB).
+
+ghost use Rattle.std.specs.Prelude.{◌≡◌, ◌==◌, ℕ, IfOk, Result};
+ghost use Rattle.elf_base.specs.FileHeader.{file_class};
+ghost use Rattle.elf_base.specs.Table.{table_items};
+ghost use Rattle.elf_c.specs.Batch.{Fills};
+ghost use Rattle.elf_c.specs.DynamicSymbols.{FillsFromDynamic, IsDynamicCount, dynamic_symbol_name};
+ghost use Rattle.elf_c.specs.DynamicTexts.{linked_name, range_in_strings};
+ghost use Rattle.elf_c.specs.Parsed.{file_of};
+ghost use Rattle.elf_c.specs.Records.{AllLieIn, found_in};
+ghost use Rattle.elf_c.specs.Status.{GivesBy, GivesHere};
+ghost use Rattle.elf_c.specs.Symbols.{symbol_record};
+ghost use Rattle.elf_c.specs.declared.status.Refusal.{Refusal};
+ghost use Rattle.elf_linking.specs.Message.{link_number};
+ghost use Rattle.elf_linking.specs.declared.error.LinkError.{LinkError};
+
+use crate::batch::{Records, fill};
+use crate::dynamic_texts::{name_of, strings_of, text_by};
+use crate::file::Parsed;
+use crate::names::{Name, Range};
+use crate::status::{Refusal, give};
+use crate::symbols::Symbol;
+use elf_linking::LinkError;
+use elf_linking::view::DynamicView;
+use xmas_elf::ElfFile;
+use xmas_elf::bytes::{Record, Table};
+use xmas_elf::symbol_table::Entry;
+
+// Whether a file is of class 32.
+fn is_narrow(file: &ElfFile<'_>) -> bool
+    ensures { result ≡ (file_class file.now.header == 1) }
+{
+    file.header.pt1.class.raw() == 1
+}
+
+// The number of symbols of the dynamic segment.
+fn symbol_count(file: &ElfFile<'_>) -> Result<u64, LinkError>
+    ensures { IsDynamicCount file.now result }
+{
+    match DynamicView::read(file) {
+        Ok(view) => view.symbol_count(file),
+        Err(error) => Err(error),
+    }
+}
+
+/// The number of symbols of the dynamic segment: that of `DynamicView::symbol_count`, by the hash
+/// tables that the segment names. It needs no section headers.
+///
+/// Errors: those of `DynamicView::read` and `DynamicView::symbol_count`.
+#[unsafe(no_mangle)]
+pub extern "C" fn xmas_elf_dynamic_symbol_count(input: &[u8], header: &Parsed, out: &mut u64) -> u32
+    ensures { (count : Result ℕ LinkError) × IsDynamicCount (file_of input.entry header.now) count
+        × GivesBy link_number count out.old result out.new }
+{
+    give(symbol_count(&header.file(input)), out)
+}
+
+// Stores the symbols of the dynamic segment from an index on in `out`, and returns their number.
+fn fill_symbols(file: &ElfFile<'_>, first: u64, out: &mut [Symbol]) -> Result<u64, Refusal>
+    ensures { FillsFromDynamic symbol_record file.now first out.old result out.new }
+{
+    let view = match DynamicView::read(file) {
+        Ok(view) => view,
+        Err(error) => return Err(Refusal::Link(error)),
+    };
+    if is_narrow(file) {
+        match view.symbols_32(file) {
+            Ok(symbols) => fill(symbols, first, out),
+            Err(error) => Err(Refusal::Link(error)),
+        }
+    } else {
+        match view.symbols_64(file) {
+            Ok(symbols) => fill(symbols, first, out),
+            Err(error) => Err(Refusal::Link(error)),
+        }
+    }
+}
+
+/// The symbols of the dynamic segment from index `first` on, those of `DynamicView::symbols_32` or
+/// `DynamicView::symbols_64` by the class: as many as fit in `out`, or all. `count` is set to their
+/// number; the rest of `out` is unchanged. It needs no section headers.
+///
+/// Errors: those of `DynamicView::read` and `DynamicView::symbols_32`; `NoRecord` if there are no
+/// more than `first` symbols; `out` and `count` are then unchanged.
+#[unsafe(no_mangle)]
+pub extern "C" fn xmas_elf_dynamic_symbols(
+    input: &[u8],
+    header: &Parsed,
+    first: u64,
+    out: &mut [Symbol],
+    count: &mut u64,
+) -> u32
+    ensures { (answer : Result ℕ Refusal)
+        × FillsFromDynamic symbol_record (file_of input.entry header.now)
+        first out.old answer out.new
+        × GivesHere answer count.old result count.new }
+{
+    give(fill_symbols(&header.file(input), first, out), count)
+}
+
+// The symbols of a table, and the range of the string table of their names.
+#[derive(Clone, Copy)]
+struct LinkedNames<'a, E: Record> {
+    symbols: Table<'a, E>,
+    strings: Result<Range, Refusal>,
+    input: &'a [u8],
+}
+
+impl<E: Entry + Record> Records for LinkedNames<'_, E> {
+    type Item = E;
+
+    type Record = Name;
+
+    ghost items = { λ names. table_items names.symbols };
+
+    ghost record_of = { λ names entry. linked_name
+        (range_in_strings names.input.now names.strings (E.fields entry).name) };
+
+    #[inline(always)]
+    fn count(&self) -> usize {
+        self.symbols.len()
+    }
+
+    #[inline(always)]
+    fn record(&self, index: usize) -> Name {
+        let Some(entry) = self.symbols.get(index) else {
+            unreachable!()
+        };
+        name_of(text_by(self.input, self.strings, u64::from(entry.name())))
+    }
+}
+
+// Stores the names of the symbols of a table from an index on in `out`, and returns their number.
+fn names<E: Entry + Record>(
+    symbols: &Table<'_, E>,
+    strings: Result<Range, Refusal>,
+    input: &[u8],
+    first: u64,
+    out: &mut [Name],
+) -> Result<u64, Refusal>
+    ensures exact { Fills (found_in
+        (λ e. linked_name (range_in_strings input.now strings (E.fields e).name))
+        (table_items symbols.now)) first out.old result out.new }
+    ensures within { IfOk result (λ count. AllLieIn input.now count out.new) }
+{
+    let names = LinkedNames {
+        symbols: *symbols,
+        strings,
+        input,
+    };
+    fill(names, first, out)
+}
+
+// Stores the names of the symbols of the dynamic segment from an index on in `out`, and returns
+// their number.
+fn fill_names(file: &ElfFile<'_>, first: u64, out: &mut [Name]) -> Result<u64, Refusal>
+    ensures exact { FillsFromDynamic (dynamic_symbol_name file.now) file.now
+        first out.old result out.new }
+    ensures within { IfOk result (λ count. AllLieIn file.now.input.now count out.new) }
+{
+    let view = match DynamicView::read(file) {
+        Ok(view) => view,
+        Err(error) => return Err(Refusal::Link(error)),
+    };
+    let strings = strings_of(file, &view);
+    if is_narrow(file) {
+        match view.symbols_32(file) {
+            Ok(symbols) => names(&symbols, strings, file.input, first, out),
+            Err(error) => Err(Refusal::Link(error)),
+        }
+    } else {
+        match view.symbols_64(file) {
+            Ok(symbols) => names(&symbols, strings, file.input, first, out),
+            Err(error) => Err(Refusal::Link(error)),
+        }
+    }
+}
+
+/// The input ranges of the names of the symbols of the dynamic segment from index `first` on, each
+/// with its own status: as many as fit in `out`, or all. `count` is set to their number; the rest of
+/// `out` is unchanged. It needs no section headers.
+///
+/// Each is the text at the symbol's `name` in the string table of the dynamic segment. Errors of a
+/// name: those of `xmas_elf_dynamic_text`, from `NoEntry` on. The errors of the call are those of
+/// `xmas_elf_dynamic_symbols`; `out` and `count` are then unchanged.
+#[unsafe(no_mangle)]
+pub extern "C" fn xmas_elf_dynamic_symbol_names(
+    input: &[u8],
+    header: &Parsed,
+    first: u64,
+    out: &mut [Name],
+    count: &mut u64,
+) -> u32
+    ensures exact { (answer : Result ℕ Refusal)
+        × FillsFromDynamic (dynamic_symbol_name (file_of input.entry header.now))
+        (file_of input.entry header.now) first out.old answer out.new
+        × GivesHere answer count.old result count.new }
+    ensures within { result ≡ 0 → AllLieIn input.now count.new out.new }
+{
+    give(fill_names(&header.file(input), first, out), count)
+}
