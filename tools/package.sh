@@ -1,5 +1,6 @@
 #!/usr/bin/env bash
-# Writes the release folder: the static library that `rt lib` proves, its header, the Rust crate and the Python wheel.
+# Writes the release folder: the static library that `rt lib` proves, its header, the Rust crate, the Python wheel and the
+# page for browsers.
 #   tools/package.sh [--draft] [FOLDER]    FOLDER is dist where it isn't named; what it held is gone
 # Files that aren't committed are refused but for a draft, whose checksums say so. A draft may take the library from the
 # folder that XMAS_ELF_ARCHIVE names.
@@ -54,6 +55,11 @@ Cflags: -I\${prefix}/include
 Libs: -L\${prefix}/lib -lelf_c
 END
 python3 bindings/python/wheel_backend.py "$dist/python" > /dev/null
+# The page for browsers, but for a draft over an archive that is at hand, where the kit may be missing.
+if [ -z "$draft" ] || [ -n "${XMAS_ELF_MODULE:-}" ]; then
+    tools/web.sh --build > /dev/null
+    cp -r bindings/web/out/site "$dist/web"
+fi
 
 {
     echo "# version $version, commit $(git rev-parse HEAD)$draft"

@@ -28,6 +28,11 @@ module() {
     local sum tree
     sum="$(sources)"
     if [ -f "$web/out/elf_c.wasm" ] && [ "$sum" = "$(cat "$web/out/sum" 2> /dev/null)" ]; then return; fi
+    if ! command -v rt > /dev/null; then
+        echo "web: the Rattle kit builds the module, and rt is not on the path. A release has the page in its folder web;" >&2
+        echo "web: or set XMAS_ELF_MODULE to a file elf_c.wasm" >&2
+        exit 1
+    fi
     tree="$(mktemp -d)"
     trap 'rm -rf "$tree"' RETURN
     cp HANDLES "$tree/"

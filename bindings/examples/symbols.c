@@ -5,19 +5,31 @@
 
 static uint8_t input[64 << 20];
 
+/* Says why the file is refused. */
+static int refused(uint32_t status)
+{
+    uint8_t text[256] = {0};
+    xmas_elf_message(status, text, sizeof text - 1);
+    fprintf(stderr, "%s\n", (char *)text);
+    return 1;
+}
+
 int main(int argc, char **argv)
 {
     FILE *stream = argc == 2 ? fopen(argv[1], "rb") : NULL;
     size_t size = stream ? fread(input, 1, sizeof input, stream) : 0;
+    uint32_t status;
     xmas_elf_header_t header;
     xmas_elf_counts_t counts;
     xmas_elf_symbol_t symbols[64];
     xmas_elf_name_t names[64];
     uint64_t first, count;
-    if (xmas_elf_open(input, size, &header) || xmas_elf_counts(input, size, &header, &counts)) return 1;
+    if ((status = xmas_elf_open(input, size, &header))) return refused(status);
+    if ((status = xmas_elf_check_header(input, size, &header))) return refused(status);
+    if ((status = xmas_elf_counts(input, size, &header, &counts))) return refused(status);
     for (uint64_t section = 0; section < counts.sections; section++)
         for (first = 0; !xmas_elf_symbols(input, size, &header, section, first, symbols, 64, &count); first += count) {
-            if (xmas_elf_symbol_names(input, size, &header, section, first, names, 64, &count)) return 1;
+            if ((status = xmas_elf_symbol_names(input, size, &header, section, first, names, 64, &count))) return refused(status);
             for (uint64_t i = 0; i < count; i++)
                 if (names[i].range.size)
                     printf("%016" PRIx64 " %.*s\n", symbols[i].value, (int)names[i].range.size, (char *)input + names[i].range.offset);

@@ -3,12 +3,13 @@
 use std::env;
 use std::error::Error;
 use std::fs;
+use std::process::ExitCode;
 use xmas_elf_proved::ElfFile;
 
-fn main() -> Result<(), Box<dyn Error>> {
-    let path = env::args().nth(1).ok_or("usage: symbols FILE")?;
+fn list(path: &str) -> Result<(), Box<dyn Error>> {
     let bytes = fs::read(path)?;
     let file = ElfFile::new(&bytes)?;
+    file.check_header()?;
     for section in file.sections() {
         for symbol in section.symbols() {
             match symbol.name() {
@@ -18,4 +19,13 @@ fn main() -> Result<(), Box<dyn Error>> {
         }
     }
     Ok(())
+}
+
+fn main() -> ExitCode {
+    let path = env::args().nth(1).unwrap_or_default();
+    if let Err(error) = list(&path) {
+        eprintln!("symbols: {path}: {error}");
+        return ExitCode::FAILURE;
+    }
+    ExitCode::SUCCESS
 }

@@ -568,8 +568,9 @@ XMAS_ELF_NODISCARD uint32_t xmas_elf_note(const uint8_t *input, size_t input_siz
 
 /* The range of the build id, of a file of either class: the description of the first note of section
  * `.note.gnu.build-id`. XMAS_ELF_NOT_FOUND is for a file without this section, and for a first note that is not of
- * type 3 with name `GNU`. The call is refused with (in the order of the tests) XMAS_ELF_NOT_FOUND,
- * XMAS_ELF_DATA_RANGE, XMAS_ELF_NO_RECORD, XMAS_ELF_LINK_SHORT_NOTE. */
+ * type 3 with name `GNU`. Without section headers, look through the notes of the segments of type 4 (PT_NOTE). The
+ * call is refused with (in the order of the tests) XMAS_ELF_NOT_FOUND, XMAS_ELF_DATA_RANGE, XMAS_ELF_NO_RECORD,
+ * XMAS_ELF_LINK_SHORT_NOTE. */
 XMAS_ELF_NODISCARD uint32_t xmas_elf_build_id(const uint8_t *input, size_t input_size,
     const xmas_elf_header_t *header, xmas_elf_range_t *out) XMAS_ELF_NOEXCEPT;
 

@@ -38,6 +38,9 @@ class ElfError(Exception):
         except ValueError:
             self.status = status
 
+    def __repr__(self) -> str:
+        return f"ElfError({getattr(self.status, 'name', self.status)})"
+
     def __str__(self) -> str:
         text = ctypes.create_string_buffer(LONGEST_MESSAGE)
         size = library.xmas_elf_message(int(self.status), text, LONGEST_MESSAGE)

@@ -54,6 +54,8 @@ def view_of(source: Any) -> memoryview:
         view = memoryview(source)
     except TypeError:
         if not hasattr(source, "read"):
-            raise TypeError(f"a binary file or bytes are wanted, not {type(source).__name__}") from None
+            raise TypeError(
+                f"a binary file or bytes are wanted, not {type(source).__name__}; `load_from_path` takes a path"
+            ) from None
         view = memoryview(_contents(source))
     return view.cast("B") if view.nbytes else memoryview(b"")

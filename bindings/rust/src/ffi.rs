@@ -365,8 +365,8 @@ pub(crate) fn note(input: &[u8], header: &Header, part: &Range, align: u64) -> R
 
 /// The range of the build id, of a file of either class: the description of the first note of section
 /// `.note.gnu.build-id`. `NotFound` is for a file without this section, and for a first note that is not of type 3
-/// with name `GNU`. The call is refused with (in the order of the tests) `NotFound`, `DataRange`, `NoRecord`,
-/// `LinkShortNote`.
+/// with name `GNU`. Without section headers, look through the notes of the segments of type 4 (PT_NOTE). The call is
+/// refused with (in the order of the tests) `NotFound`, `DataRange`, `NoRecord`, `LinkShortNote`.
 pub(crate) fn build_id(input: &[u8], header: &Header) -> Result<Range, Error> {
     let mut out = Range::default();
     // SAFETY: see the head of this file.
