@@ -9,6 +9,11 @@
 # XMAS_ELF_ARCHIVE: a folder that holds libelf_c.a; where it isn't set, `rt lib` makes it.
 set -euo pipefail
 cd "$(dirname "$0")/.."
+case "${1:-}" in
+    --compare | --valgrind | "") ;;
+    --help) sed -n '2,9s/^# //p' tools/bindings.sh; exit ;;
+    *) sed -n '2,9s/^# //p' tools/bindings.sh >&2; exit 2 ;;
+esac
 room="$(mktemp -d)"
 trap 'rm -rf "$room"' EXIT
 
