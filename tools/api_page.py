@@ -23,6 +23,14 @@ def anchor(heading: str) -> str:
     return re.sub(r"[^\w\- ]", "", heading.lower()).replace(" ", "-")
 
 
+def declaration(item) -> str:
+    """A struct, enum or type as the page shows it: of a struct without a public field only its head."""
+    if item.kind != "struct" or re.search(r"^    pub |\(pub ", item.text, re.M):
+        return item.text
+    head, opens = re.match(r"([^{(]*)([{(])", item.text).groups()
+    return head + ("{ /* private fields */ }" if opens == "{" else "(/* private fields */);")
+
+
 def summary(doc: str) -> str:
     """The first sentence of a doc, up to a semicolon, in one line."""
     first = " ".join(doc.split("\n\n")[0].split())
@@ -111,8 +119,8 @@ class CratePage:
             self.function("###", label, item.source, item.at, "")
             return
         self.head("###", label, item.doc, TITLE[item.kind])
-        if item.kind in ("enum", "type") or item.kind == "struct" and re.search(r"^    pub |\(pub ", item.text, re.M):
-            self.code(item.text)
+        if item.kind != "trait":
+            self.code(declaration(item))
         if item.kind == "trait":
             self.trait(item, label)
         else:

@@ -9,6 +9,11 @@
 # XMAS_ELF_ARCHIVE: a folder that holds libelf_c.a; where it isn't set, `rt lib` makes it.
 set -euo pipefail
 cd "$(dirname "$0")/.."
+case "${1:-}" in
+    --compare | --valgrind | "") ;;
+    --help) sed -n '2,9s/^# //p' tools/bindings.sh; exit ;;
+    *) sed -n '2,9s/^# //p' tools/bindings.sh >&2; exit 2 ;;
+esac
 room="$(mktemp -d)"
 trap 'rm -rf "$room"' EXIT
 
@@ -75,13 +80,9 @@ print("#include <elf.h>")
 for one in exports_list.constants():
     print(f'_Static_assert({one.name} == {one.value}, "{one.name}");')
 END
-# The programs of the page: one in each language.
-shown() { awk -v begin="^\`\`\`$1\$" '$0 ~ begin { on = 1; next } /^```$/ { on = 0 } on' bindings/README.md > "$room/shown.$1"; }
-shown c
+# The program of the page.
+awk '/^```c$/ { on = 1; next } /^```$/ { on = 0 } on' bindings/README.md > "$room/shown.c"
 gcc -std=c11 "${strict[@]}" "$room/shown.c" "$archive" -o "$room/names_c"
-shown cpp
-g++ -std=c++17 "${strict[@]}" "$room/shown.cpp" "$archive" -o "$room/sections_cpp"
-diff <("$room/sections_cpp" < "$room/nm_c" | wc -l) <(readelf -hW "$room/nm_c" | awk '/Number of section headers/ { print $NF }')
 cargo build --quiet --offline --release --manifest-path bindings/rust/Cargo.toml --examples
 # The texts of the dynamic segment, also of a file whose ELF header names no sections.
 linked() { readelf --wide --dynamic "$1" | sed -nE 's/.*\((NEEDED|SONAME|RUNPATH)\).*\[(.*)\]$/\1 \2/p' | sort; }

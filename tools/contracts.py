@@ -11,7 +11,8 @@ A line is a kind and a function, as `one-sided elf_linking::view::loaded::bytes_
     no-place     a slice is lent from the input, and no clause says where it lies
     no-wrong     a caller has no wrong body
 
-The sources are read as `rt fmt` lays them out, by `tools/wrong_bodies.py`.
+The sources are read as `rt fmt` lays them out, by `tools/wrong_bodies.py`. At the end docs/contracts.toml has the
+clauses that refuse no wrong body by themselves; --check fails where no such function or clause is there.
 """
 import fnmatch
 import pathlib
@@ -85,15 +86,31 @@ def lines() -> list:
     return found
 
 
+def heads() -> dict:
+    """The functions of the libraries by their paths, each up to the line that opens its body."""
+    crates = [wrong_bodies.Crate(ROOT / "crates" / name) for name in LIBRARIES]
+    return {one.path: head_of(crate.texts[one.file], one) for crate in crates for one in crate.functions}
+
+
+def lost(group: dict, functions: dict) -> list:
+    """The functions of a group that aren't there, and the clauses that none of them has."""
+    own = [name for pattern in group["of"] for name in fnmatch.filter(functions, f"*::{pattern}")]
+    missing = [it for it in group["of"] if not fnmatch.filter(functions, f"*::{it}")]
+    named = {it for name in own for it in re.findall(r"ensures (\w+) {", functions[name])}
+    return missing + [it for it in (*group.get("clauses", ()), *group.get("but", ())) if it not in named]
+
+
 def main() -> int:
     found = lines()
     if sys.argv[1:] != ["--check"]:
         print("\n".join(found))
         return 0
-    groups = tomllib.loads(REASONS.read_text(encoding="utf-8"))["reason"]
+    reasons = tomllib.loads(REASONS.read_text(encoding="utf-8"))
+    groups, functions = reasons["reason"], heads()
     patterns = [pattern for group in groups for pattern in group["of"]]
     faults = [f"no reason: {line}" for line in found if not any(fnmatch.fnmatchcase(line, it) for it in patterns)]
     faults += [f"not in the list: {it}" for it in patterns if not fnmatch.filter(found, it)]
+    faults += [f"not in the sources: {it}" for group in reasons["follows"] for it in lost(group, functions)]
     print("\n".join(faults + [f"{REASONS.relative_to(ROOT)}: {len(found)} lines, {len(faults)} faults"]))
     return 1 if faults else 0
 

@@ -31,6 +31,12 @@ PATHS = {
     r"\time": PROVED,
     "tools/compare_rust.py": (*LIBRARIES, "crates/elfanswers/src", "oracle", "tools/compare_rust.py"),
     "tools/fuzz.py": (*LIBRARIES, "crates/elfanswers/src", "crates/elfinfo/src", "tools/fuzz.py", "tools/damage.py"),
+    "tools/compare_readelf.py": (*LIBRARIES, "crates/elfinfo/src", "tools/compare_readelf.py"),
+    "tools/compare_notes.py": (*LINKING, "crates/elfsections/src", "tools/compare_notes.py"),
+    "tools/compare_symbols.py": (*LINKING, "crates/elfsections/src", "tools/compare_symbols.py"),
+    "tools/compare_elfsym.py": (*LINKING, "crates/elfsym/src", "tools/compare_elfsym.py"),
+    "tools/bindings.sh": (*LINKING, "crates/elf_c/src", "bindings/rust/src", "bindings/compare/src"),
+    "tools/web_page.py": (*LINKING, "crates/elf_c/src", "bindings/web", "tools/web_page.py"),
     "tools/python.sh": (*LINKING, "crates/elf_c/src", "bindings/python/xmas_elf", "bindings/python/speed.py"),
     ".ci/run": ("crates", "tools", ".ci"),
 }

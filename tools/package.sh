@@ -6,6 +6,7 @@
 # folder that XMAS_ELF_ARCHIVE names.
 set -euo pipefail
 cd "$(dirname "$0")/.."
+if [ "${1:-}" = --help ]; then sed -n '2,6s/^# //p' tools/package.sh; exit; fi
 draft=""
 [ "${1:-}" = --draft ] && { draft=" and changes to it: a draft"; shift; }
 dist="$(realpath -m "${1:-dist}")"

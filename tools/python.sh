@@ -7,6 +7,7 @@
 # there. XMAS_ELF_ARCHIVE: a folder that holds libelf_c.a; where it isn't set, `rt lib` makes it.
 set -euo pipefail
 cd "$(dirname "$0")/.."
+if [ "${1:-}" = --help ]; then sed -n '2,7s/^# //p' tools/python.sh; exit; fi
 tools/python_declarations.py --check
 if [ -z "${XMAS_ELF_ARCHIVE:-}" ]; then
     log="$(mktemp)"

@@ -3,8 +3,9 @@
 link to lead somewhere.
 
 A block is told by its language, `rust` or `antt`. Its paragraphs must all stand in one source file of
-crates/, but for how their lines are broken. The pages of docs/api have a script of their own for their
-blocks. A link may name a heading of its page or of another, or a line of a file, as `specs/Text.antt#L12`.
+crates/, but for how their lines are broken. Of a paragraph of imports, `ghost use PATH.{NAME, NAME}`, the
+file must import each name by that path: a page shows the imports that its example needs, and the file has
+those of its other functions too. The pages of docs/api have a script of their own for their blocks. A link may name a heading of its page or of another, or a line of a file, as `specs/Text.antt#L12`.
 Run it at the top of the repository: tools/quotes.py
 """
 import pathlib
@@ -15,6 +16,7 @@ ROOT = pathlib.Path(__file__).resolve().parent.parent
 BLOCK = re.compile(r"^ *```(rust|antt)\n(.*?)^ *```$", re.MULTILINE | re.DOTALL)
 ENDS = {"rust": ".rt", "antt": ".antt"}
 LINK = re.compile(r"\]\(([^)\s]+)\)")
+IMPORT = re.compile(r"ghost use ([\w.]+)\.\{([^}]*)\};")
 HEADING = re.compile(r"^#+ (.*)$", re.MULTILINE)
 
 
@@ -26,6 +28,16 @@ def paragraphs(text: str) -> list:
 
 def one_line(text: str) -> str:
     return " ".join(text.split())
+
+
+def imports(text: str) -> set:
+    """Each name that a text imports for clauses, with its path."""
+    return {(path, name.strip()) for path, names in IMPORT.findall(text) for name in names.split(",")}
+
+
+def stands_in(part: str, text: str) -> bool:
+    """Whether a file has a paragraph, or all the imports of one that has nothing else."""
+    return part in text or not IMPORT.sub("", part).strip() and imports(part) <= imports(text)
 
 
 def anchors(text: str) -> set:
@@ -64,7 +76,7 @@ def main() -> int:
         for language, block in BLOCK.findall(said if page.parent.name != "api" else ""):
             count += 1
             parts = paragraphs(block)
-            if not any(it.suffix == ENDS[language] and all(part in text for part in parts) for it, text in texts.items()):
+            if not any(it.suffix == ENDS[language] and all(stands_in(part, text) for part in parts) for it, text in texts.items()):
                 failed += 1
                 print(f"{page.relative_to(ROOT)}: NOT QUOTED from one file: {parts[0][:90]}")
     print(f"{count} code blocks, {failed} faults")

@@ -14,7 +14,8 @@ case "${1:-}" in
     --port) port="$2" ;;
     --build | --test) does="${1#--}" ;;
     "") ;;
-    *) sed -n '2,6s/^# //p' "$0"; exit 2 ;;
+    --help) sed -n '2,6s/^# //p' tools/web.sh; exit ;;
+    *) sed -n '2,6s/^# //p' tools/web.sh >&2; exit 2 ;;
 esac
 
 # The checksum of all that the module is built of.

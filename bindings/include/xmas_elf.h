@@ -495,11 +495,11 @@ XMAS_ELF_NODISCARD uint32_t xmas_elf_segments(const uint8_t *input, size_t input
 XMAS_ELF_NODISCARD uint32_t xmas_elf_segment_data(const uint8_t *input, size_t input_size,
     const xmas_elf_header_t *header, uint32_t index, xmas_elf_range_t *out) XMAS_ELF_NOEXCEPT;
 
-/* The symbol at an index of a section of type SHT_SYMTAB or SHT_DYNSYM; XMAS_ELF_OTHER_DATA is for other sections.
- * Its name is a text of the string table that is the section `link`. The call is refused with (in the order of the
- * tests) XMAS_ELF_SHORT_SECTION_HEADER, XMAS_ELF_UNKNOWN_CLASS, XMAS_ELF_SMALL_ENTRY, XMAS_ELF_INVALID_SH_TYPE,
- * XMAS_ELF_DATA_RANGE, XMAS_ELF_NOT_MULTIPLE, XMAS_ELF_NOTE_32, XMAS_ELF_SHORT_DATA, XMAS_ELF_OTHER_DATA,
- * XMAS_ELF_NO_RECORD. */
+/* The symbol at an index of a section of type SHT_SYMTAB or SHT_DYNSYM. The name is a text of the string table that
+ * is the section `link`. A section of another type is refused, mostly with XMAS_ELF_OTHER_DATA. The call is refused
+ * with (in the order of the tests) XMAS_ELF_SHORT_SECTION_HEADER, XMAS_ELF_UNKNOWN_CLASS, XMAS_ELF_SMALL_ENTRY,
+ * XMAS_ELF_INVALID_SH_TYPE, XMAS_ELF_DATA_RANGE, XMAS_ELF_NOT_MULTIPLE, XMAS_ELF_NOTE_32, XMAS_ELF_SHORT_DATA,
+ * XMAS_ELF_OTHER_DATA, XMAS_ELF_NO_RECORD. */
 XMAS_ELF_NODISCARD uint32_t xmas_elf_symbol(const uint8_t *input, size_t input_size, const xmas_elf_header_t *header,
     uint64_t section, uint64_t index, xmas_elf_symbol_t *out) XMAS_ELF_NOEXCEPT;
 
@@ -521,10 +521,10 @@ XMAS_ELF_NODISCARD uint32_t xmas_elf_symbol_names(const uint8_t *input, size_t i
     const xmas_elf_header_t *header, uint64_t section, uint64_t first, xmas_elf_name_t *out, size_t out_count,
     uint64_t *count) XMAS_ELF_NOEXCEPT;
 
-/* The relocation at an index of a section of type SHT_REL or SHT_RELA; XMAS_ELF_OTHER_DATA is for other sections. The
- * call is refused with (in the order of the tests) XMAS_ELF_SHORT_SECTION_HEADER, XMAS_ELF_UNKNOWN_CLASS,
- * XMAS_ELF_SMALL_ENTRY, XMAS_ELF_INVALID_SH_TYPE, XMAS_ELF_DATA_RANGE, XMAS_ELF_NOT_MULTIPLE, XMAS_ELF_NOTE_32,
- * XMAS_ELF_SHORT_DATA, XMAS_ELF_OTHER_DATA, XMAS_ELF_NO_RECORD. */
+/* The relocation at an index of a section of type SHT_REL or SHT_RELA. A section of another type is refused, mostly
+ * with XMAS_ELF_OTHER_DATA. The call is refused with (in the order of the tests) XMAS_ELF_SHORT_SECTION_HEADER,
+ * XMAS_ELF_UNKNOWN_CLASS, XMAS_ELF_SMALL_ENTRY, XMAS_ELF_INVALID_SH_TYPE, XMAS_ELF_DATA_RANGE, XMAS_ELF_NOT_MULTIPLE,
+ * XMAS_ELF_NOTE_32, XMAS_ELF_SHORT_DATA, XMAS_ELF_OTHER_DATA, XMAS_ELF_NO_RECORD. */
 XMAS_ELF_NODISCARD uint32_t xmas_elf_relocation(const uint8_t *input, size_t input_size,
     const xmas_elf_header_t *header, uint64_t section, uint64_t index, xmas_elf_relocation_t *out) XMAS_ELF_NOEXCEPT;
 
@@ -544,8 +544,8 @@ XMAS_ELF_NODISCARD uint32_t xmas_elf_packed_relocations(const uint8_t *input, si
     const xmas_elf_header_t *header, uint64_t section, uint64_t first, uint64_t *out, size_t out_count,
     uint64_t *count) XMAS_ELF_NOEXCEPT;
 
-/* The dynamic entry at an index of a section of type SHT_DYNAMIC, also after the entry with tag 0;
- * XMAS_ELF_OTHER_DATA is for other sections. The call is refused with (in the order of the tests)
+/* The dynamic entry at an index of a section of type SHT_DYNAMIC, also after the entry with tag 0. A section of
+ * another type is refused, mostly with XMAS_ELF_OTHER_DATA. The call is refused with (in the order of the tests)
  * XMAS_ELF_SHORT_SECTION_HEADER, XMAS_ELF_UNKNOWN_CLASS, XMAS_ELF_SMALL_ENTRY, XMAS_ELF_INVALID_SH_TYPE,
  * XMAS_ELF_DATA_RANGE, XMAS_ELF_NOT_MULTIPLE, XMAS_ELF_NOTE_32, XMAS_ELF_SHORT_DATA, XMAS_ELF_OTHER_DATA,
  * XMAS_ELF_NO_RECORD. */

@@ -258,10 +258,10 @@ pub(crate) fn segment_data(input: &[u8], header: &Header, index: u32) -> Result<
     answered(status, out)
 }
 
-/// The symbol at an index of a section of type SHT_SYMTAB or SHT_DYNSYM; `OtherData` is for other sections. Its name
-/// is a text of the string table that is the section `link`. The call is refused with (in the order of the tests)
-/// `ShortSectionHeader`, `UnknownClass`, `SmallEntry`, `InvalidShType`, `DataRange`, `NotMultiple`, `Note32`,
-/// `ShortData`, `OtherData`, `NoRecord`.
+/// The symbol at an index of a section of type SHT_SYMTAB or SHT_DYNSYM. The name is a text of the string table that
+/// is the section `link`. A section of another type is refused, mostly with `OtherData`. The call is refused with (in
+/// the order of the tests) `ShortSectionHeader`, `UnknownClass`, `SmallEntry`, `InvalidShType`, `DataRange`,
+/// `NotMultiple`, `Note32`, `ShortData`, `OtherData`, `NoRecord`.
 pub(crate) fn symbol(input: &[u8], header: &Header, section: u64, index: u64) -> Result<Entry, Error> {
     let mut out = Entry::default();
     // SAFETY: see the head of this file.
@@ -296,9 +296,9 @@ pub(crate) fn symbol_names(input: &[u8], header: &Header, section: u64, first: u
     answered(status, count)
 }
 
-/// The relocation at an index of a section of type SHT_REL or SHT_RELA; `OtherData` is for other sections. The call
-/// is refused with (in the order of the tests) `ShortSectionHeader`, `UnknownClass`, `SmallEntry`, `InvalidShType`,
-/// `DataRange`, `NotMultiple`, `Note32`, `ShortData`, `OtherData`, `NoRecord`.
+/// The relocation at an index of a section of type SHT_REL or SHT_RELA. A section of another type is refused, mostly
+/// with `OtherData`. The call is refused with (in the order of the tests) `ShortSectionHeader`, `UnknownClass`,
+/// `SmallEntry`, `InvalidShType`, `DataRange`, `NotMultiple`, `Note32`, `ShortData`, `OtherData`, `NoRecord`.
 pub(crate) fn relocation(input: &[u8], header: &Header, section: u64, index: u64) -> Result<Relocation, Error> {
     let mut out = Relocation::default();
     // SAFETY: see the head of this file.
@@ -331,9 +331,10 @@ pub(crate) fn packed_relocations(input: &[u8], header: &Header, section: u64, fi
     answered(status, count)
 }
 
-/// The dynamic entry at an index of a section of type SHT_DYNAMIC, also after the entry with tag 0; `OtherData` is
-/// for other sections. The call is refused with (in the order of the tests) `ShortSectionHeader`, `UnknownClass`,
-/// `SmallEntry`, `InvalidShType`, `DataRange`, `NotMultiple`, `Note32`, `ShortData`, `OtherData`, `NoRecord`.
+/// The dynamic entry at an index of a section of type SHT_DYNAMIC, also after the entry with tag 0. A section of
+/// another type is refused, mostly with `OtherData`. The call is refused with (in the order of the tests)
+/// `ShortSectionHeader`, `UnknownClass`, `SmallEntry`, `InvalidShType`, `DataRange`, `NotMultiple`, `Note32`,
+/// `ShortData`, `OtherData`, `NoRecord`.
 pub(crate) fn dynamic(input: &[u8], header: &Header, section: u64, index: u64) -> Result<Dynamic, Error> {
     let mut out = Dynamic::default();
     // SAFETY: see the head of this file.
