@@ -15,6 +15,8 @@ def compare_header(test, path):
     build_id = readelf.build_id(path)
     shown = test.page.run("document.querySelector('.facts .id')?.textContent ?? null")
     test.same(f"{path}: build id", shown, build_id)
+    libraries = test.page.run("Array.from(document.querySelectorAll('.libraries li'), (it) => it.textContent)")
+    test.same(f"{path}: libraries needed", libraries, readelf.needed(path))
 
 
 def compare_sections(test, path):
@@ -91,8 +93,7 @@ def compare_file(test, path, drops=False):
     compare_segments(test, path)
     compare_tables(test, path, "Symbols", "Table", readelf.symbols(path), symbol_form)
     wide = readelf.header(path)["Class"] == "ELF64"
-    wanted = {name: table for name, table in readelf.relocations(path, wide).items() if "relr" not in name}
-    compare_tables(test, path, "Relocations", "Section", wanted, lambda row: [row[1], row[2], row[3], row[4]])
+    compare_tables(test, path, "Relocations", "Section", readelf.relocations(path, wide), lambda row: [row[1], row[2], row[3], row[4]])
     if readelf.sections(path):
         compare_dynamic(test, path)
     compare_notes(test, path)

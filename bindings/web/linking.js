@@ -50,14 +50,18 @@ export function relocationsPanel(file, client, choose) {
   const table = new Table({ label: "Relocations", choose: (row) => choose(current.section.index, row), columns: [
     { label: "Nr", width: "4rem", number: true, cell: ({ index }) => `${index}` },
     { label: "Offset", width: fileClass === 1 ? "5rem" : "8rem", number: true, cell: ({ offset }) => address(offset, fileClass) },
-    { label: "Type", width: "14rem", cell: ({ type }) => names.nameOf(types, type) },
+    { label: "Type", width: "14rem", cell: ({ type, isPacked }) => (isPacked ? "relative, packed" : names.nameOf(types, type)) },
     { label: "Addend", width: "8rem", number: true, cell: (it) => addendText(file, it) },
-    { label: "Symbol", width: "4.5rem", number: true, cell: ({ symbol }) => `${symbol}` },
+    { label: "Symbol", width: "4.5rem", number: true, cell: ({ symbol }) => `${symbol ?? ""}` },
     { label: "Name", width: "minmax(16rem, 1fr)", cell: (it) => relocationSymbol(file, it) },
   ] });
   const show = (it) => {
     current = it;
     const { index: section, header } = it.section;
+    if (header.type === names.RELR) {
+      table.show(it.count, (first, size) => client.ask("packed", { section, first, size }));
+      return;
+    }
     const symbols = file.symbolTables.some((other) => other.section.index === header.link) ? header.link : null;
     table.show(it.count, (first, size) => client.ask("relocations", { section, symbols, first, size }));
   };
@@ -97,7 +101,7 @@ export function dynamicPanel(file, client, choose) {
       client.ask("dynamic", { section: it.section.index, strings: it.strings, texts: names.TEXT_TAGS, first, size }));
   };
   const hasSegment = file.segments.some(({ header }) => header.type === names.PT_DYNAMIC);
-  const none = `The file has no section of dynamic entries${hasSegment ? ", only a segment, which is not listed" : ""}.`;
+  const none = `The file has no section of dynamic entries${hasSegment ? ", only a segment: the overview has the libraries that it names" : ""}.`;
   return chosenPanel("Dynamic entries", file.dynamicTables, table, { show, none, what: ["dynamic entry", "dynamic entries"] });
 }
 

@@ -106,9 +106,13 @@ export const RELA = 4;
 export const HASH = 5;
 export const DYNAMIC = 6;
 export const NOTE = 7;
+/** The note that holds a build id: its type, and its owner with the zero byte behind it. */
+export const NOTE_BUILD_ID = 3;
+export const GNU_OWNER = [0x47, 0x4e, 0x55, 0];
 export const NOBITS = 8;
 export const REL = 9;
 export const DYNSYM = 11;
+export const RELR = 19;
 export const GNU_HASH = 0x6ffffff6;
 export const PT_LOAD = 1;
 export const PT_DYNAMIC = 2;
