@@ -38,17 +38,6 @@ def of_other_machines(room):
     return found
 
 
-def worked_files(room):
-    """Files with a section of each type, of each class and byte order."""
-    found = []
-    for wide in (False, True):
-        for order in ("little", "big"):
-            path = room / f"worked-{64 if wide else 32}-{order}"
-            path.write_bytes(damage.worked(wide, order))
-            found.append(path)
-    return found
-
-
 def cut_file(room, path, size):
     """The first bytes of a file: its segments and their data are there, and its section headers are not."""
     cut = room / f"cut-{path.name}"
@@ -63,7 +52,7 @@ def elf_file(contents):
     data, headers = bytearray(64), [bytes(64)]
     for (_, kind, held, link, entry), place in zip([*contents, (b"", 3, names, 0, 0)], places):
         headers.append(layout.words(place, kind) + layout.addresses(2, 0, len(data), len(held)) + layout.words(link, 0)
-                       + layout.addresses(8, entry))
+                       + layout.addresses(4, entry))
         data += held + bytes(-len(held) % 8)
     data[:7] = b"\x7fELF\2\1\1"
     values = dict(type=3, machine=62, version=1, shoff=len(data), ehsize=64, shentsize=64, shnum=len(headers), shstrndx=len(headers) - 1)

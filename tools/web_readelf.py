@@ -59,7 +59,7 @@ def symbols(path):
 
 
 def relocations(path, wide):
-    """For each section of relocations, by its name: offset, number of the type, addend and index of the symbol."""
+    """For each section of relocations, by its name: offset, number and name of the type, addend and index of the symbol."""
     tables, rows, shift = {}, [], 32 if wide else 8
     for line in lines(path, "--relocs"):
         begun = re.match(r"Relocation section '(.*)' at offset", line)
@@ -68,9 +68,10 @@ def relocations(path, wide):
         found = RELOCATION.match(line)
         if found:
             info, rest = int(found[2], 16), found[4]
-            rows.append([found[1], found[3], addend(rest), str(info >> shift)])
+            kind = (hex(info % (1 << shift)), found[3])
+            rows.append([found[1], kind, addend(rest), str(info >> shift)])
         elif PACKED.match(line):
-            rows.append([line, "relative, packed", "", ""])
+            rows.append([line, ("", "relative, packed"), "", ""])
     return tables
 
 

@@ -91,7 +91,7 @@ export function dynamicPanel(file, client, choose) {
   const table = new Table({ label: "Dynamic entries", choose: (row) => choose(current.section.index, row), columns: [
     { label: "Nr", width: "3rem", number: true, cell: ({ index }) => `${index}` },
     { label: "Tag", width: "11rem", number: true, cell: ({ tag }) => hex(tag, 16) },
-    { label: "Name", width: "10rem", cell: ({ tag }) => names.nameOf(names.DYNAMIC_TAGS, tag) },
+    { label: "Name", width: "10rem", cell: ({ tag }) => names.dynamicTag(tag, file.header.machine) },
     { label: "Value", width: "11rem", number: true, cell: ({ value }) => hex(value) },
     { label: "Means", width: "minmax(16rem, 1fr)", cell: (it) => dynamicValue(file, it) },
   ] });
@@ -175,6 +175,6 @@ export function hashesPanel(file, client, { choose, check }) {
       checked, lookUpForm(file, client, table),
       element("button", { type: "button", class: "quiet", onclick: () => choose(table.section.index) }, "Show its bytes"));
   });
-  const said = file.hashTables.length ? "A table that passes its check finds a symbol wherever one has the name." : "The file has no hash table of symbols.";
+  const said = file.hashTables.length ? "A table that passes its check finds a symbol wherever one that isn't local has the name; GNU's, wherever one is defined too." : "The file has no hash table of symbols.";
   return { node: panel("Hash tables", said, element("div", { class: "cards" }, cards)) };
 }

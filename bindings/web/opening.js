@@ -107,11 +107,13 @@ async function findFacts(client, file) {
   const segment = file.segments.find(({ header }) => header.type === names.PT_INTERP);
   const part = segment && { offset: segment.header.offset, size: segment.header.file_size };
   file.interpreter = part ? await client.ask("text", { part, index: 0 }) : null;
-  file.named = [];
+  Object.assign(file, { named: [], namedRefused: null });
   for (const { section, strings, count } of file.dynamicTables) {
     const rows = await client.ask("dynamic", { section: section.index, strings, texts: names.TEXT_TAGS, first: 0, size: Math.min(count, 2048) });
     file.named.push(...rows.filter(({ tag }) => names.TEXT_TAGS.includes(tag)));
   }
   if (file.dynamicTables.length || !hasDynamic(file)) return;
-  file.named = await client.ask("dynamicTexts", { needed: names.NEEDED, tags: names.TEXT_TAGS.filter((it) => it !== names.NEEDED) });
+  const tags = names.TEXT_TAGS.filter((it) => it !== names.NEEDED);
+  const { rows, refused } = await client.ask("dynamicTexts", { needed: names.NEEDED, tags });
+  Object.assign(file, { named: rows, namedRefused: refused });
 }

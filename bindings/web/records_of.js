@@ -86,17 +86,19 @@ function whyNot(reader, section, record) {
 }
 
 /**
- * What the entries of the dynamic segment name, with no section header: a row `{ tag, text }` or `{ tag, refused }` for
- * each library needed, and for each of `tags` that an entry has.
+ * What the entries of the dynamic segment name, with no section header: `rows`, of `{ tag, text }` or `{ tag, refused }`
+ * for each library needed and each of `tags` that an entry has; or `refused` where there are no entries.
  */
 export function dynamicTexts(reader, { needed, tags }) {
+  const libraries = reader.many("needed", { first: 0 });
+  if (libraries.status !== STATUS.OK && libraries.status !== STATUS.NO_RECORD) return { rows: [], refused: refusal(reader, libraries.status) };
   const said = ({ status, range }) => (status === STATUS.OK ? { text: rangeText(reader, range) } : { refused: refusal(reader, status) });
-  const rows = reader.many("needed", { first: 0 }).records.map((name) => ({ tag: needed, ...said(name) }));
+  const rows = libraries.records.map((name) => ({ tag: needed, ...said(name) }));
   for (const tag of tags) {
     const { status, record } = reader.one("dynamic_text", { tag });
     if (status !== STATUS.NOT_FOUND) rows.push({ tag, ...said({ status, range: record }) });
   }
-  return rows;
+  return { rows, refused: null };
 }
 
 /** Dynamic entries, each with the text that its value is an index of, where its tag is one of `texts`. */
