@@ -78,5 +78,8 @@ if [ "$does" = test ]; then
     tools/web_page.py
 elif [ "$does" = serve ]; then
     echo "web: http://127.0.0.1:$port (stop with Ctrl-C)"
-    exec python3 -m http.server --bind 127.0.0.1 --directory "$site" "$port" > /dev/null 2>&1
+    python3 -m http.server --bind 127.0.0.1 --directory "$site" "$port" > /dev/null 2> "$web/out/served" || {
+        echo "web: port $port can't be served: $(tail -n 1 "$web/out/served"). Another is taken by --port N" >&2
+        exit 1
+    }
 fi

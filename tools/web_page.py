@@ -13,6 +13,8 @@ import functools
 import http.server
 import pathlib
 import re
+import shutil
+import subprocess
 import sys
 import tempfile
 import threading
@@ -28,7 +30,6 @@ TOP = pathlib.Path(__file__).resolve().parent.parent
 MOST_ROWS = 800
 SIZE = (1440, 2400)
 TABS = ("Overview", "Layout", "Sections", "Segments", "Symbols", "Relocations", "Dynamic", "Notes", "Hash tables")
-LARGE = ("/usr/lib/x86_64-linux-gnu/libLLVM-15.so.1", "/usr/lib/x86_64-linux-gnu/libLLVM-14.so.1", "/usr/bin/python3")
 
 # Texts in view whose contrast with what is behind them is below 4.5, as the accessibility guidelines ask for.
 CONTRAST = """
@@ -172,6 +173,14 @@ def system_files(count):
     return [it for it in [*found, *others[::step]] if it.exists()][:count]
 
 
+def large_file():
+    """The largest library that is likely to be here: the compiler of Rust, LLVM's, or Python."""
+    rust = shutil.which("rustc") and subprocess.run(["rustc", "--print", "sysroot"], capture_output=True, text=True).stdout.strip()
+    compilers = sorted(pathlib.Path(rust, "lib").glob("librustc_driver-*.so")) if rust else []
+    others = ("/usr/lib/x86_64-linux-gnu/libLLVM-15.so.1", "/usr/lib/x86_64-linux-gnu/libLLVM-14.so.1", "/usr/bin/python3")
+    return next(it for it in [*compilers, *map(pathlib.Path, others)] if it.exists())
+
+
 def is_elf(path):
     with open(path, "rb") as file:
         return file.read(4) == b"\x7fELF"
@@ -240,7 +249,7 @@ def try_cut(test, options, room):
 
 def try_long_table(test, options):
     """The longest table at hand: filtered, sorted, scrolled to its end, and kept short in the page."""
-    path = next((it for it in LARGE if pathlib.Path(it).exists()), None)
+    path = large_file()
     began = time.monotonic()
     test.open(path)
     opened = time.monotonic() - began
@@ -252,9 +261,11 @@ def try_long_table(test, options):
     for index, row in rows.items():
         test.same(f"{path}: symbol {index}", symbol_form(row), table[index])
     test.same("rows in the page", test.page.run("document.querySelectorAll('[role=tabpanel]:not([hidden]) .row').length") < 400, True)
+    began = time.monotonic()
     filtered(test, path, table)
+    found = time.monotonic() - began
     test.picture("symbols")
-    print(f"web: {path} opens in {opened:.1f} s, with {count} symbols")
+    print(f"web: {path.name}, {path.stat().st_size >> 20} MiB, opens in {opened:.1f} s; of its {count} symbols those with a text are found in {found:.1f} s")
 
 
 # Scrolls to the end in 120 frames, and says the longest time of a frame but for the first, in milliseconds.
@@ -303,7 +314,7 @@ def filtered(test, path, table):
 
 def try_stop(test, options):
     """Work stops at the button, and what is shown says so."""
-    path = next((it for it in LARGE if pathlib.Path(it).exists()), None)
+    path = large_file()
     test.page.run("document.body.dataset.state = 'waiting'")
     test.page.choose_files("#file", [path])
     test.page.run("document.getElementById('stop').click()")
