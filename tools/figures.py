@@ -32,6 +32,7 @@ PATHS = {
     "tools/compare_rust.py": (*LIBRARIES, "crates/elfanswers/src", "oracle", "tools/compare_rust.py"),
     "tools/fuzz.py": (*LIBRARIES, "crates/elfanswers/src", "crates/elfinfo/src", "tools/fuzz.py", "tools/damage.py"),
     "tools/python.sh": (*LINKING, "crates/elf_c/src", "bindings/python/xmas_elf", "bindings/python/speed.py"),
+    "tools/web.sh": (*LINKING, "crates/elf_c/src", "bindings/web/*.js", "tools/web*"),
     ".ci/run": ("crates", "tools", ".ci"),
 }
 
