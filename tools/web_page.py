@@ -343,8 +343,8 @@ def unnamed(page):
 
 def try_screen_reader(test, options):
     """Whatever a screen reader meets in a view has a name, and refers to what is there."""
-    test.page.run("document.querySelector('.brand').click()")
-    test.page.wait("document.body?.dataset.state === 'ready' && document.body.dataset.view === 'welcome'")
+    test.page.run("document.body.dataset.state = 'left'; document.querySelector('.brand').click()")
+    test.page.wait("document.body?.dataset.state === 'ready'")
     test.same("without a name before a file is opened", unnamed(test.page), [])
     test.open(options.site / "example.elf")
     for tab in TABS:
