@@ -39,6 +39,8 @@ export const SECTION_THREAD = 0x400n;
 
 export const SEGMENT_TYPES = { ...list(0, "NULL LOAD DYNAMIC INTERP NOTE SHLIB PHDR TLS"), 0x6474e550: "GNU_EH_FRAME",
   0x6474e551: "GNU_STACK", 0x6474e552: "GNU_RELRO", 0x6474e553: "GNU_PROPERTY", 0x6474e554: "GNU_SFRAME" };
+export const PROCESSOR_SEGMENT_TYPES = { 8: { 0x70000000: "REGINFO", 0x70000002: "OPTIONS", 0x70000003: "ABIFLAGS" },
+  40: { 0x70000001: "EXIDX" } };
 export const SEGMENT_FLAGS = [[4, "R", "read"], [2, "W", "write"], [1, "E", "execute"]];
 
 export const SYMBOL_TYPES = { ...list(0, "NOTYPE OBJECT FUNC SECTION FILE COMMON TLS"), 10: "IFUNC" };
@@ -143,6 +145,10 @@ export function nameOf(names, number) {
 
 export function sectionType(type, machine) {
   return SECTION_TYPES[type] ?? nameOf(PROCESSOR_SECTION_TYPES[machine] ?? {}, type);
+}
+
+export function segmentType(type, machine) {
+  return SEGMENT_TYPES[type] ?? nameOf(PROCESSOR_SEGMENT_TYPES[machine] ?? {}, type);
 }
 
 export function dynamicTag(tag, machine) {

@@ -75,7 +75,7 @@ function heldNames(file, segment) {
 }
 
 export function segmentsPanel(file, choose) {
-  const { file_class: fileClass } = file.header;
+  const { file_class: fileClass, machine } = file.header;
   const kept = new Map();
   const held = (segment) => {
     if (!kept.has(segment)) kept.set(segment, heldNames(file, segment));
@@ -84,7 +84,7 @@ export function segmentsPanel(file, choose) {
   const wide = fileClass === 1 ? "5rem" : "8rem";
   const table = new Table({ label: "Segments", empty: "The file has no program headers.", choose: ({ index }) => choose(index), columns: [
     { label: "Nr", width: "2.5rem", number: true, cell: ({ index }) => `${index}` },
-    { label: "Type", width: "7.5rem", cell: ({ header }) => names.nameOf(names.SEGMENT_TYPES, header.type) },
+    { label: "Type", width: "7.5rem", cell: ({ header }) => names.segmentType(header.type, machine) },
     { label: "Offset", width: "4.5rem", number: true, cell: ({ header }) => hexDigits(header.offset, 6) },
     { label: "Address", width: wide, number: true, cell: ({ header }) => address(header.virtual_addr, fileClass) },
     { label: "Physical", width: wide, number: true, cell: ({ header }) => address(header.physical_addr, fileClass) },
