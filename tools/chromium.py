@@ -118,10 +118,19 @@ class Page:
             raise Failed(detail.get("exception", {}).get("description", detail["text"]))
         return said["result"].get("value")
 
+    def holds(self, condition):
+        """Whether an expression is true. While another page is being opened, none is."""
+        try:
+            return self.run(condition)
+        except Failed as failure:
+            if "navigated" in str(failure) or "context" in str(failure):
+                return False
+            raise
+
     def wait(self, condition, seconds=30):
         """Waits until an expression is true."""
         until = time.monotonic() + seconds
-        while not self.run(condition):
+        while not self.holds(condition):
             if time.monotonic() > until:
                 raise Failed(f"never true: {condition}")
             time.sleep(0.02)

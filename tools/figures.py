@@ -38,6 +38,7 @@ PATHS = {
     "tools/bindings.sh": (*LINKING, "crates/elf_c/src", "bindings/rust/src", "bindings/compare/src"),
     "tools/web_page.py": (*LINKING, "crates/elf_c/src", "bindings/web", "tools/web_page.py"),
     "tools/python.sh": (*LINKING, "crates/elf_c/src", "bindings/python/xmas_elf", "bindings/python/speed.py"),
+    "tools/web.sh": (*LINKING, "crates/elf_c/src", "bindings/web/*.js", "tools/web*"),
     ".ci/run": ("crates", "tools", ".ci"),
 }
 

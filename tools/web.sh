@@ -45,7 +45,7 @@ module() {
         done
     done
     echo "web: builds the module, which proves what of elf_c and below it isn't proved yet"
-    (cd "$tree/crates/elf_c" && rt lib) > "$web/out/log" 2>&1 || { tail -n 20 "$web/out/log"; exit 1; }
+    (cd "$tree/crates/elf_c" && rt lib) > "$web/out/log" 2>&1 || { tail -n 20 "$web/out/log" >&2; exit 1; }
     cp "$tree/crates/elf_c/out/elf_c.wasm" "$web/out/elf_c.wasm"
     echo "$sum" > "$web/out/sum"
 }
@@ -79,5 +79,8 @@ if [ "$does" = test ]; then
     tools/web_page.py
 elif [ "$does" = serve ]; then
     echo "web: http://127.0.0.1:$port (stop with Ctrl-C)"
-    exec python3 -m http.server --bind 127.0.0.1 --directory "$site" "$port" > /dev/null 2>&1
+    python3 -m http.server --bind 127.0.0.1 --directory "$site" "$port" > /dev/null 2> "$web/out/served" || {
+        echo "web: port $port can't be served: $(tail -n 1 "$web/out/served"). Another is taken by --port N" >&2
+        exit 1
+    }
 fi

@@ -15,6 +15,8 @@ def compare_header(test, path):
     build_id = readelf.build_id(path)
     shown = test.page.run("document.querySelector('.facts .id')?.textContent ?? null")
     test.same(f"{path}: build id", shown, build_id)
+    libraries = test.page.run("Array.from(document.querySelectorAll('.libraries li'), (it) => it.textContent)")
+    test.same(f"{path}: libraries needed", libraries, readelf.needed(path))
 
 
 def compare_sections(test, path):
@@ -29,20 +31,24 @@ def compare_sections(test, path):
 
 
 def type_text(text):
-    """readelf's name of a type of sections that it doesn't know, as a number."""
+    """A type of sections that readelf doesn't know, by its number, or by the page's name for it."""
     based = re.fullmatch(r"(LOOS|LOPROC|LOUSER)\+(0x)?([0-9a-f]+)", text)
-    bases = {"LOOS": 0x60000000, "LOPROC": 0x70000000, "LOUSER": 0x80000000}
-    return hex(bases[based[1]] + int(based[3], 16)) if based else text
+    if not based:
+        return text
+    number = {"LOOS": 0x60000000, "LOPROC": 0x70000000, "LOUSER": 0x80000000}[based[1]] + int(based[3], 16)
+    return {0x6fff4c03: "LLVM_ADDRSIG"}.get(number, hex(number))
 
 
-def compare_segments(test, path):
+def compare_segments(test, path, holds_sections=True):
     wanted = readelf.segments(path)
     test.tab("Segments")
     count, rows = test.rows()
     test.same(f"{path}: number of segments", count, len(wanted))
-    for index, (kind, offset, address, physical, in_file, in_memory, flags, align, held) in enumerate(wanted):
-        numbers = [text.removeprefix("0x") for text in (offset, address, physical, in_file, in_memory)]
-        test.same(f"{path}: segment {index}", rows.get(index, [])[1:10], [kind, *numbers, flags.replace(" ", ""), align, held])
+    for index, (kind, *numbers, flags, align, held) in enumerate(wanted):
+        _, shown_kind, *shown, shown_flags, shown_align, shown_held = rows.get(index, [""] * 10)[:10]
+        test.same(f"{path}: segment {index}", [shown_kind, shown_flags], [kind, flags.replace(" ", "")])
+        test.same(f"{path}: sections in segment {index}", shown_held, held if holds_sections else "")
+        test.same(f"{path}: numbers of segment {index}", [int(it, 16) for it in (*shown, shown_align)], [int(it, 16) for it in (*numbers, align)])
 
 
 def compare_tables(test, path, tab, label, wanted, form):
@@ -55,11 +61,18 @@ def compare_tables(test, path, tab, label, wanted, form):
         count, rows = test.rows()
         test.same(f"{path}: number of {tab} of {name}", count, len(table))
         for index, row in rows.items():
-            test.same(f"{path}: {tab} {index} of {name}", form(row), table[index] if index < len(table) else None)
+            listed = table[index] if index < len(table) else None
+            test.same(f"{path}: {tab} {index} of {name}", form(row, listed), listed)
 
 
-def symbol_form(row):
+def symbol_form(row, _=None):
     return [*row[:6], readelf.plain(row[7])]
+
+
+def relocation_form(row, wanted):
+    """Offset, type, addend and symbol. The page has names of types for some machines, and numbers for the others."""
+    number, name = wanted[1] if wanted else (None, None)
+    return [row[1], wanted[1] if row[2] in (name, number) else row[2], row[3], row[4]]
 
 
 def compare_dynamic(test, path):
@@ -91,8 +104,7 @@ def compare_file(test, path, drops=False):
     compare_segments(test, path)
     compare_tables(test, path, "Symbols", "Table", readelf.symbols(path), symbol_form)
     wide = readelf.header(path)["Class"] == "ELF64"
-    wanted = {name: table for name, table in readelf.relocations(path, wide).items() if "relr" not in name}
-    compare_tables(test, path, "Relocations", "Section", wanted, lambda row: [row[1], row[2], row[3], row[4]])
+    compare_tables(test, path, "Relocations", "Section", readelf.relocations(path, wide), relocation_form)
     if readelf.sections(path):
         compare_dynamic(test, path)
     compare_notes(test, path)

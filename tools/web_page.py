@@ -12,6 +12,9 @@ import argparse
 import functools
 import http.server
 import pathlib
+import re
+import shutil
+import subprocess
 import sys
 import tempfile
 import threading
@@ -19,12 +22,14 @@ import time
 
 import chromium
 import damage
+import web_files as files
 import web_readelf as readelf
-from web_compare import compare_file, symbol_form
+from web_compare import compare_file, compare_segments, symbol_form
 
 TOP = pathlib.Path(__file__).resolve().parent.parent
 MOST_ROWS = 800
-LARGE = ("/usr/lib/x86_64-linux-gnu/libLLVM-15.so.1", "/usr/lib/x86_64-linux-gnu/libLLVM-14.so.1", "/usr/bin/python3")
+SIZE = (1440, 2400)
+TABS = ("Overview", "Layout", "Sections", "Segments", "Symbols", "Relocations", "Dynamic", "Notes", "Hash tables")
 
 # Texts in view whose contrast with what is behind them is below 4.5, as the accessibility guidelines ask for.
 CONTRAST = """
@@ -39,17 +44,46 @@ CONTRAST = """
     }
     return [255, 255, 255];
   };
+  const drawnBehind = (text) => {
+    const { left, top, width, height } = text.getBoundingClientRect();
+    const isRect = (it) => it.tagName === "rect" && getComputedStyle(it).fillOpacity === "1" && getComputedStyle(it).fill !== "none";
+    const rect = document.elementsFromPoint(left + width / 2, top + height / 2).find(isRect);
+    return rect ? parts(getComputedStyle(rect).fill) : behind(text.closest("svg").parentElement);
+  };
   const found = new Set();
   for (const node of document.body.querySelectorAll("*")) {
     const hasText = Array.from(node.childNodes).some((it) => it.nodeType === 3 && it.textContent.trim());
-    if (!hasText || node.closest("svg, .hidden") || !node.checkVisibility({ visibilityProperty: true })) continue;
-    const [one, other] = [luminance(parts(getComputedStyle(node).color)), luminance(behind(node))];
+    if (!hasText || node.closest("title, .hidden") || !node.checkVisibility({ visibilityProperty: true })) continue;
+    const isDrawn = node.closest("svg");
+    const [one, other] = isDrawn ? [luminance(parts(getComputedStyle(node).fill)), luminance(drawnBehind(node))]
+      : [luminance(parts(getComputedStyle(node).color)), luminance(behind(node))];
     const contrast = (Math.max(one, other) + 0.05) / (Math.min(one, other) + 0.05);
     if (contrast < 4.5) found.add(`${node.tagName} ${node.className} ${contrast.toFixed(2)}`);
   }
   return [...found].slice(0, 8);
 })()
 """
+
+# References of one element to another by an id that no element has, and stops of the keyboard that no mark shows.
+REFERENCES = """
+(() => {
+  const names = ["aria-controls", "aria-labelledby", "aria-describedby", "for"];
+  const ids = (node, name) => (node.getAttribute(name) ?? "").split(" ").filter(Boolean);
+  return Array.from(document.querySelectorAll("body *")).flatMap((node) => names.flatMap((name) =>
+    ids(node, name).filter((id) => !document.getElementById(id)).map((id) => `${node.tagName} ${name} ${id}`)));
+})()
+"""
+STOP = """
+(() => {
+  const it = document.activeElement;
+  const { outlineStyle, outlineWidth } = getComputedStyle(it);
+  const name = it.getAttribute("aria-label") || it.labels?.[0]?.textContent.trim() || it.textContent.trim().slice(0, 40);
+  return { name, isSeen: outlineStyle !== "none" && outlineWidth !== "0px", isBody: it === document.body };
+})()
+"""
+# Roles that a screen reader says together with a name.
+NAMED = {"button", "textbox", "searchbox", "combobox", "grid", "listbox", "option", "tab", "tablist", "tabpanel", "progressbar",
+         "columnheader", "link", "image", "region", "heading", "menuitem"}
 
 # Rows of the table in view: the first ones up to a number, and the last.
 ROWS = """
@@ -131,7 +165,7 @@ class Test:
 def system_files(count):
     """Files of this system, of all sizes up to 8 MiB, and small ones of this repository."""
     found = [TOP / "crates/elfnm/data/add.o", TOP / "crates/elfsym/data/stripped.so"]
-    found += [pathlib.Path(it) for it in ("/usr/lib/x86_64-linux-gnu/crt1.o", "/usr/lib/x86_64-linux-gnu/libc.so.6",
+    found += [pathlib.Path(it) for it in ("/usr/lib32/libc.so.6", "/usr/lib32/libm.so.6", "/usr/lib/x86_64-linux-gnu/crt1.o", "/usr/lib/x86_64-linux-gnu/libc.so.6",
                                           "/usr/lib/x86_64-linux-gnu/libm.so.6", "/usr/bin/readelf", "/usr/bin/python3")]
     others = [it for folder in ("/usr/lib/x86_64-linux-gnu", "/usr/bin") for it in sorted(pathlib.Path(folder).iterdir())
               if it.is_file() and not it.is_symlink() and it.stat().st_size < 8 << 20 and is_elf(it)]
@@ -139,14 +173,28 @@ def system_files(count):
     return [it for it in [*found, *others[::step]] if it.exists()][:count]
 
 
+def large_file():
+    """The largest library that is likely to be here: the compiler of Rust, LLVM's, or Python."""
+    rust = shutil.which("rustc") and subprocess.run(["rustc", "--print", "sysroot"], capture_output=True, text=True).stdout.strip()
+    compilers = sorted(pathlib.Path(rust, "lib").glob("librustc_driver-*.so")) if rust else []
+    others = ("/usr/lib/x86_64-linux-gnu/libLLVM-15.so.1", "/usr/lib/x86_64-linux-gnu/libLLVM-14.so.1", "/usr/bin/python3")
+    return next(it for it in [*compilers, *map(pathlib.Path, others)] if it.exists())
+
+
 def is_elf(path):
     with open(path, "rb") as file:
         return file.read(4) == b"\x7fELF"
 
 
-def try_comparison(test, options):
-    for index, path in enumerate(system_files(options.files)):
+def try_comparison(test, options, room):
+    """Files of the system and of other machines, of both classes and byte orders, compared with readelf."""
+    paths = [*system_files(options.files), *files.of_other_machines(room)]
+    for index, path in enumerate(paths):
         compare_file(test, path, drops=index % 10 == 0)
+    headers = [readelf.header(path) for path in paths]
+    kinds = sorted({f"{it['Class']} {it['Data'].split()[-2]}-endian" for it in headers})
+    machines = len({it["Machine"] for it in headers})
+    print(f"web: compared {len(paths)} files for {machines} machines with readelf: {', '.join(kinds)}")
 
 
 def refusal_of(test, path):
@@ -177,15 +225,31 @@ def try_damaged(test, options, room):
         path.write_bytes(damage.damaged(1, index))
         test.open(path)
         if test.page.run("document.body.dataset.view") == "viewer":
-            for tab in ("Layout", "Sections", "Segments", "Symbols", "Relocations", "Dynamic", "Notes", "Hash tables"):
+            for tab in TABS:
                 test.tab(tab)
             test.compared += 1
     test.tab("Overview")
 
 
+def try_cut(test, options, room):
+    """A file without its second half: its segments are those that readelf lists, and it is said what is refused."""
+    libc = pathlib.Path("/usr/lib/x86_64-linux-gnu/libc.so.6")
+    path = files.cut_file(room, libc, libc.stat().st_size // 2)
+    test.open(path)
+    compare_segments(test, path, holds_sections=False)
+    test.tab("Overview")
+    said = test.page.run("document.querySelector('.refusals').textContent")
+    for what in ("Section headers end early", "Data of segment", "Entries of the dynamic segment"):
+        test.same(f"{path}: {what}", what in said, True)
+    test.tab("Sections")
+    said = test.page.run("document.querySelector('[role=tabpanel]:not([hidden]) .notice').textContent")
+    test.same(f"{path}: refused sections", "can be read" in said and "File is shorter than section header offset" in said, True)
+    test.picture("cut")
+
+
 def try_long_table(test, options):
     """The longest table at hand: filtered, sorted, scrolled to its end, and kept short in the page."""
-    path = next((it for it in LARGE if pathlib.Path(it).exists()), None)
+    path = large_file()
     began = time.monotonic()
     test.open(path)
     opened = time.monotonic() - began
@@ -197,9 +261,47 @@ def try_long_table(test, options):
     for index, row in rows.items():
         test.same(f"{path}: symbol {index}", symbol_form(row), table[index])
     test.same("rows in the page", test.page.run("document.querySelectorAll('[role=tabpanel]:not([hidden]) .row').length") < 400, True)
+    began = time.monotonic()
     filtered(test, path, table)
+    found = time.monotonic() - began
     test.picture("symbols")
-    print(f"web: {path} opens in {opened:.1f} s, with {count} symbols")
+    print(f"web: {path.name}, {path.stat().st_size >> 20} MiB, opens in {opened:.1f} s; of its {count} symbols those with a text are found in {found:.1f} s")
+
+
+# Scrolls to the end in 120 frames, and says the longest time of a frame but for the first, in milliseconds.
+FRAMES = """
+async () => {
+  const table = document.querySelector("[role=tabpanel]:not([hidden]) .table");
+  const frame = () => new Promise((resume) => requestAnimationFrame(resume));
+  const times = [await frame(), await frame()];
+  for (let step = 1; step <= 120; step += 1) {
+    table.scrollTop = (table.scrollHeight - table.clientHeight) * step / 120;
+    times.push(await frame());
+  }
+  return times.slice(3).map((it, at) => it - times[at + 2]).sort((one, other) => one - other);
+}
+"""
+
+
+def try_many_symbols(test, options, room):
+    """A table of 165,000 symbols scrolls, by the scroll bar and by keys, and shows each row where it belongs."""
+    count = 165_000
+    test.page.resize(1440, 900)
+    test.open(files.many_symbols(room, count))
+    test.tab("Symbols")
+    frames = test.page.run(f"({FRAMES})()")
+    test.same("a frame of scrolling takes less than 0.25 s", frames[-1] < 250, True)
+    shown, rows = test.rows(200)
+    test.same("number of symbols", shown, count)
+    test.same("names of rows", {at: row[7] for at, row in rows.items() if at}, {at: f"symbol_{at}" for at in rows if at})
+    test.same("the last row", count - 1 in rows, True)
+    test.page.run("document.querySelector('[role=tabpanel]:not([hidden]) .table').focus()")
+    for key in ("Home", "PageDown", "End", "ArrowUp", "Enter"):
+        test.page.key(key)
+    test.page.wait(f"document.querySelector('[role=tabpanel]:not([hidden]) [aria-selected=true]')?.dataset.index === '{count - 2}'")
+    test.page.wait("/Symbol 164,998 symbol_164998/.test(document.getElementById('place').textContent)")
+    test.page.resize(*SIZE)
+    print(f"web: of {count} symbols a frame of scrolling takes {frames[len(frames) // 2]:.0f} ms, and at most {frames[-1]:.0f} ms")
 
 
 def filtered(test, path, table):
@@ -212,7 +314,7 @@ def filtered(test, path, table):
 
 def try_stop(test, options):
     """Work stops at the button, and what is shown says so."""
-    path = next((it for it in LARGE if pathlib.Path(it).exists()), None)
+    path = large_file()
     test.page.run("document.body.dataset.state = 'waiting'")
     test.page.choose_files("#file", [path])
     test.page.run("document.getElementById('stop').click()")
@@ -221,17 +323,50 @@ def try_stop(test, options):
     test.same("stopped", "was stopped" in said, True)
 
 
+def stops_of(page):
+    """What Tab leads to from the first stop on, until it leaves the page."""
+    stops = []
+    for _ in range(80):
+        page.key("Tab")
+        stop = page.run(STOP)
+        if stop["isBody"]:
+            break
+        stops.append(stop)
+    return stops
+
+
+def unnamed(page):
+    """What a screen reader meets without a name."""
+    nodes = [it for it in page.send("Accessibility.getFullAXTree")["nodes"] if not it["ignored"]]
+    return [it["role"]["value"] for it in nodes if it["role"]["value"] in NAMED and not it.get("name", {}).get("value", "").strip()]
+
+
+def try_screen_reader(test, options):
+    """Whatever a screen reader meets in a view has a name, and refers to what is there."""
+    test.page.run("document.body.dataset.state = 'left'; document.querySelector('.brand').click()")
+    test.page.wait("document.body?.dataset.state === 'ready'")
+    test.same("without a name before a file is opened", unnamed(test.page), [])
+    test.open(options.site / "example.elf")
+    for tab in TABS:
+        test.tab(tab)
+        test.same(f"without a name in {tab}", unnamed(test.page), [])
+        test.same(f"references in {tab}", test.page.run(REFERENCES), [])
+        heads = test.page.run("Array.from(document.querySelectorAll('[role=tabpanel]:not([hidden]) h2'), (it) => it.textContent).length")
+        test.same(f"headings of {tab}", heads, 1)
+
+
 def try_keyboard(test, options):
     """The page by the keyboard alone: each stop has a name and is seen, tabs and tables move by arrows."""
     page = test.page
     test.open(TOP / "crates/elfnm/data/add.o")
+    test.tab("Overview")
     page.run("document.activeElement?.blur(); window.getSelection()?.removeAllRanges(); document.querySelector('.skip').focus()")
-    stops = []
-    for _ in range(40):
-        page.key("Tab")
-        stops.append(page.run("(() => { const it = document.activeElement; return it.getAttribute('aria-label') || it.labels?.[0]?.textContent || it.textContent.slice(0, 40); })()"))
-    test.same("each stop of the keyboard has a name", all(stops), True)
-    test.same("the bytes are reached", any("Bytes, sixteen" in it for it in stops), True)
+    stops = stops_of(page)
+    test.same("each stop of the keyboard has a name", [it for it in stops if not it["name"]], [])
+    test.same("each stop of the keyboard is seen", [it for it in stops if not it["isSeen"]], [])
+    order = ["Open a file", "Overview", "Bytes", "Go to", "Number in base 16", "Go", "Bytes", "Fields of the record"]
+    heads = [re.split(r"\s*[\n,]", it["name"])[0] for it in stops]
+    test.same("stops of the keyboard in order", [it for it in heads if it in order], order)
     page.run("document.getElementById('tab-overview').focus(); document.getElementById('tab-overview').click()")
     page.key("ArrowDown")
     page.key("ArrowDown")
@@ -280,51 +415,46 @@ def try_addresses(test, options):
 
 def try_contrast(test, options):
     """All text of each view has enough contrast, in light and in dark."""
-    test.open(TOP / "bindings/web/out/site/example.elf")
-    for tab in ("Overview", "Layout", "Sections", "Symbols", "Relocations", "Dynamic", "Notes", "Hash tables"):
+    test.open(options.site / "example.elf")
+    for tab in TABS:
         test.tab(tab)
         for scheme in ("dark", "light"):
             test.page.look(scheme)
+            time.sleep(0.05)
             test.same(f"contrast of {tab} in {scheme}", test.page.run(CONTRAST), [])
 
 
+# Texts of the view, and how many elements there are that no module of the page makes.
+SEEN = """
+(() => {
+  const made = document.querySelectorAll("body script, body img:not(.brand img), body b, body i, body [onerror], body [onload]");
+  return { texts: document.querySelector("[role=tabpanel]:not([hidden])").textContent, made: made.length };
+})()
+"""
+
+
 def try_hostile_names(test, options, room):
-    """Names that look like markup stay text, and the policy refuses markup made of strings."""
-    data = damage.worked(True, "little").replace(b"gamma", b"<b>x<")
-    (room / "markup.elf").write_bytes(data)
-    test.open(room / "markup.elf")
-    test.tab("Symbols")
-    _, rows = test.rows()
-    test.same("markup stays text", any("<b>x<" in row[7] for row in rows.values()), True)
+    """Names that look like markup are shown as the text that they are, in each view, and nothing is made of them."""
+    path = files.markup(room)
+    test.open(path)
+    test.same("the file's name", test.page.run("document.getElementById('filename').textContent"), path.name)
+    wanted = {"Overview": 5, "Layout": 5, "Sections": 5, "Segments": 0, "Symbols": 5, "Relocations": 0, "Dynamic": 5, "Notes": 1, "Hash tables": 0}
+    for tab, least in wanted.items():
+        test.tab(tab)
+        if tab in ("Sections", "Symbols", "Dynamic", "Notes"):
+            test.rows()
+        seen = test.page.run(SEEN)
+        test.same(f"markup in {tab}: elements made of it", seen["made"], 0)
+        shown = sum(it in seen["texts"] for it in files.MARKUP)
+        test.same(f"markup in {tab}: names shown as they are", shown >= least, True)
     refused = test.page.run("(() => { try { document.createElement('p').innerHTML = '<b>x</b>'; return false; } catch { return true; } })()")
     test.same("markup of strings is refused", refused, True)
     test.page.faults()
 
 
-def slow_table(room):
-    """A file whose hash table has 60,000 buckets that all lead to a chain of 60,000 symbols."""
-    layout, count = damage.Layout(True, "little"), 60000
-    chain = [0, *range(2, count), 0]
-    contents = [(b".dynstr", 3, b"\0a\0", 0), (b".dynsym", 11, layout.symbol(0, 0, 0, 0) + layout.symbol(1, 0x12, 1, 0) * (count - 1), 1),
-                (b".hash", 5, layout.words(count, count, *[1] * count, *chain), 2)]
-    names, places = damage.texts([it[0] for it in contents] + [b".shstrtab"])
-    data, headers = bytearray(64), [bytes(64)]
-    for (_, kind, held, link), place in zip([*contents, (b"", 3, names, 0)], places):
-        headers.append(layout.words(place, kind) + layout.addresses(2, 0, len(data), len(held)) + layout.words(link, 0)
-                       + layout.addresses(8, 24 if kind == 11 else 4))
-        data += held + bytes(-len(held) % 8)
-    data[:7] = b"\x7fELF\2\1\1"
-    values = dict(type=3, machine=62, version=1, shoff=len(data), ehsize=64, shentsize=64, shnum=len(headers), shstrndx=len(headers) - 1)
-    for name, value in values.items():
-        layout.put(data, 0, layout.header[name], value)
-    path = room / "slow-table.elf"
-    path.write_bytes(bytes(data) + b"".join(headers))
-    return path
-
-
 def try_slow_check(test, options, room):
     """The page answers while the check of a hash table takes long, and the check can be stopped."""
-    test.open(slow_table(room))
+    test.open(files.slow_table(room))
     test.tab("Hash tables")
     test.page.wait("document.querySelector('.checked button') !== null", 5)
     test.tab("Symbols")
@@ -355,10 +485,29 @@ def try_pictures(test, options):
         return
     test.page.resize(1440, 900)
     test.open("/usr/lib/x86_64-linux-gnu/libc.so.6")
-    for tab in ("Overview", "Layout", "Sections", "Segments", "Symbols", "Relocations", "Dynamic", "Notes", "Hash tables"):
+    for tab in TABS:
         test.tab(tab)
         time.sleep(0.4)
         test.picture(tab.lower().replace(" ", ""))
+    picture_of_pages(test)
+
+
+def picture_of_pages(test):
+    """The picture layout.png of the pages: a symbol's bytes below the layout of libm."""
+    page, path = test.page, "/usr/lib/x86_64-linux-gnu/libm.so.6"
+    page.resize(1280, 820)
+    page.look("light")
+    test.open(path)
+    test.tab("Layout")
+    page.run("Array.from(document.querySelectorAll('.map .part')).find((it) => it.textContent.startsWith('.dynsym')).dispatchEvent(new Event('click'))")
+    table = next(row for row in readelf.sections(path) if row[1] == ".dynsym")
+    info = int(table[4], 16) + 4 * int(table[6], 16) + 4
+    page.wait(f"document.getElementById('byte-{info}')?.textContent.trim()", 5)
+    x, y = page.run(f"(() => {{ const it = document.getElementById('byte-{info}').getBoundingClientRect(); return [it.x + 6, it.y + 6]; }})()")
+    for kind in ("mousePressed", "mouseReleased"):
+        page.mouse(kind, x, y, button="left", clickCount=1)
+    page.wait("/st_info/.test(document.getElementById('place').textContent)", 5)
+    page.picture(test.pictures / "layout.png")
 
 
 def serve(site):
@@ -380,7 +529,7 @@ def main():
         print("web: Chromium is not installed, so that the page is not tested")
         return 0
     with tempfile.TemporaryDirectory() as room, chromium.Chromium() as browser:
-        page = browser.page(f"http://127.0.0.1:{serve(options.site)}/", 1440, 2400)
+        page = browser.page(f"http://127.0.0.1:{serve(options.site)}/", *SIZE)
         test = Test(page, options.pictures)
         page.wait("document.body?.dataset.state === 'ready'")
         tries = {name: it for name, it in globals().items() if name.startswith("try_") and options.only in name}

@@ -7,6 +7,7 @@ SEGMENT = re.compile(r"  (\S+) +(0x[0-9a-f]+) (0x[0-9a-f]+) (0x[0-9a-f]+) (0x[0-
 HELD = re.compile(r"   (\d\d+) +(.*)$")
 SYMBOL = re.compile(r" *(\d+): ([0-9a-f]+) +(0x[0-9a-f]+|\d+) (\S+) +(\S+) +(\S+)(?: +\[.*?\])? +(\S+) ?(.*)$")
 RELOCATION = re.compile(r"([0-9a-f]{8,16}) +([0-9a-f]{8,16}) (\S+) *(.*)$")
+PACKED = re.compile(r"([0-9a-f]{8,16})$")
 DYNAMIC = re.compile(r" (0x[0-9a-f]+) \((\w+)\) +(.*)$")
 NOTE = re.compile(r"  (\S.*?) +(0x[0-9a-f]{8})\t(.*)$")
 
@@ -41,12 +42,15 @@ def plain(name):
 
 
 def symbols(path):
-    """For each table of symbols, by its name: number, value, size, type, binding, visibility and name."""
+    """For each table of symbols, by its name: number, value, size, type, binding, visibility and name.
+
+    Of a file without section headers these are the symbols of the dynamic segment.
+    """
     tables, rows = {}, []
-    for line in lines(path, "--syms"):
-        begun = re.match(r"Symbol table '(.*)' contains", line)
+    for line in lines(path, "--syms", *([] if sections(path) else ["--use-dynamic"])):
+        begun = re.match(r"Symbol table (?:'(.*)'|for image) contains", line)
         if begun:
-            rows = tables.setdefault(begun[1], [])
+            rows = tables.setdefault(begun[1] or "the dynamic segment", [])
         found = SYMBOL.match(line)
         if found:
             number, value, size, kind, binding, visibility, _, name = found.groups()
@@ -55,7 +59,7 @@ def symbols(path):
 
 
 def relocations(path, wide):
-    """For each section of relocations, by its name: offset, number of the type, addend and index of the symbol."""
+    """For each section of relocations, by its name: offset, number and name of the type, addend and index of the symbol."""
     tables, rows, shift = {}, [], 32 if wide else 8
     for line in lines(path, "--relocs"):
         begun = re.match(r"Relocation section '(.*)' at offset", line)
@@ -64,7 +68,10 @@ def relocations(path, wide):
         found = RELOCATION.match(line)
         if found:
             info, rest = int(found[2], 16), found[4]
-            rows.append([found[1], found[3], addend(rest), str(info >> shift)])
+            kind = (hex(info % (1 << shift)), found[3])
+            rows.append([found[1], kind, addend(rest), str(info >> shift)])
+        elif PACKED.match(line):
+            rows.append([line, ("", "relative, packed"), "", ""])
     return tables
 
 
@@ -86,6 +93,10 @@ def dynamic(path):
 
 def notes(path):
     return [[found[1], str(int(found[2], 16))] for found in map(NOTE.match, lines(path, "--notes")) if found]
+
+
+def needed(path):
+    return re.findall(r"\(NEEDED\) +Shared library: \[(.*)\]", "\n".join(lines(path, "--dynamic")))
 
 
 def build_id(path):

@@ -1,6 +1,6 @@
 // Finds the symbols of a section by parts of their names and by what they are, batch by batch.
 import { BATCH } from "./reader.js";
-import { symbolAt } from "./records_of.js";
+import { symbolAt, symbolNamesFrom, symbolsFrom } from "./records_of.js";
 
 /** The indices found last, in the order that was asked for. */
 let found = { section: -1, indices: [] };
@@ -53,9 +53,9 @@ export async function findSymbols(reader, turns, given) {
   const kept = [];
   let first = 0;
   while (!work.stopped) {
-    const symbols = reader.many("symbols", { section, first }).records;
+    const symbols = symbolsFrom(reader, { section, first });
     if (!symbols.length) break;
-    const names = needle.length ? reader.many("symbol_names", { section, first }).records : [];
+    const names = needle.length ? symbolNamesFrom(reader, { section, first }) : [];
     keep(kept, symbols, first, wanted, namesHold(reader, names, needle));
     first += symbols.length;
     await work.turn(first);

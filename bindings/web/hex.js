@@ -33,6 +33,7 @@ export class HexView {
     this.digits = Math.max(8, hexDigits(file.size).length);
     this.rows.exact = 0;
     this.grid.scrollTop = 0;
+    this.grid.setAttribute("aria-rowcount", Math.ceil(file.size / ROW));
     this.rows.setCount(Math.ceil(file.size / ROW));
   }
 

@@ -54,7 +54,7 @@ function tableEntry(file, part, offset) {
   const step = isSections ? sh_entry_size : ph_entry_size;
   const index = Math.floor((offset - part.start) / step);
   const item = (isSections ? file.sections : file.segments)[index];
-  const said = isSections ? escaped(item?.name ?? "") : names.nameOf(names.SEGMENT_TYPES, item?.header.type ?? 0);
+  const said = isSections ? escaped(item?.name ?? "") : names.segmentType(item?.header.type ?? 0, file.header.machine);
   const title = `${isSections ? "Section" : "Program"} header ${index}${item && said ? ` of ${said}` : ""}`;
   return recordAt(file, isSections ? "section" : "segment", part.start + index * step, title, item?.header);
 }

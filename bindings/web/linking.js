@@ -50,14 +50,18 @@ export function relocationsPanel(file, client, choose) {
   const table = new Table({ label: "Relocations", choose: (row) => choose(current.section.index, row), columns: [
     { label: "Nr", width: "4rem", number: true, cell: ({ index }) => `${index}` },
     { label: "Offset", width: fileClass === 1 ? "5rem" : "8rem", number: true, cell: ({ offset }) => address(offset, fileClass) },
-    { label: "Type", width: "14rem", cell: ({ type }) => names.nameOf(types, type) },
+    { label: "Type", width: "14rem", cell: ({ type, isPacked }) => (isPacked ? "relative, packed" : names.nameOf(types, type)) },
     { label: "Addend", width: "8rem", number: true, cell: (it) => addendText(file, it) },
-    { label: "Symbol", width: "4.5rem", number: true, cell: ({ symbol }) => `${symbol}` },
+    { label: "Symbol", width: "4.5rem", number: true, cell: ({ symbol }) => `${symbol ?? ""}` },
     { label: "Name", width: "minmax(16rem, 1fr)", cell: (it) => relocationSymbol(file, it) },
   ] });
   const show = (it) => {
     current = it;
     const { index: section, header } = it.section;
+    if (header.type === names.RELR) {
+      table.show(it.count, (first, size) => client.ask("packed", { section, first, size }));
+      return;
+    }
     const symbols = file.symbolTables.some((other) => other.section.index === header.link) ? header.link : null;
     table.show(it.count, (first, size) => client.ask("relocations", { section, symbols, first, size }));
   };
@@ -87,7 +91,7 @@ export function dynamicPanel(file, client, choose) {
   const table = new Table({ label: "Dynamic entries", choose: (row) => choose(current.section.index, row), columns: [
     { label: "Nr", width: "3rem", number: true, cell: ({ index }) => `${index}` },
     { label: "Tag", width: "11rem", number: true, cell: ({ tag }) => hex(tag, 16) },
-    { label: "Name", width: "10rem", cell: ({ tag }) => names.nameOf(names.DYNAMIC_TAGS, tag) },
+    { label: "Name", width: "10rem", cell: ({ tag }) => names.dynamicTag(tag, file.header.machine) },
     { label: "Value", width: "11rem", number: true, cell: ({ value }) => hex(value) },
     { label: "Means", width: "minmax(16rem, 1fr)", cell: (it) => dynamicValue(file, it) },
   ] });
@@ -97,7 +101,7 @@ export function dynamicPanel(file, client, choose) {
       client.ask("dynamic", { section: it.section.index, strings: it.strings, texts: names.TEXT_TAGS, first, size }));
   };
   const hasSegment = file.segments.some(({ header }) => header.type === names.PT_DYNAMIC);
-  const none = `The file has no section of dynamic entries${hasSegment ? ", only a segment, which is not listed" : ""}.`;
+  const none = `The file has no section of dynamic entries${hasSegment ? ", only a segment: the overview has the libraries that it names" : ""}.`;
   return chosenPanel("Dynamic entries", file.dynamicTables, table, { show, none, what: ["dynamic entry", "dynamic entries"] });
 }
 
@@ -171,6 +175,6 @@ export function hashesPanel(file, client, { choose, check }) {
       checked, lookUpForm(file, client, table),
       element("button", { type: "button", class: "quiet", onclick: () => choose(table.section.index) }, "Show its bytes"));
   });
-  const said = file.hashTables.length ? "A table that passes its check finds a symbol wherever one has the name." : "The file has no hash table of symbols.";
+  const said = file.hashTables.length ? "A table that passes its check finds a symbol wherever one that isn't local has the name; GNU's, wherever one is defined too." : "The file has no hash table of symbols.";
   return { node: panel("Hash tables", said, element("div", { class: "cards" }, cards)) };
 }

@@ -24,7 +24,7 @@ const RECORDS = { symbols: "symbol", relocations: "rela", dynamic: "dynamic" };
 const page = { client: null, module: null, file: null, source: null };
 const progress = new Progress(() => page.client?.ask("stop"));
 const hexView = new HexView({ grid: byId("bytes"), title: byId("hextitle"), fields: byId("fields"), place: byId("place"),
-  follow: (address) => goToAddress(address) });
+  follow: (address) => follow(address) });
 const strip = new Strip(byId("strip"), (part) => choose(part));
 const map = new LayoutMap((part) => choose(part));
 const tabs = new Tabs(byId("tabs"), byId("panels"));
@@ -62,11 +62,17 @@ function chooseSegment(index) {
   else if (headers) choose(headers, Math.min(headers.start + index * page.file.header.ph_entry_size, headers.end - 1));
 }
 
-/** Shows the bytes of a record of a section: the record's size by its class comes from the labels of its fields. */
+/**
+ * Shows the bytes of a record of a section: the record's size by its class comes from the labels of its fields. Of a
+ * packed relocation these are the bytes that it changes, and of a symbol of no section those at its value.
+ */
 function chooseRecord(record, section, row) {
+  if (row.isPacked) return showAddress(row.offset);
+  if (section === null) return row.shndx ? showAddress(row.value) : null;
   const part = page.file.parts.find(({ id }) => id === `section-${section}`);
   const name = record === "rela" && !row.has_addend ? "rel" : record;
   if (part) choose(part, part.start + row.index * fieldsOf(name, page.file.header.file_class).size);
+  return null;
 }
 
 function layoutPanel(file) {
@@ -117,6 +123,7 @@ async function open(source) {
   Object.assign(page, { client, source, file: null });
   document.body.dataset.state = "busy";
   say(null);
+  tell("");
   progress.begin(source.name);
   try {
     await lookInto(client, source);
@@ -158,24 +165,32 @@ async function goTo(event) {
   const text = form.where.value.trim();
   if (!/^(0x)?[0-9a-f]{1,16}$/i.test(text)) return tell("Write a number in base 16, as 0x401000.");
   const number = BigInt(`0x${text.replace(/^0x/i, "")}`);
-  if (form.what.value === "offset") return goToOffset(number);
-  return goToAddress(number);
+  const isThere = form.what.value === "offset" ? showOffset(number) : await showAddress(number);
+  if (isThere) hexView.grid.focus();
+  return isThere;
 }
 
-async function goToAddress(address) {
+/** Shows the byte at an address: false, with the reason beside "Go to", where the file has none. */
+async function showAddress(address) {
   const { offset, message } = await page.client.ask("bytesAt", { address });
-  return message ? tell(message) : goToOffset(offset);
+  return message ? tell(message) : showOffset(offset);
+}
+
+function showOffset(offset) {
+  if (offset >= BigInt(page.file.size)) return tell("The file ends before this offset.");
+  tell("");
+  choose(partsAt(page.file, Number(offset))[0], Number(offset));
+  return true;
 }
 
 function tell(text) {
   byId("goanswer").textContent = text;
+  return false;
 }
 
-function goToOffset(offset) {
-  if (offset >= BigInt(page.file.size)) return tell("The file ends before this offset.");
-  tell("");
-  choose(partsAt(page.file, Number(offset))[0], Number(offset));
-  return hexView.grid.focus();
+/** Follows an address of a record to its bytes. */
+async function follow(address) {
+  if (await showAddress(address)) hexView.grid.focus();
 }
 
 function toggleHex() {

@@ -24,6 +24,7 @@ export const SECTION_TYPES = {
 };
 /** Where a type belongs to a processor. */
 export const PROCESSOR_SECTION_TYPES = { 62: { 0x70000001: "X86_64_UNWIND" },
+  8: { 0x70000006: "MIPS_REGINFO", 0x7000000d: "MIPS_OPTIONS", 0x7000001e: "MIPS_DWARF", 0x7000002a: "MIPS_ABIFLAGS" },
   40: { 0x70000001: "ARM_EXIDX", 0x70000003: "ARM_ATTRIBUTES" }, 243: { 0x70000003: "RISCV_ATTRIBUTES" } };
 
 /** The letters of the flags of sections, in readelf's order, each with the word that the gABI has. */
@@ -38,6 +39,8 @@ export const SECTION_THREAD = 0x400n;
 
 export const SEGMENT_TYPES = { ...list(0, "NULL LOAD DYNAMIC INTERP NOTE SHLIB PHDR TLS"), 0x6474e550: "GNU_EH_FRAME",
   0x6474e551: "GNU_STACK", 0x6474e552: "GNU_RELRO", 0x6474e553: "GNU_PROPERTY", 0x6474e554: "GNU_SFRAME" };
+export const PROCESSOR_SEGMENT_TYPES = { 8: { 0x70000000: "REGINFO", 0x70000002: "OPTIONS", 0x70000003: "ABIFLAGS" },
+  40: { 0x70000001: "EXIDX" } };
 export const SEGMENT_FLAGS = [[4, "R", "read"], [2, "W", "write"], [1, "E", "execute"]];
 
 export const SYMBOL_TYPES = { ...list(0, "NOTYPE OBJECT FUNC SECTION FILE COMMON TLS"), 10: "IFUNC" };
@@ -56,6 +59,11 @@ export const DYNAMIC_TAGS = {
   0x6ffffffb: "FLAGS_1", 0x6ffffffc: "VERDEF", 0x6ffffffd: "VERDEFNUM", 0x6ffffffe: "VERNEED",
   0x6fffffff: "VERNEEDNUM", 0x7ffffffd: "AUXILIARY", 0x7fffffff: "FILTER",
 };
+/** Where a tag belongs to a processor. */
+export const PROCESSOR_TAGS = { 20: { 0x70000000: "PPC_GOT", 0x70000001: "PPC_OPT" },
+  21: { 0x70000000: "PPC64_GLINK", 0x70000003: "PPC64_OPT" },
+  183: { 0x70000001: "AARCH64_BTI_PLT", 0x70000003: "AARCH64_PAC_PLT", 0x70000005: "AARCH64_VARIANT_PCS" },
+  243: { 0x70000001: "RISCV_VARIANT_CC" } };
 /** The tags whose value is an index of the string table. */
 export const TEXT_TAGS = [1n, 14n, 15n, 29n, 0x7ffffffdn, 0x7fffffffn];
 export const NEEDED = 1n;
@@ -84,12 +92,18 @@ const X86_64 = "NONE 64 PC32 GOT32 PLT32 COPY GLOB_DAT JUMP_SLOT RELATIVE GOTPCR
   "DTPOFF64 TPOFF64 TLSGD TLSLD DTPOFF32 GOTTPOFF TPOFF32 PC64 GOTOFF64 GOTPC32 GOT64 GOTPCREL64 GOTPC64 GOTPLT64 " +
   "PLTOFF64 SIZE32 SIZE64 GOTPC32_TLSDESC TLSDESC_CALL TLSDESC IRELATIVE RELATIVE64 39 40 GOTPCRELX REX_GOTPCRELX";
 const I386 = "NONE 32 PC32 GOT32 PLT32 COPY GLOB_DAT JUMP_SLOT RELATIVE GOTOFF GOTPC 32PLT 12 13 TLS_TPOFF TLS_IE " +
-  "TLS_GOTIE TLS_LE TLS_GD TLS_LDM 16 PC16 8 PC8";
+  "TLS_GOTIE TLS_LE TLS_GD TLS_LDM 16 PC16 8 PC8 TLS_GD_32 TLS_GD_PUSH TLS_GD_CALL TLS_GD_POP TLS_LDM_32 TLS_LDM_PUSH " +
+  "TLS_LDM_CALL TLS_LDM_POP TLS_LDO_32 TLS_IE_32 TLS_LE_32 TLS_DTPMOD32 TLS_DTPOFF32 TLS_TPOFF32 SIZE32 TLS_GOTDESC " +
+  "TLS_DESC_CALL TLS_DESC IRELATIVE GOT32X";
 const named = (prefix, names) =>
   Object.fromEntries(Object.entries(names).map(([number, word]) => [number, `${prefix}${word}`]));
 export const RELOCATION_TYPES = {
   62: named("R_X86_64_", list(0, X86_64)),
-  3: named("R_386_", { ...list(0, I386), 42: "IRELATIVE", 43: "GOT32X" }),
+  3: named("R_386_", list(0, I386)),
+  40: named("R_ARM_", { 0: "NONE", 1: "PC24", 2: "ABS32", 3: "REL32", 10: "THM_CALL", 17: "TLS_DTPMOD32", 18: "TLS_DTPOFF32",
+    19: "TLS_TPOFF32", 20: "COPY", 21: "GLOB_DAT", 22: "JUMP_SLOT", 23: "RELATIVE", 24: "GOTOFF32", 26: "GOT_BREL",
+    27: "PLT32", 28: "CALL", 29: "JUMP24", 30: "THM_JUMP24", 38: "TARGET1", 40: "V4BX", 42: "PREL31", 43: "MOVW_ABS_NC",
+    44: "MOVT_ABS", 96: "GOT_PREL", 104: "TLS_GD32", 106: "TLS_LDO32", 107: "TLS_IE32", 108: "TLS_LE32" }),
   183: named("R_AARCH64_", { 0: "NONE", 257: "ABS64", 258: "ABS32", 259: "ABS16", 260: "PREL64", 261: "PREL32",
     274: "ADR_PREL_LO21", 275: "ADR_PREL_PG_HI21", 277: "ADD_ABS_LO12_NC", 278: "LDST8_ABS_LO12_NC", 282: "JUMP26",
     283: "CALL26", 284: "LDST16_ABS_LO12_NC", 285: "LDST32_ABS_LO12_NC", 286: "LDST64_ABS_LO12_NC", 1024: "COPY",
@@ -106,9 +120,13 @@ export const RELA = 4;
 export const HASH = 5;
 export const DYNAMIC = 6;
 export const NOTE = 7;
+/** The note that holds a build id: its type, and its owner with the zero byte behind it. */
+export const NOTE_BUILD_ID = 3;
+export const GNU_OWNER = [0x47, 0x4e, 0x55, 0];
 export const NOBITS = 8;
 export const REL = 9;
 export const DYNSYM = 11;
+export const RELR = 19;
 export const GNU_HASH = 0x6ffffff6;
 export const PT_LOAD = 1;
 export const PT_DYNAMIC = 2;
@@ -126,7 +144,15 @@ export function nameOf(names, number) {
 }
 
 export function sectionType(type, machine) {
-  return SECTION_TYPES[type] ?? PROCESSOR_SECTION_TYPES[machine]?.[type] ?? `0x${type.toString(16)}`;
+  return SECTION_TYPES[type] ?? nameOf(PROCESSOR_SECTION_TYPES[machine] ?? {}, type);
+}
+
+export function segmentType(type, machine) {
+  return SEGMENT_TYPES[type] ?? nameOf(PROCESSOR_SEGMENT_TYPES[machine] ?? {}, type);
+}
+
+export function dynamicTag(tag, machine) {
+  return DYNAMIC_TAGS[Number(tag)] ?? nameOf(PROCESSOR_TAGS[machine] ?? {}, tag);
 }
 
 /** The letters of the flags that are set. */

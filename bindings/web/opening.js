@@ -2,12 +2,16 @@
 // the work is stopped or a part is refused.
 import * as names from "./names.js";
 import { partsOf } from "./parts.js";
+import { STATUS } from "./records.js";
 
-const RECORD_CALLS = { [names.SYMTAB]: "symbol", [names.DYNSYM]: "symbol", [names.RELA]: "relocation",
-  [names.REL]: "relocation", [names.DYNAMIC]: "dynamic" };
+// For each type of section the export that answers its records, and the table of tables that it belongs to.
+const RECORD_CALLS = { [names.SYMTAB]: ["symbol", "symbol"], [names.DYNSYM]: ["symbol", "symbol"],
+  [names.RELA]: ["relocation", "relocation"], [names.REL]: ["relocation", "relocation"],
+  [names.RELR]: ["packed_relocations", "relocation"], [names.DYNAMIC]: ["dynamic", "dynamic"] };
 
 /** Past so many notes no further section or segment is asked for them. */
 const MOST_NOTES = 20000;
+const MOST_ID_BYTES = 64n;
 
 /** Reads the file into the module: null, or why it can't be looked into, as `{ title, text }`. */
 export async function load(client, module, source) {
@@ -36,6 +40,7 @@ export async function survey(client, source) {
   Object.assign(file, partsOf(file));
   await findTables(client, file);
   await findNotes(client, file);
+  await findBuildId(client, file);
   await findFacts(client, file);
   return file;
 }
@@ -44,17 +49,28 @@ export async function survey(client, source) {
 async function findTables(client, file) {
   const tables = { symbol: [], relocation: [], dynamic: [] };
   for (const section of file.sections) {
-    const call = RECORD_CALLS[section.header.type];
+    const [call, kind] = RECORD_CALLS[section.header.type] ?? [];
     if (!call) continue;
     const counted = await client.ask("count", { call, section: section.index });
-    tables[call].push({ section, strings: file.sections[section.header.link]?.data ?? null, ...counted });
+    tables[kind].push({ section, strings: file.sections[section.header.link]?.data ?? null, ...counted });
   }
+  if (!tables.symbol.length && hasDynamic(file)) tables.symbol.push(await segmentSymbols(client));
   file.symbolTables = tables.symbol;
   file.relocationTables = tables.relocation;
   file.dynamicTables = tables.dynamic;
   const hashes = file.sections.filter(({ header }) => header.type === names.HASH || header.type === names.GNU_HASH);
   file.hashTables = hashes.map((section) =>
     ({ section, gnu: section.header.type === names.GNU_HASH, said: null, running: false, listeners: [] }));
+}
+
+function hasDynamic(file) {
+  return file.segments.some(({ header }) => header.type === names.PT_DYNAMIC);
+}
+
+// The symbols that the dynamic segment names, in the place of a section's, for a file without section headers.
+async function segmentSymbols(client) {
+  const section = { index: null, name: "the dynamic segment", header: { type: names.DYNSYM, link: null } };
+  return { section, strings: null, ...await client.ask("countDynamicSymbols") };
 }
 
 // Where notes stand: sections of notes, and segments of notes where no section is there.
@@ -77,14 +93,27 @@ async function findNotes(client, file) {
   }
 }
 
+// The build id where the export for it finds none by a section: the description of the first note of type 3 by GNU.
+async function findBuildId(client, file) {
+  if (file.buildIdRefused?.status !== STATUS.NOT_FOUND) return;
+  const notes = file.notes.filter(({ type, name }) => type === names.NOTE_BUILD_ID && name.size === 4n);
+  const shown = notes.length ? await client.ask("noteRows", { notes: notes.slice(0, 64), most: MOST_ID_BYTES }) : [];
+  const found = shown.find(({ name }) => names.GNU_OWNER.every((byte, at) => name[at] === byte));
+  if (found) file.buildId = [...found.desc];
+}
+
 // The interpreter, and what the dynamic entries name.
 async function findFacts(client, file) {
   const segment = file.segments.find(({ header }) => header.type === names.PT_INTERP);
   const part = segment && { offset: segment.header.offset, size: segment.header.file_size };
   file.interpreter = part ? await client.ask("text", { part, index: 0 }) : null;
-  file.named = [];
+  Object.assign(file, { named: [], namedRefused: null });
   for (const { section, strings, count } of file.dynamicTables) {
     const rows = await client.ask("dynamic", { section: section.index, strings, texts: names.TEXT_TAGS, first: 0, size: Math.min(count, 2048) });
     file.named.push(...rows.filter(({ tag }) => names.TEXT_TAGS.includes(tag)));
   }
+  if (file.dynamicTables.length || !hasDynamic(file)) return;
+  const tags = names.TEXT_TAGS.filter((it) => it !== names.NEEDED);
+  const { rows, refused } = await client.ask("dynamicTexts", { needed: names.NEEDED, tags });
+  Object.assign(file, { named: rows, namedRefused: refused });
 }

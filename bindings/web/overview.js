@@ -3,6 +3,7 @@ import * as names from "./names.js";
 import { element, refusalNode } from "./dom.js";
 import { fieldsOf } from "./fields.js";
 import { checkNode } from "./linking.js";
+import { STATUS } from "./records.js";
 import { hasData } from "./tables.js";
 import { escaped, grouped, hex, hexBytes, plural } from "./text.js";
 
@@ -27,14 +28,14 @@ function textOrRefusal({ text, refused }) {
 
 function identity(file) {
   const { header, counts } = file;
-  const noId = file.buildIdRefused?.message ?? "";
+  const noId = file.buildIdRefused?.status === STATUS.NOT_FOUND ? "none" : refusalNode(file.buildIdRefused ?? { message: "" });
   return card("What it is", facts([
     ["Kind", kindWords(file).slice(0, 2).join(", ")],
     ["Format", `${kindWords(file)[2]}, ${kindWords(file)[3]}, ${names.nameOf(names.OS_ABIS, header.os_abi)}`],
     ["Entry point", element("code", {}, hex(header.entry_point))],
     ["Sections", grouped(counts.sections)], ["Segments", grouped(counts.segments)],
     ["Interpreter", file.interpreter ? textOrRefusal(file.interpreter) : "none"],
-    ["Build id", file.buildId ? element("code", { class: "id" }, hexBytes(file.buildId)) : element("span", { class: "pending" }, noId)],
+    ["Build id", file.buildId ? element("code", { class: "id" }, hexBytes(file.buildId)) : noId],
   ]));
 }
 
@@ -44,7 +45,8 @@ function needs(file) {
   const others = [["Own name", 14n], ["Run path", 29n], ["Old run path", 15n]].filter(([, tag]) => entries(tag).length)
     .map(([name, tag]) => [name, entries(tag).map(textOrRefusal)]);
   const list = element("ul", { class: "libraries" }, needed.map((it) => element("li", {}, textOrRefusal(it))));
-  return card("Libraries needed", needed.length ? list : element("p", { class: "hint" }, "None."), others.length ? facts(others) : null);
+  const none = file.namedRefused ? refusalNode(file.namedRefused) : element("p", { class: "hint" }, "None.");
+  return card("Libraries needed", needed.length ? list : none, others.length ? facts(others) : null);
 }
 
 function verdict(refused) {
@@ -82,6 +84,7 @@ function refusedList(file) {
     file.segments.map((it) => it.dataRefused && [`Data of segment ${it.index}`, it.dataRefused]),
     [...file.symbolTables, ...file.relocationTables, ...file.dynamicTables].map(({ section, refused }) =>
       refused && [`Records of ${sectionWords(section)}`, refused]),
+    [file.namedRefused && ["Entries of the dynamic segment", file.namedRefused]],
     file.notesRefused.map(({ place, refused }) => [`Notes of ${escaped(place)}`, refused]),
   ];
   return lists.flat().filter(Boolean);

@@ -45,9 +45,9 @@ function sectionPart(section, size) {
     ...within(header.offset, isEmpty ? 0 : header.size, size) };
 }
 
-function segmentPart(segment, size) {
+function segmentPart(segment, { size, header: { machine } }) {
   const { header, index } = segment;
-  return { id: `segment-${index}`, sort: "segment", segment, label: names.nameOf(names.SEGMENT_TYPES, header.type),
+  return { id: `segment-${index}`, sort: "segment", segment, label: names.segmentType(header.type, machine),
     kind: `segment ${header.type === names.PT_LOAD ? "load" : "special"}`, ...within(header.offset, header.file_size, size) };
 }
 
@@ -58,7 +58,7 @@ const hasBytes = (part) => part.end > part.start;
 export function partsOf(file) {
   const sections = file.sections.map((section) => sectionPart(section, file.size));
   const parts = [...tableParts(file), ...sections].filter(hasBytes).sort(byStart);
-  const segmentParts = file.segments.map((segment) => segmentPart(segment, file.size)).filter(hasBytes).sort(byStart);
+  const segmentParts = file.segments.map((segment) => segmentPart(segment, file)).filter(hasBytes).sort(byStart);
   return { parts, segmentParts, ...coverage(parts, file.size) };
 }
 

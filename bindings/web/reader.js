@@ -18,6 +18,12 @@ const ROOMS = { header: WIDEST, part: WIDEST, out: BATCH * WIDEST, count: 8, mes
 /** The file is larger than the memory that the browser gives the module. */
 export class DoesNotFit extends Error {}
 
+// What a function writes: a record, or a number where `record` is null, and its size in bytes.
+function outOf(name) {
+  const { record, wide } = FUNCTIONS[name].parameters.find((it) => it.name === "out");
+  return { record, size: record ? RECORDS[record].size : wide ? 8 : 4 };
+}
+
 /** The reader of one file. */
 export class Reader {
   /** @param {WebAssembly.Module} module @param {number} size of the file, in bytes */
@@ -75,21 +81,19 @@ export class Reader {
     return wide ? BigInt(given[name]) : Number(given[name]);
   }
 
-  /** One record, or number of 32 bits: `{ status, record }`, without a record where the call is refused. */
+  /** One record, or number of 32 or 64 bits: `{ status, record }`, without a record where the call is refused. */
   one(name, given = {}) {
     const status = this.call(name, given);
-    const { record } = FUNCTIONS[name].parameters.find((it) => it.name === "out");
-    const said = () => this.value({ record, size: 4 }, this.places.out);
-    return status === STATUS.OK ? { status, record: said() } : { status };
+    return status === STATUS.OK ? { status, record: this.value(outOf(name), this.places.out) } : { status };
   }
 
-  /** Many records from index `first` on: `{ status, records }`, of no records where the call is refused. */
+  /** Many records, or numbers, from index `first` on: `{ status, records }`, of none where the call is refused. */
   many(name, given, room = BATCH) {
     const status = this.call(name, { ...given, out_count: Math.min(room, BATCH) });
     if (status !== STATUS.OK) return { status, records: [] };
-    const { record } = FUNCTIONS[name].parameters.find((it) => it.name === "out");
+    const out = outOf(name);
     const count = Number(this.view().getBigUint64(this.places.count, true));
-    const at = (index) => this.read(record, this.places.out + index * RECORDS[record].size);
+    const at = (index) => this.value(out, this.places.out + index * out.size);
     return { status, records: Array.from({ length: count }, (_, index) => at(index)) };
   }
 
@@ -130,6 +134,7 @@ export class Reader {
     return found;
   }
 
+  /** A member, or what a function writes: of a record, or a number of so many bytes. */
   value({ record, size }, place) {
     if (record) return this.read(record, place);
     if (size === 8) return this.view().getBigUint64(place, true);

@@ -4,12 +4,14 @@ import { rangeText, refusal, textAt } from "./survey.js";
 
 /**
  * How many records the section has, and why it has none, where it is refused. An index is refused with NO_RECORD from
- * the number of records on, so that doubling and halving finds the number.
+ * the number of records on, so that doubling and halving finds the number. A call takes it as `index`, or as `first`
+ * of many.
  */
 export function count(reader, { call, section }) {
-  const first = reader.call(call, { section, index: 0 });
+  const at = (index) => reader.call(call, { section, index, first: index, out_count: 1 });
+  const first = at(0);
   if (first !== STATUS.OK) return { count: 0, refused: first === STATUS.NO_RECORD ? null : refusal(reader, first) };
-  const has = (index) => reader.call(call, { section, index }) === STATUS.OK;
+  const has = (index) => at(index) === STATUS.OK;
   let below = 1;
   while (has(below)) below *= 2;
   return { count: between(Math.floor(below / 2), below, has), refused: null };
@@ -25,12 +27,30 @@ function between(there, gone, has) {
   return gone;
 }
 
+/** How many symbols the dynamic segment has: what its entries and hash tables say, with no section header. */
+export function countDynamicSymbols(reader) {
+  const { status, record } = reader.one("dynamic_symbol_count");
+  return { count: Number(record ?? 0), refused: refusal(reader, status) };
+}
+
+/** Symbols from an index on: those of a section, or of the dynamic segment where `section` is null. */
+export function symbolsFrom(reader, { section, first }, room) {
+  return section === null ? reader.many("dynamic_symbols", { first }, room).records
+    : reader.many("symbols", { section, first }, room).records;
+}
+
+/** The names of these symbols, each with a status. */
+export function symbolNamesFrom(reader, { section, first }, room) {
+  return section === null ? reader.many("dynamic_symbol_names", { first }, room).records
+    : reader.many("symbol_names", { section, first }, room).records;
+}
+
 /** Symbols with their names. */
 export function symbolRows(reader, { section, first, size }) {
   const room = Math.min(size, BATCH);
-  const symbols = reader.many("symbols", { section, first }, room);
-  const names = reader.many("symbol_names", { section, first }, room);
-  return symbols.records.map((symbol, at) => symbolRow(reader, symbol, first + at, names.records[at]));
+  const symbols = symbolsFrom(reader, { section, first }, room);
+  const names = symbolNamesFrom(reader, { section, first }, room);
+  return symbols.map((symbol, at) => symbolRow(reader, symbol, first + at, names[at]));
 }
 
 function symbolRow(reader, symbol, index, name) {
@@ -55,8 +75,30 @@ export function relocationRows(reader, { section, symbols, first, size }) {
   return rows;
 }
 
+/** The addresses of packed relative relocations (RELR). */
+export function packedRows(reader, { section, first, size }) {
+  const { records } = reader.many("packed_relocations", { section, first }, size);
+  return records.map((offset, at) => ({ index: first + at, offset, isPacked: true }));
+}
+
 function whyNot(reader, section, record) {
   return section === null ? null : refusal(reader, reader.call("symbol", { section, index: record.symbol }));
+}
+
+/**
+ * What the entries of the dynamic segment name, with no section header: `rows`, of `{ tag, text }` or `{ tag, refused }`
+ * for each library needed and each of `tags` that an entry has; or `refused` where there are no entries.
+ */
+export function dynamicTexts(reader, { needed, tags }) {
+  const libraries = reader.many("needed", { first: 0 });
+  if (libraries.status !== STATUS.OK && libraries.status !== STATUS.NO_RECORD) return { rows: [], refused: refusal(reader, libraries.status) };
+  const said = ({ status, range }) => (status === STATUS.OK ? { text: rangeText(reader, range) } : { refused: refusal(reader, status) });
+  const rows = libraries.records.map((name) => ({ tag: needed, ...said(name) }));
+  for (const tag of tags) {
+    const { status, record } = reader.one("dynamic_text", { tag });
+    if (status !== STATUS.NOT_FOUND) rows.push({ tag, ...said({ status, range: record }) });
+  }
+  return { rows, refused: null };
 }
 
 /** Dynamic entries, each with the text that its value is an index of, where its tag is one of `texts`. */

@@ -32,8 +32,8 @@ function columns(file) {
     { label: "Type", width: "5.5rem", cell: ({ info }) => names.nameOf(names.SYMBOL_TYPES, info % 16) },
     { label: "Binding", width: "5.5rem", cell: ({ info }) => names.nameOf(names.SYMBOL_BINDINGS, Math.floor(info / 16)) },
     { label: "Visibility", width: "6.5rem", cell: ({ other }) => names.VISIBILITIES[other % 4] },
-    { label: "Section", width: "9rem", cell: (it) => sectionOf(file, it) },
-    { label: "Name", width: "minmax(18rem, 1fr)", cell: (it) => symbolName(file, it) },
+    { label: "Section", width: "8rem", cell: (it) => sectionOf(file, it) },
+    { label: "Name", width: "minmax(15rem, 1fr)", cell: (it) => symbolName(file, it) },
   ];
 }
 

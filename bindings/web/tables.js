@@ -75,7 +75,7 @@ function heldNames(file, segment) {
 }
 
 export function segmentsPanel(file, choose) {
-  const { file_class: fileClass } = file.header;
+  const { file_class: fileClass, machine } = file.header;
   const kept = new Map();
   const held = (segment) => {
     if (!kept.has(segment)) kept.set(segment, heldNames(file, segment));
@@ -84,15 +84,15 @@ export function segmentsPanel(file, choose) {
   const wide = fileClass === 1 ? "5rem" : "8rem";
   const table = new Table({ label: "Segments", empty: "The file has no program headers.", choose: ({ index }) => choose(index), columns: [
     { label: "Nr", width: "2.5rem", number: true, cell: ({ index }) => `${index}` },
-    { label: "Type", width: "8rem", cell: ({ header }) => names.nameOf(names.SEGMENT_TYPES, header.type) },
-    { label: "Offset", width: "5rem", number: true, cell: ({ header }) => hexDigits(header.offset, 6) },
+    { label: "Type", width: "7.5rem", cell: ({ header }) => names.segmentType(header.type, machine) },
+    { label: "Offset", width: "4.5rem", number: true, cell: ({ header }) => hexDigits(header.offset, 6) },
     { label: "Address", width: wide, number: true, cell: ({ header }) => address(header.virtual_addr, fileClass) },
     { label: "Physical", width: wide, number: true, cell: ({ header }) => address(header.physical_addr, fileClass) },
-    { label: "In file", width: "5rem", number: true, cell: ({ header }) => hexDigits(header.file_size, 6) },
-    { label: "In memory", width: "5.5rem", number: true, cell: ({ header }) => hexDigits(header.mem_size, 6) },
-    { label: "Flags", width: "4rem", cell: ({ header }) => flagsNode(names.SEGMENT_FLAGS, header.flags) },
-    { label: "Align", width: "5rem", number: true, cell: ({ header }) => hex(header.align) },
-    { label: "Sections", width: "minmax(11rem, 2fr)", cell: (it) => element("span", { title: held(it) }, held(it)) },
+    { label: "In file", width: "4.5rem", number: true, cell: ({ header }) => hexDigits(header.file_size, 6) },
+    { label: "In memory", width: "5rem", number: true, cell: ({ header }) => hexDigits(header.mem_size, 6) },
+    { label: "Flags", width: "3rem", cell: ({ header }) => flagsNode(names.SEGMENT_FLAGS, header.flags) },
+    { label: "Align", width: "4.5rem", number: true, cell: ({ header }) => hex(header.align) },
+    { label: "Sections", width: "minmax(9rem, 2fr)", cell: (it) => element("span", { title: held(it) }, held(it)) },
     ...refusedColumn(file.segments),
   ] });
   table.showAll(file.segments);

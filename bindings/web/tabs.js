@@ -19,7 +19,7 @@ export class Tabs {
   button(title, count) {
     const id = title.toLowerCase().replaceAll(" ", "");
     const number = count === null ? null : element("span", { class: "count" }, grouped(count));
-    return element("button", { type: "button", role: "tab", id: `tab-${id}`, "aria-controls": `panel-${id}`, class: count === 0 ? "none" : null,
+    return element("button", { type: "button", role: "tab", id: `tab-${id}`, class: count === 0 ? "none" : null,
       onclick: () => this.show(this.tabs.find((it) => it.title === title)) }, element("span", {}, title), number);
   }
 
@@ -37,8 +37,10 @@ export class Tabs {
 
   made(tab) {
     const panel = tab.make();
-    const holder = element("div", { role: "tabpanel", id: tab.button.getAttribute("aria-controls"), "aria-labelledby": tab.button.id }, panel.node);
+    const id = tab.button.id.replace("tab-", "panel-");
+    const holder = element("div", { role: "tabpanel", id, "aria-labelledby": tab.button.id }, panel.node);
     this.panels.append(holder);
+    tab.button.setAttribute("aria-controls", id);
     return { ...panel, shown: panel.shown, holder };
   }
 

@@ -2,7 +2,8 @@
 //
 // The page sends `{ id, call, given }` and gets `{ id, answer }` or `{ id, failed }`; in between come
 // `{ progress }`. The call `stop` ends what runs at its next batch.
-import { count, dynamicRows, lookUp, noteRows, relocationRows, symbolRows } from "./records_of.js";
+import { count, countDynamicSymbols, dynamicRows, dynamicTexts, lookUp, noteRows, packedRows, relocationRows,
+  symbolRows } from "./records_of.js";
 import { DoesNotFit, Reader } from "./reader.js";
 import { findSymbols, foundRows } from "./filter.js";
 import { Turns } from "./turns.js";
@@ -55,7 +56,10 @@ const calls = {
   notes: (given) => notesOf(reader, turns, given),
   count: (given) => count(reader, given),
   symbols: (given) => symbolRows(reader, given),
+  countDynamicSymbols: () => countDynamicSymbols(reader),
+  dynamicTexts: (given) => dynamicTexts(reader, given),
   relocations: (given) => relocationRows(reader, given),
+  packed: (given) => packedRows(reader, given),
   dynamic: (given) => dynamicRows(reader, given),
   noteRows: (given) => noteRows(reader, given),
   find: (given) => findSymbols(reader, turns, given),
