@@ -26,7 +26,7 @@ NAME = re.compile(r"`([\w:]+)`")
 def sources() -> list[pathlib.Path]:
     """The files of the three libraries, without their tests."""
     files = [file for crate in CRATES for file in (ROOT / "crates" / crate / "src").rglob("*.rt")]
-    return sorted(file for file in files if "tests" not in file.parts and file.name != "tests.rt")
+    return sorted(file for file in files if "tests" not in file.relative_to(ROOT).parts and file.name != "tests.rt")
 
 
 def texts() -> dict[str, str]:

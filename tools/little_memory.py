@@ -4,7 +4,9 @@
 Over some files and each build of a program, until a run makes no more such calls. With memory refused it
 says that it cannot read its arguments, then that it cannot read the file, then that it cannot write; with a
 read failed that it cannot read the file; each with status 1 and without output. With a write failed it
-ends with 1, and what was written before is the front of the output. The last run is as if nothing failed.
+ends with 1, and what was written before is the front of the output, whether the next write works again or
+all fail. The last run is as if nothing failed. Reads and writes are failed of a run that makes as few as it
+likes, and of one whose reads and writes take a few bytes each.
 A library made by a C compiler stands before the C library's calls. Run it at the top of the repository, once
 the programs are built: tools/little_memory.py [PROGRAM..]
 """
@@ -33,6 +35,8 @@ class Program:
     words: list
     files: dict
     first: bytes
+    # So many bytes a read and a write takes where it takes few.
+    few: tuple
 
     def texts(self) -> list:
         """What it says where it can't read its arguments, can't read the file, and can't write."""
@@ -43,13 +47,18 @@ class Program:
 FILES = {"a string table": STRTAB, "links": (SAMPLE / "notes-64.elf").read_bytes(),
     "a hash table": (SAMPLE / "dynamic-64.elf").read_bytes(), "three bytes": STRTAB[:3]}
 PROGRAMS = [
-    Program("elfinfo", [], FILES, (CRATES / "elfinfo" / "stdout").read_bytes()),
+    Program("elfinfo", [], FILES, (CRATES / "elfinfo" / "stdout").read_bytes(), (20, 300)),
     Program("elfsym", (CRATES / "elfsym" / "args").read_text().split()[1:], {"a hash table": LINKED, "three bytes": LINKED[:3]},
-        (CRATES / "elfsym" / "stdout").read_bytes()),
+        (CRATES / "elfsym" / "stdout").read_bytes(), (20, 16)),
 ]
 
 # More calls of a kind than the program makes.
-MOST = 60
+MOST = 120
+
+# The calls that are failed: the one of a number, or all of the output from a number on; and whether each takes few bytes.
+WAYS = (
+    ("FAIL_MEMORY", False), ("FAIL_READ", False), ("FAIL_WRITE", False), ("FAIL_READ", True), ("FAIL_WRITE", True), ("FAIL_OUTPUT", True),
+)
 
 FAILING = r"""
 #include <errno.h>
@@ -58,10 +67,17 @@ FAILING = r"""
 #include <sys/types.h>
 void *__libc_malloc(size_t), *__libc_realloc(void *, size_t);
 ssize_t __read(int, void *, size_t), __write(int, const void *, size_t);
+static int number(const char *name) {
+    const char *text = getenv(name);
+    return text ? atoi(text) : 0;
+}
 static int fails(const char *kind) {
     static int made;
-    const char *number = getenv(kind);
-    return number && ++made == atoi(number);
+    return number(kind) && ++made == number(kind);
+}
+static size_t few(const char *name, size_t size) {
+    size_t most = number(name);
+    return most && size > most ? most : size;
 }
 void *malloc(size_t size) {
     if (fails("FAIL_MEMORY")) { errno = ENOMEM; return 0; }
@@ -73,11 +89,13 @@ void *realloc(void *old, size_t size) {
 }
 ssize_t read(int file, void *to, size_t size) {
     if (fails("FAIL_READ")) { errno = EIO; return -1; }
-    return __read(file, to, size);
+    return __read(file, to, few("FEW_READ", size));
 }
 ssize_t write(int file, const void *from, size_t size) {
-    if (fails("FAIL_WRITE")) { errno = EIO; return -1; }
-    return __write(file, from, size);
+    static int made;
+    int is_cut = number("FAIL_OUTPUT") && file == 1 && ++made >= number("FAIL_OUTPUT");
+    if (is_cut || fails("FAIL_WRITE")) { errno = EIO; return -1; }
+    return __write(file, from, few("FEW_WRITE", size));
 }
 """
 
@@ -98,8 +116,11 @@ def run(program, words, room, **failing):
     return ran.returncode, ran.stdout, ran.stderr
 
 
-def is_well(kind, end, whole, texts):
-    """Whether a run with such a call failed may end so, where the whole one ends with `whole`."""
+def is_well(kind, end, whole, texts, before):
+    """Whether a run with such a call failed may end so, where the whole one ends with `whole`.
+
+    `before` is how much was written before a write that failed, if each takes so few bytes.
+    """
     status, output, said = end
     _, read, write = texts
     if kind == "FAIL_MEMORY":
@@ -107,7 +128,8 @@ def is_well(kind, end, whole, texts):
     if kind == "FAIL_READ":
         return (status, output, said) == (1, b"", read)
     if whole[0] == 0:
-        return status == 1 and said == write and whole[1].startswith(output) and output != whole[1]
+        is_cut = before is None or len(output) == before
+        return status == 1 and said == write and whole[1].startswith(output) and output != whole[1] and is_cut
     # What can't be said on standard error is passed over.
     return (status, output) == (1, b"") and whole[2].startswith(said) and said != whole[2]
 
@@ -116,20 +138,26 @@ def unlike(built, program, room, name) -> int:
     """Prints how many calls were failed, and returns how many runs didn't end as they must."""
     texts, words = program.texts(), program.words
     whole, count = run(built, words, room), 0
-    for kind in ("FAIL_MEMORY", "FAIL_READ", "FAIL_WRITE"):
-        ends = []
+    for kind, is_few in WAYS:
+        few = dict(zip(("FEW_READ", "FEW_WRITE"), program.few)) if is_few else {}
+        ends, wrong = [], []
         for number in range(1, MOST):
-            ends.append(run(built, words, room, **{kind: number}))
+            ends.append(run(built, words, room, **{kind: number}, **few))
             if ends[-1] == whole:
                 break
+            before = (number - 1) * program.few[1] if is_few else None
+            if not is_well(kind, ends[-1], whole, texts, before):
+                wrong.append(ends[-1])
         last = ends.pop()
-        wrong = [end for end in ends if not is_well(kind, end, whole, texts)]
         said = [texts.index(it[2]) for it in ends if it not in wrong and kind == "FAIL_MEMORY"]
-        if last != whole or wrong or said != sorted(said) or not ends:
+        # A refused file has no output that could fail.
+        is_tried = ends or (kind == "FAIL_OUTPUT" and whole[0])
+        how = kind[5:].lower() + (", of a few bytes" if is_few else "")
+        if last != whole or wrong or said != sorted(said) or not is_tried:
             count += 1
             print(f"{built.name} NOT AS IT MUST: {name}, {kind}: {wrong[:2]}, and last {last}, not {whole}"[:900])
         else:
-            print(f"{built.name} ends as it must: {name}, each of {len(ends)} calls failed in turn: {kind[5:].lower()}")
+            print(f"{built.name} ends as it must: {name}, each of {len(ends)} calls failed in turn: {how}")
     return count
 
 

@@ -14,7 +14,12 @@ import subprocess
 import sys
 import tempfile
 
-CRATES = pathlib.Path(__file__).resolve().parent.parent / "crates"
+TOP = pathlib.Path(__file__).resolve().parent.parent
+CRATES = TOP / "crates"
+sys.path.insert(0, str(TOP / "oracle"))
+from wanted.files import debug_link, hash_file
+from wanted.reports import DEBUG_LINK_HEADER, DEBUG_LINK_SECTIONS, HASH_HEADER, report_text
+
 STRTAB = (CRATES / "elfinfo" / "data" / "strtab.elf").read_bytes()
 REPORT = (CRATES / "elfinfo" / "stdout").read_bytes()
 LINKED = (CRATES / "elfsym" / "data" / "stripped.so").read_bytes()
@@ -29,6 +34,10 @@ NO_WRITE = b"elfinfo: cannot write\n"
 SHORT = b"elfinfo: File is shorter than the first ELF header part\n"
 NO_MAGIC = b"elfinfo: Did not find ELF magic number\n"
 
+LINK_REPORT = report_text(DEBUG_LINK_HEADER, "ok", DEBUG_LINK_SECTIONS).encode()
+HASH_SECTIONS = "1 Ok(StrTab) = .strtab\n2 Ok(Hash) = ab\n3 Ok(SymTab) = ab\n"
+HASH_REPORT = report_text(HASH_HEADER, "ok", HASH_SECTIONS, "", "ok").encode()
+
 # The name of a file that can be read.
 NOT_UTF8 = b"\xff.elf"
 
@@ -41,8 +50,11 @@ ENDS = {
     "a file whose read fails": (["/proc/self/mem"], 1, b"", b"elfinfo: cannot read /proc/self/mem\n"),
     "a path that is not UTF-8": ([NOT_UTF8], 1, b"", NO_ARGUMENTS),
     "an empty file": (["empty.elf"], 1, b"", SHORT),
+    "a file of three bytes": (["three.elf"], 1, b"", SHORT),
     "a refused file": (["zeros.elf"], 1, b"", NO_MAGIC),
     "a good file": (["strtab.elf"], 0, REPORT, b""),
+    "a file with a link": (["link.elf"], 0, LINK_REPORT, b""),
+    "a file with a hash table": (["hash.elf"], 0, HASH_REPORT, b""),
     "a good file through a pipe": (["/dev/stdin"], 0, REPORT, b""),
     "a path like an option": (["-h"], 1, b"", b"elfinfo: cannot read -h\n"),
     "further arguments": (["strtab.elf", "missing.elf"], 0, REPORT, b""),
@@ -54,6 +66,23 @@ ENDS_ON_A_FULL_DISK = {
     "a refused file": (["zeros.elf"], 1, NO_MAGIC),
     "no argument": ([], 1, b""),
 }
+
+# A shared object that needs a library, without section headers: that of `linking_tests::linked`, where its source and
+# its command stand. The values and sizes are those that `readelf --dyn-syms -W` shows.
+NEEDS = (CRATES / "elfsym" / "data" / "needs.so").read_bytes()
+NEEDS_NAMES = ["ab", "cd", "outer", "ef"]
+NEEDS_LINES = b"ab 0x230 0xa\ncd 0x240 0x3\nouter: none\nef 0x23a 0x6\n"
+
+# The place of a byte of it, what is put there, and why it is refused then.
+NEEDS_REFUSALS = (
+    (0, 0, b"Did not find ELF magic number"), (64 + 112, 4, b"No dynamic segment"), (64, 4, b"Address is in no loaded segment"),
+    (0x250 + 48, 3, b"Dynamic segment has no such entry"), (0x128, 5, b"Chain index is out of range"),
+)
+
+
+def damaged(place: int, byte: int) -> bytes:
+    return NEEDS[:place] + bytes([byte]) + NEEDS[place + 1 :]
+
 
 SYM_USAGE = b"usage: elfsym <binary_path> <name>.. | elfsym --needed <binary_path>\n"
 SYM_NO_WRITE = b"elfsym: cannot write\n"
@@ -74,6 +103,13 @@ SYM_ENDS = {
     "a good file": (["linked.so", *ASKED], 0, SYMBOLS, b""),
     "a good file through a pipe": (["/dev/stdin", *ASKED], 0, SYMBOLS, b""),
     "a good file that needs no library": (["--needed", "linked.so"], 0, b"", b""),
+    "a good file that needs a library": (["--needed", "needs.so"], 0, b"libneed.so\n", b""),
+    "names of a file that needs a library": (["needs.so", *NEEDS_NAMES], 0, NEEDS_LINES, b""),
+    "a name like an option": (["linked.so", "--needed"], 0, b"--needed: none\n", b""),
+    "a missing path whose libraries are asked for": (["--needed", "missing.so"], 1, b"", b"elfsym: cannot read missing.so\n"),
+    **{f"a file with another byte at {place}": (
+        [f"damaged-{place}.so", *NEEDS_NAMES], 1, b"", b"elfsym: damaged-%d.so: %s\n" % (place, reason),
+    ) for place, _, reason in NEEDS_REFUSALS},
     "a path like an option": (["-h", "ab"], 1, b"", b"elfsym: cannot read -h\n"),
 }
 
@@ -160,6 +196,9 @@ def unwritten_ends(program, built, room):
             yield f"{name}, into a full disk", wanted, [ended.returncode, ended.stderr]
         ended = run(built, program.missing, room, stderr=full)
         yield "an error text that can't be written", [1, b""], [ended.returncode, ended.stdout]
+        for name, arguments in (("a missing path", program.missing), ("no argument", [])):
+            ended = run(built, arguments, room, stdout=full, stderr=full)
+            yield f"{name}, where nothing can be said", 1, ended.returncode
     reader, writer = os.pipe()
     os.close(reader)
     ended = run(built, program.ends["a good file"][0], room, stdout=writer)
@@ -196,7 +235,8 @@ def unlike(program, built: pathlib.Path) -> int:
     with tempfile.TemporaryDirectory() as room:
         os.mkdir(f"{room}/folder")
         files = {b"strtab.elf": STRTAB, NOT_UTF8: STRTAB, b"empty.elf": b"", b"zeros.elf": bytes(16), b"linked.so": LINKED}
-        files[b"far.elf"] = far_file()
+        files |= {b"far.elf": far_file(), b"three.elf": STRTAB[:3], b"link.elf": debug_link(), b"hash.elf": hash_file(), b"needs.so": NEEDS}
+        files |= {b"damaged-%d.so" % place: damaged(place, byte) for place, byte, _ in NEEDS_REFUSALS}
         for name, held in {**files, b"long.elf": long_file()}.items():
             pathlib.Path(room, os.fsdecode(name)).write_bytes(held)
         reports = (far_ends, limited_ends) if program.name == "elfinfo" else ()

@@ -157,8 +157,11 @@ class Reader:
     def used(self, text: str, uses: dict, local: dict):
         """The definitions that the words of a text stand for."""
         bound = re.findall(r"\{([a-z])\}", text)  # what stands for a bound, as `r` in `table_items {T} {r} table`
+        own = {*re.findall(r"^  pub (\w+) :", text, re.M), *" ".join(re.findall(r"λ \(?([\w ]+)", text)).split()}  # fields and variables
         for word in dict.fromkeys(WORD.findall(re.sub(r"--.*|///.*", "", text))):
             first, _, member = word.partition(".")
+            if first in own:
+                continue
             if member and (first in bound or re.fullmatch("[A-Z]", first)):
                 yield from self.members(member)
             elif found := local.get(word) or local.get(first) or self.meaning(uses, word):

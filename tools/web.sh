@@ -44,7 +44,7 @@ module() {
             if [ -d "crates/$crate/$part" ]; then cp -r "crates/$crate/$part" "$tree/crates/$crate/"; fi
         done
     done
-    echo "web: builds the module, which proves what of elf_c and below it isn't proved yet"
+    echo "web: builds the module, which proves what of elf_c and below it isn't proved yet; its log is $web/out/log"
     (cd "$tree/crates/elf_c" && rt lib) > "$web/out/log" 2>&1 || { tail -n 20 "$web/out/log" >&2; exit 1; }
     cp "$tree/crates/elf_c/out/elf_c.wasm" "$web/out/elf_c.wasm"
     echo "$sum" > "$web/out/sum"

@@ -231,6 +231,41 @@ def try_damaged(test, options, room):
     test.tab("Overview")
 
 
+# What the Overview says of the checks; the labels of the columns of the table in view.
+CHECKS = """
+(() => {
+  const card = Array.from(document.querySelectorAll(".card")).find((it) => it.querySelector("h3").textContent === "What the checks say");
+  return Array.from(card.querySelectorAll("dt"), (it) => `${it.textContent}: ${it.nextElementSibling.textContent}`);
+})()
+"""
+LABELS = "Array.from(document.querySelectorAll('[role=tabpanel]:not([hidden]) [role=columnheader]'), (it) => it.textContent)"
+
+
+def said_of(test, tab, label):
+    """The texts of a column of a table, by row; none where the table hasn't the column."""
+    test.tab(tab)
+    labels, (_, rows) = test.page.run(LABELS), test.rows()
+    return {index: row[labels.index(label)] for index, row in rows.items()} if label in labels else {}
+
+
+def try_checks(test, options, room):
+    """What the checks of the header, of each section and of each segment say of a whole file, and of one with faults."""
+    size, kind, end = "header_size does not match size of header", "Invalid sh type", "entry point out of range"
+    align, none, outside = "Invalid combination of virtual_addr, offset, and align", "Attempt to get data of a null header", "Data is out of range"
+    rows = lambda text: lambda count, faults: {**dict.fromkeys(range(count), text), **faults}
+    passing, silent = rows("passes"), rows("")
+    wanted = [(["Header: passes", "Sections: passes", "Segments: passes"], passing(6, {}), {}, passing(7, {}), silent(7, {4: none})),
+              ([f"Header: {size}", f"Sections: {kind} at section 3", f"Segments: {align} at segment 0, and 1 more"],
+               passing(6, {3: kind}), silent(6, {3: kind, 4: outside}), passing(7, {0: align, 1: end}), silent(7, {1: outside, 4: none}))]
+    for path, (checks, *columns) in zip(files.checked(room), wanted):
+        test.open(path)
+        test.tab("Overview")
+        test.same(f"{path}: checks", test.page.run(CHECKS), checks)
+        shown = [said_of(test, tab, label) for tab in ("Sections", "Segments") for label in ("Check", "Data")]
+        test.same(f"{path}: checks and data of sections and segments", shown, columns)
+        test.picture(path.stem)
+
+
 def try_cut(test, options, room):
     """A file without its second half: its segments are those that readelf lists, and it is said what is refused."""
     libc = pathlib.Path("/usr/lib/x86_64-linux-gnu/libc.so.6")

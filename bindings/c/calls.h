@@ -40,6 +40,11 @@ static uint32_t any_section(const struct asked *a, union output *out)
 {
     return xmas_elf_section(a->bytes, a->size, &a->header, (uint64_t)a->index, &out[0].of_section[0]);
 }
+static uint32_t any_check_section(const struct asked *a, union output *out)
+{
+    (void)out;
+    return xmas_elf_check_section(a->bytes, a->size, &a->header, (uint64_t)a->index);
+}
 static uint32_t any_sections(const struct asked *a, union output *out)
 {
     return xmas_elf_sections(a->bytes, a->size, &a->header, (uint64_t)a->index, out[0].of_section, 3, &out[1].of_u64[0]);
@@ -79,6 +84,11 @@ static uint32_t any_section_text(const struct asked *a, union output *out)
 static uint32_t any_segment(const struct asked *a, union output *out)
 {
     return xmas_elf_segment(a->bytes, a->size, &a->header, (uint32_t)a->index, &out[0].of_segment[0]);
+}
+static uint32_t any_check_segment(const struct asked *a, union output *out)
+{
+    (void)out;
+    return xmas_elf_check_segment(a->bytes, a->size, &a->header, (uint32_t)a->index);
 }
 static uint32_t any_segments(const struct asked *a, union output *out)
 {
@@ -197,6 +207,7 @@ static const struct any {
     {"counts", any_counts, {XMAS_ELF_OK}, 1},
     {"names_index", any_names_index, {XMAS_ELF_OK, XMAS_ELF_RESERVED_INDEX}, 2},
     {"section", any_section, {XMAS_ELF_OK, XMAS_ELF_SHORT_SECTION_HEADER, XMAS_ELF_UNKNOWN_CLASS, XMAS_ELF_SMALL_ENTRY}, 4},
+    {"check_section", any_check_section, {XMAS_ELF_OK, XMAS_ELF_SHORT_SECTION_HEADER, XMAS_ELF_UNKNOWN_CLASS, XMAS_ELF_SMALL_ENTRY, XMAS_ELF_INVALID_SH_TYPE}, 5},
     {"sections", any_sections, {XMAS_ELF_OK, XMAS_ELF_NO_RECORD}, 2},
     {"find_section", any_find_section, {XMAS_ELF_OK, XMAS_ELF_NOT_FOUND}, 2},
     {"find_section_index", any_find_section_index, {XMAS_ELF_OK, XMAS_ELF_NOT_FOUND}, 2},
@@ -207,6 +218,7 @@ static const struct any {
     {"text", any_text, {XMAS_ELF_OK, XMAS_ELF_DATA_RANGE, XMAS_ELF_TEXT_START, XMAS_ELF_TEXT_END, XMAS_ELF_TEXT_UTF_8}, 5},
     {"section_text", any_section_text, {XMAS_ELF_OK, XMAS_ELF_SHORT_SECTION_HEADER, XMAS_ELF_UNKNOWN_CLASS, XMAS_ELF_SMALL_ENTRY, XMAS_ELF_INVALID_SH_TYPE, XMAS_ELF_NULL_DATA, XMAS_ELF_DATA_RANGE, XMAS_ELF_TEXT_START, XMAS_ELF_TEXT_END, XMAS_ELF_TEXT_UTF_8}, 10},
     {"segment", any_segment, {XMAS_ELF_OK, XMAS_ELF_NO_PROGRAM_HEADERS, XMAS_ELF_UNKNOWN_CLASS, XMAS_ELF_SHORT_PROGRAM_HEADER, XMAS_ELF_SMALL_ENTRY}, 5},
+    {"check_segment", any_check_segment, {XMAS_ELF_OK, XMAS_ELF_NO_PROGRAM_HEADERS, XMAS_ELF_UNKNOWN_CLASS, XMAS_ELF_SHORT_PROGRAM_HEADER, XMAS_ELF_SMALL_ENTRY, XMAS_ELF_PH_SIZE_MISMATCH, XMAS_ELF_ENTRY_POINT_RANGE, XMAS_ELF_INVALID_PH_TYPE, XMAS_ELF_SH_LIB_USED, XMAS_ELF_BAD_ALIGN}, 10},
     {"segments", any_segments, {XMAS_ELF_OK, XMAS_ELF_NO_RECORD}, 2},
     {"segment_data", any_segment_data, {XMAS_ELF_OK, XMAS_ELF_NO_PROGRAM_HEADERS, XMAS_ELF_UNKNOWN_CLASS, XMAS_ELF_SHORT_PROGRAM_HEADER, XMAS_ELF_SMALL_ENTRY, XMAS_ELF_INVALID_PH_TYPE, XMAS_ELF_NULL_DATA, XMAS_ELF_DATA_RANGE}, 8},
     {"symbol", any_symbol, {XMAS_ELF_OK, XMAS_ELF_SHORT_SECTION_HEADER, XMAS_ELF_UNKNOWN_CLASS, XMAS_ELF_SMALL_ENTRY, XMAS_ELF_INVALID_SH_TYPE, XMAS_ELF_DATA_RANGE, XMAS_ELF_NOT_MULTIPLE, XMAS_ELF_NOTE_32, XMAS_ELF_SHORT_DATA, XMAS_ELF_OTHER_DATA, XMAS_ELF_NO_RECORD}, 11},

@@ -59,6 +59,7 @@ CALL(check_header) { (void)out; return xmas_elf_check_header(FILE_OF(a)); }
 CALL(counts) { return xmas_elf_counts(FILE_OF(a), &out->of.counts); }
 CALL(names_index) { return xmas_elf_names_index(FILE_OF(a), &out->of.number); }
 CALL(section) { return xmas_elf_section(FILE_OF(a), a->index, &out->of.sections[0]); }
+CALL(check_section) { (void)out; return xmas_elf_check_section(FILE_OF(a), a->index); }
 CALL_MANY(sections, sections, a->index)
 CALL(find_section) { return xmas_elf_find_section(FILE_OF(a), a->name, a->name_size, &out->of.sections[0]); }
 CALL(find_section_index) { return xmas_elf_find_section_index(FILE_OF(a), a->name, a->name_size, &out->of.addresses[0]); }
@@ -73,6 +74,7 @@ CALL(text)
 }
 CALL(section_text) { return xmas_elf_section_text(FILE_OF(a), a->section, a->index, &out->of.range); }
 CALL(segment) { return xmas_elf_segment(FILE_OF(a), (uint32_t)a->index, &out->of.segments[0]); }
+CALL(check_segment) { (void)out; return xmas_elf_check_segment(FILE_OF(a), (uint32_t)a->index); }
 CALL_MANY(segments, segments, a->index)
 CALL(segment_data) { return xmas_elf_segment_data(FILE_OF(a), (uint32_t)a->index, &out->of.range); }
 CALL(symbol) { return xmas_elf_symbol(FILE_OF(a), a->section, a->index, &out->of.symbols[0]); }
@@ -146,6 +148,7 @@ static const struct row {
     {"counts", counts_call, NONE, 0, 0, XMAS_ELF_OK, XMAS_ELF_OK},
     {"names_index", names_index_call, NONE, 0, 0, XMAS_ELF_RESERVED_INDEX, XMAS_ELF_OK},
     {"section", section_call, NONE, 1, FAR, SHORT, SHORT},
+    {"check_section", check_section_call, NONE, 1, FAR, SHORT, SHORT},
     {"sections", sections_call, NONE, 1, FAR, XMAS_ELF_NO_RECORD, XMAS_ELF_NO_RECORD},
     {"find_section", find_section_call, NONE, 0, 0, XMAS_ELF_NOT_FOUND, XMAS_ELF_NOT_FOUND},
     {"find_section_index", find_section_index_call, NONE, 0, 0, XMAS_ELF_NOT_FOUND, XMAS_ELF_NOT_FOUND},
@@ -156,6 +159,7 @@ static const struct row {
     {"text", text_call, NONE, 0, 61, XMAS_ELF_TEXT_START, XMAS_ELF_DATA_RANGE},
     {"section_text", section_text_call, STRINGS, 0, FAR, XMAS_ELF_TEXT_START, SHORT},
     {"segment", segment_call, NONE, 0, 60000, XMAS_ELF_NO_PROGRAM_HEADERS, XMAS_ELF_SHORT_PROGRAM_HEADER},
+    {"check_segment", check_segment_call, NONE, 0, 60000, XMAS_ELF_NO_PROGRAM_HEADERS, XMAS_ELF_SHORT_PROGRAM_HEADER},
     {"segments", segments_call, NONE, 0, FAR, XMAS_ELF_NO_RECORD, XMAS_ELF_NO_RECORD},
     {"segment_data", segment_data_call, NONE, 0, 60000, XMAS_ELF_NO_PROGRAM_HEADERS, XMAS_ELF_SHORT_PROGRAM_HEADER},
     {"symbol", symbol_call, SYMBOLS, 1, FAR, XMAS_ELF_NO_RECORD, SHORT},

@@ -191,6 +191,10 @@ enum xmas_elf_status {
     XMAS_ELF_LINK_SHORT_NOTE = 112,
     /* Data is not a whole number of words. */
     XMAS_ELF_LINK_NOT_MULTIPLE = 113,
+    /* Version record is cut off. */
+    XMAS_ELF_LINK_SHORT_VERSION = 114,
+    /* Version needs have more parts than bytes. */
+    XMAS_ELF_LINK_VERSION_COUNT = 115,
     /* A section holds other data than what is asked for. */
     XMAS_ELF_OTHER_DATA = 201,
     /* A table has no record with this index. */
@@ -412,6 +416,12 @@ XMAS_ELF_NODISCARD uint32_t xmas_elf_names_index(const uint8_t *input, size_t in
 XMAS_ELF_NODISCARD uint32_t xmas_elf_section(const uint8_t *input, size_t input_size, const xmas_elf_header_t *header,
     uint64_t index, xmas_elf_section_t *out) XMAS_ELF_NOEXCEPT;
 
+/* Checks the section header at an index: that this reader knows its type. Where the data lie is not tested:
+ * `xmas_elf_section_data` does that. The call is refused with (in the order of the tests)
+ * XMAS_ELF_SHORT_SECTION_HEADER, XMAS_ELF_UNKNOWN_CLASS, XMAS_ELF_SMALL_ENTRY, XMAS_ELF_INVALID_SH_TYPE. */
+XMAS_ELF_NODISCARD uint32_t xmas_elf_check_section(const uint8_t *input, size_t input_size,
+    const xmas_elf_header_t *header, uint64_t index) XMAS_ELF_NOEXCEPT;
+
 /* The section headers from index `first` on, up to the number of sections or the first that is refused. Where they
  * end before that number, `xmas_elf_section` at the next index says why. The call is refused with XMAS_ELF_NO_RECORD. */
 XMAS_ELF_NODISCARD uint32_t xmas_elf_sections(const uint8_t *input, size_t input_size,
@@ -480,6 +490,15 @@ XMAS_ELF_NODISCARD uint32_t xmas_elf_section_text(const uint8_t *input, size_t i
  * XMAS_ELF_UNKNOWN_CLASS, XMAS_ELF_SHORT_PROGRAM_HEADER, XMAS_ELF_SMALL_ENTRY. */
 XMAS_ELF_NODISCARD uint32_t xmas_elf_segment(const uint8_t *input, size_t input_size, const xmas_elf_header_t *header,
     uint32_t index, xmas_elf_segment_t *out) XMAS_ELF_NOEXCEPT;
+
+/* Checks the program header at an index against the input: the size of the table's entries, that the segment ends
+ * before the input does, its type, and that its address and its offset are the same modulo an alignment above 1.
+ * XMAS_ELF_ENTRY_POINT_RANGE is also for a segment that ends exactly where the input does. The call is refused with
+ * (in the order of the tests) XMAS_ELF_NO_PROGRAM_HEADERS, XMAS_ELF_UNKNOWN_CLASS, XMAS_ELF_SHORT_PROGRAM_HEADER,
+ * XMAS_ELF_SMALL_ENTRY, XMAS_ELF_PH_SIZE_MISMATCH, XMAS_ELF_ENTRY_POINT_RANGE, XMAS_ELF_INVALID_PH_TYPE,
+ * XMAS_ELF_SH_LIB_USED, XMAS_ELF_BAD_ALIGN. */
+XMAS_ELF_NODISCARD uint32_t xmas_elf_check_segment(const uint8_t *input, size_t input_size,
+    const xmas_elf_header_t *header, uint32_t index) XMAS_ELF_NOEXCEPT;
 
 /* The program headers from index `first` on, up to the number of segments or the first that is refused. Where they
  * end before that number, `xmas_elf_segment` at the next index says why. The call is refused with XMAS_ELF_NO_RECORD. */

@@ -31,6 +31,11 @@ export function refusalNode(refused) {
   return element("span", { class: "refusal", title: refused.message }, refused.message);
 }
 
+/** What a check says: that it passes, or its refusal. */
+export function verdictNode(refused) {
+  return refused ? refusalNode(refused) : element("span", { class: "fine" }, "passes");
+}
+
 /** A message in a box: of sort `refused`, `fine` or `note`. */
 export function notice(sort, ...children) {
   return element("p", { class: `notice ${sort}` }, ...children);

@@ -1,6 +1,6 @@
 // The first panel: what the file is, what it needs, what the checks say, and its header.
 import * as names from "./names.js";
-import { element, refusalNode } from "./dom.js";
+import { element, refusalNode, verdictNode } from "./dom.js";
 import { fieldsOf } from "./fields.js";
 import { checkNode } from "./linking.js";
 import { STATUS } from "./records.js";
@@ -49,14 +49,10 @@ function needs(file) {
   return card("Libraries needed", needed.length ? list : none, others.length ? facts(others) : null);
 }
 
-function verdict(refused) {
-  return refused ? refusalNode(refused) : element("span", { class: "fine" }, "passes");
-}
-
-// What the checks of all sections or segments say. They are shown for a build of the reader that exports them.
+// What the checks of all sections or segments say.
 function checkedAll(list, what) {
   const refused = list.filter(({ check }) => check);
-  if (!refused.length) return element("span", { class: "fine" }, "passes");
+  if (!refused.length) return verdictNode(null);
   return [refusalNode(refused[0].check), ` at ${what} ${refused[0].index}${refused.length > 1 ? `, and ${refused.length - 1} more` : ""}`];
 }
 
@@ -69,8 +65,8 @@ function checks(file) {
     return [`Hash table ${escaped(table.section.name ?? table.section.index)}`, said];
   });
   const lists = [["Sections", file.sections, "section"], ["Segments", file.segments, "segment"]]
-    .filter(([, list]) => list[0]?.check !== undefined).map(([name, list, what]) => [name, checkedAll(list, what)]);
-  return card("What the checks say", facts([["Header", verdict(file.check)], ...lists, ...hashes]));
+    .filter(([, list]) => list.length).map(([name, list, what]) => [name, checkedAll(list, what)]);
+  return card("What the checks say", facts([["Header", verdictNode(file.check)], ...lists, ...hashes]));
 }
 
 // All that was refused, each with where.

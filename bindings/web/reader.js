@@ -62,11 +62,6 @@ export class Reader {
     return new Uint8Array(this.memory.buffer, this.places.input + Number(offset), Number(size));
   }
 
-  /** Whether this build of the module has an export. */
-  has(name) {
-    return `xmas_elf_${name}` in this.exports;
-  }
-
   /** Calls an export by its name without `xmas_elf_`, with its numbers by the names of the header's parameters. */
   call(name, given = {}) {
     const parameters = FUNCTIONS[name].parameters.map((it) => this.argument(it, given));

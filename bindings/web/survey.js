@@ -62,13 +62,7 @@ function sectionOf(reader, header, index, names) {
   const named = names.record ? textAt(reader, names.record, header.name) : { refused: refusal(reader, names.status) };
   const data = reader.one("section_data", { index });
   return { index, header, name: named.text ?? null, nameRefused: named.refused ?? null,
-    data: data.record ?? null, dataRefused: refusal(reader, data.status), check: checked(reader, "section", index) };
-}
-
-// What the check of one section or segment says, in a build of the module that exports these checks.
-function checked(reader, what, index) {
-  const call = `check_${what}`;
-  return reader.has(call) ? refusal(reader, reader.call(call, { index })) : undefined;
+    data: data.record ?? null, dataRefused: refusal(reader, data.status), check: refusal(reader, reader.call("check_section", { index })) };
 }
 
 /** The segments in order, and why they end before their count, where they do. */
@@ -91,7 +85,7 @@ export async function segmentsOf(reader, turns) {
 function segmentOf(reader, header, index) {
   const data = reader.one("segment_data", { index });
   return { index, header, isSegment: true, data: data.record ?? null, dataRefused: refusal(reader, data.status),
-    check: checked(reader, "segment", index) };
+    check: refusal(reader, reader.call("check_segment", { index })) };
 }
 
 /** The notes of a range, by the alignment of its section or segment. */

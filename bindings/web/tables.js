@@ -1,6 +1,6 @@
 // The tables of sections and segments.
 import * as names from "./names.js";
-import { element, notice, refusalNode } from "./dom.js";
+import { element, notice, refusalNode, verdictNode } from "./dom.js";
 import { isInSegment } from "./parts.js";
 import { Table } from "./table.js";
 import { escaped, grouped, hex, hexDigits, plural } from "./text.js";
@@ -32,16 +32,14 @@ export function hasData({ header, isSegment }) {
   return isSegment || (header.type !== 0 && header.type !== names.NOBITS);
 }
 
-// The refusals of one section or segment, each with what is refused.
-function refusals(item) {
-  const pairs = [["data", hasData(item) ? item.dataRefused : null], ["check", item.check]];
-  return pairs.filter(([, refused]) => refused).map(([what, refused]) =>
-    element("span", { class: "refusal" }, `${what}: ${refused.message}`));
-}
-
-// A column for them, where there are any.
-function refusedColumn(list) {
-  return list.some((it) => refusals(it).length) ? [{ label: "Refused", width: "minmax(11rem, 1fr)", cell: refusals }] : [];
+// What the check of each section or segment says; and why its data are refused, where that is another refusal.
+function verdictColumns(list) {
+  const dataRefused = (item) => (hasData(item) ? item.dataRefused : null);
+  const isOther = (item) => dataRefused(item) && dataRefused(item).status !== item.check?.status;
+  const width = list.some((item) => item.check) ? "minmax(8rem, 1.4fr)" : "5rem";
+  const check = { label: "Check", width, cell: (item) => verdictNode(item.check) };
+  const data = { label: "Data", width: "minmax(9rem, 1fr)", cell: (item) => (dataRefused(item) ? refusalNode(dataRefused(item)) : "") };
+  return list.some(isOther) ? [check, data] : [check];
 }
 
 export function sectionsPanel(file, choose) {
@@ -58,7 +56,7 @@ export function sectionsPanel(file, choose) {
     { label: "Link", width: "3rem", number: true, cell: ({ header }) => `${header.link}` },
     { label: "Info", width: "3rem", number: true, cell: ({ header }) => `${header.info}` },
     { label: "Align", width: "3.5rem", number: true, cell: ({ header }) => `${header.align}` },
-    ...refusedColumn(file.sections),
+    ...verdictColumns(file.sections),
   ] });
   table.showAll(file.sections);
   const said = `${plural(file.sections.length, "section")}. Numbers are hexadecimal but for link, info and alignment.`;
@@ -93,7 +91,7 @@ export function segmentsPanel(file, choose) {
     { label: "Flags", width: "3rem", cell: ({ header }) => flagsNode(names.SEGMENT_FLAGS, header.flags) },
     { label: "Align", width: "4.5rem", number: true, cell: ({ header }) => hex(header.align) },
     { label: "Sections", width: "minmax(9rem, 2fr)", cell: (it) => element("span", { title: held(it) }, held(it)) },
-    ...refusedColumn(file.segments),
+    ...verdictColumns(file.segments),
   ] });
   table.showAll(file.segments);
   const said = `${plural(file.segments.length, "segment")}, with the sections that lie in each. Numbers are hexadecimal.`;

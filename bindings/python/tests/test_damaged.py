@@ -22,6 +22,7 @@ def spent(items):
 
 
 def walk_section(section):
+    tried(section.check)
     tried(section.data)
     for items in (section.symbols, section.relocations, section.dynamic, section.notes):
         spent(items)
@@ -38,6 +39,7 @@ def walk(data):
     for section in spent(file.sections):
         walk_section(section)
     for segment in spent(file.segments):
+        tried(segment.check)
         tried(segment.data)
         spent(segment.notes)
     for items in (file.symbols, file.relocations, file.notes, file.dynamic, file.dynamic_symbols):

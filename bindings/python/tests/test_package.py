@@ -109,6 +109,24 @@ def test_parts_that_are_not_there():
     assert file.symbol("\udcff") is None
 
 
+def test_checks():
+    file = ElfFile(DATA)
+    file.check_header()
+    assert all(it.check() is None for it in file.sections() if it.name != ".relr.dyn")
+    assert all(it.check() is None for it in file.segments())
+    # The address of segment 1 is odd, and segment 2 goes on past the input.
+    changed, layout = bytearray(DATA), damage.Layout(True, "little")
+    starts = [layout.header_size + at * layout.segment_size for at in (1, 2)]
+    layout.put(changed, starts[0], layout.segment["vaddr"], 1)
+    layout.put(changed, starts[1], layout.segment["filesz"], len(DATA))
+    damaged = ElfFile(changed)
+    wanted = {Status.INVALID_SH_TYPE: file.section(".relr.dyn"), Status.BAD_ALIGN: damaged.segment(1), Status.ENTRY_POINT_RANGE: damaged.segment(2)}
+    for status, part in wanted.items():
+        with pytest.raises(ElfError) as caught:
+            part.check()
+        assert caught.value.status is status
+
+
 def test_worked_file():
     file = ElfFile(DATA)
     assert list(file.symbols())[1] == file.section(".symtab").symbol(1)

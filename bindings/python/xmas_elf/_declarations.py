@@ -275,6 +275,7 @@ EXPORTS: Dict[str, Tuple[Any, Tuple[Any, ...]]] = {
     "xmas_elf_counts": (c_uint32, (c_void_p, c_size_t, c_void_p, c_void_p,)),
     "xmas_elf_names_index": (c_uint32, (c_void_p, c_size_t, c_void_p, c_void_p,)),
     "xmas_elf_section": (c_uint32, (c_void_p, c_size_t, c_void_p, c_uint64, c_void_p,)),
+    "xmas_elf_check_section": (c_uint32, (c_void_p, c_size_t, c_void_p, c_uint64,)),
     "xmas_elf_sections": (c_uint32, (c_void_p, c_size_t, c_void_p, c_uint64, c_void_p, c_size_t, c_void_p,)),
     "xmas_elf_find_section": (c_uint32, (c_void_p, c_size_t, c_void_p, c_void_p, c_size_t, c_void_p,)),
     "xmas_elf_find_section_index": (c_uint32, (c_void_p, c_size_t, c_void_p, c_void_p, c_size_t, c_void_p,)),
@@ -285,6 +286,7 @@ EXPORTS: Dict[str, Tuple[Any, Tuple[Any, ...]]] = {
     "xmas_elf_text": (c_uint32, (c_void_p, c_size_t, c_void_p, c_uint64, c_void_p,)),
     "xmas_elf_section_text": (c_uint32, (c_void_p, c_size_t, c_void_p, c_uint64, c_uint64, c_void_p,)),
     "xmas_elf_segment": (c_uint32, (c_void_p, c_size_t, c_void_p, c_uint32, c_void_p,)),
+    "xmas_elf_check_segment": (c_uint32, (c_void_p, c_size_t, c_void_p, c_uint32,)),
     "xmas_elf_segments": (c_uint32, (c_void_p, c_size_t, c_void_p, c_uint64, c_void_p, c_size_t, c_void_p,)),
     "xmas_elf_segment_data": (c_uint32, (c_void_p, c_size_t, c_void_p, c_uint32, c_void_p,)),
     "xmas_elf_symbol": (c_uint32, (c_void_p, c_size_t, c_void_p, c_uint64, c_uint64, c_void_p,)),
@@ -454,6 +456,10 @@ class Status(IntEnum):
     """Note is cut off."""
     LINK_NOT_MULTIPLE = 113
     """Data is not a whole number of words."""
+    LINK_SHORT_VERSION = 114
+    """Version record is cut off."""
+    LINK_VERSION_COUNT = 115
+    """Version needs have more parts than bytes."""
     OTHER_DATA = 201
     """A section holds other data than what is asked for."""
     NO_RECORD = 202

@@ -6,7 +6,7 @@ from struct import Struct
 from typing import Any, Callable, Iterator, List, NamedTuple, Tuple, Type, TypeVar
 
 from . import _declarations as declared
-from ._archive import ElfError, library
+from ._archive import ElfError, check, library
 from ._rows import NUMBER, ROOM, Row, batches, rows
 from .constants import SHN_UNDEF, SHT_DYNSYM, SHT_GNU_HASH, SHT_HASH, SHT_REL, SHT_RELA, SHT_SYMTAB
 
@@ -99,6 +99,10 @@ class Section(declared.SectionRecord):
 
     __slots__ = ()
 
+    def check(self) -> None:
+        """Raises where the reader doesn't know the type."""
+        check(library.xmas_elf_check_section(*self.file._input, self.index))
+
     def data(self) -> memoryview:
         """The data. Refused for type SHT_NULL and for types that the reader doesn't know; for type SHT_NOBITS these bytes
         belong to other sections, or to none."""
@@ -142,6 +146,11 @@ class Segment(declared.SegmentRecord):
     """A segment: the fields of its program header, and its data."""
 
     __slots__ = ()
+
+    def check(self) -> None:
+        """Raises where the header doesn't agree with the input: the size of the table's entries, the end of the segment, its
+        type and its alignment. A segment that ends where the input ends is refused too."""
+        check(library.xmas_elf_check_segment(*self.file._input, self.index))
 
     def data(self) -> memoryview:
         """The data. Refused for type PT_NULL and for types that the reader doesn't know."""

@@ -26,6 +26,8 @@ pub(crate) fn every(asked: &Asked<'_>, mut heard: impl FnMut(&str, Result<(), Er
     heard("names_index", answer, &[Error::ReservedIndex]);
     let answer = ffi::section(input, header, asked.index).map(|_| ());
     heard("section", answer, &[Error::ShortSectionHeader, Error::UnknownClass, Error::SmallEntry]);
+    let answer = ffi::check_section(input, header, asked.index).map(|_| ());
+    heard("check_section", answer, &[Error::ShortSectionHeader, Error::UnknownClass, Error::SmallEntry, Error::InvalidShType]);
     let answer = ffi::sections(input, header, asked.index, &mut [SectionHeader::default(); 3]).map(|_| ());
     heard("sections", answer, &[Error::NoRecord]);
     let answer = ffi::find_section(input, header, name).map(|_| ());
@@ -46,6 +48,8 @@ pub(crate) fn every(asked: &Asked<'_>, mut heard: impl FnMut(&str, Result<(), Er
     heard("section_text", answer, &[Error::ShortSectionHeader, Error::UnknownClass, Error::SmallEntry, Error::InvalidShType, Error::NullData, Error::DataRange, Error::TextStart, Error::TextEnd, Error::TextUtf8]);
     let answer = ffi::segment(input, header, asked.index as u32).map(|_| ());
     heard("segment", answer, &[Error::NoProgramHeaders, Error::UnknownClass, Error::ShortProgramHeader, Error::SmallEntry]);
+    let answer = ffi::check_segment(input, header, asked.index as u32).map(|_| ());
+    heard("check_segment", answer, &[Error::NoProgramHeaders, Error::UnknownClass, Error::ShortProgramHeader, Error::SmallEntry, Error::PhSizeMismatch, Error::EntryPointRange, Error::InvalidPhType, Error::ShLibUsed, Error::BadAlign]);
     let answer = ffi::segments(input, header, asked.index, &mut [ProgramHeader::default(); 3]).map(|_| ());
     heard("segments", answer, &[Error::NoRecord]);
     let answer = ffi::segment_data(input, header, asked.index as u32).map(|_| ());

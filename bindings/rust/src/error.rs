@@ -140,6 +140,10 @@ pub enum Error {
     LinkShortNote,
     /// Data is not a whole number of words.
     LinkNotMultiple,
+    /// Version record is cut off.
+    LinkShortVersion,
+    /// Version needs have more parts than bytes.
+    LinkVersionCount,
     /// A section holds other data than what is asked for.
     OtherData,
     /// A table has no record with this index.
@@ -222,6 +226,8 @@ impl Error {
             111 => Error::LinkAddress,
             112 => Error::LinkShortNote,
             113 => Error::LinkNotMultiple,
+            114 => Error::LinkShortVersion,
+            115 => Error::LinkVersionCount,
             201 => Error::OtherData,
             202 => Error::NoRecord,
             203 => Error::NotFound,
@@ -300,6 +306,8 @@ impl Error {
             Error::LinkAddress => 111,
             Error::LinkShortNote => 112,
             Error::LinkNotMultiple => 113,
+            Error::LinkShortVersion => 114,
+            Error::LinkVersionCount => 115,
             Error::OtherData => 201,
             Error::NoRecord => 202,
             Error::NotFound => 203,

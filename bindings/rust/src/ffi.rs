@@ -21,6 +21,7 @@ extern "C" {
     fn xmas_elf_names_index(input: *const u8, input_len: usize, header: *const Header, out: *mut u32) -> u32;
     fn xmas_elf_section(input: *const u8, input_len: usize, header: *const Header, index: u64,
         out: *mut SectionHeader) -> u32;
+    fn xmas_elf_check_section(input: *const u8, input_len: usize, header: *const Header, index: u64) -> u32;
     fn xmas_elf_sections(input: *const u8, input_len: usize, header: *const Header, first: u64,
         out: *mut SectionHeader, out_len: usize, count: *mut u64) -> u32;
     fn xmas_elf_find_section(input: *const u8, input_len: usize, header: *const Header, name: *const u8,
@@ -39,6 +40,7 @@ extern "C" {
         out: *mut Range) -> u32;
     fn xmas_elf_segment(input: *const u8, input_len: usize, header: *const Header, index: u32,
         out: *mut ProgramHeader) -> u32;
+    fn xmas_elf_check_segment(input: *const u8, input_len: usize, header: *const Header, index: u32) -> u32;
     fn xmas_elf_segments(input: *const u8, input_len: usize, header: *const Header, first: u64,
         out: *mut ProgramHeader, out_len: usize, count: *mut u64) -> u32;
     fn xmas_elf_segment_data(input: *const u8, input_len: usize, header: *const Header, index: u32,
@@ -129,6 +131,15 @@ pub(crate) fn section(input: &[u8], header: &Header, index: u64) -> Result<Secti
     // SAFETY: see the head of this file.
     let status = unsafe { xmas_elf_section(input.as_ptr(), input.len(), header, index, &mut out) };
     answered(status, out)
+}
+
+/// Checks the section header at an index: that this reader knows its type. Where the data lie is not tested:
+/// `section_data` does that. The call is refused with (in the order of the tests) `ShortSectionHeader`,
+/// `UnknownClass`, `SmallEntry`, `InvalidShType`.
+pub(crate) fn check_section(input: &[u8], header: &Header, index: u64) -> Result<(), Error> {
+    // SAFETY: see the head of this file.
+    let status = unsafe { xmas_elf_check_section(input.as_ptr(), input.len(), header, index) };
+    answered(status, ())
 }
 
 /// The section headers from index `first` on, up to the number of sections or the first that is refused. Where they
@@ -235,6 +246,17 @@ pub(crate) fn segment(input: &[u8], header: &Header, index: u32) -> Result<Progr
     // SAFETY: see the head of this file.
     let status = unsafe { xmas_elf_segment(input.as_ptr(), input.len(), header, index, &mut out) };
     answered(status, out)
+}
+
+/// Checks the program header at an index against the input: the size of the table's entries, that the segment ends
+/// before the input does, its type, and that its address and its offset are the same modulo an alignment above 1.
+/// `EntryPointRange` is also for a segment that ends exactly where the input does. The call is refused with (in the
+/// order of the tests) `NoProgramHeaders`, `UnknownClass`, `ShortProgramHeader`, `SmallEntry`, `PhSizeMismatch`,
+/// `EntryPointRange`, `InvalidPhType`, `ShLibUsed`, `BadAlign`.
+pub(crate) fn check_segment(input: &[u8], header: &Header, index: u32) -> Result<(), Error> {
+    // SAFETY: see the head of this file.
+    let status = unsafe { xmas_elf_check_segment(input.as_ptr(), input.len(), header, index) };
+    answered(status, ())
 }
 
 /// The program headers from index `first` on, up to the number of segments or the first that is refused. Where they

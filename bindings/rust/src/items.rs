@@ -27,6 +27,11 @@ impl<'f, 'a> Section<'f, 'a> {
         self.index
     }
 
+    /// Whether the header makes sense: whether the reader knows its type.
+    pub fn check(&self) -> Result<(), Error> {
+        ffi::check_section(self.file.input, &self.file.header, self.index)
+    }
+
     /// The name of the section. Refused for type Null and for types that the reader doesn't know: see `raw_name`.
     pub fn name(&self) -> Result<&'a str, Error> {
         let range = ffi::section_name(self.file.input, &self.file.header, self.index)?;
@@ -168,6 +173,12 @@ impl Deref for Segment<'_, '_> {
 }
 
 impl<'f, 'a> Segment<'f, 'a> {
+    /// Whether the header makes sense over the input: `PhSizeMismatch`, `EntryPointRange` where the segment doesn't end before
+    /// the input does, `InvalidPhType`, `ShLibUsed`, and `BadAlign` where address and offset differ modulo the alignment.
+    pub fn check(&self) -> Result<(), Error> {
+        ffi::check_segment(self.file.input, &self.file.header, self.index)
+    }
+
     /// The data of the segment.
     pub fn data(&self) -> Result<&'a [u8], Error> {
         Ok(self.file.bytes(self.data_range()?))

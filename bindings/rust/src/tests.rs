@@ -61,6 +61,26 @@ fn sections_and_names() {
 }
 
 #[test]
+fn checks_of_sections_and_segments() {
+    let mut input = whole();
+    let header = ffi::open(&input).expect("an ELF file");
+    assert_eq!(ffi::check_section(&input, &header, 1), Ok(()));
+    assert_eq!(ffi::check_segment(&input, &header, 0), Ok(()));
+    assert_eq!(ffi::check_section(&input, &header, u64::MAX), Err(Error::ShortSectionHeader));
+    assert_eq!(ffi::check_segment(&input, &header, header.ph_count.into()), Err(Error::NoProgramHeaders));
+    let wide = Header { ph_entry_size: header.ph_entry_size + 1, ..header };
+    assert_eq!(ffi::check_segment(&input, &wide, 0), Err(Error::PhSizeMismatch));
+    // The type of section 1 gets SHT_RELR, and segment 0 an odd address, then a size past all.
+    let (section, segment) = (header.sh_offset as usize + usize::from(header.sh_entry_size), header.ph_offset as usize);
+    input[section + 4] = 19;
+    assert_eq!(ffi::check_section(&input, &header, 1), Err(Error::InvalidShType));
+    input[segment + 16] ^= 1;
+    assert_eq!(ffi::check_segment(&input, &header, 0), Err(Error::BadAlign));
+    input[segment + 32..segment + 40].fill(0xff);
+    assert_eq!(ffi::check_segment(&input, &header, 0), Err(Error::EntryPointRange));
+}
+
+#[test]
 fn records_of_sections() {
     let input = whole();
     let header = ffi::open(&input).expect("an ELF file");

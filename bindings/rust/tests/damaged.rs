@@ -1,5 +1,6 @@
 //! Damaged files: every call returns, and each part that it gives lies in the input.
 
+use xmas_elf_proved::program::Type;
 use xmas_elf_proved::{Answer, ByteRange, Dynamic, ElfFile, Entry, Error, HashTable, Name, ProgramHeader, Relocation, Section, SectionHeader};
 
 // A stream of numbers (Marsaglia's xorshift of 64 bits), the same in each run.
@@ -118,6 +119,7 @@ fn visit_dynamic_symbols(file: &ElfFile<'_>) {
 
 fn visit_section(input: &[u8], section: &Section<'_, '_>) -> usize {
     let mut found = 0;
+    assert_eq!(section.check(), section.get_type().map(|_| ()));
     for symbol in section.symbols().take(200) {
         found += 1;
         assert!(symbol.name().map_or(true, |name| lies_in(input, name.as_bytes())));
@@ -173,6 +175,20 @@ fn header_fault(file: &ElfFile<'_>) -> Result<(), Error> {
     tests.into_iter().try_for_each(|(passes, fault)| if passes { Ok(()) } else { Err(fault) })
 }
 
+// The first fault of a segment that can be read, by its numbers.
+fn segment_fault(file: &ElfFile<'_>, segment: &ProgramHeader) -> Result<(), Error> {
+    let ends_inside = u128::from(segment.offset) + u128::from(segment.file_size) < file.input().len() as u128;
+    let is_aligned = segment.align < 2 || segment.virtual_addr % segment.align == segment.offset % segment.align;
+    let tests = [
+        (file.header().ph_entry_size == if file.is_64() { 56 } else { 32 }, Error::PhSizeMismatch),
+        (ends_inside, Error::EntryPointRange),
+        (segment.get_type().is_ok(), Error::InvalidPhType),
+        (segment.get_type() != Ok(Type::ShLib), Error::ShLibUsed),
+        (is_aligned, Error::BadAlign),
+    ];
+    tests.into_iter().try_for_each(|(passes, fault)| if passes { Ok(()) } else { Err(fault) })
+}
+
 fn visit(input: &[u8]) -> usize {
     let Ok(file) = ElfFile::new(input) else {
         return 0;
@@ -187,6 +203,7 @@ fn visit(input: &[u8]) -> usize {
     #[cfg(feature = "alloc")]
     visit_symbol_map(&file);
     let segments = file.segments().take(200).map(|segment| {
+        assert_eq!(segment.check(), segment_fault(&file, &segment));
         assert!(segment.data().map_or(true, |data| lies_in(input, data)));
         for count in [0, 1, segment.file_size, u64::MAX] {
             let bytes = file.bytes_at(segment.virtual_addr, count);

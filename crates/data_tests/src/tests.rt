@@ -2,7 +2,6 @@
 //! and never taken from the program's output.
 
 mod data;
-mod extensions;
 mod records;
 mod segments;
 mod want;

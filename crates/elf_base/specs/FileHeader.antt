@@ -1,9 +1,20 @@
--- The layout of an ELF header (gABI, "ELF Header": Elf32_Ehdr and Elf64_Ehdr).
--- The bytes that are accepted as a file, and their header (gABI, "ELF Header").
-use Rattle.std.specs.Prelude.{ℕ, ◌+◌, List, slice_range, ◌≡◌, ◌≤◌, ◌==◌, ◌||◌, ◌⊎◌, not, nat_eq, nat_lt, [], ◌∷◌, length, Result, if◌then◌else◌}
-use Rattle.elf_base.specs.Number.{number, byte_at}
-use Rattle.elf_base.specs.HeaderNumbers.{class_raw, encoding_raw, machine_raw, os_abi_raw, type_raw, version_raw, class_number, encoding_number, order_of}
+-- The ELF header (gABI, "ELF Header"): the meaning of its numbers, its layout, and the bytes that are accepted
+-- as a file.
+use Rattle.std.specs.Prelude.{ℕ, ◌==◌, [], ◌∷◌, if◌then◌else◌, ◌+◌, List, slice_range, ◌≡◌, ◌≤◌, ◌||◌, ◌⊎◌, not, nat_eq, nat_lt, length, Result}
+use Rattle.elf_base.specs.Number.{named_or, number, byte_at}
 use Rattle.elf_base.specs.declared.bytes.Order.{Order}
+use Rattle.elf_base.specs.declared.bytes.Order.TheVariants.{Little, Big}
+use Rattle.elf_base.specs.declared.header.numbers.Class_.{Class_}
+use Rattle.elf_base.specs.declared.header.numbers.Data_.{Data_}
+use Rattle.elf_base.specs.declared.header.numbers.Version_.{Version_}
+use Rattle.elf_base.specs.declared.header.numbers.OsAbi_.{OsAbi_}
+use Rattle.elf_base.specs.declared.header.numbers.Type_.{Type_}
+use Rattle.elf_base.specs.declared.header.numbers.Machine_.{Machine_}
+use Rattle.elf_base.specs.declared.header.numbers.Class.{Class}
+use Rattle.elf_base.specs.declared.header.numbers.Data.{Data}
+use Rattle.elf_base.specs.declared.header.numbers.Version.{Version}
+use Rattle.elf_base.specs.declared.header.numbers.OsAbi.{OsAbi}
+use Rattle.elf_base.specs.declared.header.numbers.Machine.{Machine}
 use Rattle.elf_base.specs.declared.header.HeaderPt1.{HeaderPt1}
 use Rattle.elf_base.specs.declared.header.HeaderPt2_.{HeaderPt2_}
 use Rattle.elf_base.specs.declared.header.HeaderPt2.{HeaderPt2}
@@ -12,7 +23,96 @@ use Rattle.elf_base.specs.Refusal.{unless}
 use Rattle.elf_base.specs.declared.error.ElfError.{ElfError}
 use Rattle.elf_base.specs.declared.header.Header.{Header}
 use lib.Pointwise.{pointwise}
+use Rattle.elf_base.specs.declared.header.numbers.Class.TheVariants as classes
+use Rattle.elf_base.specs.declared.header.numbers.Data.TheVariants as encodings
+use Rattle.elf_base.specs.declared.header.numbers.Version.TheVariants as versions
+use Rattle.elf_base.specs.declared.header.numbers.OsAbi.TheVariants as os_abis
+use Rattle.elf_base.specs.declared.header.numbers.Type as the_type
+use Rattle.elf_base.specs.declared.header.numbers.Type.TheVariants as kind
+use Rattle.elf_base.specs.declared.header.numbers.Machine.TheVariants as machines
 use Rattle.elf_base.specs.declared.error.ElfError.TheVariants as error
+
+-- The meaning of the numbers of a header (e_ident, e_type, e_machine).
+
+-- EI_CLASS: the number in the file, and the value of a number
+abbrev pub class_number : Class_ → ℕ
+class_number raw = raw.0
+
+abbrev pub class_raw : ℕ → Class_
+class_raw n = record { 0 = n }
+
+-- the meaning of EI_CLASS
+abbrev pub class_of : ℕ → Class
+class_of n = named_or classes.Other ((0, classes.None) ∷ (1, classes.ThirtyTwo) ∷ (2, classes.SixtyFour) ∷ []) n
+
+-- EI_DATA: the number in the file, and the value of a number
+abbrev pub encoding_number : Data_ → ℕ
+encoding_number raw = raw.0
+
+abbrev pub encoding_raw : ℕ → Data_
+encoding_raw n = record { 0 = n }
+
+-- the meaning of EI_DATA
+abbrev pub encoding_of : ℕ → Data
+encoding_of n = named_or encodings.Other (
+    (0, encodings.None) ∷ (1, encodings.LittleEndian) ∷ (2, encodings.BigEndian) ∷ []) n
+
+-- the byte order by EI_DATA: all numbers but 2 mean little-endian (this project's own)
+abbrev pub order_of : ℕ → Order
+order_of n = if n == 2 then Big else Little
+
+-- EI_VERSION: the number in the file, and the value of a number
+abbrev pub version_number : Version_ → ℕ
+version_number raw = raw.0
+
+abbrev pub version_raw : ℕ → Version_
+version_raw n = record { 0 = n }
+
+-- the meaning of EI_VERSION
+abbrev pub version_of : ℕ → Version
+version_of n = named_or versions.Other ((0, versions.None) ∷ (1, versions.Current) ∷ []) n
+
+-- EI_OSABI: the number in the file, and the value of a number
+abbrev pub os_abi_number : OsAbi_ → ℕ
+os_abi_number raw = raw.0
+
+abbrev pub os_abi_raw : ℕ → OsAbi_
+os_abi_raw n = record { 0 = n }
+
+-- the meaning of EI_OSABI
+abbrev pub os_abi_of : ℕ → OsAbi
+os_abi_of n = named_or os_abis.Other (
+    (0, os_abis.SystemV) ∷ (1, os_abis.HpUx) ∷ (2, os_abis.NetBSD) ∷ (3, os_abis.Linux)
+    ∷ (6, os_abis.Solaris) ∷ (7, os_abis.Aix) ∷ (8, os_abis.Irix) ∷ (9, os_abis.FreeBSD)
+    ∷ (12, os_abis.OpenBSD) ∷ (13, os_abis.OpenVMS) ∷ []) n
+
+-- e_type: the number in the file, and the value of a number
+abbrev pub type_number : Type_ → ℕ
+type_number raw = raw.0
+
+abbrev pub type_raw : ℕ → Type_
+type_raw n = record { 0 = n }
+
+-- the meaning of e_type
+abbrev pub type_of : ℕ → the_type.Type
+type_of n = named_or kind.ProcessorSpecific (
+    (0, kind.None) ∷ (1, kind.Relocatable) ∷ (2, kind.Executable) ∷ (3, kind.SharedObject) ∷ (4, kind.Core) ∷ []) n
+
+-- e_machine: the number in the file, and the value of a number
+abbrev pub machine_number : Machine_ → ℕ
+machine_number raw = raw.0
+
+abbrev pub machine_raw : ℕ → Machine_
+machine_raw n = record { 0 = n }
+
+-- the meaning of e_machine
+abbrev pub machine_of : ℕ → Machine
+machine_of n = named_or machines.Other (
+    (0, machines.None) ∷ (2, machines.Sparc) ∷ (3, machines.X86) ∷ (8, machines.Mips)
+    ∷ (0x14, machines.PowerPC) ∷ (0x28, machines.Arm) ∷ (0x2a, machines.SuperH) ∷ (0x32, machines.Ia64)
+    ∷ (0x3e, machines.X86_64) ∷ (0xb7, machines.AArch64) ∷ (0xf3, machines.RISC_V) ∷ (0xf7, machines.BPF) ∷ []) n
+
+-- The layout of a header (Elf32_Ehdr and Elf64_Ehdr).
 
 -- e_ident: the first 16 bytes of every file
 abbrev pub header_pt1 : List ℕ → HeaderPt1
@@ -71,6 +171,8 @@ header_fields (Header64 part) = part
 abbrev pub pt2_size : HeaderPt2 → ℕ
 pt2_size (Header32 part) = 36
 pt2_size (Header64 part) = 48
+
+-- The bytes that are accepted as a file, and their header.
 
 -- the first four bytes of every file (EI_MAG0 to EI_MAG3): 0x7f and `ELF`
 abbrev pub magic_number : List ℕ

@@ -1,8 +1,7 @@
 -- The printed form of an ELF header (this project's own, after the Rust crate).
 use Rattle.std.specs.Prelude.{ℕ, List, [], ◌∷◌, ◌++◌, codes, decimal}
 use Rattle.elf_base.specs.Printed.{numbered, bytes_text, field_line, joined}
-use Rattle.elf_base.specs.HeaderNumbers.{class_number, class_of, encoding_number, encoding_of, machine_number, machine_of, os_abi_number, os_abi_of, type_number, type_of, version_number, version_of}
-use Rattle.elf_base.specs.FileHeader.{header_fields}
+use Rattle.elf_base.specs.FileHeader.{class_number, class_of, encoding_number, encoding_of, header_fields, machine_number, machine_of, os_abi_number, os_abi_of, type_number, type_of, version_number, version_of}
 use Rattle.elf_base.specs.declared.header.numbers.Class.{Class}
 use Rattle.elf_base.specs.declared.header.numbers.Class.TheVariants as class
 use Rattle.elf_base.specs.declared.header.numbers.Data.{Data}

@@ -1,7 +1,6 @@
 pub mod Number
 pub mod Refusal
 pub mod Message
-pub mod HeaderNumbers
 pub mod FileHeader
 pub mod Printed
 pub mod HeaderText

@@ -2,12 +2,11 @@
 
 ghost use Rattle.std.specs.Prelude.{◌≡◌, ◌↔◌, ◌==◌, ◌||◌, [], ◌∷◌, IfOk, IsOk, if◌then◌else◌};
 ghost use Rattle.std.specs.Prelude.{length, nat_lt, not};
-ghost use Rattle.elf_base.specs.FileHeader.{IsAccepted, file_header, header_fields, header_of};
-ghost use Rattle.elf_base.specs.FileHeader.{pt2_record, pt2_size};
+ghost use Rattle.elf_base.specs.FileHeader.{IsAccepted, class_number, class_of, encoding_number};
+ghost use Rattle.elf_base.specs.FileHeader.{encoding_of, file_header, header_fields, header_of};
+ghost use Rattle.elf_base.specs.FileHeader.{order_of, os_abi_number, os_abi_of, pt2_record};
+ghost use Rattle.elf_base.specs.FileHeader.{pt2_size, version_number, version_of};
 ghost use Rattle.elf_base.specs.Refusal.{unless};
-ghost use Rattle.elf_base.specs.HeaderNumbers.{class_number, class_of, encoding_number};
-ghost use Rattle.elf_base.specs.HeaderNumbers.{encoding_of, order_of, os_abi_number, os_abi_of};
-ghost use Rattle.elf_base.specs.HeaderNumbers.{version_number, version_of};
 
 mod layout;
 mod numbers;

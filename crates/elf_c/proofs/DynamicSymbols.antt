@@ -2,8 +2,7 @@
 use Rattle.std.proofs.Common.{◌≡◌, ℕ, ◌==◌, Bool, true, false, List, Result, Ok, Err, if◌then◌else◌, refl, sym, subst}
 use Rattle.elf_base.specs.FileHeader.{file_class, file_order}
 use Rattle.elf_base.specs.declared.bytes.Order.{Order}
-use Rattle.elf_linking.specs.DynamicTables.{AreSymbols}
-use Rattle.elf_linking.specs.DynamicView.{dynamic_entries_of}
+use Rattle.elf_linking.specs.DynamicView.{AreSymbols, dynamic_entries_of}
 use Rattle.elf_linking.specs.declared.error.LinkError.{LinkError}
 use Rattle.elf_linking.specs.declared.view.entry.DynamicEntry.{DynamicEntry}
 use Rattle.xmas_elf.specs.Symbol.{SymbolFields, dyn_entry_32_fields, dyn_entry_64_fields}

@@ -1,8 +1,7 @@
 -- The header of an accepted file is the one that its numbers stand for.
 use Rattle.std.proofs.Common.{◌≡◌, ℕ, suc, ◌+◌, ◌*◌, ◌^◌, ◌<◌, ◌≤◌, ◌==◌, ◌&&◌, nat_lt, Bool, true, false, inl, inr, ◌⊎◌, List, length, slice_index, if◌then◌else◌, refl, sym, ap, subst, ◌∙◌, arith}
 use Rattle.std.proofs.lemmas.Bool.{eq-eqb, lt-ltb}
-use Rattle.elf_base.specs.FileHeader.{IsAccepted, file_header, header_pt1, header_pt2_32, header_pt2_64, magic_number, pt2_record}
-use Rattle.elf_base.specs.HeaderNumbers.{class_number, order_of}
+use Rattle.elf_base.specs.FileHeader.{IsAccepted, class_number, file_header, header_pt1, header_pt2_32, header_pt2_64, magic_number, order_of, pt2_record}
 use Rattle.elf_base.specs.Number.{big_sum, byte_at, little_sum, number}
 use Rattle.elf_base.specs.declared.bytes.Order.{Order}
 use Rattle.elf_base.specs.declared.bytes.Order.TheVariants.{Little, Big}

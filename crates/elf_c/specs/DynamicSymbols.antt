@@ -5,8 +5,7 @@ use Rattle.std.specs.Prelude.{◌≡◌, ℕ, ◌==◌, List, Result, Ok, Err, i
 use Rattle.elf_base.specs.FileHeader.{file_class, file_order}
 use Rattle.elf_base.specs.Table.{records}
 use Rattle.elf_base.specs.declared.bytes.Order.{Order}
-use Rattle.elf_linking.specs.DynamicTables.{AreSymbols, IsSymbolCount}
-use Rattle.elf_linking.specs.DynamicView.{dynamic_entries_of}
+use Rattle.elf_linking.specs.DynamicView.{AreSymbols, IsSymbolCount, dynamic_entries_of}
 use Rattle.elf_linking.specs.declared.error.LinkError.{LinkError}
 use Rattle.elf_linking.specs.declared.view.entry.DynamicEntry.{DynamicEntry}
 use Rattle.elf_linking.specs.declared.view.linked_entry.Linked.{Linked}

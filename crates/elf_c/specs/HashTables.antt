@@ -2,8 +2,7 @@
 -- convention of GNU binutils and glibc: sections of type 0x6ffffff6, SHT_GNU_HASH; sh_link of both is the index
 -- of the symbol table).
 use Rattle.std.specs.Prelude.{◌≡◌, ◌≢◌, ℕ, Result, Ok, Err, MatchResult}
-use Rattle.elf_base.specs.FileHeader.{file_class, file_order}
-use Rattle.elf_base.specs.HeaderNumbers.{class_of}
+use Rattle.elf_base.specs.FileHeader.{class_of, file_class, file_order}
 use Rattle.elf_base.specs.declared.error.ElfError.{ElfError}
 use Rattle.elf_linking.specs.GnuHash.{gnu_class, gnu_data, gnu_order}
 use Rattle.elf_linking.specs.LinkedSections.{gnu_hash_in}

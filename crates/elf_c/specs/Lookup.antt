@@ -1,10 +1,10 @@
 -- Look-ups in the hash tables of sections, and their check (gABI, "Hash Table"; the convention of GNU binutils
 -- and glibc).
-use Rattle.std.specs.Prelude.{◌≡◌, ℕ, List, Option, None, Some, Result, Ok, Err}
+use Rattle.std.specs.Prelude.{◌≡◌, ◌≤◌, ℕ, List, length, Option, None, Some, Result, Ok, Err}
 use Rattle.std.specs.Str.{IsUtf8}
 use Rattle.elf_base.specs.declared.error.ElfError.{ElfError}
 use Rattle.elf_base.specs.declared.error.ElfError.TheVariants.{TextUtf8}
-use Rattle.elf_linking.specs.AnyTable.{FindsAllBy, IsCheckBy, IsGoodBy, LooksBy}
+use Rattle.elf_linking.specs.AnyTable.{FindsAllBy, IsCheckBy, IsCountBy, IsGoodBy, LooksBy}
 use Rattle.elf_linking.specs.declared.any_table.AnyTable.{AnyTable}
 use Rattle.elf_linking.specs.declared.error.LinkError.{LinkError}
 use Rattle.xmas_elf.specs.Content.{Content}
@@ -25,10 +25,12 @@ abbrev pub look_up_answer : {E : Type 0} → Result (Option (ℕ × E)) LinkErro
 look_up_answer (Ok found) count = Ok (looked_up found count)
 look_up_answer (Err error) count = Err (Link error)
 
--- the result is that of a look-up for the name among symbols; in a good table it finds what it must
+-- the result is that of a look-up for the name among symbols, which visits no more entries than the table
+-- allows, and than there are symbols; in a good table it finds what it must
 abbrev pub IsLookUp : {E : Type 0} → AnyTable → List ℕ → Symbols E → Result LookUp Refusal → Type 0
 IsLookUp {E} table name symbols answer = (found : Result (Option (ℕ × E)) LinkError) × (count : ℕ)
     × LooksBy (λ e. symbols.text e ≡ Some name) table symbols.items name found count
+    × IsCountBy table count × (count ≤ length symbols.items)
     × (IsGoodBy table symbols → FindsAllBy table symbols name (λ e. symbols.text e ≡ Some name) found)
     × (answer ≡ look_up_answer found count)
 

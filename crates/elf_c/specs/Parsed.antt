@@ -1,8 +1,7 @@
 -- The header of a file as numbers, and the file of such numbers and an input (gABI, "ELF Header").
 use Rattle.std.specs.Prelude.{ℕ, List, ◌==◌, ◌&&◌, ◌^◌, nat_lt, Bool, if◌then◌else◌}
 use Rattle.std.specs.Borrow.{Bor}
-use Rattle.elf_base.specs.FileHeader.{header_fields, magic_number}
-use Rattle.elf_base.specs.HeaderNumbers.{class_number, class_raw, encoding_number, encoding_raw, machine_number, machine_raw, os_abi_number, os_abi_raw, type_number, type_raw, version_number, version_raw}
+use Rattle.elf_base.specs.FileHeader.{class_number, class_raw, encoding_number, encoding_raw, header_fields, machine_number, machine_raw, magic_number, os_abi_number, os_abi_raw, type_number, type_raw, version_number, version_raw}
 use Rattle.elf_base.specs.declared.header.Header.{Header}
 use Rattle.elf_base.specs.declared.header.HeaderPt1.{HeaderPt1}
 use Rattle.elf_base.specs.declared.header.HeaderPt2_.{HeaderPt2_}

@@ -84,6 +84,8 @@ fn refusal_with(number: u32) -> Option<Refusal>
         111 => Some(Refusal::Link(LinkError::Address)),
         112 => Some(Refusal::Link(LinkError::ShortNote)),
         113 => Some(Refusal::Link(LinkError::NotMultiple)),
+        114 => Some(Refusal::Link(LinkError::ShortVersion)),
+        115 => Some(Refusal::Link(LinkError::VersionCount)),
         201 => Some(Refusal::OtherData),
         202 => Some(Refusal::NoRecord),
         203 => Some(Refusal::NotFound),

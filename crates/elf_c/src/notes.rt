@@ -1,7 +1,7 @@
 //! Notes, one after the other (gABI, "Note Section").
 
 ghost use Rattle.std.specs.Prelude.{◌≡◌, ◌+◌, ◌≤◌, ◌<◌, ◌^◌, ℕ, IfOk, length};
-ghost use Rattle.elf_base.specs.HeaderNumbers.{order_of};
+ghost use Rattle.elf_base.specs.FileHeader.{order_of};
 ghost use Rattle.elf_c.specs.FirstNote.{EndsBy, note_at, note_in};
 ghost use Rattle.elf_c.specs.Status.{GivesHere};
 ghost use Rattle.elf_linking.specs.Notes.{next_step};

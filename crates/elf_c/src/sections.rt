@@ -8,6 +8,7 @@ ghost use Rattle.elf_c.specs.Records.{FindsIndex, found_in, found_section, secti
 ghost use Rattle.elf_c.specs.Records.{LiesIn, section_record};
 ghost use Rattle.elf_c.specs.Status.{Gives, GivesHere};
 ghost use Rattle.elf_c.specs.declared.status.Refusal.{Refusal};
+ghost use Rattle.xmas_elf.specs.Checks.{section_check};
 ghost use Rattle.xmas_elf.specs.First.{FindsFirstAt};
 ghost use Rattle.xmas_elf.specs.NameTable.{HasName};
 ghost use Rattle.xmas_elf.specs.SectionHeader.{section_list, section_of};
@@ -20,7 +21,7 @@ use crate::status::{Refusal, give};
 use elf_base::ElfError;
 use std::str::from_utf8;
 use xmas_elf::ElfFile;
-use xmas_elf::sections::{SectionHeader, SectionTable};
+use xmas_elf::sections::{SectionHeader, SectionTable, sanity_check};
 
 /// A section header, as numbers.
 #[repr(C)]
@@ -90,6 +91,24 @@ pub extern "C" fn xmas_elf_section(
         (λ section. Ok (section_record section))) out.old result out.new }
 {
     give(section_at(&header.file(input), index), out)
+}
+
+// Checks the section header at an index.
+#[inline(always)]
+fn check_at(file: &ElfFile<'_>, index: u64) -> Result<(), ElfError>
+    ensures { result ≡ and_then (section_of file.now index) section_check }
+{
+    sanity_check(file.section_header_at(index)?, file)
+}
+
+/// Checks the section header at an index. The errors are those of `ElfFile::section_header_at` and
+/// `sections::sanity_check`.
+#[unsafe(no_mangle)]
+pub extern "C" fn xmas_elf_check_section(input: &[u8], header: &Parsed, index: u64) -> u32
+    ensures { Gives (and_then (section_of (file_of input.entry header.now) index) section_check)
+        tt result tt }
+{
+    give(check_at(&header.file(input), index), &mut ())
 }
 
 impl Records for SectionTable<'_, '_> {

@@ -8,6 +8,7 @@ ghost use Rattle.elf_c.specs.Records.{LiesIn, found_in, segment_range, segment_r
 ghost use Rattle.elf_c.specs.Status.{Gives, GivesHere};
 ghost use Rattle.elf_c.specs.declared.status.Refusal.{Refusal};
 ghost use Rattle.elf_records.specs.ProgramNumbers.{ph_type_number};
+ghost use Rattle.xmas_elf.specs.Checks.{program_check};
 ghost use Rattle.xmas_elf.specs.ProgramHeader.{program_fields, program_list, program_of};
 ghost use Rattle.xmas_elf.specs.ProgramTable.{table_program_headers};
 
@@ -17,7 +18,7 @@ use crate::names::Range;
 use crate::status::{Refusal, give};
 use elf_base::ElfError;
 use xmas_elf::ElfFile;
-use xmas_elf::program::{ProgramHeader, ProgramTable};
+use xmas_elf::program::{ProgramHeader, ProgramTable, sanity_check};
 
 /// A program header, as numbers.
 #[repr(C)]
@@ -92,6 +93,24 @@ pub extern "C" fn xmas_elf_segment(
         (λ program. Ok (segment_record (program_fields program)))) out.old result out.new }
 {
     give(segment_at(&header.file(input), index), out)
+}
+
+// Checks the program header at an index.
+#[inline(always)]
+fn check_at(file: &ElfFile<'_>, index: u32) -> Result<(), ElfError>
+    ensures { result ≡ and_then (program_of file.now index) (program_check file.now) }
+{
+    sanity_check(file.program_header_at(index)?, file)
+}
+
+/// Checks the program header at an index against the input. The errors are those of
+/// `ElfFile::program_header_at` and `program::sanity_check`.
+#[unsafe(no_mangle)]
+pub extern "C" fn xmas_elf_check_segment(input: &[u8], header: &Parsed, index: u32) -> u32
+    ensures { Gives (and_then (program_of (file_of input.entry header.now) index)
+        (program_check (file_of input.entry header.now))) tt result tt }
+{
+    give(check_at(&header.file(input), index), &mut ())
 }
 
 impl Records for ProgramTable<'_, '_> {

@@ -78,6 +78,8 @@ impl Numbered for LinkError {
             LinkError::Address => 111,
             LinkError::ShortNote => 112,
             LinkError::NotMultiple => 113,
+            LinkError::ShortVersion => 114,
+            LinkError::VersionCount => 115,
         }
     }
 }

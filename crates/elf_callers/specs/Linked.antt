@@ -1,9 +1,8 @@
 -- A hash table and the symbols that it is linked to, in a file of class 64 that a program is linked to.
 use Rattle.std.specs.Prelude.{◌≡◌, ◌<◌, ℕ, List, Option, None, Some, MatchOption, Result, Ok, Err, codes, slice_get}
 use Rattle.xmas_elf.specs.Content.{Content, dyn_symbols_64, hash_table, table_of}
-use Rattle.xmas_elf.specs.Good.{IsCheck, IsGood}
+use Rattle.xmas_elf.specs.HashTable.{IsCheck, IsGood, hash_data, hash_order}
 use Rattle.xmas_elf.specs.ReportHash.{content_at}
-use Rattle.xmas_elf.specs.HashTable.{hash_data, hash_order}
 use Rattle.xmas_elf.specs.NameTable.{section_named}
 use Rattle.xmas_elf.specs.SectionContent.{section_content_of}
 use Rattle.xmas_elf.specs.SectionHeader.{section_fields}

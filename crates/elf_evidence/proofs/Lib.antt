@@ -1,2 +1,1 @@
-pub mod SegmentShapes
 pub mod Shapes

@@ -2,8 +2,7 @@
 use Rattle.std.specs.Prelude.{◌≡◌, ◌≢◌, ◌+◌, ◌%◌, ◌<◌, ◌≤◌, Ok, length}
 use Rattle.xmas_elf.specs.Checks.{part_class}
 use Rattle.xmas_elf.specs.SectionHeader.{program_count_of, section_count_of, section_place, section_type}
-use Rattle.xmas_elf.specs.FileHeader.{file_class, header_fields, magic_number, pt2_size}
-use Rattle.xmas_elf.specs.HeaderNumbers.{encoding_number, version_number}
+use Rattle.xmas_elf.specs.FileHeader.{encoding_number, file_class, header_fields, magic_number, pt2_size, version_number}
 use Rattle.xmas_elf.specs.ProgramHeader.{program_fields, program_place, program_record_size, segment_type}
 use Rattle.xmas_elf.specs.SegmentType.TheVariants.{ShLib}
 use Rattle.xmas_elf.specs.Types.{ElfFile, ProgramHeader, SectionHeader, SegmentType, ShType}

@@ -12,7 +12,7 @@ use Rattle.elf_linking.specs.declared.any_table.AnyTable.{AnyTable}
 use Rattle.elf_linking.specs.declared.any_table.AnyTable.TheVariants.{Gnu, Sysv}
 use Rattle.elf_linking.specs.declared.error.LinkError.{LinkError}
 use Rattle.elf_linking.specs.declared.error.LinkError.TheVariants.{Elf}
-use Rattle.xmas_elf.specs.Chain as gabi_chain
+use Rattle.xmas_elf.specs.HashTable as gabi
 use Rattle.xmas_elf.specs.Symbol.{Symbols}
 use Rattle.xmas_elf.specs.Symbols.{IsMatch}
 use Rattle.xmas_elf.specs.Types.{HashTable}
@@ -41,14 +41,14 @@ module _ {F E : Type 0} (test : Shared F (Bor E × Unit {0}) Bool) (f : F) (P : 
 
 -- a look-up in a table of the standard has only one result, with its error in `Elf`
 pub only_sysv : {E : Type 0} (P : E → Type 0) (table : HashTable) (items : List E) (name : List ℕ) (result : Result (Option (ℕ × E)) ElfError) (n : ℕ)
-    → ((other : Result (Option (ℕ × E)) ElfError) (count : ℕ) → gabi_chain.Looks P table items name other count → (other ≡ result) × (other ≢ Err HashCycle → count ≡ n))
+    → ((other : Result (Option (ℕ × E)) ElfError) (count : ℕ) → gabi.Looks P table items name other count → (other ≡ result) × (other ≢ Err HashCycle → count ≡ n))
     → (other : Result (Option (ℕ × E)) LinkError) (count : ℕ) → LooksBy P (Sysv table) items name other count → (other ≡ as_link_error result) × (other ≢ Err (Elf HashCycle) → count ≡ n)
 only_sysv P table items name result n only other count (found, looks, is) =
     let (same, counted) = only found count looks in (is ∙ ap as_link_error same, λ unlike. counted (λ cycle. unlike (is ∙ ap as_link_error cycle)))
 
 -- the same where it is refused
 pub only_refused : {E : Type 0} (P : E → Type 0) (any : AnyTable) (table : HashTable) (items : List E) (name : List ℕ) (result : Result (Option (ℕ × E)) ElfError) (n : ℕ) (error : ElfError) → any ≡ Sysv table → result ≡ Err error
-    → ((other : Result (Option (ℕ × E)) ElfError) (count : ℕ) → gabi_chain.Looks P table items name other count → (other ≡ result) × (other ≢ Err HashCycle → count ≡ n))
+    → ((other : Result (Option (ℕ × E)) ElfError) (count : ℕ) → gabi.Looks P table items name other count → (other ≡ result) × (other ≢ Err HashCycle → count ≡ n))
     → (other : Result (Option (ℕ × E)) LinkError) (count : ℕ) → LooksBy P any items name other count → (other ≡ Err (Elf error)) × IsSameCountBy any other count n
 only_refused P any table items name result n error is refused only other count looks =
     let (same, counted) = only_sysv P table items name result n only other count (subst (λ t. LooksBy P t items name other count) is looks) in

@@ -2,8 +2,7 @@
 use Rattle.std.proofs.Common.{◌≡◌, ◌≢◌, ◌<◌, ◌/◌, ℕ, ◌⊎◌, inl, inr, List, Some, None, Result, Err, slice_get, refl, ap, subst, arith}
 use Rattle.std.proofs.lemmas.Bool.{cases_order}
 use Rattle.std.specs.Prelude.{IsOk}
-use Rattle.elf_linking.specs.GnuHash.{bucket_word}
-use Rattle.elf_linking.specs.GoodGnu.{IsAtFault, IsBucketGood, IsCheck, IsExported, IsGood, IsHeld, cut, faulty, good, missing, too_early}
+use Rattle.elf_linking.specs.GnuHash.{IsAtFault, IsBucketGood, IsCheck, IsExported, IsGood, IsHeld, before_first, bucket_word, cut, faulty, good, missing}
 use Rattle.elf_linking.specs.declared.error.LinkError.{LinkError}
 use Rattle.elf_linking.specs.declared.gnu_hash.GnuHashTable.{GnuHashTable}
 use Rattle.elf_linking.proofs.Runs.{cut_once, ends_cut}
@@ -12,16 +11,16 @@ use Rattle.xmas_elf.specs.Symbol.{Symbols}
 module _ {E : Type 0} (table : GnuHashTable) (symbols : List E) where
   -- a good bucket is not at fault
   pub not_at_fault : (k : ℕ) (error : LinkError) → IsBucketGood table symbols k → IsAtFault table symbols k error → ⊥
-  not_at_fault k _ (inl none) (too_early above early) = omega arith
+  not_at_fault k _ (inl none) (before_first above early) = omega arith
   not_at_fault k _ (inl none) (cut error above begins c) = omega arith
-  not_at_fault k _ (inr (begins, ends)) (too_early above early) = omega arith
+  not_at_fault k _ (inr (begins, ends)) (before_first above early) = omega arith
   not_at_fault k _ (inr (begins, ends)) (cut error above begins' c) = ends_cut table symbols (bucket_word table k) error ends c
 
   -- a bucket has only one error
   pub fault_once : (k : ℕ) (one other : LinkError) → IsAtFault table symbols k one → IsAtFault table symbols k other → one ≡ other
-  fault_once k _ _ (too_early above early) (too_early above' early') = refl
-  fault_once k _ _ (too_early above early) (cut error above' begins c) = absurd (omega arith)
-  fault_once k _ _ (cut error above begins c) (too_early above' early) = absurd (omega arith)
+  fault_once k _ _ (before_first above early) (before_first above' early') = refl
+  fault_once k _ _ (before_first above early) (cut error above' begins c) = absurd (omega arith)
+  fault_once k _ _ (cut error above begins c) (before_first above' early) = absurd (omega arith)
   fault_once k _ _ (cut one above begins c) (cut other above' begins' d) = cut_once table symbols (bucket_word table k) one other c d
 
 module _ {E : Type 0} (table : GnuHashTable) (symbols : Symbols E) where

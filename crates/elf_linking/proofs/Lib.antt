@@ -19,3 +19,6 @@ pub mod SymbolCounts
 pub mod Classes
 pub mod BuildIdSearch
 pub mod AnyTables
+pub mod VersionPlaces
+pub mod VersionItems
+pub mod VersionSearch

@@ -3,10 +3,8 @@ use Rattle.std.proofs.Common.{◌≡◌, ◌≢◌, ◌%◌, ◌<◌, ◌≤◌,
 use Rattle.std.proofs.Math.Dec.{eqb}
 use Rattle.std.proofs.lemmas.Bool.{cases_order, eqb-false}
 use Rattle.std.specs.Prelude.{◌||◌, not, if◌then◌else◌}
-use Rattle.elf_linking.specs.GnuHash.{EndsRun, bucket_count_of, bucket_word, first_symbol_of, may_hold, start_at, start_of}
-use Rattle.elf_linking.specs.GnuHashNumber.{gnu_hash_number}
-use Rattle.elf_linking.specs.GoodGnu.{AreGoodBelow, Ends, FindsAll, IsBucketGood, IsExported, IsGood, IsHeld}
-use Rattle.elf_linking.specs.Run.{IsHit, Looks, LooksFrom, NoHit, Run, Stops, ended, found, goes, no_run, refused, too_early}
+use Rattle.elf_linking.specs.GnuHash.{AreGoodBelow, Ends, EndsRun, FindsAll, IsBucketGood, IsExported, IsGood, IsHeld, IsHit, Looks, LooksFrom, NoHit, Run, Stops, bucket_count_of, bucket_word, ended, first_symbol_of, found, goes, may_hold, no_run, refused, start_at, start_of, too_early}
+use Rattle.elf_linking.specs.Layouts.{gnu_hash_number}
 use Rattle.elf_linking.specs.declared.error.LinkError.{LinkError}
 use Rattle.elf_linking.specs.declared.gnu_hash.GnuHashTable.{GnuHashTable}
 use Rattle.elf_linking.proofs.Runs.{ends_cut, looks_from_once}

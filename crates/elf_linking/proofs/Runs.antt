@@ -1,9 +1,7 @@
 -- The runs of a GNU hash table, index by index.
 use Rattle.std.proofs.Common.{◌≡◌, ◌+◌, ◌-◌, ◌<◌, ◌≤◌, ℕ, ◌⊎◌, inl, inr, List, Option, Some, Result, Ok, Err, slice_get, length, refl, sym, ap, subst, arith, below_more}
 use Rattle.std.proofs.lemmas.Bool.{cases_lt, cases_order}
-use Rattle.elf_linking.specs.GnuHash.{EndsRun, chain_place, first_symbol_of, gnu_data}
-use Rattle.elf_linking.specs.GoodGnu.{Ends, IsCut}
-use Rattle.elf_linking.specs.Run.{ComeFrom, IsHit, IsThere, Lacks, LooksFrom, NoHit, Run, Stops, ended, found, no_symbol, no_word, refused, symbol_end}
+use Rattle.elf_linking.specs.GnuHash.{ComeFrom, Ends, EndsRun, IsCut, IsHit, IsThere, Lacks, LooksFrom, NoHit, Run, Stops, chain_place, ended, first_symbol_of, found, gnu_data, no_symbol, no_word, refused, symbol_end}
 use Rattle.elf_linking.specs.declared.error.LinkError.{LinkError}
 use Rattle.elf_linking.specs.declared.error.LinkError.TheVariants.{SymbolIndex}
 use Rattle.elf_linking.specs.declared.gnu_hash.GnuHashTable.{GnuHashTable}

@@ -1,9 +1,7 @@
 -- A pass over chain words that keeps the index after the last one that ends a run.
 use Rattle.std.proofs.Common.{◌+◌, ◌<◌, ◌≤◌, ℕ, ◌⊎◌, inl, inr, List, arith, below_more}
 use Rattle.std.proofs.lemmas.Bool.{cases_lt}
-use Rattle.elf_linking.specs.GnuHash.{EndsRun, first_symbol_of}
-use Rattle.elf_linking.specs.GoodGnu.{Ends}
-use Rattle.elf_linking.specs.Run.{IsThere}
+use Rattle.elf_linking.specs.GnuHash.{Ends, EndsRun, IsThere, first_symbol_of}
 use Rattle.elf_linking.specs.declared.gnu_hash.GnuHashTable.{GnuHashTable}
 
 -- all symbols and words up to an index are there; runs from before `end` end; no word from `end` on ends one

@@ -6,9 +6,8 @@ use Rattle.std.specs.Int.{is_power_of_two}
 use Rattle.elf_base.specs.declared.bytes.Order.{Order}
 use Rattle.elf_base.specs.declared.header.numbers.Class.{Class}
 use Rattle.elf_base.specs.Number.{number}
-use Rattle.elf_linking.specs.DynamicTables.{LieAsSymbols, chain_count_in, checked, passed}
+use Rattle.elf_linking.specs.DynamicView.{LieAsSymbols, chain_count_in, checked, number_with, passed}
 use Rattle.elf_linking.specs.Layouts.{IsGnuTable, bloom_count_in, chains_in, gnu_table_of, is_known}
-use Rattle.elf_linking.specs.DynamicView.{number_with}
 use Rattle.elf_linking.specs.Loaded.{IsAt, LiesAsLoaded}
 use Rattle.elf_linking.specs.declared.view.entry.DynamicEntry.{DynamicEntry}
 use Rattle.elf_linking.specs.declared.view.tags.TheConstants.{DT_SYMTAB}

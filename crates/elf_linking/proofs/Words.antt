@@ -2,9 +2,8 @@
 use Rattle.std.proofs.Common.{◌≡◌, ◌+◌, ◌-◌, ◌*◌, ◌/◌, ◌<◌, ◌≤◌, ℕ, ◌⊎◌, inl, inr, Bool, true, false, List, Ok, Err, length, refl, sym, subst, arith}
 use Rattle.std.proofs.lemmas.Bool.{cases_lt, le-ltb, ltb-true}
 use Rattle.std.specs.Prelude.{if◌then◌else◌, nat_lt}
-use Rattle.elf_linking.specs.GnuHash.{HasChain, chain_of, chain_place, chain_word, first_symbol_of, gnu_class, gnu_data, gnu_order}
+use Rattle.elf_linking.specs.GnuHash.{HasChain, Lacks, chain_of, chain_place, chain_word, first_symbol_of, gnu_class, gnu_data, gnu_order, no_word, symbol_end}
 use Rattle.elf_linking.specs.Layouts.{chains_in}
-use Rattle.elf_linking.specs.Run.{Lacks, no_word, symbol_end}
 use Rattle.elf_linking.specs.declared.error.LinkError.{LinkError}
 use Rattle.elf_linking.specs.declared.error.LinkError.TheVariants.{ChainData, ChainIndex}
 use Rattle.elf_linking.specs.declared.gnu_hash.GnuHashTable.{GnuHashTable}

@@ -1,2 +1,3 @@
 pub mod GnuTables
 pub mod Looking
+pub mod FirstItems

@@ -10,8 +10,7 @@ use Rattle.elf_base.specs.Table.{records}
 use Rattle.xmas_elf.specs.HashTable.{chain_count_of, hash_data, hash_order}
 use Rattle.xmas_elf.specs.Types.{ElfError, ElfFile, HashTable, DynEntry32, DynEntry64, Order}
 use Rattle.xmas_elf.specs.Symbol.{IsGlobal, Symbols, dyn_entry_32, dyn_entry_32_fields, dyn_entry_64, dyn_entry_64_fields}
-use Rattle.elf_linking.specs.DynamicView.{number_with, as_link_error, dynamic_entries_of}
-use Rattle.elf_linking.specs.DynamicTables.{gnu_hash_table_of, hash_table_of, IsGnuTableBy, linked_text_of, AreSymbols}
+use Rattle.elf_linking.specs.DynamicView.{AreSymbols, IsGnuTableBy, as_link_error, dynamic_entries_of, gnu_hash_table_of, hash_table_of, linked_text_of, number_with}
 use Rattle.elf_linking.specs.GnuHash.{first_symbol_of}
 use Rattle.elf_linking.specs.declared.any_table.AnyTable.{AnyTable}
 use Rattle.elf_linking.specs.declared.any_table.AnyTable.TheVariants.{Gnu, Sysv}
@@ -21,10 +20,8 @@ use Rattle.elf_linking.specs.declared.gnu_hash.GnuHashTable.{GnuHashTable}
 use Rattle.elf_linking.specs.declared.view.entry.DynamicEntry.{DynamicEntry}
 use Rattle.elf_linking.specs.declared.view.tags.TheConstants.{DT_GNU_HASH}
 use Rattle.elf_linking.specs.declared.view.linked_entry.Linked.{Linked}
-use Rattle.elf_linking.specs.GoodGnu as gnu
-use Rattle.elf_linking.specs.Run as gnu_run
-use Rattle.xmas_elf.specs.Chain as gabi_chain
-use Rattle.xmas_elf.specs.Good as gabi
+use Rattle.elf_linking.specs.GnuHash as gnu
+use Rattle.xmas_elf.specs.HashTable as gabi
 
 -- the table is GNU's if there is an entry for it (DT_GNU_HASH), otherwise that of the standard
 pub data IsLinkedTable (file : ElfFile) (entries : List (DynamicEntry ℕ)) : AnyTable → Type 0 where
@@ -56,8 +53,8 @@ IsCheckBy (Gnu table) symbols answer = gnu.IsCheck table symbols answer
 -- the result of a look-up for the name and P, and the number of symbols or chain words read
 abbrev pub LooksBy : {E : Type 0} → (E → Type 0) → AnyTable → List E → List ℕ → Result (Option (ℕ × E)) LinkError → ℕ → Type 0
 LooksBy {E} P (Sysv table) symbols name answer count = (found : Result (Option (ℕ × E)) ElfError)
-    × gabi_chain.Looks P table symbols name found count × (answer ≡ as_link_error found)
-LooksBy P (Gnu table) symbols name answer count = gnu_run.Looks P table symbols name answer count
+    × gabi.Looks P table symbols name found count × (answer ≡ as_link_error found)
+LooksBy P (Gnu table) symbols name answer count = gnu.Looks P table symbols name answer count
 
 -- a bound on the number of symbols read: the chain count of the standard's table; GNU's table has no such count
 abbrev pub IsCountBy : AnyTable → ℕ → Type 0

@@ -1,16 +1,19 @@
--- GNU hash tables of symbols: their words, and the bucket where a look-up begins (the convention of GNU
--- binutils and glibc).
-use Rattle.std.specs.Prelude.{◌≡◌, ℕ, ◌+◌, ◌-◌, ◌*◌, ◌/◌, ◌%◌, ◌^◌, ◌≤◌, ◌==◌, ◌&&◌, ◌||◌, Bool, not, nat_le, nat_lt, List, [], ◌∷◌, length, Option, Some, None, Result, if◌then◌else◌}
+-- GNU hash tables of symbols (the convention of GNU binutils and glibc): their words, the runs that look-ups
+-- pass, and the tables in which look-ups find every symbol that they must. The errors of a look-up, and which
+-- tables are good, are this project's own. The layout of a table is in `Layouts`.
+use Rattle.std.specs.Prelude.{◌≡◌, ℕ, ◌+◌, ◌-◌, ◌*◌, ◌/◌, ◌%◌, ◌^◌, ◌≤◌, ◌==◌, ◌&&◌, ◌||◌, Bool, not, nat_le, nat_lt, List, [], ◌∷◌, length, Option, Some, None, Result, if◌then◌else◌, ◌<◌, min, Ok, Err, slice_get, ◌≢◌, ◌⊎◌, MatchResult, MatchOption}
 use Rattle.std.specs.Int.{bit_at}
 use Rattle.elf_base.specs.Number.{number}
 use Rattle.elf_base.specs.declared.bytes.Order.{Order}
 use Rattle.elf_base.specs.declared.header.numbers.Class.{Class}
-use Rattle.elf_linking.specs.GnuHashNumber.{gnu_hash_number}
-use Rattle.elf_linking.specs.Layouts.{bloom_count_in, bloom_shift_in, bloom_size, bucket_count_in, buckets_in, chains_in, first_symbol_in}
+use Rattle.elf_linking.specs.Layouts.{bloom_count_in, bloom_shift_in, bloom_size, bucket_count_in, buckets_in, chains_in, first_symbol_in, gnu_hash_number}
 use Rattle.elf_base.specs.Refusal.{unless}
 use Rattle.elf_linking.specs.declared.error.LinkError.{LinkError}
-use Rattle.elf_linking.specs.declared.error.LinkError.TheVariants.{BucketIndex, ChainData, ChainIndex}
+use Rattle.elf_linking.specs.declared.error.LinkError.TheVariants.{BucketIndex, ChainData, ChainIndex, SymbolIndex, Missing}
 use Rattle.elf_linking.specs.declared.gnu_hash.GnuHashTable.{GnuHashTable}
+use Rattle.xmas_elf.specs.Symbol.{IsGlobal, Symbols}
+
+-- The words of a table, and the bucket where a look-up begins.
 
 -- the bytes of a table, the class of its Bloom words, and its byte order
 abbrev pub gnu_data : GnuHashTable → List ℕ
@@ -95,3 +98,151 @@ start_of table name = start_at table (gnu_hash_number name)
 -- the chain word of symbol i ends a run
 abbrev pub EndsRun : GnuHashTable → ℕ → Type 0
 EndsRun table i = chain_word table i % 2 ≡ 1
+
+-- Runs: the symbols that a look-up passes, where it stops, and its result.
+
+-- the number of symbols with an index of 32 bits
+abbrev pub symbol_end : {E : Type 0} → List E → ℕ
+symbol_end symbols = min (length symbols) (2 ^ 32)
+
+-- index i has a symbol and a chain word
+pub record IsThere {E : Type 0} (table : GnuHashTable) (symbols : List E) (i : ℕ) : Type 0 where
+  pub symbol : i < symbol_end symbols
+  pub word : HasChain table i
+
+-- index i has no symbol, or it has no chain word
+pub data Lacks {E : Type 0} (table : GnuHashTable) (symbols : List E) (i : ℕ) : LinkError → Type 0 where
+  no_symbol : symbol_end symbols ≤ i → Lacks table symbols i SymbolIndex
+  no_word : i < symbol_end symbols → length (gnu_data table) < chain_place table i + 4
+      → Lacks table symbols i ChainData
+
+-- there are symbols and chain words from index `from` up to `last`, which is excluded, and none of the words
+-- ends a run
+pub record Run {E : Type 0} (table : GnuHashTable) (symbols : List E) (from last : ℕ) : Type 0 where
+  pub ordered : from ≤ last
+  pub there : (i : ℕ) → from ≤ i → i < last → IsThere table symbols i
+  pub goes_on : (i : ℕ) → from ≤ i → i < last → EndsRun table i → ⊥
+
+-- the runs that come to an index are those that begin at `from` or later
+pub record ComeFrom {E : Type 0} (table : GnuHashTable) (symbols : List E) (from index : ℕ) : Type 0 where
+  pub ordered : from ≤ index
+  pub come : (i : ℕ) → from ≤ i → i ≤ index → Run table symbols i index
+  pub only : (i : ℕ) → 0 < i → Run table symbols i index → from ≤ i
+
+-- a look-up for P by the hash number h finds symbol e at index i
+pub record IsHit {E : Type 0} (P : E → Type 0) (h : ℕ) (table : GnuHashTable) (symbols : List E) (i : ℕ) (e : E) : Type 0 where
+  pub there : IsThere table symbols i
+  pub symbol : slice_get symbols i ≡ Some e
+  pub agrees : chain_word table i / 2 ≡ h / 2
+  pub holds : P e
+
+-- a look-up finds no symbol from one index up to another, which is excluded
+abbrev pub NoHit : {E : Type 0} → (E → Type 0) → ℕ → GnuHashTable → List E → ℕ → ℕ → Type 0
+NoHit {E} P h table symbols from last =
+    (i : ℕ) (e : E) → from ≤ i → i < last → IsHit P h table symbols i e → ⊥
+
+-- a look-up for P stops at index i, with a result and the number of chain words read there: at a hit, at the
+-- end of the run, or where a symbol or a chain word is missing
+pub data Stops {E : Type 0} (P : E → Type 0) (h : ℕ) (table : GnuHashTable) (symbols : List E) (i : ℕ) : Result (Option (ℕ × E)) LinkError → ℕ → Type 0 where
+  found : (e : E) → IsHit P h table symbols i e → Stops P h table symbols i (Ok (Some (i, e))) 1
+  ended : IsThere table symbols i → EndsRun table i → ((e : E) → IsHit P h table symbols i e → ⊥)
+      → Stops P h table symbols i (Ok None) 1
+  refused : (error : LinkError) → Lacks table symbols i error → Stops P h table symbols i (Err error) 0
+
+-- the result of a look-up for P from an index on, and the number of chain words read: that of the stop that
+-- its run comes to
+pub record LooksFrom {E : Type 0} (P : E → Type 0) (h : ℕ) (table : GnuHashTable) (symbols : List E) (from : ℕ) (answer : Result (Option (ℕ × E)) LinkError) (n : ℕ) : Type 0 where
+  pub last : ℕ
+  pub here : ℕ
+  pub run : Run table symbols from last
+  pub missed : NoHit P h table symbols from last
+  pub stop : Stops P h table symbols last answer here
+  pub counted : n ≡ last - from + here
+
+-- the result of a look-up for the name and P, and the number of chain words read
+pub data Looks {E : Type 0} (P : E → Type 0) (table : GnuHashTable) (symbols : List E) (name : List ℕ) : Result (Option (ℕ × E)) LinkError → ℕ → Type 0 where
+  no_run : start_of table name ≡ None → Looks P table symbols name (Ok None) 0
+  too_early : (from : ℕ) → start_of table name ≡ Some from → from < first_symbol_of table
+      → Looks P table symbols name (Err ChainIndex) 0
+  goes : (from n : ℕ) (answer : Result (Option (ℕ × E)) LinkError)
+      → start_of table name ≡ Some from → first_symbol_of table ≤ from
+      → LooksFrom P (gnu_hash_number name) table symbols from answer n
+      → Looks P table symbols name answer n
+
+-- Tables whose runs end and contain every symbol that a search must find.
+
+-- the run from an index on ends, at a word with its lowest bit set
+pub record Ends {E : Type 0} (table : GnuHashTable) (symbols : List E) (from : ℕ) : Type 0 where
+  pub last : ℕ
+  pub run : Run table symbols from last
+  pub there : IsThere table symbols last
+  pub ends : EndsRun table last
+
+-- the run from an index on comes to an index without a symbol or a chain word
+pub record IsCut {E : Type 0} (table : GnuHashTable) (symbols : List E) (from : ℕ) (error : LinkError) : Type 0 where
+  pub last : ℕ
+  pub run : Run table symbols from last
+  pub lacks : Lacks table symbols last error
+
+-- bucket k has no run, or one that begins at the first symbol or later and ends
+abbrev pub IsBucketGood : {E : Type 0} → GnuHashTable → List E → ℕ → Type 0
+IsBucketGood table symbols k = let from = bucket_word table k in
+    (from ≡ 0) ⊎ ((first_symbol_of table ≤ from) × Ends table symbols from)
+
+-- the buckets below n are good
+abbrev pub AreGoodBelow : {E : Type 0} → GnuHashTable → List E → ℕ → Type 0
+AreGoodBelow table symbols n = (k : ℕ) → k < n → IsBucketGood table symbols k
+
+-- bucket k is at fault, with this error
+pub data IsAtFault {E : Type 0} (table : GnuHashTable) (symbols : List E) (k : ℕ) : LinkError → Type 0 where
+  before_first : 0 < bucket_word table k → bucket_word table k < first_symbol_of table
+      → IsAtFault table symbols k ChainIndex
+  cut : (error : LinkError) → 0 < bucket_word table k
+      → first_symbol_of table ≤ bucket_word table k
+      → IsCut table symbols (bucket_word table k) error → IsAtFault table symbols k error
+
+-- symbol e at index i is exported: it is not local, has the name, is not before the first symbol of the
+-- table, and is defined (its section index is not 0, SHN_UNDEF)
+pub record IsExported {E : Type 0} (table : GnuHashTable) (symbols : Symbols E) (i : ℕ) (e : E) (name : List ℕ) : Type 0 where
+  pub global : IsGlobal symbols i e name
+  pub from_first : first_symbol_of table ≤ i
+  pub defined : (symbols.fields e).shndx ≢ 0
+
+-- index i is found for the name: the run of the name comes to it, and its chain word has the hash number
+pub record IsHeld {E : Type 0} (table : GnuHashTable) (symbols : List E) (name : List ℕ) (i : ℕ) : Type 0 where
+  pub from : ℕ
+  pub starts : start_of table name ≡ Some from
+  pub run : Run table symbols from i
+  pub there : IsThere table symbols i
+  pub agrees : chain_word table i / 2 ≡ gnu_hash_number name / 2
+
+-- each bucket is good, and every exported symbol is found for its name
+pub record IsGood {E : Type 0} (table : GnuHashTable) (symbols : Symbols E) : Type 0 where
+  pub buckets : AreGoodBelow table symbols.items (bucket_count_of table)
+  pub holds : (i : ℕ) (e : E) (name : List ℕ) → IsExported table symbols i e name
+      → IsHeld table symbols.items name i
+
+-- the result of the check: the error of the least bucket at fault; otherwise whether a symbol is missing
+pub data IsCheck {E : Type 0} (table : GnuHashTable) (symbols : Symbols E) : Result (Unit {0}) LinkError → Type 0 where
+  good : IsGood table symbols → IsCheck table symbols (Ok tt)
+  faulty : (k : ℕ) (error : LinkError) → k < bucket_count_of table
+      → AreGoodBelow table symbols.items k
+      → IsAtFault table symbols.items k error → IsCheck table symbols (Err error)
+  missing : (i : ℕ) (e : E) (name : List ℕ)
+      → AreGoodBelow table symbols.items (bucket_count_of table)
+      → IsExported table symbols i e name → ¬ IsHeld table symbols.items name i
+      → IsCheck table symbols (Err Missing)
+
+-- the table exports a symbol with the name and P
+abbrev pub MustBeFound : {E : Type 0} → GnuHashTable → Symbols E → List ℕ → (E → Type 0) → Type 0
+MustBeFound {E} table symbols name P =
+    (i : ℕ) × (e : E) × IsExported table symbols i e name × P e
+
+-- there is no error; what is found is one of the symbols and has P, and if nothing is found, the table
+-- exports no such symbol
+abbrev pub FindsAll : {E : Type 0} → GnuHashTable → Symbols E → List ℕ → (E → Type 0) → Result (Option (ℕ × E)) LinkError → Type 0
+FindsAll {E} table symbols name P answer = MatchResult answer
+    (λ found. MatchOption found (¬ MustBeFound table symbols name P)
+    (λ (p : ℕ × E). (0 < p.0) × (first_symbol_of table ≤ p.0)
+    × (slice_get symbols.items p.0 ≡ Some p.1) × P p.1))
+    (λ error. ⊥)

@@ -1,7 +1,7 @@
 -- The layout of an entry of a dynamic segment (gABI, "Dynamic Section": Elf32_Dyn and Elf64_Dyn).
--- The layout of a GNU hash table (the convention of GNU binutils and glibc: sections of type 0x6ffffff6,
--- SHT_GNU_HASH, and the dynamic entry DT_GNU_HASH).
-use Rattle.std.specs.Prelude.{ℕ, List, ◌+◌, ◌*◌, ◌≤◌, Bool, true, false, IsTrue, not, nat_lt, [], ◌∷◌, length, Result}
+-- The hash number of a name in GNU hash tables, and the layout of such a table (the convention of GNU binutils
+-- and glibc: sections of type 0x6ffffff6, SHT_GNU_HASH, and the dynamic entry DT_GNU_HASH).
+use Rattle.std.specs.Prelude.{ℕ, List, ◌+◌, ◌*◌, ◌≤◌, Bool, true, false, IsTrue, not, nat_lt, [], ◌∷◌, length, Result, ◌%◌, ◌^◌, fold}
 use Rattle.std.specs.Int.{is_power_of_two}
 use Rattle.elf_base.specs.Number.{number}
 use Rattle.elf_base.specs.declared.bytes.Order.{Order}
@@ -18,6 +18,14 @@ dynamic_entry_32 order bytes = record { tag = number order 4 0 bytes; number = n
 
 abbrev pub dynamic_entry_64 : Order → List ℕ → DynamicEntry ℕ
 dynamic_entry_64 order bytes = record { tag = number order 8 0 bytes; number = number order 8 8 bytes }
+
+-- the hash number after one more byte
+abbrev pub gnu_hash_step : ℕ → ℕ → ℕ
+gnu_hash_step h c = (33 * h + c) % 2 ^ 32
+
+-- the hash number of the bytes of a text
+unfoldable pub gnu_hash_number : List ℕ → ℕ
+gnu_hash_number bytes = fold gnu_hash_step 5381 bytes
 
 -- whether the class is 32 or 64
 abbrev pub is_known : Class → Bool

@@ -1,10 +1,6 @@
 pub mod Message
-pub mod GnuHashNumber
 pub mod Layouts
 pub mod GnuHash
-pub mod Run
-pub mod GoodGnu
-pub mod DynamicTables
 pub mod Relr
 pub mod Notes
 pub mod Loaded
@@ -12,3 +8,5 @@ pub mod DynamicView
 pub mod AnyTable
 pub mod BuildIds
 pub mod LinkedSections
+pub mod VersionTables
+pub mod Versions

@@ -1,10 +1,8 @@
 -- The sections that a dynamic linker reads (gABI, "Sections": SHT_RELR; SHT_GNU_HASH of GNU binutils and
 -- glibc), in the class and byte order of the file.
 use Rattle.std.specs.Prelude.{◌≡◌, ◌≢◌, List, Option, None, Some, Result, Ok, Err, ℕ}
-use Rattle.elf_base.specs.FileHeader.{file_class, file_order}
-use Rattle.elf_base.specs.HeaderNumbers.{class_of}
-use Rattle.elf_linking.specs.DynamicTables.{checked}
-use Rattle.elf_linking.specs.DynamicView.{as_link_error}
+use Rattle.elf_base.specs.FileHeader.{class_of, file_class, file_order}
+use Rattle.elf_linking.specs.DynamicView.{as_link_error, checked}
 use Rattle.elf_linking.specs.Layouts.{gnu_table_of}
 use Rattle.elf_linking.specs.Relr.{relr_of}
 use Rattle.elf_linking.specs.declared.error.LinkError.{LinkError}

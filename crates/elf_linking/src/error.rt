@@ -31,7 +31,8 @@ pub enum LinkError {
     /// `GnuHashTable::get_chain`, `lookup`, `lookup_counted`, `check` and `symbol_count`.
     ChainData,
     /// The index of a symbol is not below the number of symbols, or does not fit in 32 bits.
-    /// Returned by `GnuHashTable::lookup`, `lookup_counted`, `check` and `symbol_count`.
+    /// Returned by `GnuHashTable::lookup`, `lookup_counted`, `check` and `symbol_count`, and by
+    /// `Versions::number` and `version_of`.
     SymbolIndex,
     /// A symbol is not in the chain that its name selects. Returned by `GnuHashTable::check`.
     Missing,
@@ -45,6 +46,12 @@ pub enum LinkError {
     ShortNote,
     /// The data is not a whole number of words.
     NotMultiple,
+    /// A record of versions extends past the end of its segment. Returned by the iterators over
+    /// definitions and needs, `Definition::name` and `Versions::version_of`.
+    ShortVersion,
+    /// The needs so far have more parts than the bytes have room for. Returned by the iterator over
+    /// needs and `Versions::version_of`.
+    VersionCount,
 }
 
 impl LinkError {
@@ -67,6 +74,8 @@ impl LinkError {
             LinkError::Address => "Address is in no loaded segment",
             LinkError::ShortNote => "Note is cut off",
             LinkError::NotMultiple => "Data is not a whole number of words",
+            LinkError::ShortVersion => "Version record is cut off",
+            LinkError::VersionCount => "Version needs have more parts than bytes",
         }
     }
 }

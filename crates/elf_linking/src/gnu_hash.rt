@@ -3,9 +3,8 @@
 
 ghost use Rattle.std.specs.Prelude.{◌≡◌, ◌↔◌, ◌+◌, ◌*◌, ◌/◌, ◌^◌, ◌==◌, ◌<◌, ◌≤◌};
 ghost use Rattle.std.specs.Prelude.{length, IfOk, IsOk, IsTrue, MatchResult};
-ghost use Rattle.elf_linking.specs.GnuHashNumber.{gnu_hash_number};
-ghost use Rattle.elf_linking.specs.Layouts.{IsGnuTable, bloom_count_in, bloom_size};
-ghost use Rattle.elf_linking.specs.Layouts.{chains_in, gnu_table_of, is_known};
+ghost use Rattle.elf_linking.specs.Layouts.{IsGnuTable, bloom_count_in, bloom_size, chains_in};
+ghost use Rattle.elf_linking.specs.Layouts.{gnu_hash_number, gnu_table_of, is_known};
 ghost use Rattle.std.specs.Int.{bit_at, is_power_of_two};
 
 mod check;
@@ -17,7 +16,7 @@ use elf_base::bytes::{Order, read_u32, read_u64};
 use elf_base::header::Class;
 
 /// The hash number of a name, which selects its bucket in a GNU hash table.
-#[tactic(auto, unfolding(crate::specs::GnuHashNumber::gnu_hash_number))]
+#[tactic(auto, unfolding(crate::specs::Layouts::gnu_hash_number))]
 pub fn gnu_hash(name: &str) -> u32
     ensures { result ≡ gnu_hash_number name.now }
 {

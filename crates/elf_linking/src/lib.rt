@@ -9,6 +9,7 @@ pub mod notes;
 pub mod relr;
 pub mod sections;
 pub mod values;
+pub mod versions;
 pub mod view;
 
 pub use crate::any_table::AnyTable;

@@ -1,8 +1,7 @@
 //! The sections that a dynamic linker reads, for users that have section headers.
 
 ghost use Rattle.std.specs.Prelude.{◌≡◌, Ok, Err, MatchResult};
-ghost use Rattle.elf_base.specs.FileHeader.{file_class, file_order};
-ghost use Rattle.elf_base.specs.HeaderNumbers.{class_of};
+ghost use Rattle.elf_base.specs.FileHeader.{class_of, file_class, file_order};
 ghost use Rattle.elf_linking.specs.GnuHash.{gnu_class, gnu_data, gnu_order};
 ghost use Rattle.elf_linking.specs.LinkedSections.{OnType, gnu_hash_in, relr_in, section_range_of};
 ghost use Rattle.elf_linking.specs.Loaded.{lent};

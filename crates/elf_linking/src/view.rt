@@ -17,7 +17,8 @@ pub use crate::view::entry::DynamicEntry;
 pub use crate::view::linked_entry::{Linked, LinkedEntry32, LinkedEntry64};
 pub use crate::view::loaded::{bytes_at, bytes_from, segment_at};
 pub use crate::view::needed::Needed;
+pub(crate) use crate::view::needed::text_by;
 pub use crate::view::tags::{
     DT_GNU_HASH, DT_HASH, DT_NEEDED, DT_NULL, DT_RPATH, DT_RUNPATH, DT_SONAME, DT_STRSZ, DT_STRTAB,
-    DT_SYMTAB,
+    DT_SYMTAB, DT_VERDEF, DT_VERDEFNUM, DT_VERNEED, DT_VERNEEDNUM, DT_VERSYM,
 };

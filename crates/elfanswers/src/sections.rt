@@ -21,12 +21,22 @@ pub fn write_section<W: Write>(file: &ElfFile<'_>, index: u16, out: &mut W) -> i
     match file.section_header(index) {
         Ok(section) => {
             writeln!(out, "{place} header = ok")?;
-            write_numbers(place, &section, out)?;
-            write_name(file, place, &section, out)?;
-            write_data(file, place, &section, out)
+            write_parts(file, place, &section, out)
         }
         Err(error) => writeln!(out, "{place} header = err {error}"),
     }
+}
+
+/// Writes them for a section header over a file.
+pub fn write_parts<W: Write>(
+    file: &ElfFile<'_>,
+    place: Place,
+    section: &SectionHeader,
+    out: &mut W,
+) -> io::Result<()> {
+    write_numbers(place, section, out)?;
+    write_name(file, place, section, out)?;
+    write_data(file, place, section, out)
 }
 
 fn write_numbers<W: Write>(place: Place, section: &SectionHeader, out: &mut W) -> io::Result<()> {

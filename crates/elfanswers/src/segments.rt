@@ -14,12 +14,22 @@ pub fn write_segment<W: Write>(file: &ElfFile<'_>, index: u16, out: &mut W) -> i
     match file.program_header(index) {
         Ok(program) => {
             writeln!(out, "{place} header = ok")?;
-            write_numbers(place, &program, out)?;
-            write_bytes(file, place, &program, out)?;
-            write_data(file, place, &program, out)
+            write_parts(file, place, &program, out)
         }
         Err(error) => writeln!(out, "{place} header = err {error}"),
     }
+}
+
+/// Writes them for a program header over a file.
+pub fn write_parts<W: Write>(
+    file: &ElfFile<'_>,
+    place: Place,
+    program: &ProgramHeader,
+    out: &mut W,
+) -> io::Result<()> {
+    write_numbers(place, program, out)?;
+    write_bytes(file, place, program, out)?;
+    write_data(file, place, program, out)
 }
 
 fn write_numbers<W: Write>(place: Place, program: &ProgramHeader, out: &mut W) -> io::Result<()> {

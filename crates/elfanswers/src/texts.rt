@@ -48,7 +48,8 @@ fn write_named<W: Write>(file: &ElfFile<'_>, name: &str, out: &mut W) -> io::Res
     writeln!(out, "hash {name} = {}", hash(name))
 }
 
-fn write_links<W: Write>(file: &ElfFile<'_>, out: &mut W) -> io::Result<()> {
+/// Writes the answers of the calls that look for links to debug information.
+pub fn write_links<W: Write>(file: &ElfFile<'_>, out: &mut W) -> io::Result<()> {
     let id = Found(file.get_gnu_buildid().map(|id| Told(id)));
     writeln!(out, "extensions get_gnu_buildid = {id}")?;
     let link = file.get_gnu_debuglink();

@@ -16,9 +16,6 @@ use thiserror::Error;
 use xmas_elf::ElfError;
 use xmas_elf::report::{ReportFault, report};
 
-#[cfg(test)]
-mod tests;
-
 /// Why the program ends with status 1, and what it says then.
 #[derive(Debug, Drop, Error)]
 enum Fault<'a> {

@@ -6,14 +6,14 @@
 //! the libraries that the file needs, a line for each.
 #![tactic(auto)]
 
-ghost use Rattle.std.specs.Prelude.{◌≡◌, ◌≤◌};
-ghost use Rattle.elf_linking.specs.AnyTable.{IsGoodBy};
-ghost use Rattle.xmas_elf.specs.SymbolTable.{table_symbols};
+ghost use Rattle.std.specs.Borrow.{Bor};
+ghost use Rattle.std.specs.Prelude.{◌≡◌, ◌≤◌, IfOk, IfSome, IsSomeAnd, List, ℕ};
+ghost use Rattle.elfsym.specs.Lines.{AreInputLines};
+ghost use Rattle.program_ends.specs.Appended.{AppendsSome};
 
-use elf_base::bytes::{Record, Table};
-use elf_base::header::Class;
+use crate::lines::Lines;
+use elf_linking::LinkError;
 use elf_linking::view::DynamicView;
-use elf_linking::{AnyTable, LinkError};
 use program_ends::{Output, Stop, read_whole, say, write_buffered};
 use std::alloc::Global;
 use std::convert::AsStr;
@@ -23,10 +23,8 @@ use std::process::ExitCode;
 use std::{env, io};
 use thiserror::Error;
 use xmas_elf::ElfFile;
-use xmas_elf::symbol_table::{Entry, SymbolTable};
 
-#[cfg(test)]
-mod tests;
+mod lines;
 
 /// Why the program ends with status 1, and what it says then.
 #[derive(Debug, Drop, Error)]
@@ -73,28 +71,25 @@ pub fn run<S: AsStr, R: Read + Drop, W: Write, E: Write>(
     }
 }
 
-// What the program writes of the file that these bytes are.
-#[derive(Drop)]
-struct Lines<'a, 'b, S> {
-    input: &'a [u8],
-    question: &'a Question<'b, S>,
-}
+// The names of the libraries that the file that these bytes are needs, a line for each.
+#[derive(Clone, Copy)]
+struct Libraries<'a>(&'a [u8]);
 
-impl<S: AsStr> Output for Lines<'_, '_, S> {
+impl Output for Libraries<'_> {
     // What is written isn't claimed.
-    ghost Writes = { λ lines old new. Unit {0} };
+    ghost Writes = { λ libraries old new. Unit {0} };
 
-    ghost flushed = { λ lines old new kept written keeps. tt };
+    ghost flushed = { λ libraries old new kept written keeps. tt };
 
     type Refusal = LinkError;
 
     fn write_to<W: Write>(&self, out: &mut W) -> Result<(), Stop<LinkError>> {
-        let file = ElfFile::new(self.input).map_err(|error| Stop::Refused(LinkError::Elf(error)))?;
+        let file = ElfFile::new(self.0).map_err(|error| Stop::Refused(LinkError::Elf(error)))?;
         let view = DynamicView::read(&file).map_err(Stop::Refused)?;
-        match self.question {
-            Question::Needed => write_needed(&view, out),
-            Question::Names(names) => write_by_class(&view, &file, names, out),
+        for name in view.needed() {
+            writeln!(out, "{}", name.map_err(Stop::Refused)?)?;
         }
+        Ok(())
     }
 }
 
@@ -106,74 +101,52 @@ fn answer<'a, S: AsStr, R: Read + Drop, W: Write>(
     file: Option<R>,
     out: &mut W,
 ) -> Result<(), Fault<'a>> {
+    match question {
+        Question::Needed => print_libraries(alloc, path, file, out),
+        Question::Names(names) => print_lines(alloc, path, names, file, &mut *out).map(|_| ()),
+    }
+}
+
+// Writes the names of the libraries that the file needs.
+fn print_libraries<'a, R: Read + Drop, W: Write>(
+    alloc: Global,
+    path: &'a str,
+    file: Option<R>,
+    out: &mut W,
+) -> Result<(), Fault<'a>> {
     let input = read_whole(alloc, file).ok_or(Fault::Read { path })?;
-    let output = Lines {
-        input: &input,
-        question: &question,
-    };
-    match write_buffered(alloc, &output, out) {
+    match write_buffered(alloc, &Libraries(&input), out) {
         Ok(_) => Ok(()),
-        Err(Stop::Refused(error)) => Err(Fault::Refused { path, error }),
-        Err(Stop::Write) => Err(Fault::Write),
+        Err(stop) => Err(fault_of(stop, path)),
     }
 }
 
-// The names of the libraries that the file needs.
-fn write_needed<W: Write>(view: &DynamicView<'_>, out: &mut W) -> Result<(), Stop<LinkError>> {
-    for name in view.needed() {
-        writeln!(out, "{}", name.map_err(Stop::Refused)?)?;
-    }
-    Ok(())
-}
-
-fn write_by_class<'a, S: AsStr, W: Write>(
-    view: &DynamicView<'a>,
-    file: &ElfFile<'a>,
+// Writes a line for each name in the file that is all that the reader has left, and gives the
+// writer back.
+fn print_lines<'a, S: AsStr, R: Read + Drop, W: Write + Drop>(
+    alloc: Global,
+    path: &'a str,
     names: &[S],
-    out: &mut W,
-) -> Result<(), Stop<LinkError>> {
-    let table = AnyTable::read(view, file).map_err(Stop::Refused)?;
-    match file.header.pt1.class() {
-        Class::ThirtyTwo => {
-            let symbols = view.symbols_32(file).map_err(Stop::Refused)?;
-            write_symbols(&table, &symbols, file, names, out)
-        }
-        _ => {
-            let symbols = view.symbols_64(file).map_err(Stop::Refused)?;
-            write_symbols(&table, &symbols, file, names, out)
-        }
-    }
-}
-
-// A line for each name, once the check of the table has passed.
-fn write_symbols<Y: Entry + Record, S: AsStr, W: Write>(
-    table: &AnyTable<'_>,
-    symbols: &Table<'_, Y>,
-    file: &ElfFile<'_>,
-    names: &[S],
-    out: &mut W,
-) -> Result<(), Stop<LinkError>> {
-    let symbols = SymbolTable::new(*symbols, file);
-    table.check(&symbols).map_err(Stop::Refused)?;
-    for name in names {
-        write_symbol(table, &symbols, name.as_str(), out)?;
-    }
-    Ok(())
-}
-
-fn write_symbol<Y: Entry + Record, W: Write>(
-    table: &AnyTable<'_>,
-    symbols: &SymbolTable<'_, Y>,
-    name: &str,
-    out: &mut W,
-) -> io::Result<()>
-    requires good { IsGoodBy table.now (table_symbols symbols.now) }
+    file: Option<R>,
+    out: W,
+) -> Result<W, Fault<'a>>
+    ensures { IfOk result (λ back. IsSomeAnd file (λ reader. IfSome (R.remaining reader)
+        (λ bytes. (input : Bor (List ℕ)) × (input.now ≡ bytes)
+        × AppendsSome (AreInputLines S.text input names.now) (W.contents out) (W.contents back)))) }
 {
-    match table.defined_symbol(name, symbols) {
-        Some((_, symbol)) => {
-            writeln!(out, "{} 0x{:x} 0x{:x}", name, symbol.value(), symbol.size())
-        }
-        None => writeln!(out, "{}: none", name),
+    let input = read_whole(alloc, file).ok_or(Fault::Read { path })?;
+    let lines = Lines {
+        input: &input,
+        names,
+    };
+    write_buffered(alloc, &lines, out).map_err(|stop| fault_of(stop, path))
+}
+
+// What the program says where an output isn't written to its end.
+fn fault_of(stop: Stop<LinkError>, path: &str) -> Fault<'_> {
+    match stop {
+        Stop::Refused(error) => Fault::Refused { path, error },
+        Stop::Write => Fault::Write,
     }
 }
 

@@ -1,7 +1,6 @@
 -- A look-up in a GNU hash table answers `ChainIndex` only where its run begins before the first symbol.
-use Rattle.std.proofs.Common.{◌≡◌, ◌<◌, ℕ, List, Option, Some, Result, Ok, Err}
-use Rattle.elf_linking.specs.GnuHash.{first_symbol_of, start_of}
-use Rattle.elf_linking.specs.Run.{Lacks, Looks, Stops, ended, found, goes, no_run, no_symbol, no_word, refused, too_early}
+use Rattle.std.proofs.Common.{◌≡◌, ◌<◌, ℕ, List, Option, Some, Result, Err}
+use Rattle.elf_linking.specs.GnuHash.{Lacks, Looks, Stops, ended, first_symbol_of, found, goes, no_run, no_symbol, no_word, refused, start_of, too_early}
 use Rattle.elf_linking.specs.declared.error.LinkError.{LinkError}
 use Rattle.elf_linking.specs.declared.error.LinkError.TheVariants.{ChainIndex}
 use Rattle.elf_linking.specs.declared.gnu_hash.GnuHashTable.{GnuHashTable}

@@ -1,1 +1,3 @@
 mod Early
+mod FirstNotes
+mod VersionNames

@@ -1,1 +1,3 @@
+pub mod FirstNotes
 pub mod LinkedFunction
+pub mod VersionNames

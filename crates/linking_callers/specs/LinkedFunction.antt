@@ -4,8 +4,7 @@ use Rattle.std.specs.Prelude.{◌≡◌, ℕ, List, length, Option, None, Some, 
 use Rattle.std.specs.Borrow.{Bor}
 use Rattle.elf_base.specs.FileHeader.{file_class, file_order}
 use Rattle.elf_callers.specs.FunctionAt.{IsFunctionAt, NoneHolds}
-use Rattle.elf_linking.specs.DynamicView.{dynamic_entries_of}
-use Rattle.elf_linking.specs.DynamicTables.{AreSymbols, linked_text_of}
+use Rattle.elf_linking.specs.DynamicView.{AreSymbols, dynamic_entries_of, linked_text_of}
 use Rattle.elf_linking.specs.declared.error.LinkError.{LinkError}
 use Rattle.elf_linking.specs.declared.error.LinkError.TheVariants.{Elf}
 use Rattle.elf_linking.specs.declared.view.entry.DynamicEntry.{DynamicEntry}

@@ -6,9 +6,7 @@ ghost use Rattle.std.specs.Prelude.{◌≡◌, ◌↔◌, ◌<◌, ◌≤◌};
 ghost use Rattle.std.specs.Prelude.{ℕ, Contains, IsTrue, List, MatchOption};
 ghost use Rattle.std.specs.Prelude.{None, Option, Result, Some, length, slice_get, true};
 ghost use Rattle.elf_base.specs.Table.{table_items};
-ghost use Rattle.elf_linking.specs.GnuHash.{first_symbol_of};
-ghost use Rattle.elf_linking.specs.GoodGnu.{IsExported, IsGood};
-ghost use Rattle.elf_linking.specs.Run.{Looks};
+ghost use Rattle.elf_linking.specs.GnuHash.{IsExported, IsGood, Looks, first_symbol_of};
 ghost use Rattle.elf_linking.specs.declared.error.LinkError.{LinkError};
 ghost use Rattle.xmas_elf.specs.SymbolTable.{table_symbols};
 ghost use Rattle.xmas_elf.specs.Symbols.{Decides, IsMatch, symbols_of};
@@ -19,6 +17,7 @@ pub mod equality;
 pub mod lookups;
 pub mod notes;
 pub mod relr;
+pub mod versions;
 pub mod view;
 
 use elf_base::bytes::{Record, Table};

@@ -9,5 +9,6 @@ mod notes;
 mod relr;
 mod sections;
 mod shared_object;
+mod versions;
 mod view;
 mod want;

@@ -1,14 +1,12 @@
 //! Small files, field by field.
 
-ghost use Rattle.std.specs.Prelude.{◌≤◌};
-
 use crate::places::{
     WORD, header_32, header_64, program_32, put, section_32, section_64, set, symbol_32,
 };
 use std::alloc::{AllocError, Global};
+use xmas_elf::ElfFile;
 use xmas_elf::bytes::Order;
 use xmas_elf::header::{Class_, Header};
-use xmas_elf::{ElfError, ElfFile};
 
 const LITTLE: Order = Order::Little;
 
@@ -17,17 +15,6 @@ pub fn plain_header(class: u8) -> [u8; 64] {
     let mut header = [0; 64];
     put(&mut header, 0, &[0x7f, b'E', b'L', b'F', class, 1, 1]);
     header
-}
-
-/// How many bytes of `plain_header` a file of this class has: 52, 64, or 16 for all others.
-pub fn plain_header_len(class: u8) -> usize
-    ensures { result ≤ 64 }
-{
-    match class {
-        1 => 52,
-        2 => 64,
-        _ => 16,
-    }
 }
 
 // The byte that says the order of a file's numbers.
@@ -86,16 +73,6 @@ pub fn strtab_file(order: Order) -> [u8; 144] {
     file
 }
 
-/// `strtab_file` in class 64: the section headers stand at 64 and 128, and the names at 192.
-pub fn wide_strtab_file(order: Order) -> [u8; 204] {
-    let mut file = [0; 204];
-    put_header_64(&mut file, 2, order);
-    put_section_64(&mut file, 128, [1, 3, 192, 12], order);
-    set(&mut file, 128, section_64::ALIGN, 1, order);
-    put(&mut file, 192, b"\0.strtab\0ab\0");
-    file
-}
-
 /// `strtab_file` with the names `.dynstr` and `ab`.
 pub fn dynstr_file(order: Order) -> [u8; 144] {
     let mut file = strtab_file(order);
@@ -119,38 +96,22 @@ pub fn shndx_file(order: Order) -> [u8; 203] {
 
 /// Class 64: the names, a link to debug information and a build id.
 pub fn debug_link_file() -> [u8; 397] {
-    debug_link_file_in(LITTLE)
-}
-
-/// The same in either order.
-pub fn debug_link_file_in(order: Order) -> [u8; 397] {
     let mut file = [0; 397];
-    put_header_64(&mut file, 4, order);
-    put_section_64(&mut file, 128, [1, 3, 320, 45], order);
-    put_section_64(&mut file, 192, [11, 1, 365, 12], order);
-    put_section_64(&mut file, 256, [26, 7, 377, 20], order);
+    put_header_64(&mut file, 4, LITTLE);
+    put_section_64(&mut file, 128, [1, 3, 320, 45], LITTLE);
+    put_section_64(&mut file, 192, [11, 1, 365, 12], LITTLE);
+    put_section_64(&mut file, 256, [26, 7, 377, 20], LITTLE);
     put(
         &mut file,
         320,
         b"\0.shstrtab\0.gnu_debuglink\0.note.gnu.build-id\0",
     );
     put(&mut file, 365, b"a.debug\0");
-    set(&mut file, 373, WORD, 0x1234_5678, order);
-    set(&mut file, 377, WORD, 4, order);
-    set(&mut file, 381, WORD, 4, order);
-    set(&mut file, 385, WORD, 3, order);
+    set(&mut file, 373, WORD, 0x1234_5678, LITTLE);
+    set(&mut file, 377, WORD, 4, LITTLE);
+    set(&mut file, 381, WORD, 4, LITTLE);
+    set(&mut file, 385, WORD, 3, LITTLE);
     put(&mut file, 389, b"GNU\0\xde\xad\xbe\xef");
-    file
-}
-
-/// Class 32: the names, and a link to debug information that several files share.
-pub fn alternate_link_file() -> [u8; 197] {
-    let mut file = [0; 197];
-    put_header_32(&mut file, 3, LITTLE);
-    put_section_32(&mut file, 92, [0, 3, 172, 19], LITTLE);
-    put_section_32(&mut file, 132, [1, 1, 191, 6], LITTLE);
-    put(&mut file, 172, b"\0.gnu_debugaltlink\0");
-    put(&mut file, 191, b"x\0\x01\x02\x03\x04");
     file
 }
 
@@ -221,15 +182,6 @@ pub fn put_symbols(file: &mut [u8], start: usize, symbols: &[(u64, u64)]) {
     }
 }
 
-/// `strtab_file` with two program headers that lie over its section headers.
-pub fn overlaid_file() -> [u8; 144] {
-    let mut file = strtab_file(LITTLE);
-    set(&mut file, 0, header_32::PH_OFFSET, 52, LITTLE);
-    set(&mut file, 0, header_32::PH_ENTRY_SIZE, 32, LITTLE);
-    set(&mut file, 0, header_32::PH_COUNT, 2, LITTLE);
-    file
-}
-
 /// The file with another class in part 1 of its header.
 pub fn with_class<'a>(file: &ElfFile<'a>, class: u8) -> ElfFile<'a> {
     let mut pt1 = file.header.pt1;
@@ -242,26 +194,3 @@ pub fn with_class<'a>(file: &ElfFile<'a>, class: u8) -> ElfFile<'a> {
         },
     }
 }
-
-/// What stands at places of the name table of `strtab_file` and `wide_strtab_file`.
-pub const STRTAB_NAMES: &[(u32, Result<&str, ElfError>)] = &[
-    (0, Ok("")),
-    (1, Ok(".strtab")),
-    (9, Ok("ab")),
-    (12, Err(ElfError::TextEnd)),
-    (13, Err(ElfError::TextStart)),
-];
-
-/// Names at places of that table, and how they compare.
-pub const STRTAB_COMPARED: [(u32, &str, (bool, usize)); 10] = [
-    (1, ".strtab", (true, 8)),
-    (1, ".strtax", (false, 7)),
-    (1, ".str", (false, 5)),
-    (9, "abc", (false, 3)),
-    (9, "ab", (true, 3)),
-    (0, "", (true, 1)),
-    (12, "", (false, 0)),
-    (13, "ab", (false, 0)),
-    (1, ".strtab\0ab", (false, 0)),
-    (u32::MAX, "", (false, 0)),
-];

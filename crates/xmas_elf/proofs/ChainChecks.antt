@@ -5,9 +5,7 @@ use Rattle.std.specs.Prelude.{◌≢◌, IsOk, IsTrue, Option, is_some}
 use Rattle.elf_records.specs.HashNumber.{hash_number}
 use Rattle.elf_base.specs.declared.error.ElfError.TheVariants.{HashMissing}
 use Rattle.xmas_elf.specs.Prelude.{ElfError, HashTable}
-use Rattle.xmas_elf.specs.Good.{EndsBelow, IsAtFault, IsReached, IsGood, IsCheck, good, faulty, missing}
-use Rattle.xmas_elf.specs.Chain.{Comes, LooksFrom, Reaches, Walks, bad_bucket, chains_of, ends, stops}
-use Rattle.xmas_elf.specs.HashTable.{bucket_count_of, bucket_of, start_of}
+use Rattle.xmas_elf.specs.HashTable.{Comes, EndsBelow, IsAtFault, IsCheck, IsGood, IsReached, LooksFrom, Reaches, Walks, bad_bucket, bucket_count_of, bucket_of, chains_of, ends, faulty, good, missing, start_of, stops}
 use Rattle.xmas_elf.specs.Symbol.{IsGlobal, Symbols}
 use Rattle.xmas_elf.proofs.ChainFinds.{goes, not_at_fault}
 use Rattle.xmas_elf.proofs.ChainOnce.{looks_once}

@@ -5,10 +5,8 @@ use Rattle.std.proofs.lemmas.Option.{slice_get_within}
 use Rattle.std.specs.Int.{from_bool}
 use Rattle.elf_records.specs.HashNumber.{hash_number}
 use Rattle.xmas_elf.specs.Prelude.{HashTable}
-use Rattle.xmas_elf.specs.Chain.{Comes, chains_of}
+use Rattle.xmas_elf.specs.HashTable.{Belongs, Comes, IsHeldBelow, IsHeldBy, IsReached, MustBeHeld, bucket_count_of, bucket_of, chains_of}
 use Rattle.xmas_elf.specs.Counted.{IsCount}
-use Rattle.xmas_elf.specs.Good.{Belongs, IsHeldBelow, IsHeldBy, IsReached, MustBeHeld}
-use Rattle.xmas_elf.specs.HashTable.{bucket_count_of, bucket_of}
 use Rattle.xmas_elf.specs.Symbol.{IsGlobal, Symbols}
 use Rattle.xmas_elf.proofs.ChainChecks.{named_once}
 use Rattle.xmas_elf.proofs.ChainPaths.{Passes, Picked, apart_before, by_order, comes_same, count_next, end_links, goes_on}

@@ -3,9 +3,7 @@ use Rattle.std.proofs.lemmas.Bool.{cases_eq}
 use Rattle.std.proofs.Common.{◌≡◌, ◌<◌, ◌%◌, ℕ, zero, suc, inl, inr, List, Option, Some, None, Result, Ok, Err, MatchResult, MatchOption, slice_get, refl, subst, arith, below_more}
 use Rattle.elf_records.specs.HashNumber.{hash_number}
 use Rattle.xmas_elf.specs.Prelude.{ElfError, HashTable}
-use Rattle.xmas_elf.specs.Chain.{Chains, StandsAt, Stops, at_end, past_chains, past_symbols, found, refused, Links, Comes, Reaches, NoneBefore, LooksFrom, no_bucket, reaches, endless, chains_of}
-use Rattle.xmas_elf.specs.HashTable.{bucket_count_of, start_of}
-use Rattle.xmas_elf.specs.Good.{Ends, EndsBelow, IsAtFault, IsGood, FindsAll, MustBeFound}
+use Rattle.xmas_elf.specs.HashTable.{Chains, Comes, Ends, EndsBelow, FindsAll, IsAtFault, IsGood, Links, LooksFrom, MustBeFound, NoneBefore, Reaches, StandsAt, Stops, at_end, bucket_count_of, chains_of, endless, found, no_bucket, past_chains, past_symbols, reaches, refused, start_of}
 use Rattle.xmas_elf.specs.Symbol.{Symbols}
 use Rattle.xmas_elf.proofs.ChainPaths.{by_order, comes_in, comes_once, end_links, goes_on}
 use Rattle.xmas_elf.proofs.ChainStarts.{start_none, start_some}

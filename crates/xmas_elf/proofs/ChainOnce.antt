@@ -2,7 +2,7 @@
 use Rattle.std.proofs.Common.{◌≡◌, ◌≢◌, ◌<◌, ◌≤◌, ℕ, Option, Some, None, Result, Ok, Err, slice_get, ◌⊎◌, inl, inr, refl, subst, arith}
 use Rattle.elf_base.specs.declared.error.ElfError.TheVariants.{ChainIndex, HashCycle, SymbolIndex}
 use Rattle.xmas_elf.specs.Prelude.{ElfError}
-use Rattle.xmas_elf.specs.Chain.{Chains, StandsAt, Stops, at_end, past_chains, past_symbols, found, refused, Comes, NoneBefore, LooksFrom, no_bucket, bad_bucket, reaches, endless}
+use Rattle.xmas_elf.specs.HashTable.{Chains, StandsAt, Stops, at_end, past_chains, past_symbols, found, refused, Comes, NoneBefore, LooksFrom, no_bucket, bad_bucket, reaches, endless}
 use Rattle.xmas_elf.proofs.ChainPaths.{by_order, comes_in, comes_once, goes_on, stop_or_link}
 
 module _ {E : Type 0} (P : E → Type 0) (chains : Chains E) where

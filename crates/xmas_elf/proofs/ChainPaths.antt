@@ -8,7 +8,7 @@ use Rattle.std.specs.Int.{from_bool}
 use Rattle.std.specs.Prelude.{IsOk}
 use Rattle.elf_base.specs.declared.error.ElfError.TheVariants.{ChainIndex, SymbolIndex}
 use Rattle.xmas_elf.specs.Prelude.{ElfError}
-use Rattle.xmas_elf.specs.Chain.{Chains, StandsAt, Stops, at_end, past_chains, past_symbols, found, refused, Links, Comes, starts, goes, NoneBefore, LooksFrom, Reaches, reaches, endless, Halts, no_chain, no_symbol, too_many, Walked, Walks, ends, stops, halts, breaks}
+use Rattle.xmas_elf.specs.HashTable.{Chains, StandsAt, Stops, at_end, past_chains, past_symbols, found, refused, Links, Comes, starts, goes, NoneBefore, LooksFrom, Reaches, reaches, endless, Halts, no_chain, no_symbol, too_many, Walked, Walks, ends, stops, halts, breaks}
 use Rattle.xmas_elf.specs.Counted.{IsCount}
 use Rattle.xmas_elf.proofs.SymbolCounts.{count_more, count_none, count_same}
 

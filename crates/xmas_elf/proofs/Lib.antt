@@ -18,3 +18,5 @@ pub mod ChainChecks
 pub mod ChainCounts
 pub mod HashSections
 pub mod Places
+pub mod Shapes
+pub mod SegmentShapes

@@ -1,5 +1,5 @@
 -- Names of symbols, compared in the string table that was found for them.
-use Rattle.std.proofs.Common.{rules, ◌≡◌, ◌↔◌, ℕ, List, Option, Some, Result, Ok, Err, Bool, true, false, IsTrue, IfSome, Bor, ap}
+use Rattle.std.proofs.Common.{rules, ◌≡◌, ◌↔◌, ℕ, List, Option, Some, Result, Ok, Err, Bool, true, false, IsTrue, Bor, ap}
 use Rattle.std.specs.Result.{result_ok}
 use Rattle.elf_base.specs.Lent.{Answers}
 use Rattle.elf_base.specs.Text.{IsText, text_of}

@@ -1,12 +1,16 @@
--- Hash tables of symbols (gABI, "Hash Table"), in words of four bytes; the errors for words are this
--- project's own.
-use Rattle.std.specs.Prelude.{ℕ, ◌+◌, ◌*◌, ◌%◌, ◌^◌, ◌<◌, ◌≤◌, Bool, nat_eq, nat_le, nat_lt, List, [], ◌∷◌, length, Option, Some, None, Result, if◌then◌else◌}
+-- Hash tables of symbols (gABI, "Hash Table"): their words, the chains that look-ups walk, and the tables in
+-- which look-ups find every symbol that they must. The errors, and which tables are good, are this project's
+-- own.
+use Rattle.std.specs.Prelude.{ℕ, ◌+◌, ◌*◌, ◌%◌, ◌^◌, ◌<◌, ◌≤◌, Bool, nat_eq, nat_le, nat_lt, List, [], ◌∷◌, length, Option, Some, None, Result, if◌then◌else◌, ◌≡◌, ◌⊎◌, zero, suc, Ok, Err, slice_get, MatchResult, MatchOption}
 use Rattle.std.specs.Borrow.{Bor}
 use Rattle.elf_base.specs.Number.{number}
 use Rattle.elf_base.specs.Refusal.{unless}
 use Rattle.elf_records.specs.HashNumber.{hash_number}
-use Rattle.elf_base.specs.declared.error.ElfError.TheVariants.{BucketIndex, ChainIndex, ChainSum, HashData}
+use Rattle.elf_base.specs.declared.error.ElfError.TheVariants.{BucketIndex, ChainIndex, ChainSum, HashData, HashCycle, SymbolIndex, HashMissing}
 use Rattle.xmas_elf.specs.Prelude.{ElfError, HashTable, Order}
+use Rattle.xmas_elf.specs.Symbol.{IsGlobal, Symbols}
+
+-- The words of a table, of four bytes each.
 
 -- the slice that a hash table borrows: its place in memory and its bytes
 abbrev pub hash_bytes : HashTable → Bor (List ℕ)
@@ -72,3 +76,163 @@ chain_of table i = unless (
 unfoldable pub start_of : HashTable → List ℕ → Option (Result ℕ ElfError)
 start_of table name = if nat_eq (bucket_count_of table) 0 then None
     else Some (bucket_of table (hash_number name % bucket_count_of table))
+
+-- Chains: the steps of a walk, where it stops, and what it reaches.
+
+-- what a walk reads: the number of chains, each chain or why it can't be read, the symbols
+pub record Chains (E : Type 0) : Type 0 where
+  pub count : ℕ
+  pub chain : ℕ → Result ℕ ElfError
+  pub symbols : List E
+
+-- the chains of a hash table, with its symbols
+abbrev pub chains_of : {E : Type 0} → HashTable → List E → Chains E
+chains_of table symbols =
+    record { count = chain_count_of table; chain = chain_of table; symbols = symbols }
+
+-- index i is not the end (STN_UNDEF) and is below the number of chains, and its symbol is e
+pub record StandsAt {E : Type 0} (chains : Chains E) (i : ℕ) (e : E) : Type 0 where
+  pub not_end : 0 < i
+  pub below : i < chains.count
+  pub symbol : slice_get chains.symbols i ≡ Some e
+
+-- the step of a walk from i to j
+pub record Links {E : Type 0} (chains : Chains E) (i j : ℕ) : Type 0 where
+  pub entry : E
+  pub stands : StandsAt chains i entry
+  pub next : chains.chain i ≡ Ok j
+
+-- a walk from the first index comes to another in a number of steps
+pub data Comes {E : Type 0} (chains : Chains E) (first : ℕ) : ℕ → ℕ → Type 0 where
+  starts : Comes chains first zero first
+  goes : (n i j : ℕ) → Comes chains first n i → Links chains i j → Comes chains first (suc n) j
+
+-- a walk from one index comes to the other
+abbrev pub Reaches : {E : Type 0} → Chains E → ℕ → ℕ → Type 0
+Reaches chains first last = (n : ℕ) × Comes chains first n last
+
+-- no symbol at an index that the walk comes to in fewer than n steps has P
+abbrev pub NoneBefore : {E : Type 0} → (E → Type 0) → Chains E → ℕ → ℕ → Type 0
+NoneBefore {E} P chains first n =
+    (m : ℕ) → m < n → (i : ℕ) (e : E) → Comes chains first m i → StandsAt chains i e → ¬ P e
+
+-- a walk that looks for P stops at an index with a result, and compares a number of symbols there
+pub data Stops {E : Type 0} (P : E → Type 0) (chains : Chains E) : ℕ → Result (Option (ℕ × E)) ElfError → ℕ → Type 0 where
+  at_end : Stops P chains 0 (Ok None) 0
+  past_chains : (i : ℕ) → 0 < i → chains.count ≤ i → Stops P chains i (Err ChainIndex) 0
+  past_symbols : (i : ℕ) → 0 < i → i < chains.count → slice_get chains.symbols i ≡ None
+      → Stops P chains i (Err SymbolIndex) 0
+  found : (i : ℕ) (e : E) → StandsAt chains i e → P e → Stops P chains i (Ok (Some (i, e))) 1
+  refused : (i : ℕ) (e : E) (error : ElfError) → StandsAt chains i e → (P e → ⊥)
+      → chains.chain i ≡ Err error → Stops P chains i (Err error) 1
+
+-- the result of a walk that begins at a bucket, and the number of symbols it compares: that of the first stop
+-- that it reaches, or HashCycle if it reaches none
+pub data LooksFrom {E : Type 0} (P : E → Type 0) (chains : Chains E) : Option (Result ℕ ElfError) → Result (Option (ℕ × E)) ElfError → ℕ → Type 0 where
+  no_bucket : LooksFrom P chains None (Ok None) 0
+  bad_bucket : (error : ElfError) → LooksFrom P chains (Some (Err error)) (Err error) 0
+  reaches : (first last n more : ℕ) (answer : Result (Option (ℕ × E)) ElfError)
+      → Comes chains first n last → NoneBefore P chains first n → Stops P chains last answer more
+      → LooksFrom P chains (Some (Ok first)) answer (n + more)
+  endless : (first n : ℕ)
+      → ((last m more : ℕ) (answer : Result (Option (ℕ × E)) ElfError) → Comes chains first m last → NoneBefore P chains first m → Stops P chains last answer more → ⊥)
+      → LooksFrom P chains (Some (Ok first)) (Err HashCycle) n
+
+-- the result of a look-up for P, which begins at the bucket of the name
+abbrev pub Looks : {E : Type 0} → (E → Type 0) → HashTable → List E → List ℕ → Result (Option (ℕ × E)) ElfError → ℕ → Type 0
+Looks P table symbols name = LooksFrom P (chains_of table symbols) (start_of table name)
+
+-- why a walk stops at an index that isn't the end, after `passed` symbols
+pub data Halts {E : Type 0} (chains : Chains E) (passed i : ℕ) : ElfError → Type 0 where
+  no_chain : chains.count ≤ i → Halts chains passed i ChainIndex
+  no_symbol : i < chains.count → slice_get chains.symbols i ≡ None → Halts chains passed i SymbolIndex
+  too_many : (e : E) → StandsAt chains i e → (chains.count ≤ passed) ⊎ (length chains.symbols ≤ passed)
+      → Halts chains passed i HashCycle
+
+-- a walk from the first index comes to index i in n steps, and each symbol before has Over: its test was
+-- false
+pub record Walked {E : Type 0} (Over : ℕ × E → Type 0) (chains : Chains E) (first n i : ℕ) : Type 0 where
+  pub comes : Comes chains first n i
+  pub over : (m x : ℕ) (e : E) → m < n → Comes chains first m x → StandsAt chains x e → Over (x, e)
+
+-- the result of a walk that tests each symbol, and the number of tests: the first symbol that passes, nothing
+-- at the end, or the error where it stops
+pub data Walks {E : Type 0} (Stop Over : ℕ × E → Type 0) (chains : Chains E) (first : ℕ) : Result (Option (ℕ × E)) ElfError → ℕ → Type 0 where
+  ends : (n : ℕ) → Walked Over chains first n 0 → Walks Stop Over chains first (Ok None) n
+  stops : (n i : ℕ) (e : E) → Walked Over chains first n i → StandsAt chains i e → Stop (i, e)
+      → Walks Stop Over chains first (Ok (Some (i, e))) (n + 1)
+  halts : (n i : ℕ) (error : ElfError) → Walked Over chains first n i → 0 < i → Halts chains n i error
+      → Walks Stop Over chains first (Err error) n
+  breaks : (n i : ℕ) (e : E) (error : ElfError) → Walked Over chains first n i → StandsAt chains i e → Over (i, e)
+      → chains.chain i ≡ Err error → Walks Stop Over chains first (Err error) (n + 1)
+
+-- a walk that looks for P begins at an index, and reaches no stop
+abbrev pub IsEndless : {E : Type 0} → (E → Type 0) → Chains E → Option (Result ℕ ElfError) → Type 0
+IsEndless {E} P chains start = (first : ℕ) × (start ≡ Some (Ok first))
+    × ((last m more : ℕ) (answer : Result (Option (ℕ × E)) ElfError) → Comes chains first m last → NoneBefore P chains first m → Stops P chains last answer more → ⊥)
+
+-- Tables whose chains end and contain every symbol that a search must find.
+
+-- the chain of bucket k ends
+abbrev pub Ends : {E : Type 0} → HashTable → List E → ℕ → Type 0
+Ends table symbols k =
+    (first : ℕ) × (bucket_of table k ≡ Ok first) × Reaches (chains_of table symbols) first 0
+
+-- the chains of all buckets below n end
+abbrev pub EndsBelow : {E : Type 0} → HashTable → List E → ℕ → Type 0
+EndsBelow table symbols n = (k : ℕ) → k < n → Ends table symbols k
+
+-- index i is in the chain of the bucket of the name
+abbrev pub IsReached : {E : Type 0} → HashTable → List E → List ℕ → ℕ → Type 0
+IsReached table symbols name i =
+    (first : ℕ) × (start_of table name ≡ Some (Ok first)) × Reaches (chains_of table symbols) first i
+
+-- each chain ends, and each symbol that is not local and has a name is in the chain of that name
+pub record IsGood {E : Type 0} (table : HashTable) (symbols : Symbols E) : Type 0 where
+  pub ends : EndsBelow table symbols.items (bucket_count_of table)
+  pub holds : (i : ℕ) (e : E) (name : List ℕ) → IsGlobal symbols i e name
+      → IsReached table symbols.items name i
+
+-- bucket k is at fault: a walk from it along the whole chain is refused with this error
+abbrev pub IsAtFault : {E : Type 0} → HashTable → List E → ℕ → ElfError → Type 0
+IsAtFault table symbols k error =
+    (n : ℕ) × LooksFrom (λ _. ⊥) (chains_of table symbols) (Some (bucket_of table k)) (Err error) n
+
+-- the result of the check: the error of the least bucket at fault; otherwise whether a symbol is missing
+pub data IsCheck {E : Type 0} (table : HashTable) (symbols : Symbols E) : Result (Unit {0}) ElfError → Type 0 where
+  good : IsGood table symbols → IsCheck table symbols (Ok tt)
+  faulty : (k : ℕ) (error : ElfError) → k < bucket_count_of table → EndsBelow table symbols.items k
+      → IsAtFault table symbols.items k error → IsCheck table symbols (Err error)
+  missing : (i : ℕ) (e : E) (name : List ℕ) → EndsBelow table symbols.items (bucket_count_of table)
+      → IsGlobal symbols i e name → ¬ IsReached table symbols.items name i
+      → IsCheck table symbols (Err HashMissing)
+
+-- symbol i must be found: it is not local and has a name
+abbrev pub MustBeHeld : {E : Type 0} → Symbols E → ℕ → Type 0
+MustBeHeld {E} symbols i = (e : E) × (name : List ℕ) × IsGlobal symbols i e name
+
+-- symbol i must be found, and bucket k is that of its name
+abbrev pub Belongs : {E : Type 0} → HashTable → Symbols E → ℕ → ℕ → Type 0
+Belongs {E} table symbols k i = (e : E) × (name : List ℕ)
+    × IsGlobal symbols i e name × (hash_number name % bucket_count_of table ≡ k)
+
+-- symbol i belongs to bucket k and is in its chain
+abbrev pub IsHeldBy : {E : Type 0} → HashTable → Symbols E → ℕ → ℕ → Type 0
+IsHeldBy table symbols k i = Belongs table symbols k i × ((first : ℕ)
+    × (bucket_of table k ≡ Ok first) × Reaches (chains_of table symbols.items) first i)
+
+-- symbol i is found in its bucket, which is below n
+abbrev pub IsHeldBelow : {E : Type 0} → HashTable → Symbols E → ℕ → ℕ → Type 0
+IsHeldBelow table symbols n i = (k : ℕ) × (k < n) × IsHeldBy table symbols k i
+
+-- a search of all symbols for the name and P finds one
+abbrev pub MustBeFound : {E : Type 0} → Symbols E → List ℕ → (E → Type 0) → Type 0
+MustBeFound {E} symbols name P = (i : ℕ) × (e : E) × IsGlobal symbols i e name × P e
+
+-- there is no error; what is found is one of the symbols and has P, and if nothing is found, a search of all
+-- symbols finds nothing either
+abbrev pub FindsAll : {E : Type 0} → Symbols E → List ℕ → (E → Type 0) → Result (Option (ℕ × E)) ElfError → Type 0
+FindsAll {E} symbols name P answer = MatchResult answer
+    (λ found. MatchOption found (¬ MustBeFound symbols name P)
+    (λ (p : ℕ × E). (0 < p.0) × (slice_get symbols.items p.0 ≡ Some p.1) × P p.1))
+    (λ error. ⊥)

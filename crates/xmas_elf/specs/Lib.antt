@@ -1,7 +1,6 @@
 pub use Rattle.elf_base.specs.Number
 pub use Rattle.elf_base.specs.Refusal
 pub use Rattle.elf_base.specs.Message
-pub use Rattle.elf_base.specs.HeaderNumbers
 pub use Rattle.elf_base.specs.FileHeader
 pub use Rattle.elf_base.specs.Printed
 pub use Rattle.elf_base.specs.HeaderText
@@ -50,9 +49,7 @@ pub mod Symbol
 pub mod HashTable
 pub mod Symbols
 pub mod SymbolTable
-pub mod Chain
 pub mod Counted
-pub mod Good
 pub mod Content
 pub mod SectionContent
 pub mod Strings
@@ -65,6 +62,7 @@ pub mod SectionText
 pub mod ProgramHeader
 pub mod ProgramTable
 pub mod SegmentContent
+pub mod Shapes
 pub mod ProgramText
 pub mod Checks
 pub mod BuildId

@@ -1,5 +1,5 @@
 -- The places in the input of the parts that are lent (this project's own): they share its memory.
-use Rattle.std.specs.Prelude.{◌≢◌, ℕ, ◌+◌, List, codes, length}
+use Rattle.std.specs.Prelude.{◌≢◌, ℕ, ◌+◌, Bool, true, false, List, codes, length, IsSomeAnd}
 use Rattle.std.specs.Borrow.{Bor}
 use Rattle.elf_base.specs.Lent.{LiesAt}
 use Rattle.elf_base.specs.Table.{table_bytes}
@@ -7,7 +7,7 @@ use Rattle.elf_records.specs.Note.{note_name_size, rounded_up}
 use Rattle.xmas_elf.specs.Prelude.{ElfFile, NoteHeader, ProgramHeader64, SectionData, SectionHeader, SegmentData}
 use Rattle.xmas_elf.specs.BuildId.{IsNoteSection}
 use Rattle.xmas_elf.specs.HashTable.{hash_bytes}
-use Rattle.xmas_elf.specs.NameTable.{IsFirstNamed}
+use Rattle.xmas_elf.specs.NameTable.{IsFirstNamed, section_named}
 use Rattle.xmas_elf.specs.SectionHeader.{section_fields}
 use Rattle.xmas_elf.specs.declared.program.content.SegmentData.TheVariants as segment_data
 use Rattle.xmas_elf.specs.declared.sections.content.SectionData.TheVariants as section_data
@@ -15,6 +15,16 @@ use Rattle.xmas_elf.specs.declared.sections.content.SectionData.TheVariants as s
 -- the data of a section is at its offset in the input
 abbrev pub LiesAsSection : ElfFile → SectionHeader → Bor (List ℕ) → Type 0
 LiesAsSection file section = LiesAt file.input (section_fields section).offset
+
+-- the data of the first section with a name is at its offset in the input
+abbrev pub LiesAsNamed : ElfFile → List ℕ → Bor (List ℕ) → Type 0
+LiesAsNamed file name part = IsSomeAnd (section_named file name) (λ section. LiesAsSection file section part)
+
+-- the string table of symbols is that section's data: .dynstr for symbols for dynamic linking, otherwise
+-- .strtab
+abbrev pub LiesAsSymbolStrings : Bool → ElfFile → Bor (List ℕ) → Type 0
+LiesAsSymbolStrings true file = LiesAsNamed file (codes ".dynstr")
+LiesAsSymbolStrings false file = LiesAsNamed file (codes ".strtab")
 
 -- the data of a segment is at its offset in the input; the empty slice of an empty segment may be anywhere
 abbrev pub LiesAsSegment : ElfFile → ProgramHeader64 → Bor (List ℕ) → Type 0

@@ -6,8 +6,7 @@ use Rattle.elf_records.specs.declared.sections.ShType.TheVariants.{Hash}
 use Rattle.xmas_elf.specs.Prelude.{ElfError, ElfFile, HashTable, SectionHeader}
 use Rattle.xmas_elf.specs.Content.{Content, dyn_symbols_32, dyn_symbols_64, hash_table, symbols_32, symbols_64, table_of}
 use Rattle.xmas_elf.specs.First.{FindsFirst}
-use Rattle.xmas_elf.specs.Good.{IsCheck}
-use Rattle.xmas_elf.specs.HashTable.{hash_data, hash_order}
+use Rattle.xmas_elf.specs.HashTable.{IsCheck, hash_data, hash_order}
 use Rattle.xmas_elf.specs.SectionContent.{section_content_of}
 use Rattle.xmas_elf.specs.SectionHeader.{section_fields, section_list, section_of, section_type}
 use Rattle.xmas_elf.specs.Symbol.{Symbols}

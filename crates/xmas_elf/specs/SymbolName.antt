@@ -1,6 +1,6 @@
 -- The names of symbols in a file, one by one and in a string table that was found for many of them (gABI,
 -- "Symbol Table", st_name).
-use Rattle.std.specs.Prelude.{◌≡◌, ℕ, List, Option, Result, Ok, Err, Bool, true, false}
+use Rattle.std.specs.Prelude.{◌≡◌, ℕ, List, Option, Some, None, Result, Ok, Err, Bool, true, false}
 use Rattle.std.specs.Borrow.{Bor}
 use Rattle.std.specs.Result.{result_ok}
 use Rattle.elf_base.specs.Text.{text_of}
@@ -26,6 +26,11 @@ IsSymbolString false = IsString
 abbrev pub name_in_table : Result (Bor (List ℕ)) ElfError → ℕ → Result (List ℕ) ElfError
 name_in_table (Ok table) index = text_of table.now index
 name_in_table (Err error) index = Err error
+
+-- the text at an index of the table that was handed in, or else of the string table of the symbols
+abbrev pub name_by : Bool → ElfFile → Option (Result (Bor (List ℕ)) ElfError) → ℕ → Result (List ℕ) ElfError
+name_by dynamic file (Some found) index = name_in_table found index
+name_by dynamic file None index = symbol_string_of dynamic file index
 
 -- the name of each symbol is the text at its index there
 abbrev pub HoldsNames : {E : Type 0} → (E → SymbolFields) → (E → Option (List ℕ)) → Result (Bor (List ℕ)) ElfError → Type 0

@@ -3,7 +3,7 @@
 
 ghost use Rattle.std.specs.Prelude.{◌≡◌, ◌==◌, [], ◌∷◌, None, if◌then◌else◌, length, nat_lt, not};
 ghost use Rattle.std.specs.Result.{result_ok};
-ghost use Rattle.elf_base.specs.HeaderNumbers.{class_number};
+ghost use Rattle.elf_base.specs.FileHeader.{class_number};
 ghost use Rattle.elf_base.specs.Refusal.{unless};
 ghost use Rattle.elf_base.specs.declared.error.ElfError.{ElfError};
 ghost use Rattle.xmas_elf.specs.SectionHeader.{first_section, program_count_of, section_at_place};

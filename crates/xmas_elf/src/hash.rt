@@ -26,9 +26,9 @@ pub struct HashTable<'a> {
 }
 
 impl<'a> HashTable<'a> {
-    ghost use Rattle.xmas_elf.specs.Chain.{Halts, StandsAt, Walks, chains_of};
-    ghost use Rattle.xmas_elf.specs.HashTable.{HasBucket, HasChain, bucket_count_of, bucket_of};
-    ghost use Rattle.xmas_elf.specs.HashTable.{chain_count_of, chain_of, hash_bytes, hash_data};
+    ghost use Rattle.xmas_elf.specs.HashTable.{Halts, HasBucket, HasChain, StandsAt, Walks};
+    ghost use Rattle.xmas_elf.specs.HashTable.{bucket_count_of, bucket_of, chain_count_of};
+    ghost use Rattle.xmas_elf.specs.HashTable.{chain_of, chains_of, hash_bytes, hash_data};
     ghost use Rattle.xmas_elf.specs.HashTable.{hash_order, hash_word, start_of, word_of};
     ghost use Rattle.xmas_elf.specs.SymbolTable.{table_symbols};
 

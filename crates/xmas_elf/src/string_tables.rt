@@ -1,6 +1,8 @@
 //! The string tables of symbols, found by name, and their texts (gABI, "String Table").
 
+ghost use Rattle.std.specs.Prelude.{IfOk, codes};
 ghost use Rattle.elf_base.specs.Lent.{Answers, Lends, LendsOnly};
+ghost use Rattle.xmas_elf.specs.Place.{LiesAsNamed};
 ghost use Rattle.xmas_elf.specs.StringTables.{IsDynString, IsDynstr, IsString, IsStrtab};
 ghost use Rattle.xmas_elf.specs.StringTables.{dyn_string_of, dynstr_of, string_of, strtab_of};
 
@@ -45,6 +47,7 @@ impl<'a> ElfFile<'a> {
     #[tactic(auto, unfolding(crate::specs::StringTables::strtab_of))]
     pub(crate) fn strtab(&self) -> Result<&'a [u8], ElfError>
         ensures table { Lends (IsStrtab self.now) result }
+        ensures place { IfOk result (LiesAsNamed self.now (codes ".strtab")) }
         ensures only { LendsOnly (IsStrtab self.now) result }
         ensures exact { Answers (strtab_of self.now) result }
     {
@@ -61,6 +64,7 @@ impl<'a> ElfFile<'a> {
     #[tactic(auto, unfolding(crate::specs::StringTables::dynstr_of))]
     pub(crate) fn dynstr(&self) -> Result<&'a [u8], ElfError>
         ensures table { Lends (IsDynstr self.now) result }
+        ensures place { IfOk result (LiesAsNamed self.now (codes ".dynstr")) }
         ensures only { LendsOnly (IsDynstr self.now) result }
         ensures exact { Answers (dynstr_of self.now) result }
     {

@@ -4,11 +4,11 @@
 //! name, without `_`, is what the number means.
 
 ghost use Rattle.std.specs.Prelude.{◌≡◌, ◌↔◌, IsTrue};
-ghost use Rattle.elf_base.specs.HeaderNumbers.{class_number, class_of, class_raw, encoding_number};
-ghost use Rattle.elf_base.specs.HeaderNumbers.{encoding_of, encoding_raw, machine_number};
-ghost use Rattle.elf_base.specs.HeaderNumbers.{machine_of, machine_raw, os_abi_number, os_abi_of};
-ghost use Rattle.elf_base.specs.HeaderNumbers.{os_abi_raw, type_number, type_of, type_raw};
-ghost use Rattle.elf_base.specs.HeaderNumbers.{version_number, version_of, version_raw};
+ghost use Rattle.elf_base.specs.FileHeader.{class_number, class_of, class_raw, encoding_number};
+ghost use Rattle.elf_base.specs.FileHeader.{encoding_of, encoding_raw, machine_number, machine_of};
+ghost use Rattle.elf_base.specs.FileHeader.{machine_raw, os_abi_number, os_abi_of, os_abi_raw};
+ghost use Rattle.elf_base.specs.FileHeader.{type_number, type_of, type_raw, version_number};
+ghost use Rattle.elf_base.specs.FileHeader.{version_of, version_raw};
 
 /// The class of a file, as a number (gABI, "ELF Header", EI_CLASS).
 #[derive(Clone, Copy, Debug, PartialEq, Eq)]

@@ -6,11 +6,9 @@ ghost use Rattle.std.specs.Prelude.{IsTrue, MatchOption, MatchResult, None, Opti
 ghost use Rattle.std.specs.Prelude.{length, slice_get, true};
 ghost use Rattle.elf_callers.specs.Linked.{AreLinked, IsFileValueOf, IsLinkRefused};
 ghost use Rattle.elf_callers.specs.Linked.{NotLinked, symbols_in, table_in};
-ghost use Rattle.xmas_elf.specs.Chain.{Looks};
+ghost use Rattle.xmas_elf.specs.HashTable.{IsGood, Looks, chain_count_of, hash_data, hash_order};
 ghost use Rattle.xmas_elf.specs.FileHeader.{header_of};
-ghost use Rattle.xmas_elf.specs.Good.{IsGood};
 ghost use Rattle.xmas_elf.specs.ReportHash.{content_at};
-ghost use Rattle.xmas_elf.specs.HashTable.{chain_count_of, hash_data, hash_order};
 ghost use Rattle.xmas_elf.specs.SectionContent.{section_content_of};
 ghost use Rattle.xmas_elf.specs.Symbol.{IsGlobal};
 ghost use Rattle.xmas_elf.specs.Symbols.{Decides, IsMatch, symbols_of};

@@ -5,7 +5,7 @@ ghost use Rattle.std.specs.Prelude.{MatchOption, MatchResult, None, Ok, Some, le
 ghost use Rattle.elf_callers.specs.Kinds.{symbols_64_in};
 ghost use Rattle.xmas_elf.specs.FileHeader.{header_of};
 ghost use Rattle.xmas_elf.specs.Lent.{LiesAt};
-ghost use Rattle.xmas_elf.specs.Place.{LiesAsSection};
+ghost use Rattle.xmas_elf.specs.Place.{LiesAsSection, PartLies, section_part};
 ghost use Rattle.xmas_elf.specs.ProgramHeader.{HasSegmentData, IsSegmentData, program_fields};
 ghost use Rattle.xmas_elf.specs.SectionContent.{section_content, section_content_of};
 ghost use Rattle.xmas_elf.specs.SectionData.{HasSectionData, IsSectionData};
@@ -80,7 +80,8 @@ pub fn section_data_in(input: &[u8], index: u16) -> Result<SectionData<'_>, ElfE
     ensures found { IfOk result (λ part. IsOkAnd (header_of input.now) (λ header.
         let file : ElfFile = record { input = input.entry; header = header } in
         IsOkAnd (section_by_u16 input.now header index)
-        (λ section. section_content_of file section ≡ Ok (section_content part)))) }
+        (λ section. (section_content_of file section ≡ Ok (section_content part))
+        × PartLies input.entry (section_fields section).offset (section_part part)))) }
     ensures refused { IfErr result (λ error. MatchResult (header_of input.now) (λ header.
         let file : ElfFile = record { input = input.entry; header = header } in
         MatchResult (section_by_u16 input.now header index)

@@ -4,14 +4,13 @@ use Rattle.std.specs.Borrow.{Bor}
 use Rattle.std.specs.Fn.{Shared, FnReturnsAt}
 use Rattle.elf_base.specs.declared.error.ElfError.{ElfError}
 use Rattle.elf_linking.specs.AnyTable.{FindsAllBy, LooksBy}
-use Rattle.elf_linking.specs.GnuHashNumber.{gnu_hash_number}
-use Rattle.elf_linking.specs.Run as gnu_run
+use Rattle.elf_linking.specs.Layouts.{gnu_hash_number}
+use Rattle.elf_linking.specs.GnuHash as gnu
 use Rattle.elf_linking.specs.declared.any_table.AnyTable.{AnyTable}
 use Rattle.elf_linking.specs.declared.any_table.AnyTable.TheVariants.{Gnu, Sysv}
 use Rattle.elf_linking.specs.declared.error.LinkError.{LinkError}
 use Rattle.elf_linking.specs.declared.gnu_hash.GnuHashTable.{GnuHashTable}
-use Rattle.xmas_elf.specs.Chain.{Chains, LooksFrom, NoneBefore, Stops, at_end, bad_bucket, chains_of, endless, found, no_bucket, past_chains, past_symbols, reaches, refused}
-use Rattle.xmas_elf.specs.HashTable.{start_of}
+use Rattle.xmas_elf.specs.HashTable.{Chains, LooksFrom, NoneBefore, Stops, at_end, bad_bucket, chains_of, endless, found, no_bucket, past_chains, past_symbols, reaches, refused, start_of}
 use Rattle.xmas_elf.specs.Symbol.{Symbols}
 use Rattle.xmas_elf.specs.Symbols.{IsMatch}
 
@@ -34,15 +33,15 @@ chain_looks_so P Q to back chains _ _ _ (endless first n never) =
     endless first n (λ last m more answer comes none stops. never last m more answer comes (none_before_so Q P to chains first m none) (chain_stops_so Q P back to chains last more answer stops))
 
 module _ {E : Type 0} (h : ℕ) (table : GnuHashTable) (symbols : List E) where
-  hit_so : (P Q : E → Type 0) → ((e : E) → P e → Q e) → (i : ℕ) (e : E) → gnu_run.IsHit P h table symbols i e → gnu_run.IsHit Q h table symbols i e
+  hit_so : (P Q : E → Type 0) → ((e : E) → P e → Q e) → (i : ℕ) (e : E) → gnu.IsHit P h table symbols i e → gnu.IsHit Q h table symbols i e
   hit_so P Q to i e hit = record { there = hit.there; symbol = hit.symbol; agrees = hit.agrees; holds = to e hit.holds }
 
-  run_stops_so : (P Q : E → Type 0) → ((e : E) → P e → Q e) → ((e : E) → Q e → P e) → (i n : ℕ) (answer : Result (Option (ℕ × E)) LinkError) → gnu_run.Stops P h table symbols i answer n → gnu_run.Stops Q h table symbols i answer n
-  run_stops_so P Q to back i _ _ (gnu_run.found e hit) = gnu_run.found e (hit_so P Q to i e hit)
-  run_stops_so P Q to back i _ _ (gnu_run.ended there ends none) = gnu_run.ended there ends (λ e hit. none e (hit_so Q P back i e hit))
-  run_stops_so P Q to back i _ _ (gnu_run.refused error lacks) = gnu_run.refused error lacks
+  run_stops_so : (P Q : E → Type 0) → ((e : E) → P e → Q e) → ((e : E) → Q e → P e) → (i n : ℕ) (answer : Result (Option (ℕ × E)) LinkError) → gnu.Stops P h table symbols i answer n → gnu.Stops Q h table symbols i answer n
+  run_stops_so P Q to back i _ _ (gnu.found e hit) = gnu.found e (hit_so P Q to i e hit)
+  run_stops_so P Q to back i _ _ (gnu.ended there ends none) = gnu.ended there ends (λ e hit. none e (hit_so Q P back i e hit))
+  run_stops_so P Q to back i _ _ (gnu.refused error lacks) = gnu.refused error lacks
 
-  run_looks_so : (P Q : E → Type 0) → ((e : E) → P e → Q e) → ((e : E) → Q e → P e) → (from n : ℕ) (answer : Result (Option (ℕ × E)) LinkError) → gnu_run.LooksFrom P h table symbols from answer n → gnu_run.LooksFrom Q h table symbols from answer n
+  run_looks_so : (P Q : E → Type 0) → ((e : E) → P e → Q e) → ((e : E) → Q e → P e) → (from n : ℕ) (answer : Result (Option (ℕ × E)) LinkError) → gnu.LooksFrom P h table symbols from answer n → gnu.LooksFrom Q h table symbols from answer n
   run_looks_so P Q to back from n answer looks = record {
     last = looks.last;
     here = looks.here;
@@ -52,11 +51,11 @@ module _ {E : Type 0} (h : ℕ) (table : GnuHashTable) (symbols : List E) where
     counted = looks.counted;
   }
 
-gnu_looks_so : {E : Type 0} (P Q : E → Type 0) → ((e : E) → P e → Q e) → ((e : E) → Q e → P e) → (table : GnuHashTable) (symbols : List E) (name : List ℕ) (answer : Result (Option (ℕ × E)) LinkError) (n : ℕ) → gnu_run.Looks P table symbols name answer n → gnu_run.Looks Q table symbols name answer n
-gnu_looks_so P Q to back table symbols name _ _ (gnu_run.no_run none) = gnu_run.no_run none
-gnu_looks_so P Q to back table symbols name _ _ (gnu_run.too_early from starts early) = gnu_run.too_early from starts early
-gnu_looks_so P Q to back table symbols name _ _ (gnu_run.goes from n answer starts begins looks) =
-    gnu_run.goes from n answer starts begins (run_looks_so (gnu_hash_number name) table symbols P Q to back from n answer looks)
+gnu_looks_so : {E : Type 0} (P Q : E → Type 0) → ((e : E) → P e → Q e) → ((e : E) → Q e → P e) → (table : GnuHashTable) (symbols : List E) (name : List ℕ) (answer : Result (Option (ℕ × E)) LinkError) (n : ℕ) → gnu.Looks P table symbols name answer n → gnu.Looks Q table symbols name answer n
+gnu_looks_so P Q to back table symbols name _ _ (gnu.no_run none) = gnu.no_run none
+gnu_looks_so P Q to back table symbols name _ _ (gnu.too_early from starts early) = gnu.too_early from starts early
+gnu_looks_so P Q to back table symbols name _ _ (gnu.goes from n answer starts begins looks) =
+    gnu.goes from n answer starts begins (run_looks_so (gnu_hash_number name) table symbols P Q to back from n answer looks)
 
 pub looks_so : {E : Type 0} (P Q : E → Type 0) → ((e : E) → P e → Q e) → ((e : E) → Q e → P e) → (table : AnyTable) (symbols : List E) (name : List ℕ) (answer : Result (Option (ℕ × E)) LinkError) (n : ℕ) → LooksBy P table symbols name answer n → LooksBy Q table symbols name answer n
 looks_so P Q to back (Sysv table) symbols name answer n looks =

@@ -14,11 +14,11 @@ use xmas_elf::ElfFile;
 use xmas_elf::symbol_table::{Entry, SymbolTable};
 
 impl<'a> GnuHashTable<'a> {
-    ghost use Rattle.elf_linking.specs.GnuHash.{EndsRun, HasChain, bucket_count_of, chain_word};
-    ghost use Rattle.elf_linking.specs.GnuHash.{first_symbol_of, start_at};
-    ghost use Rattle.elf_linking.specs.GoodGnu.{AreGoodBelow, Ends, IsAtFault, IsBucketGood};
-    ghost use Rattle.elf_linking.specs.GoodGnu.{IsCheck, IsCut, IsExported, IsGood, IsHeld};
-    ghost use Rattle.elf_linking.specs.Run.{ComeFrom, IsThere};
+    ghost use Rattle.elf_linking.specs.GnuHash.{AreGoodBelow, ComeFrom, Ends, EndsRun, HasChain};
+    ghost use Rattle.elf_linking.specs.GnuHash.{IsAtFault, IsBucketGood, IsCheck, IsCut};
+    ghost use Rattle.elf_linking.specs.GnuHash.{IsExported, IsGood, IsHeld, IsThere};
+    ghost use Rattle.elf_linking.specs.GnuHash.{bucket_count_of, chain_word, first_symbol_of};
+    ghost use Rattle.elf_linking.specs.GnuHash.{start_at};
 
     /// Checks that the runs of all buckets end, and that `lookup` finds every exported symbol: each
     /// one from `first_symbol` on that is defined, is not local and has a name. A binding without a

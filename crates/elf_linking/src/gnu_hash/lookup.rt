@@ -6,7 +6,7 @@ ghost use Rattle.std.specs.Prelude.{◌≡◌, ◌≢◌, ◌≤◌, ◌<◌, �
 ghost use Rattle.std.specs.Prelude.{ℕ, Bool, true, false, Contains, IfSome, IsTrue, List};
 ghost use Rattle.std.specs.Prelude.{MatchOption, Option, Result, Ok, Err, Some, length, slice_get};
 ghost use Rattle.elf_base.specs.Table.{table_items};
-ghost use Rattle.elf_linking.specs.Run.{symbol_end};
+ghost use Rattle.elf_linking.specs.GnuHash.{symbol_end};
 ghost use Rattle.xmas_elf.specs.SymbolTable.{table_symbols};
 ghost use Rattle.xmas_elf.specs.Symbols.{Decides, IsMatch, symbols_of};
 
@@ -57,10 +57,9 @@ fn symbol_at<E: Entry + Record, F: Fn(&E) -> bool>(
 }
 
 impl<'a> GnuHashTable<'a> {
+    ghost use Rattle.elf_linking.specs.GnuHash.{FindsAll, IsGood, Looks, LooksFrom};
     ghost use Rattle.elf_linking.specs.GnuHash.{first_symbol_of};
-    ghost use Rattle.elf_linking.specs.GnuHashNumber.{gnu_hash_number};
-    ghost use Rattle.elf_linking.specs.GoodGnu.{FindsAll, IsGood};
-    ghost use Rattle.elf_linking.specs.Run.{Looks, LooksFrom};
+    ghost use Rattle.elf_linking.specs.Layouts.{gnu_hash_number};
 
     /// The first symbol in the run of a name that has the name's hash number, has the name and
     /// passes the test, with its index; `None` if the run ends before one, the bucket has no run,

@@ -121,6 +121,13 @@ impl<'a> DynamicView<'a> {
         self.text_with(DT_RPATH)
     }
 
+    // The string table.
+    pub(crate) fn string_table(&self) -> Result<&'a [u8], LinkError>
+        ensures { result ≡ view_table self.now }
+    {
+        self.strings
+    }
+
     // The text at the offset in the first entry with this tag.
     fn text_with(&self, tag: u64) -> Option<Result<&'a str, LinkError>>
         ensures { IsTextWith self.now tag result }

@@ -4,8 +4,8 @@
 ghost use Rattle.std.specs.Prelude.{◌≡◌, IfOk, IfSome, IsSomeAnd};
 ghost use Rattle.std.specs.Result.{result_ok};
 ghost use Rattle.elf_base.specs.Lent.{Answers};
-ghost use Rattle.elf_linking.specs.DynamicView.{LiesAsFileStrings};
-ghost use Rattle.elf_linking.specs.DynamicTables.{linked_table_of, linked_text_of, elf_error_of};
+ghost use Rattle.elf_linking.specs.DynamicView.{LiesAsFileStrings, elf_error_of, linked_table_of};
+ghost use Rattle.elf_linking.specs.DynamicView.{linked_text_of};
 ghost use Rattle.xmas_elf.specs.SymbolName.{HoldsNames};
 
 use crate::LinkError;
@@ -41,7 +41,7 @@ impl<E: Record> Record for Linked<E> {
 }
 
 // The string table of the dynamic segment, with an error that symbols can return.
-#[tactic(auto, unfolding(crate::specs::DynamicTables::linked_table_of))]
+#[tactic(auto, unfolding(crate::specs::DynamicView::linked_table_of))]
 fn linked_table<'a>(file: &ElfFile<'a>) -> Result<&'a [u8], ElfError>
     ensures exact { Answers (linked_table_of file.now) result }
     ensures place { IfOk result (LiesAsFileStrings file.now) }
@@ -103,7 +103,7 @@ impl<E: Entry> Entry for Linked<E> {
     ///
     /// Errors: those of `view::strings`, with `NoDynstr` for those that are not `Elf`; those of
     /// `bytes::text_at`.
-    #[tactic(auto, unfolding(crate::specs::DynamicTables::linked_text_of))]
+    #[tactic(auto, unfolding(crate::specs::DynamicView::linked_text_of))]
     fn get_name<'a>(&self, file: &ElfFile<'a>) -> Result<&'a str, ElfError>
         ensures exact { Answers (linked_text_of file.now (E.fields self.now.0).name) result }
     {

@@ -5,7 +5,7 @@ ghost use Rattle.std.specs.Prelude.{Ok, Err, IfOk, List, MatchResult, Result, le
 ghost use Rattle.elf_linking.specs.declared.error.LinkError.{LinkError};
 ghost use Rattle.elf_base.specs.FileHeader.{file_order};
 ghost use Rattle.elf_base.specs.Table.{table_bytes, table_data, table_order};
-ghost use Rattle.elf_linking.specs.DynamicTables.{AreSymbols, IsSymbolCount, LieAsSymbols};
+ghost use Rattle.elf_linking.specs.DynamicView.{AreSymbols, IsSymbolCount, LieAsSymbols};
 ghost use Rattle.elf_linking.specs.Loaded.{lent};
 
 use crate::LinkError;

@@ -2,8 +2,7 @@
 //! binutils and glibc).
 
 ghost use Rattle.std.specs.Prelude.{◌≡◌, Ok, Err, MatchResult};
-ghost use Rattle.elf_base.specs.FileHeader.{file_class, file_order};
-ghost use Rattle.elf_base.specs.HeaderNumbers.{class_of};
+ghost use Rattle.elf_base.specs.FileHeader.{class_of, file_class, file_order};
 ghost use Rattle.elf_linking.specs.Loaded.{lent};
 
 use crate::LinkError;
@@ -15,7 +14,7 @@ use xmas_elf::ElfFile;
 use xmas_elf::hash::HashTable;
 
 impl<'a> DynamicView<'a> {
-    ghost use Rattle.elf_linking.specs.DynamicTables.{bytes_with, gnu_hash_table_of, hash_table_of};
+    ghost use Rattle.elf_linking.specs.DynamicView.{bytes_with, gnu_hash_table_of, hash_table_of};
     ghost use Rattle.elf_linking.specs.DynamicView.{view_entries};
     ghost use Rattle.elf_linking.specs.GnuHash.{gnu_class, gnu_data, gnu_order};
     ghost use Rattle.xmas_elf.specs.HashTable.{hash_data, hash_order};

@@ -30,3 +30,20 @@ pub const DT_RUNPATH: u64 = 29;
 
 /// `DT_GNU_HASH`: the address of GNU's hash table (GNU binutils and glibc, `elf.h`).
 pub const DT_GNU_HASH: u64 = 0x6fff_fef5;
+
+/// `DT_VERSYM`: the address of the numbers of symbols' versions (LSB, "Symbol Versioning").
+pub const DT_VERSYM: u64 = 0x6fff_fff0;
+
+/// `DT_VERDEF`: the address of the versions that the file defines (LSB, "Symbol Versioning").
+pub const DT_VERDEF: u64 = 0x6fff_fffc;
+
+/// `DT_VERDEFNUM`: the number of versions that the file defines (LSB, "Symbol Versioning").
+pub const DT_VERDEFNUM: u64 = 0x6fff_fffd;
+
+/// `DT_VERNEED`: the address of the versions that the file needs of libraries (LSB, "Symbol
+/// Versioning").
+pub const DT_VERNEED: u64 = 0x6fff_fffe;
+
+/// `DT_VERNEEDNUM`: the number of libraries of which the file needs versions (LSB, "Symbol
+/// Versioning").
+pub const DT_VERNEEDNUM: u64 = 0x6fff_ffff;

@@ -47,28 +47,41 @@ fn options_change_no_message(rt: HostRuntime) {
     want(&rt, text.as_slice(), wanted);
 }
 
-#[test]
-fn options_change_no_name(rt: HostRuntime) -> Result<(), Fail> {
-    let mut text = Vec::new(rt.alloc());
-    let flags = Flags::from_raw(5);
-    write!(text, "{:>9}|{:9}|{flags:<9}|", ShType::Null, Type::Load)?;
-    write!(text, "{:^9}|{:.2}|", ShType::User(7), Type::OsSpecific(8))?;
-    write!(text, "{:>9}|{:>9}|", Binding::Local, SymbolType::Func)?;
-    let wanted = b"Null|Load|X R|User(7)|OsSpecific(8)|Local|Func|";
-    want(&rt, text.as_slice(), wanted);
+// Wants this name of a value, whatever the options are.
+fn check_name<T: Display>(
+    rt: &impl Abort,
+    alloc: Global,
+    value: &T,
+    name: &str,
+) -> Result<(), Fail> {
+    let found = format!(in alloc; "{value:>30}|{value:^9}|{value:.1}")?;
+    let wanted = format!(in alloc; "{name}|{name}|{name}")?;
+    want(rt, found.as_str(), wanted.as_str());
     Ok(())
 }
 
 #[test]
+fn options_change_no_name(rt: HostRuntime) -> Result<(), Fail> {
+    let alloc = rt.alloc();
+    check_name(&rt, alloc, &ShType::Null, "Null")?;
+    check_name(&rt, alloc, &Type::Load, "Load")?;
+    check_name(&rt, alloc, &Flags::from_raw(5), "X R")?;
+    check_name(&rt, alloc, &ShType::User(7), "User(7)")?;
+    check_name(&rt, alloc, &Type::OsSpecific(8), "OsSpecific(8)")?;
+    check_name(&rt, alloc, &Binding::Local, "Local")?;
+    check_name(&rt, alloc, &SymbolType::Func, "Func")
+}
+
+#[test]
 fn options_change_no_name_of_a_header(rt: HostRuntime) -> Result<(), Fail> {
-    let mut text = Vec::new(rt.alloc());
-    write!(text, "{:>9}|{:>30}|", Visibility::Hidden, Class::SixtyFour)?;
-    write!(text, "{:>30}|{:.1}|", Data::LittleEndian, Version::Current)?;
-    write!(text, "{:>30}|{:>30}|", OsAbi::Linux, FileType::Executable)?;
-    write!(text, "{:>30}|", Machine::X86_64)?;
-    let wanted = b"Hidden|SixtyFour|LittleEndian|Current|Linux|Executable|X86_64|";
-    want(&rt, text.as_slice(), wanted);
-    Ok(())
+    let alloc = rt.alloc();
+    check_name(&rt, alloc, &Visibility::Hidden, "Hidden")?;
+    check_name(&rt, alloc, &Class::SixtyFour, "SixtyFour")?;
+    check_name(&rt, alloc, &Data::LittleEndian, "LittleEndian")?;
+    check_name(&rt, alloc, &Version::Current, "Current")?;
+    check_name(&rt, alloc, &OsAbi::Linux, "Linux")?;
+    check_name(&rt, alloc, &FileType::Executable, "Executable")?;
+    check_name(&rt, alloc, &Machine::X86_64, "X86_64")
 }
 
 // Wants the same text of a value with options.

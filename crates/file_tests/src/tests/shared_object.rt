@@ -21,9 +21,9 @@
 //! -Wl,-z,max-page-size=16,-z,common-page-size=16
 //! ```
 
+use crate::tests::want::{open, want, want_at};
 use elf_callers::callers::hash::value_in_bytes;
 use std::process::Abort;
-use std::test::Fail;
 use worked_files::reports::report_ends_with;
 use xmas_elf::bytes::{Record, Table};
 use xmas_elf::hash::HashTable;
@@ -31,13 +31,19 @@ use xmas_elf::sections::SectionData;
 use xmas_elf::symbol_table::{Entry, SymbolTable};
 use xmas_elf::{ElfError, ElfFile};
 
-// The exported names, in the order of the symbols from index 1 on.
-const NAMES: [&str; 6] = ["fifth", "fourth", "sixth", "second", "third", "first"];
+// The exported names, in the order of the symbols from index 1 on, and the values that
+// `readelf --dyn-syms` shows of them, of class 32 and of class 64.
+const EXPORTS: &[(u32, &str, u64, u64)] = &[
+    (1, "fifth", 0x18c, 0x229),
+    (2, "fourth", 0x1a0, 0x235),
+    (3, "sixth", 0x192, 0x22f),
+    (4, "second", 0x181, 0x225),
+    (5, "third", 0x208, 0x2f0),
+    (6, "first", 0x17b, 0x21f),
+];
 
-// The values that `readelf --dyn-syms` shows of them, of class 32 and of class 64.
-const NARROW_VALUES: [u64; 6] = [0x18c, 0x1a0, 0x192, 0x181, 0x208, 0x17b];
-
-const WIDE_VALUES: [u64; 6] = [0x229, 0x235, 0x22f, 0x225, 0x2f0, 0x21f];
+// Names that none of them bears.
+const OTHERS: &[&str] = &["inner", "", "firs", "first2"];
 
 // Of class 32.
 const NARROW: &[u8; 996] = b"\
@@ -103,105 +109,109 @@ const WIDE: &[u8; 1472] = b"\
     \0\0\0\0\0\0\0\0\0\0\0\0\x01\0\0\0\x03\0\0\0\0\0\0\0\0\0\0\0\0\0\0\0\0\0\0\0\xf4\x02\0\0\0\0\0\
     \0H\0\0\0\0\0\0\0\0\0\0\0\0\0\0\0\x01\0\0\0\0\0\0\0\0\0\0\0\0\0\0\0";
 
-// The index and the value of a symbol that is found.
-fn numbers<E: Entry + Record>(found: Option<(u32, E)>) -> Option<(usize, u64)> {
-    found.map(|(index, symbol)| (index as usize, symbol.value()))
+// A hash table and its symbols.
+#[derive(Drop)]
+struct Linked<'b, 'a, E: Entry + Record> {
+    file: &'b ElfFile<'a>,
+    table: HashTable<'a>,
+    symbols: Table<'a, E>,
 }
 
-// The look-up by a symbol table that carries its names.
-fn look_up_in<E: Entry + Record>(
-    table: &HashTable<'_>,
-    name: &str,
-    symbols: &Table<'_, E>,
-    file: &ElfFile<'_>,
-) -> Result<Option<(u32, E)>, ElfError> {
-    table.lookup_in(name, &SymbolTable::new(*symbols, file), |_| true)
+// What is found of a name: the index and the value.
+type Found = Result<Option<(u32, u64)>, ElfError>;
+
+fn look_up<E: Entry + Record>(linked: &Linked<'_, '_, E>, name: &str) -> Found {
+    let found = linked
+        .table
+        .lookup(name, &linked.symbols, linked.file, |_| true)?;
+    Ok(found.map(|(index, symbol)| (index, symbol.value())))
 }
 
-// Wants each exported name at its index with its value, and no other name;
-// also by a string table that is taken once.
-fn check_look_ups<E: Entry + Record>(
+// The same by a symbol table that carries its names.
+fn look_up_in<E: Entry + Record>(linked: &Linked<'_, '_, E>, name: &str) -> Found {
+    let symbols = SymbolTable::new(linked.symbols, linked.file);
+    let found = linked.table.lookup_in(name, &symbols, |_| true)?;
+    Ok(found.map(|(index, symbol)| (index, symbol.value())))
+}
+
+// Whether the symbol at an index has this name.
+fn is_named<E: Entry + Record>(linked: &Linked<'_, '_, E>, index: u32, name: &str) -> bool {
+    let symbols = SymbolTable::new(linked.symbols, linked.file);
+    matches!(symbols.name(index as usize), Some(Ok(found)) if found == name)
+}
+
+// Wants each exported name at its index with its value, and no other name.
+fn check_look_ups<E: Entry + Record>(rt: &impl Abort, linked: &Linked<'_, '_, E>, is_wide: bool) {
+    for &(index, name, narrow, wide) in EXPORTS {
+        let value = if is_wide { wide } else { narrow };
+        want_at(rt, name, look_up(linked, name), Ok(Some((index, value))));
+        want_at(rt, name, look_up_in(linked, name), Ok(Some((index, value))));
+        want_at(rt, name, is_named(linked, index, name), true);
+    }
+    for &name in OTHERS {
+        want_at(rt, name, look_up(linked, name), Ok(None));
+        want_at(rt, name, look_up_in(linked, name), Ok(None));
+    }
+}
+
+// Wants a good table of seven symbols.
+fn check_table<E: Entry + Record>(rt: &impl Abort, linked: &Linked<'_, '_, E>) {
+    want(rt, linked.table.check(&linked.symbols, linked.file), Ok(()));
+    let symbols = SymbolTable::new(linked.symbols, linked.file);
+    want(rt, symbols.name(7).is_none(), true);
+    want(rt, symbols.iter().count(), 7);
+}
+
+// Wants all that of a table and its symbols.
+fn check_linked<E: Entry + Record>(
     rt: &impl Abort,
-    table: &HashTable<'_>,
-    symbols: &Table<'_, E>,
     file: &ElfFile<'_>,
-    values: [u64; 6],
+    symbols: Table<'_, E>,
+    is_wide: bool,
 ) -> Result<(), ElfError> {
-    table.check(symbols, file)?;
-    for (k, (name, value)) in NAMES.iter().zip(values).enumerate() {
-        let found = numbers(table.lookup(name, symbols, file, |_| true)?);
-        let again = numbers(look_up_in(table, name, symbols, file)?);
-        assert_eq!(rt;
-            [found, again],
-            [Some((k.wrapping_add(1), value)); 2],
-            "{name}"
-        );
-    }
-    for name in ["inner", "", "firs", "first2"] {
-        let found = table.lookup(name, symbols, file, |_| true)?;
-        let again = look_up_in(table, name, symbols, file)?;
-        assert!(rt; found.is_none() && again.is_none(), "{name}");
-    }
+    let SectionData::HashTable(table) = file.section_header(1)?.get_data(file)? else {
+        return Ok(assert!(rt; false));
+    };
+    let linked = Linked {
+        file,
+        table,
+        symbols,
+    };
+    check_table(rt, &linked);
+    check_look_ups(rt, &linked, is_wide);
     Ok(())
 }
 
-// Wants each exported name by its index, and the values of the symbols in order.
-fn check_names<'a, E: Entry + Record>(
-    rt: &impl Abort,
-    symbols: &Table<'a, E>,
-    file: &ElfFile<'a>,
-    values: [u64; 6],
-) {
-    let named = SymbolTable::new(*symbols, file);
-    for (k, name) in NAMES.iter().enumerate() {
-        match named.name(k.wrapping_add(1)) {
-            Some(Ok(found)) => assert!(rt; found == *name, "{name}"),
-            _ => assert!(rt; false, "{name}"),
-        }
+fn check_object(rt: &impl Abort, input: &[u8]) -> Result<(), ElfError> {
+    let file = open(rt, input);
+    match file.section_header(2)?.get_data(&file)? {
+        SectionData::DynSymbolTable32(symbols) => check_linked(rt, &file, symbols, false),
+        SectionData::DynSymbolTable64(symbols) => check_linked(rt, &file, symbols, true),
+        _ => Ok(assert!(rt; false)),
     }
-    assert!(rt; named.name(7).is_none());
-    let mut exported = named.iter().skip(1).zip(values);
-    assert!(rt; exported.all(|(symbol, value)| symbol.value() == value));
-    assert_eq!(rt; named.iter().count(), 7);
 }
 
 #[test]
-fn finds_what_shared_objects_export(rt: HostRuntime) -> Result<(), Fail> {
-    let inputs: [&[u8]; 2] = [NARROW, WIDE];
-    for input in inputs {
-        let file = ElfFile::new(input)?;
-        let hash = file.section_header(1)?.get_data(&file)?;
-        let linked = file.section_header(2)?.get_data(&file)?;
-        match (hash, linked) {
-            (SectionData::HashTable(table), SectionData::DynSymbolTable32(symbols)) => {
-                check_names(&rt, &symbols, &file, NARROW_VALUES);
-                check_look_ups(&rt, &table, &symbols, &file, NARROW_VALUES)?
-            }
-            (SectionData::HashTable(table), SectionData::DynSymbolTable64(symbols)) => {
-                check_names(&rt, &symbols, &file, WIDE_VALUES);
-                check_look_ups(&rt, &table, &symbols, &file, WIDE_VALUES)?
-            }
-            _ => assert!(rt; false),
-        }
-    }
-    Ok(())
+fn finds_what_shared_objects_export(rt: HostRuntime) -> Result<(), ElfError> {
+    check_object(&rt, NARROW)?;
+    check_object(&rt, WIDE)
 }
 
 // The whole way from the bytes and a name, as a model of a dynamic linker goes it.
 #[test]
-fn goes_from_bytes_and_a_name_to_a_value(rt: HostRuntime) -> Result<(), Fail> {
-    for (name, value) in NAMES.iter().zip(WIDE_VALUES) {
-        assert_eq!(rt; value_in_bytes(WIDE, name), Ok(Some(value)), "{name}");
+fn goes_from_bytes_and_a_name_to_a_value(rt: HostRuntime) {
+    for &(_index, name, _narrow, value) in EXPORTS {
+        want_at(&rt, name, value_in_bytes(WIDE, name), Ok(Some(value)));
     }
-    assert_eq!(rt; value_in_bytes(WIDE, "inner"), Ok(None));
+    want(&rt, value_in_bytes(WIDE, "inner"), Ok(None));
     // without the last header, that of the names, no section is found by its name
-    let cut = &WIDE[..1471];
-    assert_eq!(rt; value_in_bytes(cut, "first"), Err(ElfError::ShortData));
-    Ok(())
+    let cut = value_in_bytes(&WIDE[..1471], "first");
+    want(&rt, cut, Err(ElfError::ShortData));
 }
 
 #[test]
 fn reports_good_hash_tables(rt: HostRuntime) {
-    assert!(rt; report_ends_with(rt.alloc(), NARROW, "\nhash: ok\n"));
-    assert!(rt; report_ends_with(rt.alloc(), WIDE, "\nhash: ok\n"));
+    let end = "\nhash: ok\n";
+    want(&rt, report_ends_with(rt.alloc(), NARROW, end), true);
+    want(&rt, report_ends_with(rt.alloc(), WIDE, end), true);
 }

@@ -1,6 +1,7 @@
-//! The report into writers that take little, nothing, or only some calls.
+//! The report into writers that take little, nothing, or only some calls, and whose flush fails.
 
 use crate::tests::want::{want, want_at};
+use program_ends::{Output, Stop, write_buffered};
 use std::alloc::Global;
 use std::io;
 use std::io::Write;
@@ -145,4 +146,53 @@ fn refuses_whatever_the_writer_does(rt: HostRuntime) {
         want_at(&rt, len, answer, Err(ReportFault::Elf(refusal)));
         want_at(&rt, len, text.is_empty(), true);
     }
+}
+
+// A report as the programs write one, by which what is written isn't claimed.
+#[derive(Clone, Copy)]
+struct Report<'a>(&'a [u8]);
+
+impl Output for Report<'_> {
+    ghost Writes = { λ report old new. Unit {0} };
+
+    ghost flushed = { λ report old new kept written keeps. tt };
+
+    type Refusal = ReportFault;
+
+    fn write_to<W: Write>(&self, out: &mut W) -> Result<(), Stop<ReportFault>> {
+        report(self.0, out).map_err(Stop::Refused)
+    }
+}
+
+// Takes each write, and fails each flush.
+#[derive(Drop)]
+struct Unflushed;
+
+impl Write for Unflushed {
+    fn write(&mut self, buf: &[u8]) -> io::Result<usize> {
+        Ok(buf.len())
+    }
+
+    fn flush(&mut self) -> io::Result<()> {
+        Err(io::Error::from(io::ErrorKind::Other))
+    }
+}
+
+// What comes of a report into a writer that can't be flushed.
+fn is_flush_told(alloc: Global, input: &[u8]) -> bool {
+    matches!(
+        write_buffered(alloc, &Report(input), Unflushed),
+        Err(Stop::Write)
+    )
+}
+
+#[test]
+fn a_flush_that_fails_is_told(rt: HostRuntime) {
+    let (strtab, hash) = (strtab_file(Order::Little), hash_file());
+    let told = [
+        is_flush_told(rt.alloc(), &strtab),
+        is_flush_told(rt.alloc(), &debug_link_file()),
+        is_flush_told(rt.alloc(), &hash),
+    ];
+    want(&rt, told, [true; 3]);
 }

@@ -5,9 +5,8 @@ ghost use Rattle.std.specs.Borrow.{Bor};
 ghost use Rattle.std.specs.Prelude.{◌≡◌, ◌↔◌, ◌<◌, ◌≤◌, ℕ, Contains, Err, IfErr, IsOk};
 ghost use Rattle.std.specs.Prelude.{OnOk, Some, length};
 ghost use Rattle.elf_base.specs.Table.{table_items};
-ghost use Rattle.elf_linking.specs.GnuHash.{first_symbol_of, start_of};
-ghost use Rattle.elf_linking.specs.GoodGnu.{FindsAll, IsCheck, IsGood};
-ghost use Rattle.elf_linking.specs.Run.{Looks};
+ghost use Rattle.elf_linking.specs.GnuHash.{FindsAll, IsCheck, IsGood, Looks, first_symbol_of};
+ghost use Rattle.elf_linking.specs.GnuHash.{start_of};
 ghost use Rattle.xmas_elf.specs.Symbols.{Decides, IsMatch, symbols_of};
 
 use elf_base::bytes::{Record, Table};

@@ -50,6 +50,11 @@ const TEXTS: &[(LinkError, &str)] = &[
         LinkError::NotMultiple,
         "Data is not a whole number of words",
     ),
+    (LinkError::ShortVersion, "Version record is cut off"),
+    (
+        LinkError::VersionCount,
+        "Version needs have more parts than bytes",
+    ),
 ];
 
 #[test]

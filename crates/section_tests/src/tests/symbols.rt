@@ -1,9 +1,11 @@
-//! Symbols: their numbers, names and printed forms.
+//! Callers that name symbols, symbols of one's own, and printed forms.
+//!
+//! Numbers, meanings and names are in the rows of `elfanswers`, `symbols.rows`.
 
 use crate::tests::want::{open, want, want_at};
 use elf_callers::callers::symbols::{
-    dyn_name_or_refusal, first_name, name_by_table, name_bytes, name_of_any, name_or_refusal,
-    own_is_named, own_section, value_at,
+    dyn_name_or_refusal, first_name, name_by_table, name_bytes, name_in, name_of_any,
+    name_or_refusal, own_is_named, own_section, value_at,
 };
 use elf_callers::own::Numbered;
 use std::alloc::Global;
@@ -14,9 +16,7 @@ use std::test::Fail;
 use worked_files::files::{dynstr_file, strtab_file};
 use worked_files::places::{set, symbol_32, symbol_64};
 use xmas_elf::bytes::{Order, Record, Table};
-use xmas_elf::symbol_table::{
-    Binding, DynEntry32, DynEntry64, Entry, Entry32, Entry64, Type, Visibility,
-};
+use xmas_elf::symbol_table::{Binding, DynEntry32, DynEntry64, Entry, Entry32, Entry64};
 use xmas_elf::{ElfError, ElfFile};
 
 const LITTLE: Order = Order::Little;
@@ -26,118 +26,6 @@ pub fn symbol<E: Record>(bytes: &[u8], order: Order) -> Result<E, ElfError> {
     Table::<E>::new(bytes, order)?
         .get(0)
         .ok_or(ElfError::SymbolIndex)
-}
-
-type Numbers = (u32, u8, u8, u16, u64, u64);
-
-// The numbers of a symbol, as its getters are named.
-fn numbers<E: Entry>(symbol: &E) -> Numbers {
-    (
-        symbol.name(),
-        symbol.info(),
-        symbol.other().raw(),
-        symbol.shndx(),
-        symbol.value(),
-        symbol.size(),
-    )
-}
-
-const WIDE: [u8; 24] = [
-    0, 0, 0, 9, 0x12, 2, 0, 1, 0, 0, 0, 0, 0, 0, 0, 1, 0, 0, 0, 0, 0, 0, 0, 2,
-];
-
-const NARROW: [u8; 16] = [0, 0, 0, 9, 0, 0, 0, 1, 0, 0, 0, 2, 0x12, 2, 0, 1];
-
-// Wants these numbers of a symbol, in both orders.
-fn check_numbers<E: Entry + Record>(rt: &impl Abort, bytes: &[u8], big: Numbers, little: Numbers) {
-    let found = symbol::<E>(bytes, Order::Big).map(|symbol| numbers(&symbol));
-    want(rt, found, Ok(big));
-    let found = symbol::<E>(bytes, Order::Little).map(|symbol| numbers(&symbol));
-    want(rt, found, Ok(little));
-}
-
-const BIG: Numbers = (9, 0x12, 2, 1, 1, 2);
-
-const LITTLE_64: Numbers = (0x0900_0000, 0x12, 2, 0x100, 1 << 56, 1 << 57);
-
-const LITTLE_32: Numbers = (0x0900_0000, 0x12, 2, 0x100, 1 << 24, 1 << 25);
-
-#[test]
-fn reads_symbols_in_both_orders(rt: HostRuntime) {
-    check_numbers::<Entry64>(&rt, &WIDE, BIG, LITTLE_64);
-    check_numbers::<DynEntry64>(&rt, &WIDE, BIG, LITTLE_64);
-    check_numbers::<Entry32>(&rt, &NARROW, BIG, LITTLE_32);
-    check_numbers::<DynEntry32>(&rt, &NARROW, BIG, LITTLE_32);
-}
-
-#[test]
-fn reads_whole_symbols(rt: HostRuntime) -> Result<(), ElfError> {
-    for order in [Order::Little, Order::Big] {
-        let hidden = symbol::<Entry64>(&WIDE, order)?.get_other();
-        want(&rt, hidden, Visibility::Hidden);
-        let short = Table::<Entry64>::new(&WIDE[..23], order);
-        want(&rt, short.err(), Some(ElfError::NotMultiple));
-    }
-    let table = Table::<Entry64>::new(&WIDE, Order::Big)?;
-    want(&rt, value_at(&table, 0), Some(1));
-    want(&rt, value_at(&table, 1), None);
-    Ok(())
-}
-
-const BAD_BINDING: Result<Binding, ElfError> = Err(ElfError::InvalidBinding);
-
-const BAD_TYPE: Result<Type, ElfError> = Err(ElfError::InvalidSymbolType);
-
-const INFOS: &[(u64, Result<Binding, ElfError>, Result<Type, ElfError>)] = &[
-    (0x00, Ok(Binding::Local), Ok(Type::NoType)),
-    (0x12, Ok(Binding::Global), Ok(Type::Func)),
-    (0x21, Ok(Binding::Weak), Ok(Type::Object)),
-    (0x37, BAD_BINDING, BAD_TYPE),
-    (0x96, BAD_BINDING, Ok(Type::Tls)),
-    (0x29, Ok(Binding::Weak), BAD_TYPE),
-    (
-        0xad,
-        Ok(Binding::OsSpecific(10)),
-        Ok(Type::ProcessorSpecific(13)),
-    ),
-    (
-        0xfc,
-        Ok(Binding::ProcessorSpecific(15)),
-        Ok(Type::OsSpecific(12)),
-    ),
-];
-
-#[test]
-fn info_holds_the_binding_and_the_type(rt: HostRuntime) -> Result<(), ElfError> {
-    for &(info, binding, kind) in INFOS {
-        let mut bytes = [0; 16];
-        set(&mut bytes, 0, symbol_32::INFO, info, LITTLE);
-        let symbol = symbol::<Entry32>(&bytes, LITTLE)?;
-        want_at(&rt, info, symbol.get_binding(), binding);
-        want_at(&rt, info, symbol.get_type(), kind);
-    }
-    Ok(())
-}
-
-const VISIBILITIES: &[(u64, Visibility)] = &[
-    (0, Visibility::Default),
-    (1, Visibility::Internal),
-    (2, Visibility::Hidden),
-    (3, Visibility::Protected),
-    (4, Visibility::Default),
-    (6, Visibility::Hidden),
-    (0xff, Visibility::Protected),
-];
-
-#[test]
-fn visibility_is_a_remainder_by_four(rt: HostRuntime) -> Result<(), ElfError> {
-    for &(other, visibility) in VISIBILITIES {
-        let mut bytes = [0; 24];
-        set(&mut bytes, 0, symbol_64::OTHER, other, LITTLE);
-        let symbol = symbol::<DynEntry64>(&bytes, LITTLE)?;
-        want_at(&rt, other, symbol.get_other(), visibility);
-    }
-    Ok(())
 }
 
 // Symbols of both classes with this name.
@@ -161,56 +49,61 @@ const NAMES: &[(u64, Result<&str, ElfError>)] = &[
     (13, Err(ElfError::TextStart)),
 ];
 
-// Wants this name of symbols that are called by `.strtab`, and no name by a file without one.
+// Wants this name of symbols that are called by `.strtab`, each by a caller of its own.
 fn check_names(
     rt: &impl Abort,
-    place: u64,
     file: &ElfFile<'_>,
-    without: &ElfFile<'_>,
+    place: u64,
     name: Result<&str, ElfError>,
 ) -> Result<(), ElfError> {
     let narrow = symbol::<Entry32>(&narrow_bytes(place), LITTLE)?;
-    want_at(rt, place, narrow.get_name(file), name);
-    want_at(rt, place, name_of_any(&narrow, file), name);
     let bytes = wide_bytes(place);
     let wide = symbol::<Entry64>(&bytes, LITTLE)?;
+    want_at(rt, place, name_of_any(&narrow, file), name);
     want_at(rt, place, name_or_refusal(&wide, file), name);
     want_at(rt, place, name_by_table(file, &wide), name);
     want_at(rt, place, first_name(file.input, &bytes, LITTLE), name);
-    let refused = wide.get_name(without).err();
-    want(rt, refused, Some(ElfError::NoStrtab));
     Ok(())
 }
 
 // The same of dynamic symbols and `.dynstr`.
 fn check_dynamic_names(
     rt: &impl Abort,
-    place: u64,
     file: &ElfFile<'_>,
-    without: &ElfFile<'_>,
+    place: u64,
     name: Result<&str, ElfError>,
 ) -> Result<(), ElfError> {
     let narrow = symbol::<DynEntry32>(&narrow_bytes(place), LITTLE)?;
+    let wide = symbol::<DynEntry64>(&wide_bytes(place), LITTLE)?;
     want_at(rt, place, dyn_name_or_refusal(&narrow, file), name);
     want_at(rt, place, name_of_any(&narrow, file), name);
-    let refused = narrow.get_name(without).err();
-    want(rt, refused, Some(ElfError::NoDynstr));
-    let wide = symbol::<DynEntry64>(&wide_bytes(place), LITTLE)?;
-    want_at(rt, place, wide.get_name(file), name);
     want_at(rt, place, name_of_any(&wide, file), name);
-    let refused = name_of_any(&wide, without).err();
-    want(rt, refused, Some(ElfError::NoDynstr));
     Ok(())
 }
 
 #[test]
-fn symbols_have_names(rt: HostRuntime) -> Result<(), ElfError> {
+fn callers_name_symbols(rt: HostRuntime) -> Result<(), ElfError> {
     let (strtab, dynstr) = (strtab_file(LITTLE), dynstr_file(LITTLE));
     let (file, dyn_file) = (open(&rt, &strtab), open(&rt, &dynstr));
     for &(place, name) in NAMES {
-        check_names(&rt, place, &file, &dyn_file, name)?;
-        check_dynamic_names(&rt, place, &dyn_file, &file, name)?;
+        check_names(&rt, &file, place, name)?;
+        check_dynamic_names(&rt, &dyn_file, place, name)?;
     }
+    let wide = symbol::<DynEntry64>(&wide_bytes(0), LITTLE)?;
+    let refused = name_of_any(&wide, &file).err();
+    want(&rt, refused, Some(ElfError::NoDynstr));
+    Ok(())
+}
+
+#[test]
+fn callers_read_bytes(rt: HostRuntime) -> Result<(), ElfError> {
+    let mut bytes = wide_bytes(5);
+    set(&mut bytes, 0, symbol_64::VALUE, 7, LITTLE);
+    let table = Table::<Entry64>::new(&bytes, LITTLE)?;
+    let values = [value_at(&table, 0), value_at(&table, 1)];
+    want(&rt, values, [Some(7), None]);
+    let first = symbol::<Entry64>(&bytes, LITTLE)?;
+    want(&rt, name_in(b"\0s.c\0start\0", &first), Ok("start"));
     Ok(())
 }
 
@@ -297,27 +190,22 @@ fn check_own(rt: &impl Abort, symbol: &Numbered, file: &ElfFile<'_>, name: Resul
     want(rt, symbol.value(), u64::from(symbol.number));
     let section = own_section(symbol, file, 1);
     want(rt, section, Some(ElfError::ReservedSymbolIndex));
+    want(rt, own_is_named(symbol, "zz", file), symbol.number == 2);
 }
+
+const OWN: &[u8; 12] = b"\0\0\0\x01\0\0\0\x02\0\0\0\x03";
+
+const OWN_NAMES: &[Result<&str, ElfError>] = &[Ok("ab"), Ok("zz"), Err(ElfError::TextEnd)];
 
 #[test]
 fn reads_symbols_of_ones_own(rt: HostRuntime) -> Result<(), ElfError> {
     let bytes = strtab_file(LITTLE);
     let file = open(&rt, &bytes);
-    let table = Table::<Numbered>::new(&[0, 0, 0, 1, 0, 0, 0, 2, 0, 0, 0, 3], Order::Big)?;
-    let names = [Ok("ab"), Ok("zz"), Err(ElfError::TextEnd)];
+    let table = Table::<Numbered>::new(OWN, Order::Big)?;
     want(&rt, table.len(), 3);
-    for (symbol, name) in table.iter().zip(names) {
+    for (index, &name) in OWN_NAMES.iter().enumerate() {
+        let symbol = table.get(index).ok_or(ElfError::SymbolIndex)?;
         check_own(&rt, &symbol, &file, name);
     }
-    want(
-        &rt,
-        own_is_named(&Numbered { number: 2 }, "zz", &file),
-        true,
-    );
-    want(
-        &rt,
-        own_is_named(&Numbered { number: 3 }, "zz", &file),
-        false,
-    );
     Ok(())
 }

@@ -1,5 +1,5 @@
 -- A flush after a report, which keeps the bytes that are known, removes nothing from it.
-use Rattle.std.proofs.Common.{◌≡◌, List, Option, None, Some, Result, Ok, Err, IsOkAnd, ℕ, ◌∙◌}
+use Rattle.std.proofs.Common.{List, Option, None, Some, Result, Ok, Err, IsOkAnd, ℕ, ◌∙◌}
 use Rattle.std.specs.Borrow.{Bor}
 use Rattle.std.specs.Io.KnownBytes.{Appends, Keeps}
 use Rattle.elf_base.specs.FileHeader.{header_of}

@@ -3,7 +3,7 @@ use Rattle.std.proofs.Common.{◌≡◌, ℕ, List, Option, None, Result, Ok, Bo
 use Rattle.std.specs.Borrow.{Bor}
 use Rattle.std.specs.Fn.{Shared, FnReturnsAt}
 use Rattle.xmas_elf.specs.Prelude.{ElfError}
-use Rattle.xmas_elf.specs.Good.{FindsAll}
+use Rattle.xmas_elf.specs.HashTable.{FindsAll}
 use Rattle.xmas_elf.specs.Symbol.{IsGlobal, Symbols}
 use Rattle.xmas_elf.specs.Symbols.{IsMatch}
 

@@ -4,9 +4,8 @@ use Rattle.std.proofs.Common.{◌≡◌, ◌<◌, ◌⊎◌, inl, inr, Some, Non
 use Rattle.std.proofs.lemmas.Bool.{cases_order}
 use Rattle.xmas_elf.specs.Prelude.{ElfError, ElfFile, HashTable, SectionHeader}
 use Rattle.xmas_elf.specs.Content.{Content, table_of, symbols_32, symbols_64, dyn_symbols_32, dyn_symbols_64}
-use Rattle.xmas_elf.specs.Good.{IsCheck, good, faulty, missing}
+use Rattle.xmas_elf.specs.HashTable.{IsCheck, bucket_of, chain_of, faulty, good, hash_data, hash_order, missing, start_of}
 use Rattle.xmas_elf.specs.ReportHash.{FindsHash, IsHashVerdict, IsLinkedVerdict, IsVerdictOf, content_at, linked, none, refused}
-use Rattle.xmas_elf.specs.HashTable.{bucket_of, chain_of, hash_data, hash_order, start_of}
 use Rattle.xmas_elf.specs.SectionHeader.{section_fields, section_type}
 use Rattle.xmas_elf.specs.Symbol.{Symbols}
 use Rattle.xmas_elf.specs.Symbols.{dyn_symbols_in_32, dyn_symbols_in_64, symbols_in_32, symbols_in_64}

@@ -5,8 +5,7 @@ use Rattle.std.specs.List.{AllByRecursion}
 use Rattle.elf_base.specs.Refusal.{unless}
 use Rattle.elf_base.specs.declared.error.ElfError.TheVariants.{BucketIndex, ChainIndex, ChainSum, HashCycle, HashData}
 use Rattle.xmas_elf.specs.Prelude.{ElfError, HashTable}
-use Rattle.xmas_elf.specs.Chain.{Stops, at_end, past_chains, past_symbols, found, refused, IsEndless, LooksFrom, no_bucket, bad_bucket, reaches, endless, chains_of}
-use Rattle.xmas_elf.specs.HashTable.{bucket_of, chain_of, start_of}
+use Rattle.xmas_elf.specs.HashTable.{IsEndless, LooksFrom, Stops, at_end, bad_bucket, bucket_of, chain_of, chains_of, endless, found, no_bucket, past_chains, past_symbols, reaches, refused, start_of}
 
 rows_no_cycle : (rows : List (Bool × ElfError)) (v : ℕ) → AllByRecursion (λ row. row.1 ≡ HashCycle → ⊥) rows → unless rows v ≡ Err HashCycle → ⊥
 rows_no_cycle [] v others e = cc

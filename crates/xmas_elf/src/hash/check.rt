@@ -5,7 +5,7 @@ ghost use Rattle.std.specs.Prelude.{IsOk, IsTrue, List, MatchOption, MatchResult
 ghost use Rattle.std.specs.Prelude.{Some, false};
 ghost use Rattle.elf_records.specs.HashNumber.{hash_number};
 ghost use Rattle.xmas_elf.specs.Counted.{IsCount};
-ghost use Rattle.xmas_elf.specs.Good.{MustBeHeld};
+ghost use Rattle.xmas_elf.specs.HashTable.{MustBeHeld};
 ghost use Rattle.xmas_elf.specs.SymbolTable.{table_symbols};
 ghost use Rattle.xmas_elf.specs.Symbol.{IsGlobal};
 ghost use Rattle.xmas_elf.specs.Symbols.{symbols_of};
@@ -63,10 +63,10 @@ fn global_count<E: Entry + Record>(symbols: &SymbolTable<'_, E>) -> usize
 
 // Errors are passed on by `match`, since a proof by hand would have to undo a `?`.
 impl<'a> HashTable<'a> {
-    ghost use Rattle.xmas_elf.specs.Chain.{Comes, LooksFrom, Reaches, StandsAt, chains_of};
-    ghost use Rattle.xmas_elf.specs.Good.{Ends, EndsBelow, IsAtFault, IsCheck, IsGood};
-    ghost use Rattle.xmas_elf.specs.Good.{IsHeldBelow, IsHeldBy, IsReached};
-    ghost use Rattle.xmas_elf.specs.HashTable.{bucket_count_of, bucket_of};
+    ghost use Rattle.xmas_elf.specs.HashTable.{Comes, Ends, EndsBelow, IsAtFault, IsCheck, IsGood};
+    ghost use Rattle.xmas_elf.specs.HashTable.{IsHeldBelow, IsHeldBy, IsReached, LooksFrom};
+    ghost use Rattle.xmas_elf.specs.HashTable.{Reaches, StandsAt, bucket_count_of, bucket_of};
+    ghost use Rattle.xmas_elf.specs.HashTable.{chains_of};
 
     /// Checks that all chains end, and that each symbol that isn't local and has a name is in the
     /// chain of that name, so that `lookup` finds it. A binding without a meaning isn't local, and

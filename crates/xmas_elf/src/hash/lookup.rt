@@ -13,9 +13,7 @@ use crate::symbol_table::{Entry, SymbolTable};
 use crate::{ElfError, ElfFile};
 
 impl<'a> HashTable<'a> {
-    ghost use Rattle.xmas_elf.specs.Chain.{Looks};
-    ghost use Rattle.xmas_elf.specs.Good.{FindsAll, IsGood};
-    ghost use Rattle.xmas_elf.specs.HashTable.{chain_count_of};
+    ghost use Rattle.xmas_elf.specs.HashTable.{FindsAll, IsGood, Looks, chain_count_of};
     ghost use Rattle.xmas_elf.specs.SymbolTable.{table_symbols};
 
     /// The first symbol in the chain of a name that has the name and passes the test, with its

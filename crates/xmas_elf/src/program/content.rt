@@ -1,6 +1,6 @@
 //! The contents of a segment, by its type (gABI, "Program Header").
 
-ghost use Rattle.std.specs.Prelude.{◌≡◌, ◌≢◌, Ok, Err, IfOk, MatchResult};
+ghost use Rattle.std.specs.Prelude.{◌≡◌, ◌≢◌, ◌↔◌, Ok, Err, IfOk, IsOkAnd, MatchResult};
 ghost use Rattle.elf_base.specs.FileHeader.{file_class, file_order};
 ghost use Rattle.xmas_elf.specs.Content.{IsReadFrom};
 ghost use Rattle.xmas_elf.specs.Place.{PartLies, segment_part};
@@ -32,6 +32,7 @@ pub enum SegmentData<'a> {
 
 impl ProgramHeader {
     ghost use Rattle.xmas_elf.specs.SegmentContent.{segment_content, segment_content_of};
+    ghost use Rattle.xmas_elf.specs.Shapes.{HasSegmentShape, Shape, shape};
 
     /// The contents of the segment, by its type, in the class and byte order of the file. They live
     /// as long as the input.
@@ -42,6 +43,9 @@ impl ProgramHeader {
     /// in class 1, `UnknownClass`, and `ShortData` if there are fewer than 12 bytes.
     #[inline(always)]
     pub fn get_data<'a>(&self, file: &ElfFile<'a>) -> Result<SegmentData<'a>, ElfError>
+        ensures readable { (wanted : Shape)
+            → IsOkAnd result (λ d. shape (segment_content d) ≡ wanted)
+            ↔ HasSegmentShape file.now (program_fields self.now) wanted }
         ensures exact { MatchResult result
             (λ d. segment_content_of file.now (program_fields self.now) ≡ Ok (segment_content d))
             (λ e. segment_content_of file.now (program_fields self.now) ≡ Err e) }
@@ -59,10 +63,14 @@ impl ProgramHeader {
 
 impl ProgramHeader32 {
     ghost use Rattle.xmas_elf.specs.SegmentContent.{segment_content, segment_content_of};
+    ghost use Rattle.xmas_elf.specs.Shapes.{HasSegmentShape, Shape, shape};
 
     /// The contents of the segment, as in `ProgramHeader::get_data`.
     #[inline(always)]
     pub fn get_data<'a>(&self, file: &ElfFile<'a>) -> Result<SegmentData<'a>, ElfError>
+        ensures readable { (wanted : Shape)
+            → IsOkAnd result (λ d. shape (segment_content d) ≡ wanted)
+            ↔ HasSegmentShape file.now (program_64 self.now) wanted }
         ensures exact { MatchResult result
             (λ d. segment_content_of file.now (program_64 self.now) ≡ Ok (segment_content d))
             (λ e. segment_content_of file.now (program_64 self.now) ≡ Err e) }
@@ -77,11 +85,15 @@ impl ProgramHeader32 {
 
 impl ProgramHeader64 {
     ghost use Rattle.xmas_elf.specs.SegmentContent.{segment_content, segment_content_of};
+    ghost use Rattle.xmas_elf.specs.Shapes.{HasSegmentShape, Shape, shape};
 
     /// The contents of the segment, as in `ProgramHeader::get_data`.
     #[tactic(auto, using(crate::proofs::Places::part_lies), unfolding(crate::specs::SegmentContent::segment_content_of))]
     #[inline(always)]
     pub fn get_data<'a>(&self, file: &ElfFile<'a>) -> Result<SegmentData<'a>, ElfError>
+        ensures readable { (wanted : Shape)
+            → IsOkAnd result (λ d. shape (segment_content d) ≡ wanted)
+            ↔ HasSegmentShape file.now self.now wanted }
         ensures exact { MatchResult result
             (λ d. segment_content_of file.now self.now ≡ Ok (segment_content d))
             (λ e. segment_content_of file.now self.now ≡ Err e) }

@@ -1,6 +1,6 @@
 //! The contents of a section, by its type (gABI, "Sections").
 
-ghost use Rattle.std.specs.Prelude.{◌≡◌, Ok, Err, IfOk, MatchResult};
+ghost use Rattle.std.specs.Prelude.{◌≡◌, ◌↔◌, Ok, Err, IfOk, IsOkAnd, MatchResult};
 ghost use Rattle.elf_base.specs.FileHeader.{file_class, file_order};
 ghost use Rattle.xmas_elf.specs.SectionData.{IsSectionData};
 ghost use Rattle.xmas_elf.specs.SectionHeader.{section_fields};
@@ -71,6 +71,7 @@ impl SectionHeader {
     ghost use Rattle.xmas_elf.specs.Content.{IsReadFrom};
     ghost use Rattle.xmas_elf.specs.Place.{PartLies, section_part};
     ghost use Rattle.xmas_elf.specs.SectionContent.{section_content, section_content_of};
+    ghost use Rattle.xmas_elf.specs.Shapes.{HasShape, Shape, shape};
 
     /// The contents of the section, by its type, in the class and byte order of the file. They live
     /// as long as the input.
@@ -84,6 +85,9 @@ impl SectionHeader {
     #[tactic(auto, using(crate::proofs::Places::section_lies), unfolding(crate::specs::SectionContent::section_content_of))]
     #[inline(always)]
     pub fn get_data<'a>(&self, file: &ElfFile<'a>) -> Result<SectionData<'a>, ElfError>
+        ensures readable { (wanted : Shape)
+            → IsOkAnd result (λ d. shape (section_content d) ≡ wanted)
+            ↔ HasShape file.now self.now wanted }
         ensures exact { MatchResult result
             (λ d. section_content_of file.now self.now ≡ Ok (section_content d))
             (λ e. section_content_of file.now self.now ≡ Err e) }

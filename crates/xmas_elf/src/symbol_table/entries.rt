@@ -10,7 +10,7 @@ ghost use Rattle.xmas_elf.specs.Symbol.{entry_32_fields, entry_64_fields};
 
 mod text;
 
-use crate::bytes::{Order, Record};
+use crate::bytes::{Order, Record, text_at};
 use crate::symbol_table::{Entry, Visibility_};
 use crate::{ElfError, ElfFile};
 use elf_base::bytes::{read_u16, read_u32, read_u64};
@@ -135,10 +135,11 @@ pub(crate) trait Kept {
 }
 
 impl<K: Kept> Entry for K {
-    ghost use Rattle.std.specs.Prelude.{IfSome, IsSomeAnd};
+    ghost use Rattle.std.specs.Prelude.{IfOk, IfSome, IsSomeAnd, MatchResult, None, Some};
     ghost use Rattle.std.specs.Result.{result_ok};
     ghost use Rattle.elf_base.specs.Lent.{Answers, Lends, LendsOnly};
-    ghost use Rattle.xmas_elf.specs.SymbolName.{HoldsNames, IsSymbolString};
+    ghost use Rattle.xmas_elf.specs.Place.{LiesAsSymbolStrings};
+    ghost use Rattle.xmas_elf.specs.SymbolName.{HoldsNames, IsSymbolString, name_by};
     ghost use Rattle.xmas_elf.specs.SymbolName.{symbol_string_of, symbol_strings_of};
 
     ghost fields = { K.fields };
@@ -219,6 +220,8 @@ impl<K: Kept> Entry for K {
     #[tactic(auto, using(crate::proofs::SymbolNames::holds_found))]
     fn string_table<'a>(file: &ElfFile<'a>) -> Option<Result<&'a [u8], ElfError>>
         ensures table { IsSomeAnd result (Answers (symbol_strings_of K.DYNAMIC file.now)) }
+        ensures place { IfSome result
+            (λ answer. IfOk answer (LiesAsSymbolStrings K.DYNAMIC file.now)) }
         ensures names { IfSome result (HoldsNames K.fields
             (λ e. result_ok (symbol_string_of K.DYNAMIC file.now (K.fields e).name))) }
     {
@@ -226,6 +229,33 @@ impl<K: Kept> Entry for K {
             Some(file.dynstr())
         } else {
             Some(file.strtab())
+        }
+    }
+
+    /// The name of the symbol in a file, by the result of `string_table` for that file; for `None`
+    /// as in `get_name`.
+    ///
+    /// Errors: that of the string table; those of `bytes::text_at` in it at `name`; for `None`
+    /// those of `get_name`.
+    fn name_in<'a>(
+        &self,
+        strings: Option<Result<&'a [u8], ElfError>>,
+        file: &ElfFile<'a>,
+    ) -> Result<&'a str, ElfError>
+        ensures text { IfSome strings.entry (HoldsNames K.fields
+            (λ e. result_ok (symbol_string_of K.DYNAMIC file.now (K.fields e).name)))
+            → MatchResult result
+            (λ text. result_ok (symbol_string_of K.DYNAMIC file.now (K.fields self.now).name)
+            ≡ Some text.now)
+            (λ _. result_ok (symbol_string_of K.DYNAMIC file.now (K.fields self.now).name)
+            ≡ None) }
+        ensures exact { Answers
+            (name_by K.DYNAMIC file.now strings.entry (K.fields self.now).name) result }
+    {
+        match strings {
+            Some(Ok(table)) => text_at(table, self.name() as usize),
+            Some(Err(error)) => Err(error),
+            None => self.get_name(file),
         }
     }
 }

@@ -1,8 +1,8 @@
 //! A symbol table with the names of its symbols (gABI, "Symbol Table" and "String Table").
 
 ghost use Rattle.std.specs.Option.{ForSome};
-ghost use Rattle.std.specs.Prelude.{◌≡◌, ◌↔◌, ◌<◌, ◌^◌, IsNone, IsSomeAnd, IsTrue, MatchOption};
-ghost use Rattle.std.specs.Prelude.{MatchResult, None, Some, length, slice_get};
+ghost use Rattle.std.specs.Prelude.{◌≡◌, ◌↔◌, ◌<◌, ◌^◌, IfSome, IsNone, IsSomeAnd, IsTrue};
+ghost use Rattle.std.specs.Prelude.{MatchOption, MatchResult, None, Some, length, slice_get};
 ghost use Rattle.xmas_elf.specs.SymbolName.{HoldsNames};
 ghost use Rattle.xmas_elf.specs.Symbols.{symbols_of};
 
@@ -22,8 +22,10 @@ pub struct SymbolTable<'a, E: Entry + Record> {
 }
 
 impl<'a, E: Entry + Record> SymbolTable<'a, E> {
+    ghost use Rattle.elf_base.specs.Lent.{Answers};
     ghost use Rattle.elf_base.specs.Table.{table_items, table_rest};
-    ghost use Rattle.xmas_elf.specs.SymbolTable.{carried_table, table_symbols};
+    ghost use Rattle.xmas_elf.specs.SymbolName.{name_in_table};
+    ghost use Rattle.xmas_elf.specs.SymbolTable.{carried_strings, carried_table, table_symbols};
 
     /// The symbols of a table of this file; their string table is found by `Entry::string_table`.
     #[inline(always)]
@@ -93,9 +95,11 @@ impl<'a, E: Entry + Record> SymbolTable<'a, E> {
     /// The name of a symbol of such a table. The errors are those of `Entry::name_in`.
     #[inline(always)]
     pub fn name_of(&self, symbol: &E) -> Result<&'a str, ElfError>
-        ensures { MatchResult result
+        ensures text { MatchResult result
             (λ name. (table_symbols self.now).text symbol.now ≡ Some name.now)
             (λ _. (table_symbols self.now).text symbol.now ≡ None) }
+        ensures exact { IfSome (carried_strings self.now)
+            (λ found. Answers (name_in_table found (E.fields symbol.now).name) result) }
     {
         symbol.name_in(self.strings, &self.file)
     }

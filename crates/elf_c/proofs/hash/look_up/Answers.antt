@@ -9,6 +9,8 @@ returns g c = (
   c.lookup_counted-found.result.0,
   c.lookup_counted-found.result.1,
   looks_for_name _ _ (λ e. search rules) _ (table_symbols c.args.symbols.now) _ _ _ (c.lookup_counted-found.ensures.answer (λ e within yes no. search rules)),
+  c.lookup_counted-found.ensures.in_chains,
+  c.lookup_counted-found.ensures.in_symbols,
   (λ good. finds_name _ _ (λ e. search rules) _ (table_symbols c.args.symbols.now) _ _ (c.lookup_counted-found.ensures.good (λ e within yes no. search rules) good)),
   c.said.ensures,
 )

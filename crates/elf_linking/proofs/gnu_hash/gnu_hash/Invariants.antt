@@ -1,5 +1,5 @@
 use Rattle.std.proofs.Common.{◌≡◌, take}
-use Rattle.elf_linking.specs.GnuHashNumber.{gnu_hash_number}
+use Rattle.elf_linking.specs.Layouts.{gnu_hash_number}
 use Rattle.elf_linking.proofs.gnu_hash.gnu_hash.Given as goal
 
 abbrev pub invariant-loop-byte : goal.invariant-loop-byte

@@ -1,5 +1,5 @@
 use Rattle.std.proofs.Common.{◌≡◌, Ok, Some, ap, ◌∙◌, subst}
-use Rattle.elf_linking.specs.GoodGnu.{FindsAll}
+use Rattle.elf_linking.specs.GnuHash.{FindsAll}
 use Rattle.xmas_elf.specs.Symbols.{IsMatch, symbols_of}
 use Rattle.linking_callers.proofs.callers.symbol_that.Goals as goal
 

@@ -1,6 +1,5 @@
 use Rattle.std.proofs.Common.{◌≡◌, inl, inr, sym, ◌∙◌, subst, arith}
-use Rattle.elf_linking.specs.GnuHash.{bucket_word}
-use Rattle.elf_linking.specs.GoodGnu.{IsCut, cut, too_early}
+use Rattle.elf_linking.specs.GnuHash.{IsCut, before_first, bucket_word, cut}
 use Rattle.xmas_elf.specs.SymbolTable.{table_symbols}
 use Rattle.elf_linking.proofs.gnu_hash.GnuHashTable.check_bucket.Goals as goal
 
@@ -12,7 +11,7 @@ returns-then-from-eq0 g c =
 pub returns-then-from-first_symbol : goal.returns-then-from-first_symbol
 returns-then-from-first_symbol g c =
     let same : c.bucket-from.result ≡ bucket_word c.args.self.now c.args.bucket = c.bucket-from.ensures in
-    too_early (omega arith) (omega arith)
+    before_first (omega arith) (omega arith)
 
 pub returns-then-from-runs_end : goal.returns-then-from-runs_end
 returns-then-from-runs_end g c =

@@ -1,5 +1,5 @@
 use Rattle.std.proofs.Common.{arith, below_more}
-use Rattle.elf_linking.specs.GoodGnu.{IsBucketGood}
+use Rattle.elf_linking.specs.GnuHash.{IsBucketGood}
 use Rattle.xmas_elf.specs.SymbolTable.{table_symbols}
 use Rattle.elf_linking.proofs.gnu_hash.GnuHashTable.check_buckets.Goals as goal
 

@@ -1,4 +1,4 @@
-use Rattle.elf_linking.specs.GoodGnu.{AreGoodBelow}
+use Rattle.elf_linking.specs.GnuHash.{AreGoodBelow}
 use Rattle.xmas_elf.specs.SymbolTable.{table_symbols}
 use Rattle.elf_linking.proofs.gnu_hash.GnuHashTable.check_buckets.Given as goal
 

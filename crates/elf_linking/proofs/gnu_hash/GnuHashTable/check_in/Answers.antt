@@ -1,4 +1,4 @@
-use Rattle.elf_linking.specs.GoodGnu.{good, faulty, missing}
+use Rattle.elf_linking.specs.GnuHash.{good, faulty, missing}
 use Rattle.xmas_elf.specs.SymbolTable.{table_symbols}
 use Rattle.elf_linking.proofs.GnuChecks.{check_once, good_is_ok, ok_is_good}
 use Rattle.elf_linking.proofs.gnu_hash.GnuHashTable.check_in.Goals as goal

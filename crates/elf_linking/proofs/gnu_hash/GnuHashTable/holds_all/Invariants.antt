@@ -1,5 +1,5 @@
 use Rattle.std.proofs.Common.{ℕ, ◌<◌, ◌≤◌}
-use Rattle.elf_linking.specs.Run.{ComeFrom}
+use Rattle.elf_linking.specs.GnuHash.{ComeFrom}
 use Rattle.xmas_elf.specs.SymbolTable.{table_symbols}
 use Rattle.elf_linking.proofs.GnuChecks.{Held}
 use Rattle.elf_linking.proofs.gnu_hash.GnuHashTable.holds_all.Given as goal

@@ -1,8 +1,7 @@
 use Rattle.std.proofs.Common.{◌≡◌, ◌≤◌, ◌<◌, ◌/◌, Some, refl, sym, subst, arith}
 use Rattle.std.proofs.lemmas.Bool.{eq-eqb, eqb-true}
-use Rattle.elf_linking.specs.GnuHash.{HasChain, chain_word, start_of}
-use Rattle.elf_linking.specs.GnuHashNumber.{gnu_hash_number}
-use Rattle.elf_linking.specs.Run.{symbol_end}
+use Rattle.elf_linking.specs.GnuHash.{HasChain, chain_word, start_of, symbol_end}
+use Rattle.elf_linking.specs.Layouts.{gnu_hash_number}
 use Rattle.xmas_elf.specs.SymbolTable.{table_symbols}
 use Rattle.elf_linking.proofs.Looks.{start_bucket}
 use Rattle.elf_linking.proofs.gnu_hash.GnuHashTable.is_on_run.Goals as goal

@@ -1,7 +1,6 @@
 use Rattle.std.proofs.Common.{◌≡◌, ℕ, Option, Result, subst}
 use Rattle.xmas_elf.specs.Symbols.{Decides, IsMatch}
-use Rattle.elf_linking.specs.GoodGnu.{FindsAll, IsGood}
-use Rattle.elf_linking.specs.Run.{Looks}
+use Rattle.elf_linking.specs.GnuHash.{FindsAll, IsGood, Looks}
 use Rattle.elf_linking.specs.declared.error.LinkError.{LinkError}
 use Rattle.elf_linking.proofs.gnu_hash.GnuHashTable.lookup.Goals as goal
 

@@ -1,5 +1,5 @@
 use Rattle.std.proofs.Common.{◌<◌, arith}
-use Rattle.elf_linking.specs.Run.{IsThere, symbol_end}
+use Rattle.elf_linking.specs.GnuHash.{IsThere, symbol_end}
 use Rattle.xmas_elf.specs.SymbolTable.{table_symbols}
 use Rattle.elf_linking.proofs.Runs.{come_on, come_stop}
 use Rattle.elf_linking.proofs.gnu_hash.GnuHashTable.next_from.Goals as goal

@@ -1,6 +1,5 @@
 use Rattle.std.proofs.Common.{◌≡◌, ◌-◌, ◌≤◌, ◌<◌, ℕ, refl, arith}
-use Rattle.elf_linking.specs.GnuHash.{HasChain, first_symbol_of}
-use Rattle.elf_linking.specs.Run.{IsThere, no_symbol, no_word, symbol_end}
+use Rattle.elf_linking.specs.GnuHash.{HasChain, IsThere, first_symbol_of, no_symbol, no_word, symbol_end}
 use Rattle.xmas_elf.specs.SymbolTable.{table_symbols}
 use Rattle.elf_linking.proofs.Runs.{run_first, run_to}
 use Rattle.elf_linking.proofs.Words.{chain_before, chain_end}

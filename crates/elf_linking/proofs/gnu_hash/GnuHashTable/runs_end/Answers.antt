@@ -1,7 +1,6 @@
 use Rattle.std.proofs.Common.{◌≡◌, ◌+◌, ◌≤◌, ◌<◌, ◌%◌, ◌⊎◌, inl, inr, refl, sym, subst, arith}
 use Rattle.std.proofs.lemmas.Bool.{cases_lt}
-use Rattle.elf_linking.specs.GnuHash.{HasChain, chain_word}
-use Rattle.elf_linking.specs.Run.{IsThere, symbol_end}
+use Rattle.elf_linking.specs.GnuHash.{HasChain, IsThere, chain_word, symbol_end}
 use Rattle.xmas_elf.specs.SymbolTable.{table_symbols}
 use Rattle.elf_linking.proofs.Scans.{Scanned, scanned_end, scanned_first, scanned_on}
 use Rattle.elf_linking.proofs.Words.{chain_before}

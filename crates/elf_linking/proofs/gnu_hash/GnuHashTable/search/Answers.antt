@@ -1,7 +1,6 @@
 use Rattle.std.proofs.Common.{◌≡◌, None, Some, arith}
-use Rattle.elf_linking.specs.GnuHash.{start_at, start_of}
-use Rattle.elf_linking.specs.GnuHashNumber.{gnu_hash_number}
-use Rattle.elf_linking.specs.Run.{no_run, too_early}
+use Rattle.elf_linking.specs.GnuHash.{no_run, start_at, start_of, too_early}
+use Rattle.elf_linking.specs.Layouts.{gnu_hash_number}
 use Rattle.elf_linking.proofs.Looks.{goes_by, start_bucket}
 use Rattle.elf_linking.proofs.gnu_hash.GnuHashTable.search.Goals as goal
 

@@ -1,6 +1,5 @@
 use Rattle.std.proofs.Common.{◌≡◌, ◌≤◌, ◌<◌, ◌%◌, ◌/◌, Err, refl, sym, ◌∙◌, subst, arith}
-use Rattle.elf_linking.specs.GnuHash.{HasChain, chain_of, chain_word, first_symbol_of}
-use Rattle.elf_linking.specs.Run.{IsThere, ended, found, refused, symbol_end}
+use Rattle.elf_linking.specs.GnuHash.{HasChain, IsThere, chain_of, chain_word, ended, first_symbol_of, found, refused, symbol_end}
 use Rattle.xmas_elf.specs.SymbolTable.{table_symbols}
 use Rattle.elf_linking.proofs.Runs.{looks_past}
 use Rattle.elf_linking.proofs.Words.{chain_refused}

@@ -1,5 +1,5 @@
 use Rattle.xmas_elf.specs.Symbols.{Decides, IsMatch}
-use Rattle.elf_linking.specs.Run.{NoHit, Run}
+use Rattle.elf_linking.specs.GnuHash.{NoHit, Run}
 use Rattle.xmas_elf.specs.SymbolTable.{table_symbols}
 use Rattle.elf_linking.proofs.gnu_hash.GnuHashTable.walk.Given as goal
 

@@ -1,5 +1,5 @@
 use Rattle.std.proofs.Common.{sym}
-use Rattle.elf_linking.specs.Run.{too_early}
+use Rattle.elf_linking.specs.GnuHash.{too_early}
 use Rattle.linking_callers.proofs.Early.{early_starts}
 use Rattle.linking_callers.proofs.callers.lookups.lookup_anywhere.Goals as goal
 

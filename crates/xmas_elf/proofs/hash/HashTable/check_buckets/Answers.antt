@@ -1,5 +1,5 @@
 use Rattle.std.proofs.Common.{arith, below_more}
-use Rattle.xmas_elf.specs.Good.{Ends}
+use Rattle.xmas_elf.specs.HashTable.{Ends}
 use Rattle.xmas_elf.specs.SymbolTable.{table_symbols}
 use Rattle.xmas_elf.proofs.hash.HashTable.check_buckets.Goals as goal
 

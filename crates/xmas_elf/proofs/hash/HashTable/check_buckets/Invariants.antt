@@ -1,4 +1,4 @@
-use Rattle.xmas_elf.specs.Good.{EndsBelow}
+use Rattle.xmas_elf.specs.HashTable.{EndsBelow}
 use Rattle.xmas_elf.specs.SymbolTable.{table_symbols}
 use Rattle.xmas_elf.proofs.hash.HashTable.check_buckets.Given as goal
 

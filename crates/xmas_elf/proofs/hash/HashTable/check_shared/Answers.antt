@@ -1,4 +1,4 @@
-use Rattle.xmas_elf.specs.Good.{good, faulty, missing}
+use Rattle.xmas_elf.specs.HashTable.{good, faulty, missing}
 use Rattle.xmas_elf.proofs.hash.HashTable.check_shared.Goals as goal
 
 pub returns-in-Ok : goal.returns-in-Ok

@@ -1,5 +1,5 @@
 use Rattle.std.proofs.Common.{below_more, rules}
-use Rattle.xmas_elf.specs.Chain.{Reaches, chains_of}
+use Rattle.xmas_elf.specs.HashTable.{Reaches, chains_of}
 use Rattle.xmas_elf.specs.SymbolTable.{table_symbols}
 use Rattle.xmas_elf.proofs.ChainPaths.{first_ends, walk_ends}
 use Rattle.xmas_elf.proofs.hash.HashTable.ending.Goals as goal

@@ -1,5 +1,5 @@
 use Rattle.std.proofs.Common.{ℕ, ◌<◌}
-use Rattle.xmas_elf.specs.Chain.{Reaches, chains_of}
+use Rattle.xmas_elf.specs.HashTable.{Reaches, chains_of}
 use Rattle.xmas_elf.specs.SymbolTable.{table_symbols}
 use Rattle.xmas_elf.proofs.hash.HashTable.ending.Given as goal
 

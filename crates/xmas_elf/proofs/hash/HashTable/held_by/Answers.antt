@@ -1,6 +1,5 @@
 use Rattle.std.proofs.Common.{arith, ◌≡◌, Ok, sym, ◌∙◌, subst}
-use Rattle.xmas_elf.specs.Chain.{Comes, chains_of, starts}
-use Rattle.xmas_elf.specs.HashTable.{bucket_of}
+use Rattle.xmas_elf.specs.HashTable.{Comes, bucket_of, chains_of, starts}
 use Rattle.xmas_elf.specs.SymbolTable.{table_symbols}
 use Rattle.xmas_elf.proofs.ChainChecks.{bad_at_fault}
 use Rattle.xmas_elf.proofs.ChainCounts.{belongs_by, picked_held}

@@ -1,7 +1,5 @@
 use Rattle.std.proofs.Common.{◌≤◌, ◌-◌}
-use Rattle.xmas_elf.specs.Chain.{Comes, chains_of}
-use Rattle.xmas_elf.specs.Good.{Belongs}
-use Rattle.xmas_elf.specs.HashTable.{chain_count_of}
+use Rattle.xmas_elf.specs.HashTable.{Belongs, Comes, chain_count_of, chains_of}
 use Rattle.xmas_elf.specs.SymbolTable.{table_symbols}
 use Rattle.xmas_elf.proofs.ChainPaths.{Picked}
 use Rattle.xmas_elf.proofs.hash.HashTable.held_by.Given as goal

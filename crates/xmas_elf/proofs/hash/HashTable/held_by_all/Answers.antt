@@ -1,6 +1,6 @@
 use Rattle.std.proofs.Common.{arith, below_more, ◌+◌, subst, sym}
 use Rattle.xmas_elf.specs.Counted.{IsCount}
-use Rattle.xmas_elf.specs.Good.{Ends, IsHeldBelow, faulty}
+use Rattle.xmas_elf.specs.HashTable.{Ends, IsHeldBelow, faulty}
 use Rattle.xmas_elf.specs.SymbolTable.{table_symbols}
 use Rattle.xmas_elf.proofs.ChainCounts.{held_more, held_none}
 use Rattle.xmas_elf.proofs.hash.HashTable.held_by_all.Goals as goal

@@ -1,6 +1,6 @@
 use Rattle.std.proofs.Common.{◌≤◌, ◌*◌}
 use Rattle.xmas_elf.specs.Counted.{IsCount}
-use Rattle.xmas_elf.specs.Good.{EndsBelow, IsHeldBelow}
+use Rattle.xmas_elf.specs.HashTable.{EndsBelow, IsHeldBelow}
 use Rattle.xmas_elf.specs.SymbolTable.{table_symbols}
 use Rattle.xmas_elf.proofs.hash.HashTable.held_by_all.Given as goal
 

@@ -1,6 +1,5 @@
 use Rattle.std.proofs.Common.{◌≡◌, ℕ, Option, Result, subst}
-use Rattle.xmas_elf.specs.Chain.{Looks}
-use Rattle.xmas_elf.specs.Good.{FindsAll, IsGood}
+use Rattle.xmas_elf.specs.HashTable.{FindsAll, IsGood, Looks}
 use Rattle.xmas_elf.specs.Prelude.{ElfError}
 use Rattle.xmas_elf.specs.Symbols.{Decides, IsMatch}
 use Rattle.xmas_elf.proofs.hash.HashTable.lookup.Goals as goal

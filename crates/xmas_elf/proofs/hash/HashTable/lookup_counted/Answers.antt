@@ -1,6 +1,5 @@
 use Rattle.std.proofs.Common.{◌≡◌, ◌≢◌, ℕ, Err, Option, Result, subst}
-use Rattle.xmas_elf.specs.Chain.{Looks}
-use Rattle.xmas_elf.specs.Good.{FindsAll, IsGood}
+use Rattle.xmas_elf.specs.HashTable.{FindsAll, IsGood, Looks}
 use Rattle.xmas_elf.specs.Prelude.{ElfError}
 use Rattle.elf_base.specs.declared.error.ElfError.TheVariants.{HashCycle}
 use Rattle.xmas_elf.specs.Symbols.{Decides, IsMatch}

@@ -1,7 +1,6 @@
 use Rattle.std.proofs.Common.{◌≡◌, None, Some, Ok, Err, IsTrue, true, false, refl, subst}
 use Rattle.std.specs.Fn.{FnReturnsAt}
-use Rattle.xmas_elf.specs.Chain.{bad_bucket, no_bucket}
-use Rattle.xmas_elf.specs.HashTable.{start_of}
+use Rattle.xmas_elf.specs.HashTable.{bad_bucket, no_bucket, start_of}
 use Rattle.xmas_elf.specs.SymbolTable.{table_symbols}
 use Rattle.xmas_elf.specs.Symbols.{IsMatch}
 use Rattle.xmas_elf.proofs.ChainPaths.{contains_at, walk_looks}

@@ -1,5 +1,5 @@
 use Rattle.std.proofs.Common.{◌+◌, arith, refl, sym, ◌∙◌}
-use Rattle.xmas_elf.specs.Chain.{StandsAt, chains_of, refused}
+use Rattle.xmas_elf.specs.HashTable.{StandsAt, chains_of, refused}
 use Rattle.xmas_elf.specs.SymbolTable.{table_symbols}
 use Rattle.xmas_elf.proofs.ChainPaths.{looks, looks_halted}
 use Rattle.xmas_elf.proofs.hash.HashTable.step.Goals as goal

@@ -1,6 +1,5 @@
 use Rattle.std.proofs.Common.{arith, ◌≤◌, ◌⊎◌, inl, inr, length, sym, ◌∙◌}
-use Rattle.xmas_elf.specs.Chain.{StandsAt, chains_of, no_chain, no_symbol, too_many}
-use Rattle.xmas_elf.specs.HashTable.{chain_count_of}
+use Rattle.xmas_elf.specs.HashTable.{StandsAt, chain_count_of, chains_of, no_chain, no_symbol, too_many}
 use Rattle.xmas_elf.specs.SymbolTable.{table_symbols}
 use Rattle.xmas_elf.proofs.hash.HashTable.symbol_at.Goals as goal
 use Rattle.xmas_elf.proofs.hash.HashTable.symbol_at.Goals.{then-passed-chain_count-via-then-passed-chain_count, then-passed-chain_count-via-else-passed-chain_count+then-passed-symbol_count}

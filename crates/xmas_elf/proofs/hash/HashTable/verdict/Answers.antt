@@ -1,5 +1,5 @@
 use Rattle.std.proofs.Common.{arith}
-use Rattle.xmas_elf.specs.Good.{good, missing}
+use Rattle.xmas_elf.specs.HashTable.{good, missing}
 use Rattle.xmas_elf.specs.SymbolTable.{table_symbols}
 use Rattle.xmas_elf.proofs.ChainCounts.{all_held, one_missing}
 use Rattle.xmas_elf.proofs.hash.HashTable.verdict.Goals as goal

@@ -1,6 +1,6 @@
 use Rattle.std.proofs.Common.{◌≡◌, true, false, arith, refl, rules, subst, sym, ◌∙◌}
 use Rattle.std.specs.Fn.{FnReturnsAt}
-use Rattle.xmas_elf.specs.Chain.{breaks, chains_of, ends, halts, stops}
+use Rattle.xmas_elf.specs.HashTable.{breaks, chains_of, ends, halts, stops}
 use Rattle.xmas_elf.specs.SymbolTable.{table_symbols}
 use Rattle.xmas_elf.proofs.ChainPaths.{contains_at, walked_first, walked_next}
 use Rattle.xmas_elf.proofs.hash.HashTable.walk.Goals as goal

@@ -1,7 +1,6 @@
 use Rattle.std.proofs.Common.{◌≤◌, ◌-◌, false, length}
 use Rattle.std.specs.Fn.{FnReturnsAt}
-use Rattle.xmas_elf.specs.Chain.{Walked, chains_of}
-use Rattle.xmas_elf.specs.HashTable.{chain_count_of}
+use Rattle.xmas_elf.specs.HashTable.{Walked, chain_count_of, chains_of}
 use Rattle.xmas_elf.specs.SymbolTable.{table_symbols}
 use Rattle.xmas_elf.proofs.hash.HashTable.walk.Given as goal
 

@@ -1,4 +1,4 @@
-use Rattle.elf_linking.specs.DynamicTables.{linked_table_of, linked_text_of}
+use Rattle.elf_linking.specs.DynamicView.{linked_table_of, linked_text_of}
 use Rattle.elf_linking.proofs.LinkedNames.{holds_found}
 use Rattle.elf_linking.proofs.view.linked_entry.LinkedEntry.string_table.Goals as goal
 

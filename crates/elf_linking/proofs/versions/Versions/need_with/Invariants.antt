@@ -1,0 +1,9 @@
+use Rattle.std.proofs.Common.{◌≡◌}
+use Rattle.elf_linking.specs.VersionTables.{needs_in, needs_left, version_tables}
+use Rattle.elf_linking.specs.Versions.{bears_needed, first_item}
+use Rattle.elf_linking.proofs.versions.Versions.need_with.Given as goal
+
+-- a search of the remaining needs has the result of a search of all
+abbrev pub invariant-loop-item : goal.invariant-loop-item
+invariant-loop-item l = first_item (bears_needed l.number) (needs_left l.item-iterator)
+    ≡ first_item (bears_needed l.number) (needs_in (version_tables l.fn.self).needs)

@@ -1,0 +1,293 @@
+-- The version tables of a file: the numbers of its symbols, its definitions and its needs (LSB, "Symbol
+-- Versioning"; that a table extends up to the end of its segment, and where a list of records ends, is this
+-- project's own).
+use Rattle.std.specs.Prelude.{◌≡◌, ◌≢◌, ℕ, zero, suc, ◌+◌, ◌-◌, ◌*◌, ◌/◌, ◌%◌, ◌^◌, ◌<◌, ◌≤◌, ◌==◌, ◌&&◌, nat_le, nat_lt, not, Bool, true, false, List, [], ◌∷◌, ◌++◌, length, map, Option, Some, None, option_map, Result, Ok, Err, if◌then◌else◌}
+use Rattle.elf_base.specs.FileHeader.{file_order}
+use Rattle.elf_base.specs.Number.{number}
+use Rattle.elf_base.specs.Refusal.{and_then}
+use Rattle.elf_base.specs.declared.bytes.Order.{Order}
+use Rattle.elf_linking.specs.DynamicView.{number_with, text_in_strings}
+use Rattle.elf_linking.specs.Loaded.{bytes_at_of, bytes_from_of, lent}
+use Rattle.elf_linking.specs.declared.error.LinkError.{LinkError}
+use Rattle.elf_linking.specs.declared.error.LinkError.TheVariants.{Address, NoEntry, ShortVersion, VersionCount}
+use Rattle.elf_linking.specs.declared.versions.Versions.{Versions}
+use Rattle.elf_linking.specs.declared.versions.definitions.Definition.{Definition}
+use Rattle.elf_linking.specs.declared.versions.definitions.Definitions.{Definitions}
+use Rattle.elf_linking.specs.declared.versions.needs.Need.{Need}
+use Rattle.elf_linking.specs.declared.versions.needs.Needs.{Needs}
+use Rattle.elf_linking.specs.declared.versions.records.Chain.{Chain}
+use Rattle.elf_linking.specs.declared.versions.records.Records.{Records}
+use Rattle.elf_linking.specs.declared.view.entry.DynamicEntry.{DynamicEntry}
+use Rattle.elf_linking.specs.declared.view.tags.TheConstants.{DT_VERDEF, DT_VERDEFNUM, DT_VERNEED, DT_VERNEEDNUM, DT_VERSYM}
+use Rattle.xmas_elf.specs.declared.ElfFile.{ElfFile}
+
+-- records of versions: the bytes from the address of the first on, their number, their byte order, and the
+-- string table with their names
+pub record VersionRecords : Type 0 where
+  pub bytes : List ℕ
+  pub count : ℕ
+  pub order : Order
+  pub strings : Result (List ℕ) LinkError
+
+-- the version tables of a file: the numbers of its symbols, of two bytes each, if it has them; its definitions
+-- and its needs
+pub record VersionTables : Type 0 where
+  pub numbers : Option (List ℕ)
+  pub definitions : VersionRecords
+  pub needs : VersionRecords
+
+-- the number in `width` bytes, `offset` bytes after a place
+abbrev pub field : VersionRecords → ℕ → ℕ → ℕ → ℕ
+field records width place offset = number records.order width (place + offset) records.bytes
+
+-- the record at a place, whose last four bytes, `next`, lie `offset` bytes after it, extends past the end of
+-- the bytes
+abbrev pub is_cut : VersionRecords → ℕ → ℕ → Bool
+is_cut records offset place = nat_lt (length records.bytes) (place + offset + 4)
+
+-- the places of some records that are whole in the bytes: the first is at `start`, and each later one `next`
+-- bytes after the one before, whose `next` is not 0
+pub data AreChained (records : VersionRecords) (offset : ℕ) : ℕ → List ℕ → Type 0 where
+  none : (start : ℕ) → AreChained records offset start []
+  last : (start : ℕ) → start + offset + 4 ≤ length records.bytes → AreChained records offset start (start ∷ [])
+  more : (start : ℕ) (places : List ℕ) → start + offset + 4 ≤ length records.bytes → field records 4 start offset ≢ 0
+      → AreChained records offset (start + field records 4 start offset) places
+      → AreChained records offset start (start ∷ places)
+
+-- the places of as many such records as there are, but at most `count`
+pub record IsLongestList (records : VersionRecords) (offset start count : ℕ) (places : List ℕ) : Type 0 where
+  pub chained : AreChained records offset start places
+  pub few : length places ≤ count
+  pub longest : (others : List ℕ) → AreChained records offset start others → length others ≤ count
+      → length others ≤ length places
+
+-- whether another record follows those at some places: the `next` of the last is not 0; if there is no place,
+-- as `follows` says
+abbrev pub goes_on : VersionRecords → ℕ → Bool → List ℕ → Bool
+goes_on records offset follows [] = follows
+goes_on records offset follows (place ∷ places) =
+    goes_on records offset (not (field records 4 place offset == 0)) places
+
+-- the refusal after the last record, if the record that follows it is cut off
+abbrev pub refusal_at_end : Bool → List (Result ℕ LinkError)
+refusal_at_end true = Err ShortVersion ∷ []
+refusal_at_end false = []
+
+-- the items are the places of the longest list of records, and a refusal at the end if there are fewer than
+-- `count` and another one follows the last, which is cut off then
+pub record ArePlaces (records : VersionRecords) (offset start count : ℕ) (items : List (Result ℕ LinkError)) : Type 0 where
+  pub places : List ℕ
+  pub longest : IsLongestList records offset start count places
+  pub items_are : items ≡ map (λ place. Ok place) places
+      ++ refusal_at_end (nat_lt (length places) count && goes_on records offset true places)
+
+-- the same items as a function
+unfoldable pub places_of : VersionRecords → ℕ → ℕ → ℕ → List (Result ℕ LinkError)
+places_of records offset start zero = []
+places_of records offset start (suc count) = let next = field records 4 start offset in
+    if is_cut records offset start then Err ShortVersion ∷ []
+    else Ok start ∷ (if next == 0 then [] else places_of records offset (start + next) count)
+
+-- what is made of an item, or the refusal
+abbrev pub item_by : {A B : Type 0} → (A → B) → Result A LinkError → Result B LinkError
+item_by make (Ok item) = Ok (make item)
+item_by make (Err error) = Err error
+
+-- a definition (Verdef): 2 bytes of version, flags, number and count each, then hash, aux and next of 4
+pub record DefinitionParts : Type 0 where
+  pub flags : ℕ
+  pub number : ℕ
+  pub hash : ℕ
+  pub name : Result (List ℕ) LinkError
+
+-- the offset in the string table that a record of names (Verdaux) of 8 bytes begins with
+abbrev pub name_offset : VersionRecords → ℕ → Result ℕ LinkError
+name_offset records place =
+    if nat_lt (length records.bytes) (place + 8) then Err ShortVersion else Ok (field records 4 place 0)
+
+-- the text at an offset in the string table, or the refusal
+abbrev pub text_at_offset : Result (List ℕ) LinkError → Result ℕ LinkError → Result (List ℕ) LinkError
+text_at_offset strings (Ok offset) = text_in_strings strings offset
+text_at_offset strings (Err error) = Err error
+
+-- the definition at a place; its name is in its first record of names, `aux` bytes after it
+abbrev pub definition_at : VersionRecords → ℕ → DefinitionParts
+definition_at records place = record {
+  flags = field records 2 place 2;
+  number = field records 2 place 4;
+  hash = field records 4 place 8;
+  name = text_at_offset records.strings (name_offset records (place + field records 4 place 12));
+}
+
+-- the definitions in records: of those at the places of the longest list, whose `next` is at offset 16
+pub record AreDefinitions (records : VersionRecords) (items : List (Result DefinitionParts LinkError)) : Type 0 where
+  pub places : List (Result ℕ LinkError)
+  pub are_places : ArePlaces records 16 0 records.count places
+  pub items_are : items ≡ map (item_by (definition_at records)) places
+
+abbrev pub definitions_in : VersionRecords → List (Result DefinitionParts LinkError)
+definitions_in records = map (item_by (definition_at records)) (places_of records 16 0 records.count)
+
+-- a part of a need (Vernaux): hash of 4 bytes, flags and other of 2, name and next of 4; the file is that of
+-- its need
+pub record NeedParts : Type 0 where
+  pub file : Result (List ℕ) LinkError
+  pub flags : ℕ
+  pub number : ℕ
+  pub hidden : Bool
+  pub hash : ℕ
+  pub name : Result (List ℕ) LinkError
+
+-- the number of a version (bits 0 to 14), and whether it is hidden (bit 15), in a number of 16 bits
+abbrev pub version_number : ℕ → ℕ
+version_number raw = raw % 0x8000
+
+abbrev pub is_hidden : ℕ → Bool
+is_hidden raw = nat_le 0x8000 raw
+
+-- the part at a place, of a need whose file has its name at an offset
+abbrev pub need_at : VersionRecords → ℕ → ℕ → NeedParts
+need_at records file place = record {
+  file = text_in_strings records.strings file;
+  flags = field records 2 place 4;
+  number = version_number (field records 2 place 6);
+  hidden = is_hidden (field records 2 place 6);
+  hash = field records 4 place 0;
+  name = text_in_strings records.strings (field records 4 place 8);
+}
+
+-- a need (Verneed): 2 bytes of version and count, then file, aux and next of 4: the number of its parts, the
+-- offset of its file's name, and the place of its first part
+abbrev pub part_count : VersionRecords → ℕ → ℕ
+part_count records place = field records 2 place 2
+
+abbrev pub file_offset : VersionRecords → ℕ → ℕ
+file_offset records place = field records 4 place 4
+
+abbrev pub first_part : VersionRecords → ℕ → ℕ
+first_part records place = place + field records 4 place 8
+
+-- the items up to the first refusal, which is the last, and then those of the rest if there was none
+abbrev pub joined : {A : Type 0} → List (Result A LinkError) → List (Result A LinkError) → List (Result A LinkError)
+joined [] rest = rest
+joined (Ok item ∷ items) rest = Ok item ∷ joined items rest
+joined (Err error ∷ items) rest = Err error ∷ []
+
+-- the items are the parts of the needs at some places, in order, up to the first refusal: that of a need or a
+-- part that is cut off, or, where the needs so far have more parts than `room`, `VersionCount`
+pub data AreParts (records : VersionRecords) : ℕ → List (Result ℕ LinkError) → List (Result NeedParts LinkError) → Type 0 where
+  ended : (room : ℕ) → AreParts records room [] []
+  cut_off : (room : ℕ) (error : LinkError) (needs : List (Result ℕ LinkError))
+      → AreParts records room (Err error ∷ needs) (Err error ∷ [])
+  too_many : (room place : ℕ) (needs : List (Result ℕ LinkError)) → room < part_count records place
+      → AreParts records room (Ok place ∷ needs) (Err VersionCount ∷ [])
+  enough : (room place : ℕ) (needs parts : List (Result ℕ LinkError)) (rest : List (Result NeedParts LinkError))
+      → part_count records place ≤ room
+      → ArePlaces records 12 (first_part records place) (part_count records place) parts
+      → AreParts records (room - part_count records place) needs rest
+      → AreParts records room (Ok place ∷ needs)
+      (joined (map (item_by (need_at records (file_offset records place))) parts) rest)
+
+-- the number of parts for which the bytes have room
+abbrev pub room_of : VersionRecords → ℕ
+room_of records = length records.bytes / 16
+
+-- the needs in records: the parts of those at the places of the longest list, whose `next` is at offset 12
+pub record AreNeeds (records : VersionRecords) (items : List (Result NeedParts LinkError)) : Type 0 where
+  pub places : List (Result ℕ LinkError)
+  pub are_places : ArePlaces records 12 0 records.count places
+  pub are_parts : AreParts records (room_of records) places items
+
+-- the same items as a function: the parts at a place and from a place on, and those of needs
+abbrev pub parts_from : VersionRecords → ℕ → ℕ → ℕ → List (Result NeedParts LinkError)
+parts_from records file start count = map (item_by (need_at records file)) (places_of records 12 start count)
+
+abbrev pub parts_at : VersionRecords → ℕ → List (Result NeedParts LinkError)
+parts_at records place =
+    parts_from records (file_offset records place) (first_part records place) (part_count records place)
+
+unfoldable pub parts_within : VersionRecords → ℕ → List (Result ℕ LinkError) → List (Result NeedParts LinkError)
+parts_within records room [] = []
+parts_within records room (Err error ∷ needs) = Err error ∷ []
+parts_within records room (Ok place ∷ needs) = let count = part_count records place in
+    if nat_lt room count then Err VersionCount ∷ []
+    else joined (parts_at records place) (parts_within records (room - count) needs)
+
+abbrev pub needs_in : VersionRecords → List (Result NeedParts LinkError)
+needs_in records = parts_within records (room_of records) (places_of records 12 0 records.count)
+
+-- the numbers of symbols at the address in the entry VerSym (DT_VERSYM), of two bytes each, if there is one
+abbrev pub numbers_at : ElfFile → Option ℕ → ℕ → Result (Option (List ℕ)) LinkError
+numbers_at file None count = Ok None
+numbers_at file (Some address) count = if nat_lt count (2 ^ 63)
+    then and_then (bytes_at_of file address (count * 2)) (λ bytes. Ok (Some bytes)) else Err Address
+
+-- records at an address, if there is one, with their number
+abbrev pub records_by : ElfFile → Result (List ℕ) LinkError → Option ℕ → Option ℕ → Result VersionRecords LinkError
+records_by file strings None count =
+    Ok (record { bytes = []; count = 0; order = file_order file.header; strings = strings })
+records_by file strings (Some address) None = Err NoEntry
+records_by file strings (Some address) (Some count) = and_then (bytes_from_of file address)
+    (λ bytes. Ok (record { bytes = bytes; count = count; order = file_order file.header; strings = strings }))
+
+-- the tables of the entries, with the string table and the number of symbols, or the first refusal: of the
+-- numbers, of the definitions (DT_VERDEF and DT_VERDEFNUM), of the needs (DT_VERNEED and DT_VERNEEDNUM)
+unfoldable pub version_tables_of : ElfFile → List (DynamicEntry ℕ) → Result (List ℕ) LinkError → ℕ → Result VersionTables LinkError
+version_tables_of file entries strings count =
+    and_then (numbers_at file (number_with DT_VERSYM entries) count) (λ numbers.
+    and_then (records_by file strings (number_with DT_VERDEF entries) (number_with DT_VERDEFNUM entries)) (λ definitions.
+    and_then (records_by file strings (number_with DT_VERNEED entries) (number_with DT_VERNEEDNUM entries)) (λ needs.
+    Ok (record { numbers = numbers; definitions = definitions; needs = needs }))))
+
+-- the records and the tables of a value, the fields of an item, and the items that an iterator has not yet
+-- returned
+abbrev pub records_data : Records → VersionRecords
+records_data records = record {
+  bytes = records.bytes.now;
+  count = records.count;
+  order = records.order;
+  strings = lent records.strings;
+}
+
+abbrev pub version_tables : Versions → VersionTables
+version_tables versions = record {
+  numbers = option_map (λ numbers. numbers.now) versions.numbers;
+  definitions = records_data versions.definitions;
+  needs = records_data versions.needs;
+}
+
+abbrev pub definition_parts : Definition → DefinitionParts
+definition_parts d = record {
+  flags = d.flags;
+  number = d.number;
+  hash = d.hash;
+  name = text_at_offset (lent d.strings) d.name;
+}
+
+abbrev pub definition_item : Result Definition LinkError → Result DefinitionParts LinkError
+definition_item item = item_by definition_parts item
+
+abbrev pub need_parts : Need → NeedParts
+need_parts need = record {
+  file = text_in_strings (lent need.strings) need.file;
+  flags = need.flags;
+  number = need.number;
+  hidden = need.hidden;
+  hash = need.hash;
+  name = text_in_strings (lent need.strings) need.name;
+}
+
+abbrev pub need_item : Result Need LinkError → Result NeedParts LinkError
+need_item item = item_by need_parts item
+
+abbrev pub places_left : VersionRecords → ℕ → Chain → List (Result ℕ LinkError)
+places_left records offset chain = places_of records offset chain.place chain.left
+
+abbrev pub definitions_left : Definitions → List (Result DefinitionParts LinkError)
+definitions_left iter = let records = records_data iter.records in
+    map (item_by (definition_at records)) (places_left records 16 iter.chain)
+
+abbrev pub needs_left : Needs → List (Result NeedParts LinkError)
+needs_left iter = let records = records_data iter.records in
+    joined (map (item_by (need_at records iter.file)) (places_left records 12 iter.parts))
+    (parts_within records iter.room (places_left records 12 iter.needs))

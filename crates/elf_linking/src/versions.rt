@@ -1,0 +1,160 @@
+//! Versions of symbols (LSB, "Symbol Versioning"): the number of each symbol (`.gnu.version`), the
+//! versions that a file defines (`.gnu.version_d`), and those that it needs of libraries
+//! (`.gnu.version_r`), read by the dynamic segment.
+
+ghost use Rattle.std.specs.Prelude.{◌≡◌, ◌<◌, ◌^◌, Ok, Err, MatchResult, Option, length, option_map};
+ghost use Rattle.elf_linking.specs.DynamicView.{number_with, view_entries, view_strings};
+ghost use Rattle.elf_linking.specs.VersionTables.{item_by, numbers_at, records_by, records_data};
+ghost use Rattle.elf_linking.specs.declared.view.tags.TheConstants.{DT_VERSYM};
+
+mod definitions;
+mod needs;
+mod records;
+mod symbol;
+
+use crate::LinkError;
+pub use crate::versions::definitions::{Definition, Definitions};
+pub use crate::versions::needs::{Need, Needs};
+use crate::versions::records::Records;
+pub use crate::versions::symbol::{NamedVersion, SymbolVersion};
+use crate::view::{
+    DT_VERDEF, DT_VERDEFNUM, DT_VERNEED, DT_VERNEEDNUM, DT_VERSYM, DynamicView, bytes_at,
+    bytes_from,
+};
+use xmas_elf::ElfFile;
+
+/// The version tables of a file.
+#[derive(Clone, Copy, Debug)]
+pub struct Versions<'a> {
+    numbers: Option<&'a [u8]>,
+    definitions: Records<'a>,
+    needs: Records<'a>,
+}
+
+impl<'a> Versions<'a> {
+    ghost use Rattle.elf_linking.specs.VersionTables.{AreDefinitions, AreNeeds, definitions_in};
+    ghost use Rattle.elf_linking.specs.VersionTables.{definitions_left, needs_in, needs_left};
+    ghost use Rattle.elf_linking.specs.VersionTables.{version_tables, version_tables_of};
+
+    /// Reads the tables at the addresses in the entries VerSym, VerDef and VerNeed of the dynamic
+    /// segment, with the numbers of records in VerDefNum and VerNeedNum. A file can lack each
+    /// table.
+    ///
+    /// The number of symbols is that of `DynamicView::symbol_count`. Errors: those of `bytes_at`
+    /// for two bytes a symbol at VerSym, `Address` if these are 2 to the 64 or more; `NoEntry` if
+    /// VerDef or VerNeed is there without its number; those of `bytes_from` for these two.
+    #[tactic(auto, unfolding(crate::specs::VersionTables::version_tables_of))]
+    pub fn read(
+        view: &DynamicView<'a>,
+        file: &ElfFile<'a>,
+        symbol_count: u64,
+    ) -> Result<Versions<'a>, LinkError>
+        ensures { let answer = version_tables_of file.now (view_entries view.now)
+            (view_strings view.now) symbol_count in MatchResult result
+            (λ versions. answer ≡ Ok (version_tables versions)) (λ error. answer ≡ Err error) }
+    {
+        let numbers = match numbers_at(file, view.entry(DT_VERSYM), symbol_count) {
+            Ok(numbers) => numbers,
+            Err(error) => return Err(error),
+        };
+        let definitions = match records_by(view, file, DT_VERDEF, DT_VERDEFNUM) {
+            Ok(definitions) => definitions,
+            Err(error) => return Err(error),
+        };
+        match records_by(view, file, DT_VERNEED, DT_VERNEEDNUM) {
+            Ok(needs) => Ok(Versions {
+                numbers,
+                definitions,
+                needs,
+            }),
+            Err(error) => Err(error),
+        }
+    }
+
+    /// An iterator over the versions that the file defines, in order, the base included.
+    ///
+    /// A record lies `next` bytes after the one before. The list ends after as many records as the
+    /// entry VerDefNum says, or after one whose `next` is 0. If a record extends past the end of
+    /// its segment, the last item is the error `ShortVersion`. There are no more items than bytes
+    /// from the table up to the end of its segment; each takes a fixed time.
+    pub fn definitions(&self) -> Definitions<'a>
+        ensures longest { AreDefinitions (version_tables self.now).definitions
+            (definitions_left result) }
+        ensures exact { definitions_left result
+            ≡ definitions_in (version_tables self.now).definitions }
+        ensures fits { length (definitions_left result) < 2 ^ 64 }
+    {
+        Definitions::new(self.definitions)
+    }
+
+    /// An iterator over the versions that the file needs of libraries, in order: the parts of each
+    /// need, which names a library.
+    ///
+    /// Needs and parts are lists like that of `definitions`, and the first record that is cut off
+    /// ends the whole with the error `ShortVersion`. The last item is the error `VersionCount`, in
+    /// place of the parts of a need, if it and the needs before it have more parts than the bytes
+    /// have room for, of 16 bytes each. So the iterator reads at most one need for each byte from
+    /// the table up to the end of its segment, and one part for each 16 bytes.
+    pub fn needs(&self) -> Needs<'a>
+        ensures longest { AreNeeds (version_tables self.now).needs (needs_left result) }
+        ensures exact { needs_left result ≡ needs_in (version_tables self.now).needs }
+        ensures fits { length (needs_left result) < 2 ^ 64 }
+    {
+        Needs::new(self.needs)
+    }
+}
+
+// The numbers of the symbols, of two bytes each.
+fn numbers_at<'a>(
+    file: &ElfFile<'a>,
+    address: Option<u64>,
+    count: u64,
+) -> Result<Option<&'a [u8]>, LinkError>
+    ensures { item_by (option_map (λ numbers. numbers.now)) result
+        ≡ numbers_at file.now address count }
+{
+    let Some(address) = address else {
+        return Ok(None);
+    };
+    if count >= 1 << 63 {
+        return Err(LinkError::Address);
+    }
+    match bytes_at(file, address, count * 2) {
+        Ok(numbers) => Ok(Some(numbers)),
+        Err(error) => Err(error),
+    }
+}
+
+// The records at the address in an entry, with their number in another.
+fn records_by<'a>(
+    view: &DynamicView<'a>,
+    file: &ElfFile<'a>,
+    at: u64,
+    counted: u64,
+) -> Result<Records<'a>, LinkError>
+    ensures { item_by records_data result ≡ records_by file.now (view_strings view.now)
+        (number_with at (view_entries view.now)) (number_with counted (view_entries view.now)) }
+{
+    let order = file.byte_order();
+    let strings = view.string_table();
+    let Some(address) = view.entry(at) else {
+        return Ok(Records {
+            bytes: &[],
+            count: 0,
+            order,
+            strings,
+        });
+    };
+    let Some(count) = view.entry(counted) else {
+        return Err(LinkError::NoEntry);
+    };
+    match bytes_from(file, address) {
+        Ok(bytes) => Ok(Records {
+            bytes,
+            count,
+            order,
+            strings,
+        }),
+        Err(error) => Err(error),
+    }
+}

@@ -1,0 +1,91 @@
+//! Records of versions, each of which says how many bytes after it the next one lies.
+
+ghost use Rattle.std.specs.Prelude.{◌≡◌, ◌+◌, ◌≤◌, ◌<◌, IfOk, IfSome, length, nat_le};
+ghost use Rattle.std.specs.Iterator.{YieldsFirst};
+ghost use Rattle.elf_linking.specs.VersionTables.{field, places_left, records_data};
+
+use crate::LinkError;
+use elf_base::bytes::{Order, read_u16, read_u32};
+
+// Records: their bytes from the first on, their number, and the string table with their names.
+#[derive(Clone, Copy, Debug)]
+pub(crate) struct Records<'a> {
+    pub(crate) bytes: &'a [u8],
+    pub(crate) count: u64,
+    pub(crate) order: Order,
+    pub(crate) strings: Result<&'a [u8], LinkError>,
+}
+
+impl Records<'_> {
+    // Whether the bytes contain `size` bytes from `place` on.
+    pub(crate) fn contain(&self, place: usize, size: usize) -> bool
+        ensures { result ≡ nat_le (place + size) (length (records_data self.now).bytes) }
+    {
+        let len = self.bytes.len();
+        place <= len && size <= len - place
+    }
+
+    // The number of 16 bits that lies `offset` bytes after `place`.
+    pub(crate) fn u16_at(&self, place: usize, offset: usize) -> u16
+        requires { place + offset + 2 ≤ length (records_data self.now).bytes }
+        ensures { result ≡ field (records_data self.now) 2 place offset }
+    {
+        read_u16(self.bytes, place + offset, self.order)
+    }
+
+    // The number of 32 bits that lies `offset` bytes after `place`.
+    pub(crate) fn u32_at(&self, place: usize, offset: usize) -> u32
+        requires { place + offset + 4 ≤ length (records_data self.now).bytes }
+        ensures { result ≡ field (records_data self.now) 4 place offset }
+    {
+        read_u32(self.bytes, place + offset, self.order)
+    }
+
+    // The place as many bytes after `place` as the number of 32 bits `offset` bytes after it says.
+    pub(crate) fn place_behind(&self, place: usize, offset: usize) -> usize
+        requires { place + offset + 4 ≤ length (records_data self.now).bytes }
+        ensures { result ≡ place + field (records_data self.now) 4 place offset }
+    {
+        place + self.u32_at(place, offset) as usize
+    }
+}
+
+// The place of the next record of a list, and how many records there may be from it on.
+#[derive(Clone, Copy, Debug)]
+pub(crate) struct Chain {
+    pub(crate) place: usize,
+    pub(crate) left: u64,
+}
+
+impl Chain {
+    // The place of the next record, whose last four bytes lie `offset` bytes after it: `next`.
+    #[tactic(auto, using(crate::proofs::VersionPlaces::places_end, crate::proofs::VersionPlaces::places_cut, crate::proofs::VersionPlaces::places_last, crate::proofs::VersionPlaces::places_more))]
+    pub(crate) fn next(
+        &mut self,
+        records: &Records<'_>,
+        offset: usize,
+    ) -> Option<Result<usize, LinkError>>
+        requires { offset ≤ 16 }
+        ensures first { YieldsFirst (places_left (records_data records.now) offset)
+            self.old result self.new }
+        ensures whole { IfSome result (λ item. IfOk item (λ place.
+            place + offset + 4 ≤ length (records_data records.now).bytes)) }
+        ensures fewer { IfSome result (λ item. self.new.left < self.old.left) }
+    {
+        if self.left == 0 {
+            return None;
+        }
+        let place = self.place;
+        if !records.contain(place, offset + 4) {
+            self.left = 0;
+            return Some(Err(LinkError::ShortVersion));
+        }
+        if records.u32_at(place, offset) == 0 {
+            self.left = 0;
+        } else {
+            self.left -= 1;
+            self.place = records.place_behind(place, offset);
+        }
+        Some(Ok(place))
+    }
+}

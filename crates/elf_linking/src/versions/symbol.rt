@@ -1,0 +1,159 @@
+//! The version of a symbol (LSB, "Symbol Versioning").
+
+ghost use Rattle.std.specs.Prelude.{◌≡◌, Err, Ok, Option, option_map};
+ghost use Rattle.elf_linking.specs.Loaded.{lent};
+ghost use Rattle.elf_linking.specs.VersionTables.{definition_parts, definitions_in, item_by};
+ghost use Rattle.elf_linking.specs.VersionTables.{need_parts, needs_in, version_tables};
+ghost use Rattle.elf_linking.specs.Versions.{IsVersion, bears_defined, bears_needed};
+ghost use Rattle.elf_linking.specs.Versions.{first_item, named_hash, named_name, named_of};
+ghost use Rattle.elf_linking.specs.Versions.{named_parts, number_of, version_at, version_item};
+
+use crate::LinkError;
+use crate::versions::{Definition, Need, Versions};
+use elf_base::bytes::read_u16;
+
+/// What bears the number of a symbol's version.
+#[derive(Clone, Copy, Debug)]
+pub enum NamedVersion<'a> {
+    /// A version that the file defines.
+    Defined(Definition<'a>),
+    /// A version that the file needs of a library.
+    Needed(Need<'a>),
+}
+
+impl<'a> NamedVersion<'a> {
+    /// The hash number of the name, that of the ELF standard's hash tables.
+    pub fn hash(&self) -> u32
+        ensures { result ≡ named_hash (named_parts self.now) }
+    {
+        match self {
+            NamedVersion::Defined(definition) => definition.hash,
+            NamedVersion::Needed(need) => need.hash,
+        }
+    }
+
+    /// The name; the errors are those of `Definition::name` and `Need::name`.
+    pub fn name(&self) -> Result<&'a str, LinkError>
+        ensures { lent result ≡ named_name (named_parts self.now) }
+    {
+        match self {
+            NamedVersion::Defined(definition) => definition.name(),
+            NamedVersion::Needed(need) => need.name(),
+        }
+    }
+}
+
+/// The version of a symbol.
+#[derive(Clone, Copy, Debug)]
+pub struct SymbolVersion<'a> {
+    /// The number of the version (bits 0 to 14): 0 is local, 1 is global.
+    pub number: u16,
+    /// Whether the version is hidden (bit 15): only a reference with a version finds the symbol.
+    pub hidden: bool,
+    /// What bears the number; nothing bears 0 and 1.
+    pub named: Option<NamedVersion<'a>>,
+}
+
+impl<'a> Versions<'a> {
+    /// The number of the symbol at `index` as it stands in the file, in 16 bits; `None` if the file
+    /// has no numbers of symbols.
+    ///
+    /// The error is `SymbolIndex` if there is no number at this index.
+    pub fn number(&self, index: u32) -> Result<Option<u16>, LinkError>
+        ensures { result ≡ number_of (version_tables self.now) index }
+    {
+        let Some(numbers) = self.numbers else {
+            return Ok(None);
+        };
+        let place = index as usize * 2;
+        if place + 2 > numbers.len() {
+            return Err(LinkError::SymbolIndex);
+        }
+        Ok(Some(read_u16(numbers, place, self.definitions.order)))
+    }
+
+    /// The version of the symbol at `index`, with what bears its number: the first definition with
+    /// it that isn't the base, otherwise the first need with it; `None` if the file has no numbers
+    /// of symbols.
+    ///
+    /// Errors: that of `number`; the error with which `definitions` or `needs` end before what
+    /// bears the number is found. A call goes through both lists once at most, and reads no name.
+    #[tactic(auto, using(crate::proofs::VersionSearch::version_means))]
+    pub fn version_of(&self, index: u32) -> Result<Option<SymbolVersion<'a>>, LinkError>
+        ensures answer { IsVersion (version_tables self.now) index (version_item result) }
+        ensures exact { version_item result ≡ version_at (version_tables self.now) index }
+    {
+        let raw = match self.number(index) {
+            Ok(Some(raw)) => raw,
+            Ok(None) => return Ok(None),
+            Err(error) => return Err(error),
+        };
+        let number = raw % 0x8000;
+        match self.named(number) {
+            Ok(named) => Ok(Some(SymbolVersion {
+                number,
+                hidden: raw >= 0x8000,
+                named,
+            })),
+            Err(error) => Err(error),
+        }
+    }
+
+    // What bears a number.
+    fn named(&self, number: u16) -> Result<Option<NamedVersion<'a>>, LinkError>
+        ensures { item_by (option_map named_parts) result
+            ≡ named_of (version_tables self.now) number }
+    {
+        if number < 2 {
+            return Ok(None);
+        }
+        match self.definition_with(number) {
+            Ok(Some(definition)) => return Ok(Some(NamedVersion::Defined(definition))),
+            Ok(None) => {}
+            Err(error) => return Err(error),
+        }
+        match self.need_with(number) {
+            Ok(Some(need)) => Ok(Some(NamedVersion::Needed(need))),
+            Ok(None) => Ok(None),
+            Err(error) => Err(error),
+        }
+    }
+
+    // The first definition with a number that isn't the base.
+    #[tactic(auto, using(crate::proofs::lemmas::FirstItems::search_end, crate::proofs::lemmas::FirstItems::search_fault, crate::proofs::lemmas::FirstItems::search_found, crate::proofs::lemmas::FirstItems::search_other))]
+    fn definition_with(&self, number: u16) -> Result<Option<Definition<'a>>, LinkError>
+        ensures { item_by (option_map definition_parts) result ≡ first_item (bears_defined number)
+            (definitions_in (version_tables self.now).definitions) }
+    {
+        for item in self.definitions() {
+            match item {
+                Ok(definition) => {
+                    if definition.bears(number) {
+                        return Ok(Some(definition));
+                    }
+                }
+                Err(error) => return Err(error),
+            }
+        }
+        Ok(None)
+    }
+
+    // The first need with a number.
+    #[tactic(auto, using(crate::proofs::lemmas::FirstItems::search_end, crate::proofs::lemmas::FirstItems::search_fault, crate::proofs::lemmas::FirstItems::search_found, crate::proofs::lemmas::FirstItems::search_other))]
+    fn need_with(&self, number: u16) -> Result<Option<Need<'a>>, LinkError>
+        ensures { item_by (option_map need_parts) result ≡ first_item (bears_needed number)
+            (needs_in (version_tables self.now).needs) }
+    {
+        for item in self.needs() {
+            match item {
+                Ok(need) => {
+                    if need.bears(number) {
+                        return Ok(Some(need));
+                    }
+                }
+                Err(error) => return Err(error),
+            }
+        }
+        Ok(None)
+    }
+}

@@ -1,0 +1,42 @@
+-- Versions by their names, and by the library of which they are needed (LSB, "Symbol Versioning").
+use Rattle.std.specs.Prelude.{◌≡◌, ◌≢◌, ℕ, ◌%◌, ◌&&◌, not, Bool, false, List, Option, None, Some, Result, Ok, Err}
+use Rattle.std.specs.Str.{bytes_eq}
+use Rattle.elf_base.specs.Refusal.{and_then}
+use Rattle.elf_linking.specs.VersionTables.{DefinitionParts, NeedParts}
+use Rattle.elf_linking.specs.Versions.{NamedParts, Needed, VersionParts, is_base}
+use Rattle.elf_linking.specs.declared.error.LinkError.{LinkError}
+
+-- a definition is no base, and has the name
+abbrev pub Defines : List ℕ → DefinitionParts → Type 0
+Defines name d = (d.flags % 2 ≢ 1) × (d.name ≡ Ok name)
+
+-- a version is needed of the library with the name
+abbrev pub NeedsOf : List ℕ → NeedParts → Type 0
+NeedsOf library need = need.file ≡ Ok library
+
+-- the same as tests
+abbrev pub is_name : Result (List ℕ) LinkError → List ℕ → Bool
+is_name (Ok found) name = bytes_eq found name
+is_name (Err error) name = false
+
+abbrev pub defines : List ℕ → DefinitionParts → Bool
+defines name d = not (is_base d.flags) && is_name d.name name
+
+abbrev pub needs_of : List ℕ → NeedParts → Bool
+needs_of library need = is_name need.file library
+
+-- the library that a version is needed of, if it is needed of one
+abbrev pub library_by : Result (List ℕ) LinkError → Result (Option (List ℕ)) LinkError
+library_by (Ok name) = Ok (Some name)
+library_by (Err error) = Err error
+
+abbrev pub library_named : Option NamedParts → Result (Option (List ℕ)) LinkError
+library_named (Some (Needed need)) = library_by need.file
+library_named _ = Ok None
+
+abbrev pub library_at : Option VersionParts → Result (Option (List ℕ)) LinkError
+library_at (Some version) = library_named version.named
+library_at None = Ok None
+
+abbrev pub library_in : Result (Option VersionParts) LinkError → Result (Option (List ℕ)) LinkError
+library_in answer = and_then answer library_at

@@ -1,0 +1,1 @@
+"""The rows that `oracle/rows.py` writes, by what they are of."""
