@@ -54,6 +54,7 @@ class Caller:
     def arguments(self, function, data, header):
         """The arguments, and the records that the call fills."""
         passed, filled, name = [], [], self.random.choice(NAMES)
+        version = self.random.choice((b"", b"GLIBC_2.2.5", name))
         ranges = (self.types["range"] * 2)(self.types["range"](0, len(name)), self.types["range"](1, len(name)))
         for one in function.parameters:
             kind = self.types[one.type]
@@ -62,7 +63,7 @@ class Caller:
             elif one.kind == IN:
                 passed.append(ctypes.byref(header if one.type == "header" else self.part(len(data))))
             elif one.kind == SLICE:
-                values, count = {"input": (data, len(data)), "ranges": (ranges, 2)}.get(one.name, (name, len(name)))
+                values, count = {"input": (data, len(data)), "ranges": (ranges, 2), "version": (version, len(version))}.get(one.name, (name, len(name)))
                 passed += [values, ctypes.c_size_t(count)]
             else:
                 filled.append(kind() if one.kind == OUT else (kind * ROOM)())
@@ -78,7 +79,8 @@ class Caller:
         found = set()
         if function.item_statuses:
             count = filled[1].value if len(filled) == 2 else 2
-            found = {self.names[one.status] for one in filled[0][:count] if one.status}
+            of_items = [getattr(one, name) for one in filled[0][:count] for name, _ in one._fields_ if name.endswith("status")]
+            found = {self.names[status] for status in of_items if status}
         return found
 
 

@@ -63,8 +63,10 @@ for compiler in "${cxx[@]}"; do
         xmas_elf_counts_t counts{}; xmas_elf_section_t section{}; xmas_elf_range_t range = {0, 1};' |
         "$compiler" -std=c++20 "${strict[@]}" -x c++ -fsyntax-only -
 done
-# Each export, over a program with both kinds of hash tables and packed relocations: of gcc, and of clang with its checks at run time.
-both=(-rdynamic -Wl,--hash-style=both -Wl,--build-id -Wl,-z,pack-relative-relocs)
+# Each export, over a program with both kinds of hash tables, packed relocations and a version of its own: of gcc, and of clang with
+# its checks at run time.
+echo 'EVERY_1 { every_finds_this; };' > "$room/every.map"
+both=(-rdynamic -Wl,--hash-style=both -Wl,--build-id -Wl,-z,pack-relative-relocs -Wl,--version-script="$room/every.map")
 gcc -std=c11 "${strict[@]}" "${both[@]}" bindings/c/every.c "$archive" -o "$room/every_gcc"
 "$room/every_gcc" "$room/every_gcc"
 if command -v clang > /dev/null; then
@@ -109,6 +111,14 @@ for file in "$room/libnamed.so" /lib/x86_64-linux-gnu/libc.so.6 /lib/x86_64-linu
             { head "$room/difference"; exit 1; }
     done
 done
+# The versions of symbols, and those that a file defines and needs, also where the ELF header names no sections.
+versions="$CARGO_TARGET_DIR/release/examples/versions"
+tools/compare_versions.py --program "$versions" "$room/every_gcc" /lib/x86_64-linux-gnu/lib{c,m,gcc_s,stdc++}.so.*
+# The symbols by names and versions, beside those that dlsym and dlvsym find.
+tools/compare_dlsym.py /lib/x86_64-linux-gnu/lib{c,m,gcc_s,stdc++}.so.*
+cp /lib/x86_64-linux-gnu/libc.so.6 "$room/libcut.so"
+printf '%0.s\0' {1..8} | dd of="$room/libcut.so" bs=1 seek=40 conv=notrunc status=none
+"$versions" "$room/libcut.so" | cmp - <("$versions" /lib/x86_64-linux-gnu/libc.so.6)
 for file in "$room/nm_c" /lib/x86_64-linux-gnu/libc.so.6; do
     "$room/nm_c" "$file" > "$room/of_c"
     "$CARGO_TARGET_DIR/release/examples/nm" "$file" > "$room/of_rust"

@@ -5,12 +5,16 @@
 
 Runs the built elfsym and `readelf` of GNU binutils on each FILE that begins with
 the ELF magic number and has a dynamic segment with dynamic symbols. It is asked
-for each name that `readelf --dyn-syms -W` lists, and must answer
+for each name that `readelf --dyn-syms -W` lists, and for NAME@VERSION of each
+version listed with it. What counts are the symbols that a dynamic linker takes:
+not local, of a type that it knows, and with a value, absolute or thread-local (an
+undefined one only with a value). It must answer
 
-- a name that is listed as defined and not local by the value and the size of a
-  line that lists it so: the only one of its default version (`@@`) or without one,
-  unless the name has other versions (`@`) too, of which elfsym knows nothing;
-- any other name by `none`.
+- a name by the value and the size of such a symbol without a version; if there is
+  none, by those of the only one with a version that isn't hidden: a default (`@@`),
+  or one that the file needs;
+- NAME@VERSION by those of such a symbol with this version, or without one;
+- otherwise by `none`.
 
 `elfsym --needed` must print what `readelf -dW` lists as needed. All of this is
 asked again of a copy without section headers: e_shoff, e_shnum and e_shstrndx are
@@ -31,12 +35,14 @@ from typing import Dict, List, NamedTuple, Set, Tuple
 import comparing
 from comparing import read_elf, run
 
-# The value, size, type, binding, visibility, section and name with its version; a type or a binding
-# without a name is `<OS specific>: 10`, and a large size is in hexadecimal.
+# The value, size, type, binding, section and name with its version; a type or a binding without a
+# name is `<OS specific>: 10`, and a large size is in hexadecimal.
 WORD = r"(?:<.*?>: \d+|\S+)"
 SYMBOL = re.compile(
-    rf" *\d+: ([0-9a-f]+) +(0x[0-9a-f]+|\d+) +{WORD} +({WORD}) +\S+ +(?:\[.*\] +)?(\S+) (.*)$"
+    rf" *\d+: ([0-9a-f]+) +(0x[0-9a-f]+|\d+) +({WORD}) +({WORD}) +\S+ +(?:\[.*\] +)?(\S+) (.*)$"
 )
+# The types that a dynamic linker takes; the last is that of an indirect function.
+TYPES = {"NOTYPE", "OBJECT", "FUNC", "COMMON", "TLS", "IFUNC", "<OS specific>: 10"}
 NEEDED = re.compile(r".*\(NEEDED\) +Shared library: \[(.*)\]$")
 # How many bytes of names are asked for in one run.
 ROOM = 100_000
@@ -44,11 +50,19 @@ ROOM = 100_000
 Answer = Tuple[int, int]
 
 
-class Listing(NamedTuple):
-    """What readelf lists: all names, the values and sizes of each exported one, and what is needed."""
+class Symbol(NamedTuple):
+    """A symbol that a dynamic linker takes: its value and size, its version or none, and whether it isn't hidden."""
 
-    names: Set[str]
-    exported: Dict[str, Set[Answer]]
+    answer: Answer
+    version: str
+    default: bool
+
+
+class Listing(NamedTuple):
+    """What readelf lists: the versions of each name, the symbols that count of each, and what is needed."""
+
+    names: Dict[str, Set[str]]
+    symbols: Dict[str, List[Symbol]]
     needed: List[str]
 
 
@@ -56,7 +70,8 @@ class Tally(comparing.Tally):
     """Counts what was compared."""
 
     stripped = 0
-    exported = 0
+    found = 0
+    several = 0
     versions = 0
     others = 0
     needed = 0
@@ -64,32 +79,56 @@ class Tally(comparing.Tally):
     def __str__(self) -> str:
         return (
             f"{self.files} files, {self.stripped} of them copies without section headers,"
-            f" {self.exported} exported names, {self.versions} of them with several values,"
-            f" {self.others} others and {self.needed} needed"
-            f" libraries compared, {self.differences} differences"
+            f" {self.found} names with a symbol, {self.several} of them with several values,"
+            f" {self.versions} names with a version that has a symbol, {self.others} others"
+            f" and {self.needed} needed libraries compared, {self.differences} differences"
         )
+
+
+def read_symbol(listing: Listing, symbol: "re.Match[str]") -> None:
+    """Puts a line of readelf into the listing."""
+    value, size, kind, section = int(symbol[1], 16), int(symbol[2], 0), symbol[3], symbol[5]
+    name, _, version = symbol[6].partition("@")
+    if not name:
+        return
+    # A version that the file needs has its number behind it, and isn't hidden.
+    version, needs, _ = version.partition(" (")
+    default = version.startswith("@") or bool(needs)
+    version = version.lstrip("@")
+    if version:
+        listing.names[name].add(version)
+    listing.names[name].add("")
+    has_place = value or section == "ABS" or (kind == "TLS" and section != "UND")
+    if kind in TYPES and has_place and symbol[4] != "LOCAL":
+        listing.symbols[name].append(Symbol((value, size), version, default))
 
 
 def read_readelf(path: str) -> Listing:
     """Takes what readelf prints of the dynamic symbols and of the dynamic segment apart."""
-    listing = Listing(set(), defaultdict(set), [])
+    listing = Listing(defaultdict(set), defaultdict(list), [])
     for line in run(["readelf", "--dyn-syms", "-W", "--", path])[1].split("\n"):
         symbol = SYMBOL.match(line)
-        if not symbol:
-            continue
-        value, size = int(symbol[1], 16), int(symbol[2], 0)
-        name = symbol[5].partition("@")[0]
-        if not name:
-            continue
-        listing.names.add(name)
-        if symbol[3] == "LOCAL" or symbol[4] == "UND":
-            continue
-        listing.exported[name].add((value, size))
+        if symbol:
+            read_symbol(listing, symbol)
     for line in run(["readelf", "-dW", "--", path])[1].split("\n"):
         needed = NEEDED.match(line)
         if needed:
             listing.needed.append(needed[1])
     return listing
+
+
+def wanted_of(symbols: List[Symbol], version: str) -> Set[Answer]:
+    """The answers that are right for a name with these symbols, asked with a version or without one."""
+    plain = {it.answer for it in symbols if not it.version}
+    if version:
+        return plain | {it.answer for it in symbols if it.version == version}
+    defaults = [it.answer for it in symbols if it.default]
+    return plain or set(defaults if len(defaults) == 1 else [])
+
+
+def references_of(reads: Listing) -> List[str]:
+    """Each name, and each with a version, as elfsym is asked."""
+    return [f"{name}@{it}" if it else name for name in sorted(reads.names) for it in sorted(reads.names[name])]
 
 
 def batches(names: List[str]) -> List[List[str]]:
@@ -106,30 +145,34 @@ def batches(names: List[str]) -> List[List[str]]:
 
 
 def compare_names(path: str, file: str, elfsym: str, reads: Listing, tally: Tally) -> None:
-    """Asks for each name that readelf lists, and compares the values and sizes."""
-    for names in batches(sorted(reads.names)):
-        status, own, said = run([elfsym, file, *names])
+    """Asks for each name and version that readelf lists, and compares the values and sizes."""
+    for asked in batches(references_of(reads)):
+        status, own, said = run([elfsym, file, *asked])
         lines = own.rstrip("\n").split("\n") if own else []
-        if status != 0 or len(lines) != len(names):
-            tally.differ(path, "names", f"status {status}: {said.strip()}", f"{len(names)} names")
+        if status != 0 or len(lines) != len(asked):
+            tally.differ(path, "names", f"status {status}: {said.strip()}", f"{len(asked)} names")
             return
-        for name, line in zip(names, lines):
-            compare_line(path, name, line, reads, tally)
+        for reference, line in zip(asked, lines):
+            compare_line(path, reference, line, reads, tally)
 
 
-def compare_line(path: str, name: str, line: str, reads: Listing, tally: Tally) -> None:
-    """Compares the line of one name."""
-    wanted = reads.exported.get(name)
+def compare_line(path: str, reference: str, line: str, reads: Listing, tally: Tally) -> None:
+    """Compares the line of one name, or of one with a version."""
+    name, _, version = reference.partition("@")
+    symbols = reads.symbols.get(name, [])
+    wanted = wanted_of(symbols, version)
     if not wanted:
         tally.others += 1
-        if line != f"{name}: none":
-            tally.differ(path, name, line, "none")
+        if line != f"{reference}: none":
+            tally.differ(path, reference, line, "none")
         return
-    tally.exported += 1
-    if len(wanted) > 1:
+    if version:
         tally.versions += 1
-    if line not in {f"{name} {value:#x} {size:#x}" for value, size in wanted}:
-        tally.differ(path, name, line, sorted(wanted))
+    else:
+        tally.found += 1
+        tally.several += len({it.answer for it in symbols}) > 1
+    if line not in {f"{reference} {value:#x} {size:#x}" for value, size in wanted}:
+        tally.differ(path, reference, line, sorted(wanted))
 
 
 def compare_file(path: str, file: str, elfsym: str, reads: Listing, tally: Tally) -> None:

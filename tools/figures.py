@@ -34,6 +34,8 @@ PATHS = {
     "tools/compare_readelf.py": (*LIBRARIES, "crates/elfinfo/src", "tools/compare_readelf.py"),
     "tools/compare_notes.py": (*LINKING, "crates/elfsections/src", "tools/compare_notes.py"),
     "tools/compare_symbols.py": (*LINKING, "crates/elfsections/src", "tools/compare_symbols.py"),
+    "tools/compare_versions.py": (*LINKING, "crates/elf_c/src", "bindings/rust/src", "bindings/rust/examples/versions.rs", "tools/compare_versions.py"),
+    "tools/compare_dlsym.py": (*LINKING, "crates/elf_c/src", "tools/compare_dlsym.py"),
     "tools/compare_elfsym.py": (*LINKING, "crates/elfsym/src", "tools/compare_elfsym.py"),
     "tools/bindings.sh": (*LINKING, "crates/elf_c/src", "bindings/rust/src", "bindings/compare/src"),
     "tools/web_page.py": (*LINKING, "crates/elf_c/src", "bindings/web", "tools/web_page.py"),

@@ -24,7 +24,7 @@ TOP = pathlib.Path(__file__).resolve().parent.parent
 CRATES = TOP / "crates"
 SAMPLE = CRATES / "elfanswers" / "data"
 STRTAB = (CRATES / "elfinfo" / "data" / "strtab.elf").read_bytes()
-LINKED = (CRATES / "elfsym" / "data" / "stripped.so").read_bytes()
+LINKED = (CRATES / "elfsym" / "data" / "versions.so").read_bytes()
 
 
 @dataclasses.dataclass(frozen=True)

@@ -22,7 +22,8 @@ from wanted.reports import DEBUG_LINK_HEADER, DEBUG_LINK_SECTIONS, HASH_HEADER, 
 
 STRTAB = (CRATES / "elfinfo" / "data" / "strtab.elf").read_bytes()
 REPORT = (CRATES / "elfinfo" / "stdout").read_bytes()
-LINKED = (CRATES / "elfsym" / "data" / "stripped.so").read_bytes()
+LINKED = (CRATES / "elfsym" / "data" / "versions.so").read_bytes()
+STRIPPED = (CRATES / "elfsym" / "data" / "stripped.so").read_bytes()
 SYMBOLS = (CRATES / "elfsym" / "stdout").read_bytes()
 
 # A program as LLVM builds it, and as Rattle's own compiler does.
@@ -84,7 +85,13 @@ def damaged(place: int, byte: int) -> bytes:
     return NEEDS[:place] + bytes([byte]) + NEEDS[place + 1 :]
 
 
-SYM_USAGE = b"usage: elfsym <binary_path> <name>.. | elfsym --needed <binary_path>\n"
+# A shared object without versions and section headers, and that of `linking_tests::versions` with them, of class 64,
+# with a record of its definitions that leads out of its segment.
+PLAIN_NAMES = ["first", "fifth@V1", "absent", "outer"]
+PLAIN_LINES = b"first 0x2b0 0x6\nfifth@V1 0x2ba 0x6\nabsent: none\nouter: none\n"
+CUT_VERSIONS = LINKED[:0x238 + 16] + b"\xff" + LINKED[0x238 + 17 :]
+
+SYM_USAGE = b"usage: elfsym <binary_path> <name>[@<version>].. | elfsym --needed <binary_path>\n"
 SYM_NO_WRITE = b"elfsym: cannot write\n"
 ASKED = (CRATES / "elfsym" / "args").read_text().split()[1:]
 
@@ -102,8 +109,12 @@ SYM_ENDS = {
     "a file without a dynamic segment": (["strtab.elf", "ab"], 1, b"", b"elfsym: strtab.elf: No dynamic segment\n"),
     "a good file": (["linked.so", *ASKED], 0, SYMBOLS, b""),
     "a good file through a pipe": (["/dev/stdin", *ASKED], 0, SYMBOLS, b""),
-    "a good file that needs no library": (["--needed", "linked.so"], 0, b"", b""),
+    "a good file that needs no library": (["--needed", "stripped.so"], 0, b"", b""),
     "a good file that needs a library": (["--needed", "needs.so"], 0, b"libneed.so\n", b""),
+    "names of a file without versions": (["stripped.so", *PLAIN_NAMES], 0, PLAIN_LINES, b""),
+    "a second @": (["linked.so", "ab@@V2", "ab@", "@V1"], 0, b"ab@@V2: none\nab@: none\n@V1: none\n", b""),
+    "a version of a file whose definitions are cut": (["cut.so", "ab@V1"], 1, b"", b"elfsym: cut.so: Version record is cut off\n"),
+    "a name of a file whose definitions are cut": (["cut.so", "ab"], 0, b"ab 0x2f6 0x6\n", b""),
     "names of a file that needs a library": (["needs.so", *NEEDS_NAMES], 0, NEEDS_LINES, b""),
     "a name like an option": (["linked.so", "--needed"], 0, b"--needed: none\n", b""),
     "a missing path whose libraries are asked for": (["--needed", "missing.so"], 1, b"", b"elfsym: cannot read missing.so\n"),
@@ -236,6 +247,7 @@ def unlike(program, built: pathlib.Path) -> int:
         os.mkdir(f"{room}/folder")
         files = {b"strtab.elf": STRTAB, NOT_UTF8: STRTAB, b"empty.elf": b"", b"zeros.elf": bytes(16), b"linked.so": LINKED}
         files |= {b"far.elf": far_file(), b"three.elf": STRTAB[:3], b"link.elf": debug_link(), b"hash.elf": hash_file(), b"needs.so": NEEDS}
+        files |= {b"stripped.so": STRIPPED, b"cut.so": CUT_VERSIONS}
         files |= {b"damaged-%d.so" % place: damaged(place, byte) for place, byte, _ in NEEDS_REFUSALS}
         for name, held in {**files, b"long.elf": long_file()}.items():
             pathlib.Path(room, os.fsdecode(name)).write_bytes(held)

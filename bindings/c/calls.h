@@ -14,6 +14,8 @@ union output {
     xmas_elf_relocation_t of_relocation[3];
     xmas_elf_dynamic_t of_dynamic[3];
     xmas_elf_note_t of_note[3];
+    xmas_elf_version_t of_version[3];
+    xmas_elf_found_symbol_t of_found_symbol[3];
     xmas_elf_look_up_t of_look_up[3];
     xmas_elf_answer_t of_answer[3];
     uint8_t of_u8[3];
@@ -162,6 +164,22 @@ static uint32_t any_dynamic_symbol_names(const struct asked *a, union output *ou
 {
     return xmas_elf_dynamic_symbol_names(a->bytes, a->size, &a->header, (uint64_t)a->index, out[0].of_name, 3, &out[1].of_u64[0]);
 }
+static uint32_t any_dynamic_symbol_versions(const struct asked *a, union output *out)
+{
+    return xmas_elf_dynamic_symbol_versions(a->bytes, a->size, &a->header, (uint64_t)a->index, out[0].of_version, 3, &out[1].of_u64[0]);
+}
+static uint32_t any_version_definitions(const struct asked *a, union output *out)
+{
+    return xmas_elf_version_definitions(a->bytes, a->size, &a->header, (uint64_t)a->index, out[0].of_version, 3, &out[1].of_u64[0]);
+}
+static uint32_t any_version_needs(const struct asked *a, union output *out)
+{
+    return xmas_elf_version_needs(a->bytes, a->size, &a->header, (uint64_t)a->index, out[0].of_version, 3, &out[1].of_u64[0]);
+}
+static uint32_t any_find_symbol(const struct asked *a, union output *out)
+{
+    return xmas_elf_find_symbol(a->bytes, a->size, &a->header, a->name, a->name_size, a->name, a->name_size, &out[0].of_found_symbol[0]);
+}
 static uint32_t any_look_up(const struct asked *a, union output *out)
 {
     return xmas_elf_look_up(a->bytes, a->size, &a->header, (uint64_t)a->section, a->name, a->name_size, &out[0].of_look_up[0]);
@@ -199,7 +217,7 @@ static uint32_t any_message(const struct asked *a, union output *out)
 static const struct any {
     const char *name;
     uint32_t (*call)(const struct asked *, union output *);
-    uint32_t answers[16];
+    uint32_t answers[22];
     size_t answers_count;
 } every[] = {
     {"open", any_open, {XMAS_ELF_OK, XMAS_ELF_SHORT_PART_1, XMAS_ELF_NO_MAGIC, XMAS_ELF_INVALID_CLASS, XMAS_ELF_SHORT_HEADERS}, 5},
@@ -237,6 +255,10 @@ static const struct any {
     {"dynamic_symbol_count", any_dynamic_symbol_count, {XMAS_ELF_OK, XMAS_ELF_LINK_NO_DYNAMIC, XMAS_ELF_DATA_RANGE, XMAS_ELF_NOT_MULTIPLE, XMAS_ELF_LINK_NO_ENTRY, XMAS_ELF_LINK_ADDRESS, XMAS_ELF_SHORT_DATA, XMAS_ELF_LINK_SHORT_TABLE, XMAS_ELF_LINK_BLOOM_COUNT, XMAS_ELF_LINK_CHAIN_INDEX, XMAS_ELF_LINK_CHAIN_DATA, XMAS_ELF_LINK_SYMBOL_INDEX}, 12},
     {"dynamic_symbols", any_dynamic_symbols, {XMAS_ELF_OK, XMAS_ELF_LINK_NO_DYNAMIC, XMAS_ELF_DATA_RANGE, XMAS_ELF_NOT_MULTIPLE, XMAS_ELF_LINK_NO_ENTRY, XMAS_ELF_LINK_ADDRESS, XMAS_ELF_SHORT_DATA, XMAS_ELF_LINK_SHORT_TABLE, XMAS_ELF_LINK_BLOOM_COUNT, XMAS_ELF_LINK_CHAIN_INDEX, XMAS_ELF_LINK_CHAIN_DATA, XMAS_ELF_LINK_SYMBOL_INDEX, XMAS_ELF_NO_RECORD}, 13},
     {"dynamic_symbol_names", any_dynamic_symbol_names, {XMAS_ELF_OK, XMAS_ELF_LINK_NO_DYNAMIC, XMAS_ELF_DATA_RANGE, XMAS_ELF_NOT_MULTIPLE, XMAS_ELF_LINK_NO_ENTRY, XMAS_ELF_LINK_ADDRESS, XMAS_ELF_SHORT_DATA, XMAS_ELF_LINK_SHORT_TABLE, XMAS_ELF_LINK_BLOOM_COUNT, XMAS_ELF_LINK_CHAIN_INDEX, XMAS_ELF_LINK_CHAIN_DATA, XMAS_ELF_LINK_SYMBOL_INDEX, XMAS_ELF_NO_RECORD}, 13},
+    {"dynamic_symbol_versions", any_dynamic_symbol_versions, {XMAS_ELF_OK, XMAS_ELF_LINK_NO_DYNAMIC, XMAS_ELF_DATA_RANGE, XMAS_ELF_NOT_MULTIPLE, XMAS_ELF_LINK_NO_ENTRY, XMAS_ELF_LINK_ADDRESS, XMAS_ELF_SHORT_DATA, XMAS_ELF_LINK_SHORT_TABLE, XMAS_ELF_LINK_BLOOM_COUNT, XMAS_ELF_LINK_CHAIN_INDEX, XMAS_ELF_LINK_CHAIN_DATA, XMAS_ELF_LINK_SYMBOL_INDEX, XMAS_ELF_NOT_FOUND, XMAS_ELF_NO_RECORD}, 14},
+    {"version_definitions", any_version_definitions, {XMAS_ELF_OK, XMAS_ELF_LINK_NO_DYNAMIC, XMAS_ELF_DATA_RANGE, XMAS_ELF_NOT_MULTIPLE, XMAS_ELF_LINK_ADDRESS, XMAS_ELF_LINK_NO_ENTRY, XMAS_ELF_NO_RECORD}, 7},
+    {"version_needs", any_version_needs, {XMAS_ELF_OK, XMAS_ELF_LINK_NO_DYNAMIC, XMAS_ELF_DATA_RANGE, XMAS_ELF_NOT_MULTIPLE, XMAS_ELF_LINK_ADDRESS, XMAS_ELF_LINK_NO_ENTRY, XMAS_ELF_NO_RECORD}, 7},
+    {"find_symbol", any_find_symbol, {XMAS_ELF_OK, XMAS_ELF_TEXT_UTF_8, XMAS_ELF_LINK_NO_DYNAMIC, XMAS_ELF_DATA_RANGE, XMAS_ELF_NOT_MULTIPLE, XMAS_ELF_LINK_NO_ENTRY, XMAS_ELF_LINK_ADDRESS, XMAS_ELF_SHORT_DATA, XMAS_ELF_LINK_SHORT_TABLE, XMAS_ELF_LINK_BLOOM_COUNT, XMAS_ELF_LINK_CHAIN_INDEX, XMAS_ELF_LINK_CHAIN_DATA, XMAS_ELF_LINK_SYMBOL_INDEX, XMAS_ELF_HASH_DATA, XMAS_ELF_CHAIN_INDEX, XMAS_ELF_SYMBOL_INDEX, XMAS_ELF_CHAIN_SUM, XMAS_ELF_HASH_CYCLE, XMAS_ELF_LINK_SHORT_VERSION, XMAS_ELF_LINK_VERSION_COUNT, XMAS_ELF_TEXT_START, XMAS_ELF_TEXT_END}, 22},
     {"look_up", any_look_up, {XMAS_ELF_OK, XMAS_ELF_TEXT_UTF_8, XMAS_ELF_SHORT_SECTION_HEADER, XMAS_ELF_UNKNOWN_CLASS, XMAS_ELF_SMALL_ENTRY, XMAS_ELF_INVALID_SH_TYPE, XMAS_ELF_DATA_RANGE, XMAS_ELF_NOT_MULTIPLE, XMAS_ELF_NOTE_32, XMAS_ELF_SHORT_DATA, XMAS_ELF_OTHER_DATA, XMAS_ELF_HASH_DATA, XMAS_ELF_CHAIN_INDEX, XMAS_ELF_SYMBOL_INDEX, XMAS_ELF_CHAIN_SUM, XMAS_ELF_HASH_CYCLE}, 16},
     {"look_ups", any_look_ups, {XMAS_ELF_OK}, 1},
     {"check_hash", any_check_hash, {XMAS_ELF_OK, XMAS_ELF_SHORT_SECTION_HEADER, XMAS_ELF_UNKNOWN_CLASS, XMAS_ELF_SMALL_ENTRY, XMAS_ELF_INVALID_SH_TYPE, XMAS_ELF_DATA_RANGE, XMAS_ELF_NOT_MULTIPLE, XMAS_ELF_NOTE_32, XMAS_ELF_SHORT_DATA, XMAS_ELF_OTHER_DATA, XMAS_ELF_HASH_DATA, XMAS_ELF_CHAIN_INDEX, XMAS_ELF_SYMBOL_INDEX, XMAS_ELF_CHAIN_SUM, XMAS_ELF_HASH_CYCLE, XMAS_ELF_HASH_MISSING}, 16},

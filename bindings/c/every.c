@@ -1,5 +1,5 @@
-/* every FILE: calls each export of xmas_elf.h over a program with both kinds of hash tables and packed relocations, and tests what the
- * header says of statuses, outputs, alignment and null pointers. It prints what it finds at fault. */
+/* every FILE: calls each export of xmas_elf.h over a program with both kinds of hash tables, packed relocations and a version of its
+ * own, and tests what the header says of statuses, outputs, alignment and null pointers. It prints what it finds at fault. */
 #include "xmas_elf.h"
 #include <stdio.h>
 #include <stdlib.h>
@@ -36,6 +36,8 @@ struct outputs {
         xmas_elf_note_t note;
         xmas_elf_look_up_t look_up;
         xmas_elf_answer_t answers[3];
+        xmas_elf_version_t versions[3];
+        xmas_elf_found_symbol_t found_symbol;
         uint8_t text[XMAS_ELF_LONGEST_MESSAGE];
     } of;
     uint64_t count;
@@ -99,6 +101,18 @@ CALL_MANY(needed, names, a->index)
 CALL(dynamic_symbol_count) { return xmas_elf_dynamic_symbol_count(FILE_OF(a), &out->of.addresses[0]); }
 CALL_MANY(dynamic_symbols, symbols, a->index)
 CALL_MANY(dynamic_symbol_names, names, a->index)
+CALL_MANY(dynamic_symbol_versions, versions, a->index)
+CALL_MANY(version_definitions, versions, a->index)
+CALL_MANY(version_needs, versions, a->index)
+CALL(find_symbol) /* by the version of the name it is the same symbol as without one */
+{
+    static const uint8_t version[] = "EVERY_1";
+    xmas_elf_found_symbol_t plain;
+    uint32_t status = xmas_elf_find_symbol(FILE_OF(a), a->name, a->name_size, NULL, 0, &plain);
+    if (xmas_elf_find_symbol(FILE_OF(a), a->name, a->name_size, version, 7, &out->of.found_symbol) != status) return 999;
+    if (status != XMAS_ELF_OK) return status;
+    return plain.found && memcmp(&plain, &out->of.found_symbol, sizeof plain) == 0 ? status : 998;
+}
 CALL(look_up) { return xmas_elf_look_up(FILE_OF(a), a->section, a->name, a->name_size, &out->of.look_up); }
 CALL(gnu_look_up) { return xmas_elf_gnu_look_up(FILE_OF(a), a->section, a->name, a->name_size, &out->of.look_up); }
 CALL(check_hash) { (void)out; return xmas_elf_check_hash(FILE_OF(a), a->section); }
@@ -178,6 +192,10 @@ static const struct row {
     {"dynamic_symbol_count", dynamic_symbol_count_call, NONE, 0, 0, XMAS_ELF_OK, XMAS_ELF_LINK_NO_DYNAMIC},
     {"dynamic_symbols", dynamic_symbols_call, NONE, 1, FAR, XMAS_ELF_NO_RECORD, XMAS_ELF_LINK_NO_DYNAMIC},
     {"dynamic_symbol_names", dynamic_symbol_names_call, NONE, 1, FAR, XMAS_ELF_NO_RECORD, XMAS_ELF_LINK_NO_DYNAMIC},
+    {"dynamic_symbol_versions", dynamic_symbol_versions_call, NONE, 1, FAR, XMAS_ELF_NO_RECORD, XMAS_ELF_LINK_NO_DYNAMIC},
+    {"version_definitions", version_definitions_call, NONE, 1, FAR, XMAS_ELF_NO_RECORD, XMAS_ELF_LINK_NO_DYNAMIC},
+    {"version_needs", version_needs_call, NONE, 0, FAR, XMAS_ELF_NO_RECORD, XMAS_ELF_LINK_NO_DYNAMIC},
+    {"find_symbol", find_symbol_call, HASH, 0, 0, XMAS_ELF_TEXT_UTF_8, XMAS_ELF_LINK_NO_DYNAMIC},
     {"look_up", look_up_call, HASH, 0, 0, XMAS_ELF_TEXT_UTF_8, SHORT},
     {"look_ups", look_ups_call, HASH, 0, 0, XMAS_ELF_TEXT_UTF_8, SHORT},
     {"check_hash", check_hash_call, HASH, 0, 0, XMAS_ELF_OK, SHORT},

@@ -390,6 +390,42 @@ typedef struct xmas_elf_answer_t {
     uint32_t looked_at;
 } xmas_elf_answer_t;
 
+/* The version of a symbol, or one that a file defines or needs (LSB, "Symbol Versioning"). */
+typedef struct xmas_elf_version_t {
+    /* The bytes of the version's name without the zero byte that ends it; offset and size are 0 where it has none. */
+    xmas_elf_range_t name;
+    /* The bytes of the name of the library that the version is needed of; offset and size are 0 where there is none. */
+    xmas_elf_range_t file;
+    /* The status of this version; where it is not OK, the other fields are 0. */
+    uint32_t status;
+    /* The status of the version's name. */
+    uint32_t name_status;
+    /* The status of the library's name. */
+    uint32_t file_status;
+    /* What bears the number: 0 nothing, 1 a definition of the file, 2 a need. */
+    uint32_t kind;
+    /* The number of the version, by which symbols refer to it (vd_ndx; bits 0 to 14 of a symbol's number and of
+     * vna_other): 0 is local, 1 is global. */
+    uint32_t number;
+    /* 1 where the symbol or the need is hidden (bit 15 of its number), and else 0. */
+    uint32_t hidden;
+    /* The flags of the definition or the need (vd_flags, vna_flags); the lowest marks the definition that names the
+     * file itself. */
+    uint32_t flags;
+    /* The hash number of the version's name (vd_hash, vna_hash). */
+    uint32_t hash;
+} xmas_elf_version_t;
+
+/* The symbol that a reference gets. */
+typedef struct xmas_elf_found_symbol_t {
+    /* The symbol; its fields are 0 where none is found. */
+    xmas_elf_symbol_t symbol;
+    /* 1 where a symbol is found, and else 0. */
+    uint32_t found;
+    /* The index of the symbol among those of the dynamic segment, or 0. */
+    uint32_t index;
+} xmas_elf_found_symbol_t;
+
 /* Reads the ELF header of a file. The call is refused with (in the order of the tests) XMAS_ELF_SHORT_PART_1,
  * XMAS_ELF_NO_MAGIC, XMAS_ELF_INVALID_CLASS, XMAS_ELF_SHORT_HEADERS. */
 XMAS_ELF_NODISCARD uint32_t xmas_elf_open(const uint8_t *input, size_t input_size, xmas_elf_header_t *out)
@@ -648,6 +684,56 @@ XMAS_ELF_NODISCARD uint32_t xmas_elf_dynamic_symbols(const uint8_t *input, size_
 XMAS_ELF_NODISCARD uint32_t xmas_elf_dynamic_symbol_names(const uint8_t *input, size_t input_size,
     const xmas_elf_header_t *header, uint64_t first, xmas_elf_name_t *out, size_t out_count, uint64_t *count)
     XMAS_ELF_NOEXCEPT;
+
+/* The versions of the symbols of the dynamic segment (DT_VERSYM) from index `first` on, each with a status of its
+ * own: the first definition with the symbol's number but for the one that names the file, and else the first need
+ * with it. The call gives as many versions as `xmas_elf_dynamic_symbols` gives symbols. XMAS_ELF_NOT_FOUND is for a
+ * file whose symbols have no versions. Each call counts the symbols anew, so give room for all. The call is refused
+ * with (in the order of the tests) XMAS_ELF_LINK_NO_DYNAMIC, XMAS_ELF_DATA_RANGE, XMAS_ELF_NOT_MULTIPLE,
+ * XMAS_ELF_LINK_NO_ENTRY, XMAS_ELF_LINK_ADDRESS, XMAS_ELF_SHORT_DATA, XMAS_ELF_LINK_SHORT_TABLE,
+ * XMAS_ELF_LINK_BLOOM_COUNT, XMAS_ELF_LINK_CHAIN_INDEX, XMAS_ELF_LINK_CHAIN_DATA, XMAS_ELF_LINK_SYMBOL_INDEX,
+ * XMAS_ELF_NOT_FOUND, XMAS_ELF_NO_RECORD. Each record is refused with (in the order of the tests)
+ * XMAS_ELF_LINK_SHORT_VERSION, XMAS_ELF_LINK_VERSION_COUNT, XMAS_ELF_LINK_NO_ENTRY, XMAS_ELF_LINK_ADDRESS,
+ * XMAS_ELF_DATA_RANGE, XMAS_ELF_TEXT_START, XMAS_ELF_TEXT_END, XMAS_ELF_TEXT_UTF_8. */
+XMAS_ELF_NODISCARD uint32_t xmas_elf_dynamic_symbol_versions(const uint8_t *input, size_t input_size,
+    const xmas_elf_header_t *header, uint64_t first, xmas_elf_version_t *out, size_t out_count, uint64_t *count)
+    XMAS_ELF_NOEXCEPT;
+
+/* The versions that the file defines (DT_VERDEF) from index `first` on, in their order, each with a status of its
+ * own: a record that is cut off is the last one. No section header is needed. Each call reads the records from the
+ * first on, so give room for all. The call is refused with (in the order of the tests) XMAS_ELF_LINK_NO_DYNAMIC,
+ * XMAS_ELF_DATA_RANGE, XMAS_ELF_NOT_MULTIPLE, XMAS_ELF_LINK_ADDRESS, XMAS_ELF_LINK_NO_ENTRY, XMAS_ELF_NO_RECORD. Each
+ * record is refused with (in the order of the tests) XMAS_ELF_LINK_SHORT_VERSION, XMAS_ELF_LINK_NO_ENTRY,
+ * XMAS_ELF_LINK_ADDRESS, XMAS_ELF_DATA_RANGE, XMAS_ELF_TEXT_START, XMAS_ELF_TEXT_END, XMAS_ELF_TEXT_UTF_8. */
+XMAS_ELF_NODISCARD uint32_t xmas_elf_version_definitions(const uint8_t *input, size_t input_size,
+    const xmas_elf_header_t *header, uint64_t first, xmas_elf_version_t *out, size_t out_count, uint64_t *count)
+    XMAS_ELF_NOEXCEPT;
+
+/* The versions that the file needs of libraries (DT_VERNEED) from index `first` on, in their order, as
+ * `xmas_elf_version_definitions` gives the others. The call is refused with (in the order of the tests)
+ * XMAS_ELF_LINK_NO_DYNAMIC, XMAS_ELF_DATA_RANGE, XMAS_ELF_NOT_MULTIPLE, XMAS_ELF_LINK_ADDRESS,
+ * XMAS_ELF_LINK_NO_ENTRY, XMAS_ELF_NO_RECORD. Each record is refused with (in the order of the tests)
+ * XMAS_ELF_LINK_SHORT_VERSION, XMAS_ELF_LINK_VERSION_COUNT, XMAS_ELF_LINK_NO_ENTRY, XMAS_ELF_LINK_ADDRESS,
+ * XMAS_ELF_DATA_RANGE, XMAS_ELF_TEXT_START, XMAS_ELF_TEXT_END, XMAS_ELF_TEXT_UTF_8. */
+XMAS_ELF_NODISCARD uint32_t xmas_elf_version_needs(const uint8_t *input, size_t input_size,
+    const xmas_elf_header_t *header, uint64_t first, xmas_elf_version_t *out, size_t out_count, uint64_t *count)
+    XMAS_ELF_NOEXCEPT;
+
+/* The symbol of the dynamic segment that a reference gets by a name and a version (DT_VERSYM): the first symbol on
+ * the chain of the name whose version has the name `version`, or whose number nothing bears and which isn't hidden.
+ * With `version_size` 0 it is the one that `dlsym` gets: the first with a number below 2, or else the one whose
+ * version isn't hidden, if there is exactly one. A symbol counts if it has a value, or is absolute or thread-local,
+ * and a type that linkers use: also one that is not defined and has a value. That no symbol is found is no refusal.
+ * Each call counts the symbols of the dynamic segment anew; for many names `xmas_elf_gnu_look_ups` is faster, which
+ * knows no versions. The call is refused with (in the order of the tests) XMAS_ELF_TEXT_UTF_8,
+ * XMAS_ELF_LINK_NO_DYNAMIC, XMAS_ELF_DATA_RANGE, XMAS_ELF_NOT_MULTIPLE, XMAS_ELF_LINK_NO_ENTRY,
+ * XMAS_ELF_LINK_ADDRESS, XMAS_ELF_SHORT_DATA, XMAS_ELF_LINK_SHORT_TABLE, XMAS_ELF_LINK_BLOOM_COUNT,
+ * XMAS_ELF_LINK_CHAIN_INDEX, XMAS_ELF_LINK_CHAIN_DATA, XMAS_ELF_LINK_SYMBOL_INDEX, XMAS_ELF_HASH_DATA,
+ * XMAS_ELF_CHAIN_INDEX, XMAS_ELF_SYMBOL_INDEX, XMAS_ELF_CHAIN_SUM, XMAS_ELF_HASH_CYCLE, XMAS_ELF_LINK_SHORT_VERSION,
+ * XMAS_ELF_LINK_VERSION_COUNT, XMAS_ELF_TEXT_START, XMAS_ELF_TEXT_END. */
+XMAS_ELF_NODISCARD uint32_t xmas_elf_find_symbol(const uint8_t *input, size_t input_size,
+    const xmas_elf_header_t *header, const uint8_t *name, size_t name_size, const uint8_t *version,
+    size_t version_size, xmas_elf_found_symbol_t *out) XMAS_ELF_NOEXCEPT;
 
 /* Looks a name up in the hash table that is a section of type SHT_HASH, among the symbols of the section that it is
  * linked to: the first symbol on the chain of the name, defined or not. That no symbol is found is no refusal. A

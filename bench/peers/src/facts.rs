@@ -1,5 +1,5 @@
 //! What the passes over a file need to know of it, by `object`.
-use crate::NAME;
+use crate::{NAME, RECORD};
 use object::elf::{self, FileHeader64};
 use object::Endianness;
 use object::read::elf::{FileHeader as _, SectionHeader as _, Sym as _};
@@ -19,6 +19,7 @@ pub struct Facts {
     pub last_symbol: Vec<u8>,
     pub missing: Vec<u8>,
     pub names: Vec<u8>,
+    pub versioned: Vec<u8>,
 }
 
 impl Facts {
@@ -58,6 +59,18 @@ impl Facts {
         facts.exports = exports.len();
         let names = exports.iter().filter_map(|symbol| symbol.name(endian, exports.strings()).ok());
         facts.names = look_ups(names.filter(|name| name.len() == NAME));
+        let versions = table.versions(endian, data).ok().flatten().unwrap_or_default();
+        for index in 0..exports.len() {
+            let symbol = exports.symbol(index).expect("a symbol");
+            // A hidden version isn't the one that is found without a version.
+            let number = versions.version_index(endian, index);
+            let version = versions.version(number).ok().flatten();
+            if let (true, false, Some(version)) = (symbol.is_definition(endian), number.is_hidden(), version) {
+                let name = symbol.name(endian, exports.strings()).unwrap_or(b"");
+                facts.versioned.extend(record_of(name, version.name()));
+            }
+        }
+        facts.versioned = mixed(facts.versioned.chunks_exact(RECORD).map(<[u8]>::to_vec).collect());
         facts
     }
 }
@@ -76,6 +89,23 @@ fn look_ups<'a>(names: impl Iterator<Item = &'a [u8]>) -> Vec<u8> {
     for index in 0..names.len() / 10 {
         names.push(format!("absent_symbol_number_{index:07}").into_bytes());
     }
+    mixed(names)
+}
+
+/// The record of a name and its version, if it has room for both.
+fn record_of(name: &[u8], version: &[u8]) -> Vec<u8> {
+    if name.len() + version.len() > RECORD - 2 {
+        return Vec::new();
+    }
+    let mut record = vec![name.len() as u8, version.len() as u8];
+    record.extend(name);
+    record.extend(version);
+    record.resize(RECORD, 0);
+    record
+}
+
+/// These in a mixed order that is always the same.
+fn mixed(mut names: Vec<Vec<u8>>) -> Vec<u8> {
     let mut state = 1u64;
     for index in (1..names.len()).rev() {
         state = state.wrapping_mul(6364136223846793005).wrapping_add(1442695040888963407);

@@ -1,5 +1,5 @@
 //! The passes by `object`, in its raw calls. Names are bytes there; those with `text` test them for UTF-8.
-use crate::{NAME, NONE, sum_of};
+use crate::{NAME, NONE, RECORD, sum_of};
 use object::elf::{self, FileHeader64, Sym64};
 use object::read::elf::{Dyn as _, FileHeader as _, ProgramHeader as _, Rela as _, SectionHeader as _, SectionTable, Sym as _, SymbolTable, VersionTable};
 use object::{Endianness, SectionIndex};
@@ -247,4 +247,14 @@ pub fn gnu_look_ups<'a>(data: &'a [u8], text: &'a [u8]) -> u64 {
     let (table, _) = there!(sections.gnu_hash(endian, data).ok().flatten());
     let (symbols, versions) = (there!(symbols(data, elf::SHT_DYNSYM)).0, VersionTable::default());
     found(text, endian, |name| table.find(endian, name, elf::gnu_hash(name), None, &symbols, &versions).map(|found| found.1))
+}
+
+/// How many of the names in records a look-up finds.
+pub fn linked_look_ups<'a>(data: &'a [u8], text: &'a [u8]) -> u64 {
+    let (sections, endian) = there!(listed(data));
+    let (table, _) = there!(sections.gnu_hash(endian, data).ok().flatten());
+    let (symbols, versions) = (there!(symbols(data, elf::SHT_DYNSYM)).0, VersionTable::default());
+    let names = text.chunks_exact(RECORD).filter_map(|record| from_utf8(&record[2..2 + usize::from(record[0])]).ok());
+    let found = |name: &&str| table.find(endian, name.as_bytes(), elf::gnu_hash(name.as_bytes()), None, &symbols, &versions).is_some();
+    names.filter(found).count() as u64
 }

@@ -92,6 +92,14 @@ pub const PASSES: &[Pass] = passes![
         ["crate" original::look_ups, "object" object::look_ups, "C" loops::look_ups, "here" here::look_ups];
     "look-ups by GNU's hash table", "exports", |f| f.names.len() / crate::NAME, |f| &f.names,
         ["object" object::gnu_look_ups, "goblin" goblin::gnu_look_ups, "here" here::gnu_look_ups];
+    "look-ups of names in sections", "versions", |f| f.versioned.len() / crate::RECORD, |f| &f.versioned,
+        ["object" object::linked_look_ups, "here" here::linked_look_ups];
+    "look-ups of names in an object", "versions", |f| f.versioned.len() / crate::RECORD, |f| &f.versioned,
+        ["here" here::linked_objects];
+    "symbols as `dlsym` finds them", "versions", |f| f.versioned.len() / crate::RECORD, |f| &f.versioned,
+        ["here" here::found_newest];
+    "symbols by names and versions", "versions", |f| f.versioned.len() / crate::RECORD, |f| &f.versioned,
+        ["here" here::found_by_version];
     "check of the gABI's hash table (a symbol)", "exports hostile", |f| f.exports, NOTHING, ["here" here::hash_check];
     "check of GNU's hash table (a symbol)", "exports hostile", |f| f.exports, NOTHING, ["here" here::gnu_check];
 ];

@@ -268,6 +268,73 @@ class AnswerRecord(NamedTuple):
 ANSWER = Struct("@IIII0I")
 
 
+class VersionRecord(NamedTuple):
+    """The version of a symbol, or one that a file defines or needs (LSB, "Symbol Versioning")."""
+
+    name_offset: int
+    """The bytes of the version's name without the zero byte that ends it; offset and size are 0 where it has none.
+    The offset of the first byte, in bytes from the start of the input."""
+    name_size: int
+    """The bytes of the version's name without the zero byte that ends it; offset and size are 0 where it has none.
+    The number of bytes."""
+    file_offset: int
+    """The bytes of the name of the library that the version is needed of; offset and size are 0 where there is none.
+    The offset of the first byte, in bytes from the start of the input."""
+    file_size: int
+    """The bytes of the name of the library that the version is needed of; offset and size are 0 where there is none.
+    The number of bytes."""
+    status: int
+    """The status of this version; where it is not OK, the other fields are 0."""
+    name_status: int
+    """The status of the version's name."""
+    file_status: int
+    """The status of the library's name."""
+    kind: int
+    """What bears the number: 0 nothing, 1 a definition of the file, 2 a need."""
+    number: int
+    """The number of the version, by which symbols refer to it (vd_ndx; bits 0 to 14 of a symbol's number and of
+    vna_other): 0 is local, 1 is global."""
+    hidden: int
+    """1 where the symbol or the need is hidden (bit 15 of its number), and else 0."""
+    flags: int
+    """The flags of the definition or the need (vd_flags, vna_flags); the lowest marks the definition that names the
+    file itself."""
+    hash: int
+    """The hash number of the version's name (vd_hash, vna_hash)."""
+
+
+VERSION = Struct("@QQQQIIIIIIII0Q")
+
+
+class FoundSymbolRecord(NamedTuple):
+    """The symbol that a reference gets."""
+
+    symbol_value: int
+    """The symbol; its fields are 0 where none is found. The address of the symbol, or an offset in its section
+    (st_value)."""
+    symbol_size: int
+    """The symbol; its fields are 0 where none is found. The size of the function or object in bytes, or 0
+    (st_size)."""
+    symbol_name_index: int
+    """The symbol; its fields are 0 where none is found. The index of the symbol's name in its string table, in bytes;
+    0 where it has none (st_name)."""
+    symbol_shndx: int
+    """The symbol; its fields are 0 where none is found. The index of the section that the symbol belongs to, or a
+    reserved index (st_shndx)."""
+    symbol_info: int
+    """The symbol; its fields are 0 where none is found. The binding times 16, plus the type (st_info)."""
+    symbol_other: int
+    """The symbol; its fields are 0 where none is found. The visibility: the remainder of this number by 4
+    (st_other)."""
+    found: int
+    """1 where a symbol is found, and else 0."""
+    index: int  # type: ignore[assignment]
+    """The index of the symbol among those of the dynamic segment, or 0."""
+
+
+FOUND_SYMBOL = Struct("@QQIHBBII0Q")
+
+
 # What each export answers, and its parameters: a slice is a pointer and a count.
 EXPORTS: Dict[str, Tuple[Any, Tuple[Any, ...]]] = {
     "xmas_elf_open": (c_uint32, (c_void_p, c_size_t, c_void_p,)),
@@ -305,6 +372,10 @@ EXPORTS: Dict[str, Tuple[Any, Tuple[Any, ...]]] = {
     "xmas_elf_dynamic_symbol_count": (c_uint32, (c_void_p, c_size_t, c_void_p, c_void_p,)),
     "xmas_elf_dynamic_symbols": (c_uint32, (c_void_p, c_size_t, c_void_p, c_uint64, c_void_p, c_size_t, c_void_p,)),
     "xmas_elf_dynamic_symbol_names": (c_uint32, (c_void_p, c_size_t, c_void_p, c_uint64, c_void_p, c_size_t, c_void_p,)),
+    "xmas_elf_dynamic_symbol_versions": (c_uint32, (c_void_p, c_size_t, c_void_p, c_uint64, c_void_p, c_size_t, c_void_p,)),
+    "xmas_elf_version_definitions": (c_uint32, (c_void_p, c_size_t, c_void_p, c_uint64, c_void_p, c_size_t, c_void_p,)),
+    "xmas_elf_version_needs": (c_uint32, (c_void_p, c_size_t, c_void_p, c_uint64, c_void_p, c_size_t, c_void_p,)),
+    "xmas_elf_find_symbol": (c_uint32, (c_void_p, c_size_t, c_void_p, c_void_p, c_size_t, c_void_p, c_size_t, c_void_p,)),
     "xmas_elf_look_up": (c_uint32, (c_void_p, c_size_t, c_void_p, c_uint64, c_void_p, c_size_t, c_void_p,)),
     "xmas_elf_look_ups": (None, (c_void_p, c_size_t, c_void_p, c_uint64, c_void_p, c_size_t, c_void_p, c_size_t, c_void_p, c_size_t,)),
     "xmas_elf_check_hash": (c_uint32, (c_void_p, c_size_t, c_void_p, c_uint64,)),

@@ -86,6 +86,14 @@ pub(crate) fn every(asked: &Asked<'_>, mut heard: impl FnMut(&str, Result<(), Er
     heard("dynamic_symbols", answer, &[Error::LinkNoDynamic, Error::DataRange, Error::NotMultiple, Error::LinkNoEntry, Error::LinkAddress, Error::ShortData, Error::LinkShortTable, Error::LinkBloomCount, Error::LinkChainIndex, Error::LinkChainData, Error::LinkSymbolIndex, Error::NoRecord]);
     let answer = ffi::dynamic_symbol_names(input, header, asked.index, &mut [Name::default(); 3]).map(|_| ());
     heard("dynamic_symbol_names", answer, &[Error::LinkNoDynamic, Error::DataRange, Error::NotMultiple, Error::LinkNoEntry, Error::LinkAddress, Error::ShortData, Error::LinkShortTable, Error::LinkBloomCount, Error::LinkChainIndex, Error::LinkChainData, Error::LinkSymbolIndex, Error::NoRecord]);
+    let answer = ffi::dynamic_symbol_versions(input, header, asked.index, &mut [Version::default(); 3]).map(|_| ());
+    heard("dynamic_symbol_versions", answer, &[Error::LinkNoDynamic, Error::DataRange, Error::NotMultiple, Error::LinkNoEntry, Error::LinkAddress, Error::ShortData, Error::LinkShortTable, Error::LinkBloomCount, Error::LinkChainIndex, Error::LinkChainData, Error::LinkSymbolIndex, Error::NotFound, Error::NoRecord]);
+    let answer = ffi::version_definitions(input, header, asked.index, &mut [Version::default(); 3]).map(|_| ());
+    heard("version_definitions", answer, &[Error::LinkNoDynamic, Error::DataRange, Error::NotMultiple, Error::LinkAddress, Error::LinkNoEntry, Error::NoRecord]);
+    let answer = ffi::version_needs(input, header, asked.index, &mut [Version::default(); 3]).map(|_| ());
+    heard("version_needs", answer, &[Error::LinkNoDynamic, Error::DataRange, Error::NotMultiple, Error::LinkAddress, Error::LinkNoEntry, Error::NoRecord]);
+    let answer = ffi::find_symbol(input, header, name, name).map(|_| ());
+    heard("find_symbol", answer, &[Error::TextUtf8, Error::LinkNoDynamic, Error::DataRange, Error::NotMultiple, Error::LinkNoEntry, Error::LinkAddress, Error::ShortData, Error::LinkShortTable, Error::LinkBloomCount, Error::LinkChainIndex, Error::LinkChainData, Error::LinkSymbolIndex, Error::HashData, Error::ChainIndex, Error::SymbolIndex, Error::ChainSum, Error::HashCycle, Error::LinkShortVersion, Error::LinkVersionCount, Error::TextStart, Error::TextEnd]);
     let answer = ffi::look_up(input, header, asked.section, name).map(|_| ());
     heard("look_up", answer, &[Error::TextUtf8, Error::ShortSectionHeader, Error::UnknownClass, Error::SmallEntry, Error::InvalidShType, Error::DataRange, Error::NotMultiple, Error::Note32, Error::ShortData, Error::OtherData, Error::HashData, Error::ChainIndex, Error::SymbolIndex, Error::ChainSum, Error::HashCycle]);
     ffi::look_ups(input, header, asked.section, name, ranges, &mut [Answer::default(); 3]);

@@ -4,7 +4,7 @@
 //! the records that it is lent to write, of a slice at most as many as it has, and is defined whatever they hold. All of
 //! these are references of the call, of the types that the archive declares.
 
-use crate::records::{Answer, Counts, Dynamic, Entry, Header, LookUp, Name, NoteRange, ProgramHeader, Range, Relocation, SectionHeader};
+use crate::records::{Answer, Counts, Dynamic, Entry, FoundSymbol, Header, LookUp, Name, NoteRange, ProgramHeader, Range, Relocation, SectionHeader, Version};
 use crate::Error;
 
 fn answered<T>(status: u32, value: T) -> Result<T, Error> {
@@ -75,6 +75,14 @@ extern "C" {
         out: *mut Entry, out_len: usize, count: *mut u64) -> u32;
     fn xmas_elf_dynamic_symbol_names(input: *const u8, input_len: usize, header: *const Header, first: u64,
         out: *mut Name, out_len: usize, count: *mut u64) -> u32;
+    fn xmas_elf_dynamic_symbol_versions(input: *const u8, input_len: usize, header: *const Header, first: u64,
+        out: *mut Version, out_len: usize, count: *mut u64) -> u32;
+    fn xmas_elf_version_definitions(input: *const u8, input_len: usize, header: *const Header, first: u64,
+        out: *mut Version, out_len: usize, count: *mut u64) -> u32;
+    fn xmas_elf_version_needs(input: *const u8, input_len: usize, header: *const Header, first: u64,
+        out: *mut Version, out_len: usize, count: *mut u64) -> u32;
+    fn xmas_elf_find_symbol(input: *const u8, input_len: usize, header: *const Header, name: *const u8,
+        name_len: usize, version: *const u8, version_len: usize, out: *mut FoundSymbol) -> u32;
     fn xmas_elf_look_up(input: *const u8, input_len: usize, header: *const Header, section: u64, name: *const u8,
         name_len: usize, out: *mut LookUp) -> u32;
     fn xmas_elf_look_ups(input: *const u8, input_len: usize, header: *const Header, section: u64, names: *const u8,
@@ -471,6 +479,68 @@ pub(crate) fn dynamic_symbol_names(input: &[u8], header: &Header, first: u64,
     let status = unsafe { xmas_elf_dynamic_symbol_names(input.as_ptr(), input.len(), header, first, out.as_mut_ptr(),
         out.len(), &mut count) };
     answered(status, count)
+}
+
+/// The versions of the symbols of the dynamic segment (DT_VERSYM) from index `first` on, each with a status of its
+/// own: the first definition with the symbol's number but for the one that names the file, and else the first need
+/// with it. The call gives as many versions as `dynamic_symbols` gives symbols. `NotFound` is for a file whose
+/// symbols have no versions. Each call counts the symbols anew, so give room for all. The call is refused with (in
+/// the order of the tests) `LinkNoDynamic`, `DataRange`, `NotMultiple`, `LinkNoEntry`, `LinkAddress`, `ShortData`,
+/// `LinkShortTable`, `LinkBloomCount`, `LinkChainIndex`, `LinkChainData`, `LinkSymbolIndex`, `NotFound`, `NoRecord`.
+/// Each record is refused with (in the order of the tests) `LinkShortVersion`, `LinkVersionCount`, `LinkNoEntry`,
+/// `LinkAddress`, `DataRange`, `TextStart`, `TextEnd`, `TextUtf8`.
+pub(crate) fn dynamic_symbol_versions(input: &[u8], header: &Header, first: u64,
+    out: &mut [Version]) -> Result<u64, Error> {
+    let mut count = u64::default();
+    // SAFETY: see the head of this file.
+    let status = unsafe { xmas_elf_dynamic_symbol_versions(input.as_ptr(), input.len(), header, first,
+        out.as_mut_ptr(), out.len(), &mut count) };
+    answered(status, count)
+}
+
+/// The versions that the file defines (DT_VERDEF) from index `first` on, in their order, each with a status of its
+/// own: a record that is cut off is the last one. No section header is needed. Each call reads the records from the
+/// first on, so give room for all. The call is refused with (in the order of the tests) `LinkNoDynamic`, `DataRange`,
+/// `NotMultiple`, `LinkAddress`, `LinkNoEntry`, `NoRecord`. Each record is refused with (in the order of the tests)
+/// `LinkShortVersion`, `LinkNoEntry`, `LinkAddress`, `DataRange`, `TextStart`, `TextEnd`, `TextUtf8`.
+pub(crate) fn version_definitions(input: &[u8], header: &Header, first: u64,
+    out: &mut [Version]) -> Result<u64, Error> {
+    let mut count = u64::default();
+    // SAFETY: see the head of this file.
+    let status = unsafe { xmas_elf_version_definitions(input.as_ptr(), input.len(), header, first, out.as_mut_ptr(),
+        out.len(), &mut count) };
+    answered(status, count)
+}
+
+/// The versions that the file needs of libraries (DT_VERNEED) from index `first` on, in their order, as
+/// `version_definitions` gives the others. The call is refused with (in the order of the tests) `LinkNoDynamic`,
+/// `DataRange`, `NotMultiple`, `LinkAddress`, `LinkNoEntry`, `NoRecord`. Each record is refused with (in the order of
+/// the tests) `LinkShortVersion`, `LinkVersionCount`, `LinkNoEntry`, `LinkAddress`, `DataRange`, `TextStart`,
+/// `TextEnd`, `TextUtf8`.
+pub(crate) fn version_needs(input: &[u8], header: &Header, first: u64, out: &mut [Version]) -> Result<u64, Error> {
+    let mut count = u64::default();
+    // SAFETY: see the head of this file.
+    let status = unsafe { xmas_elf_version_needs(input.as_ptr(), input.len(), header, first, out.as_mut_ptr(),
+        out.len(), &mut count) };
+    answered(status, count)
+}
+
+/// The symbol of the dynamic segment that a reference gets by a name and a version (DT_VERSYM): the first symbol on
+/// the chain of the name whose version has the name `version`, or whose number nothing bears and which isn't hidden.
+/// With `version_size` 0 it is the one that `dlsym` gets: the first with a number below 2, or else the one whose
+/// version isn't hidden, if there is exactly one. A symbol counts if it has a value, or is absolute or thread-local,
+/// and a type that linkers use: also one that is not defined and has a value. That no symbol is found is no refusal.
+/// Each call counts the symbols of the dynamic segment anew; for many names `gnu_look_ups` is faster, which knows no
+/// versions. The call is refused with (in the order of the tests) `TextUtf8`, `LinkNoDynamic`, `DataRange`,
+/// `NotMultiple`, `LinkNoEntry`, `LinkAddress`, `ShortData`, `LinkShortTable`, `LinkBloomCount`, `LinkChainIndex`,
+/// `LinkChainData`, `LinkSymbolIndex`, `HashData`, `ChainIndex`, `SymbolIndex`, `ChainSum`, `HashCycle`,
+/// `LinkShortVersion`, `LinkVersionCount`, `TextStart`, `TextEnd`.
+pub(crate) fn find_symbol(input: &[u8], header: &Header, name: &[u8], version: &[u8]) -> Result<FoundSymbol, Error> {
+    let mut out = FoundSymbol::default();
+    // SAFETY: see the head of this file.
+    let status = unsafe { xmas_elf_find_symbol(input.as_ptr(), input.len(), header, name.as_ptr(), name.len(),
+        version.as_ptr(), version.len(), &mut out) };
+    answered(status, out)
 }
 
 /// Looks a name up in the hash table that is a section of type SHT_HASH, among the symbols of the section that it is

@@ -49,6 +49,7 @@ pub mod symbol_table;
 mod symbols;
 #[cfg(test)]
 mod tests;
+mod versions;
 
 use batch::Batch;
 use constants::{DT_RPATH, DT_RUNPATH, DT_SONAME};
@@ -57,10 +58,11 @@ pub use hash::HashTable;
 pub use items::{Note, Notes, Section, Sections, Segment};
 pub use message::Message;
 pub use records::Range as ByteRange;
-pub use records::{Answer, Dynamic, Entry, Header, LookUp, Name, ProgramHeader, Relocation, SectionHeader};
+pub use records::{Answer, Dynamic, Entry, Header, LookUp, Name, ProgramHeader, Relocation, SectionHeader, Version};
 #[cfg(feature = "alloc")]
 pub use symbol_map::SymbolMap;
 pub use symbols::{DynamicSymbol, DynamicSymbols, Symbol, Symbols};
+pub use versions::{SymbolVersion, VersionKind};
 
 /// An ELF file: its bytes, and its header.
 #[derive(Clone, Copy, Debug)]
@@ -214,6 +216,54 @@ impl<'a> ElfFile<'a> {
     /// as `dynamic_symbols_from` gives, and says how many.
     pub fn dynamic_symbol_names_from(&self, first: u64, out: &mut [Name]) -> Result<usize, Error> {
         ffi::dynamic_symbol_names(self.input, &self.header, first, out).map(|count| count as usize)
+    }
+
+    /// The symbol of the dynamic segment that a reference gets by a name and a version, with its index, if there is one:
+    /// the first of the name whose version is called so, or whose number nothing bears and which isn't hidden. Without a
+    /// version, or with an empty one, it is the symbol that `dlsym` gets. It needs no section header. Each call counts the
+    /// symbols anew.
+    pub fn find_symbol(&self, name: &str, version: Option<&str>) -> Result<Option<(u32, Entry)>, Error> {
+        let version = version.unwrap_or_default();
+        let said = ffi::find_symbol(self.input, &self.header, name.as_bytes(), version.as_bytes())?;
+        Ok((said.found == 1).then_some((said.index, said.symbol)))
+    }
+
+    /// The versions of the symbols of the dynamic segment (DT_VERSYM), as many and in the order of `dynamic_symbols`; none
+    /// where the file has none or its tables are refused. It needs no section header.
+    pub fn dynamic_symbol_versions(&self) -> impl Iterator<Item = Result<SymbolVersion<'a>, Error>> + '_ {
+        let versions = Batch::<Version, 256>::items(|first, out| ffi::dynamic_symbol_versions(self.input, &self.header, first, out));
+        versions.map(|version| self.version_of(&version))
+    }
+
+    /// Puts the versions of the symbols of the dynamic segment from an index on to the front of `out`, as many as
+    /// `dynamic_symbols_from` gives, and says how many; `version_of` reads them. Refused with `NotFound` where the file
+    /// has no versions of symbols.
+    pub fn dynamic_symbol_versions_from(&self, first: u64, out: &mut [Version]) -> Result<usize, Error> {
+        ffi::dynamic_symbol_versions(self.input, &self.header, first, out).map(|count| count as usize)
+    }
+
+    /// The versions that the file defines (DT_VERDEF), in their order, that of the file itself included; none where its
+    /// tables are refused. A record that is cut off is the last item. It needs no section header.
+    pub fn version_definitions(&self) -> impl Iterator<Item = Result<SymbolVersion<'a>, Error>> + '_ {
+        let versions = Batch::<Version, 64>::items(|first, out| ffi::version_definitions(self.input, &self.header, first, out));
+        versions.map(|version| self.version_of(&version))
+    }
+
+    /// Puts the versions that the file defines from an index on to the front of `out`, as many as it has room for or all
+    /// that follow, and says how many; `version_of` reads them. Refused where there is none at that index.
+    pub fn version_definitions_from(&self, first: u64, out: &mut [Version]) -> Result<usize, Error> {
+        ffi::version_definitions(self.input, &self.header, first, out).map(|count| count as usize)
+    }
+
+    /// The versions that the file needs of libraries (DT_VERNEED), in their order; else as `version_definitions`.
+    pub fn version_needs(&self) -> impl Iterator<Item = Result<SymbolVersion<'a>, Error>> + '_ {
+        let versions = Batch::<Version, 64>::items(|first, out| ffi::version_needs(self.input, &self.header, first, out));
+        versions.map(|version| self.version_of(&version))
+    }
+
+    /// Puts the versions that the file needs from an index on to the front of `out`, as `version_definitions_from` does.
+    pub fn version_needs_from(&self, first: u64, out: &mut [Version]) -> Result<usize, Error> {
+        ffi::version_needs(self.input, &self.header, first, out).map(|count| count as usize)
     }
 
     // The text that the first dynamic entry with a tag names, if there is one.

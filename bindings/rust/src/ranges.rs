@@ -21,7 +21,7 @@ impl ByteRange {
     }
 }
 
-fn checked(status: u32) -> Result<(), Error> {
+pub(crate) fn checked(status: u32) -> Result<(), Error> {
     match status {
         0 => Ok(()),
         status => Err(Error::of(status)),

@@ -205,3 +205,43 @@ pub struct Answer {
     /// The number of chain entries that the look-up read.
     pub(crate) looked_at: u32,
 }
+
+/// The version of a symbol, or one that a file defines or needs (LSB, "Symbol Versioning").
+#[repr(C)]
+#[derive(Clone, Copy, Debug, Default, PartialEq, Eq)]
+pub struct Version {
+    /// The bytes of the version's name without the zero byte that ends it; offset and size are 0 where it has none.
+    pub(crate) name: Range,
+    /// The bytes of the name of the library that the version is needed of; offset and size are 0 where there is none.
+    pub(crate) file: Range,
+    /// The status of this version; where it is not OK, the other fields are 0.
+    pub(crate) status: u32,
+    /// The status of the version's name.
+    pub(crate) name_status: u32,
+    /// The status of the library's name.
+    pub(crate) file_status: u32,
+    /// What bears the number: 0 nothing, 1 a definition of the file, 2 a need.
+    pub(crate) kind: u32,
+    /// The number of the version, by which symbols refer to it (vd_ndx; bits 0 to 14 of a symbol's number and of
+    /// vna_other): 0 is local, 1 is global.
+    pub(crate) number: u32,
+    /// 1 where the symbol or the need is hidden (bit 15 of its number), and else 0.
+    pub(crate) hidden: u32,
+    /// The flags of the definition or the need (vd_flags, vna_flags); the lowest marks the definition that names the
+    /// file itself.
+    pub(crate) flags: u32,
+    /// The hash number of the version's name (vd_hash, vna_hash).
+    pub(crate) hash: u32,
+}
+
+/// The symbol that a reference gets.
+#[repr(C)]
+#[derive(Clone, Copy, Debug, Default, PartialEq, Eq)]
+pub(crate) struct FoundSymbol {
+    /// The symbol; its fields are 0 where none is found.
+    pub(crate) symbol: Entry,
+    /// 1 where a symbol is found, and else 0.
+    pub(crate) found: u32,
+    /// The index of the symbol among those of the dynamic segment, or 0.
+    pub(crate) index: u32,
+}

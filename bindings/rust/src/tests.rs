@@ -2,7 +2,7 @@
 
 use crate::calls::{every, Asked};
 use crate::constants::*;
-use crate::records::{Answer, Dynamic, Entry, Header, Name, ProgramHeader, Range, Relocation, SectionHeader};
+use crate::records::{Answer, Dynamic, Entry, FoundSymbol, Header, Name, ProgramHeader, Range, Relocation, SectionHeader, Version};
 use crate::{ffi, Error};
 extern crate std;
 use std::vec::Vec;
@@ -157,6 +157,76 @@ fn symbols_of_the_dynamic_segment() {
     assert_eq!((last, last_name), ([wanted[count - 1], Entry::default()], [wanted_names[count - 1], Name::default()]));
     assert_eq!(ffi::dynamic_symbols(&input, &cut, count as u64, &mut last), Err(Error::NoRecord));
     assert_eq!(ffi::dynamic_symbol_names(&input, &cut, count as u64, &mut last_name), Err(Error::NoRecord));
+}
+
+#[test]
+fn versions_of_symbols() {
+    let mut input = whole();
+    let header = ffi::open(&input).expect("an ELF file");
+    let table = section_of_type(&input, &header, 0x6fff_ffff).1; // SHT_GNU_versym
+    let raw = |index: usize| u16::from_le_bytes([0, 1].map(|byte| input[table.offset as usize + 2 * index + byte]));
+    let count = ffi::dynamic_symbol_count(&input, &header).expect("a hash table") as usize;
+    let wanted: Vec<_> = (0..count).map(|index| (u32::from(raw(index) % 0x8000), u32::from(raw(index) / 0x8000))).collect();
+    // The header that the calls are handed next names no sections, nor do the bytes.
+    input[40..48].fill(0);
+    let cut = ffi::open(&input).expect("an ELF file");
+    let mut versions = std::vec![Version::default(); count + 1];
+    assert_eq!(ffi::dynamic_symbol_versions(&input, &cut, 0, &mut versions), Ok(count as u64));
+    assert!(versions[..count].iter().map(|one| (one.number, one.hidden)).eq(wanted) && versions[count] == Version::default());
+    assert_eq!(ffi::dynamic_symbol_versions(&input, &cut, count as u64, &mut versions), Err(Error::NoRecord));
+    // The test needs versions, and defines none.
+    let mut needs = [Version::default(); 64];
+    let need_count = ffi::version_needs(&input, &cut, 0, &mut needs).expect("the test needs versions") as usize;
+    assert!(needs[..need_count].iter().all(|one| (one.status, one.name_status, one.file_status, one.kind) == (0, 0, 0, 2)));
+    assert!(needs[..need_count].iter().any(|one| one.name.text_in(&input).starts_with("GLIBC_2.")));
+    for one in versions[..count].iter().filter(|one| one.number > 1) {
+        let borne = needs[..need_count].iter().find(|need| need.number == one.number).expect("a need");
+        assert_eq!((one.name, one.file, one.hash, one.kind), (borne.name, borne.file, borne.hash, borne.kind));
+    }
+    let mut names = [Name::default(); 16];
+    let libraries = ffi::needed(&input, &cut, 0, &mut names).expect("the test needs libraries") as usize;
+    let named = |file: Range| names[..libraries].iter().any(|name| name.range().is_ok_and(|range| range.text_in(&input) == file.text_in(&input)));
+    assert!(needs[..need_count].iter().all(|one| named(one.file)));
+    assert_eq!(ffi::version_needs(&input, &cut, need_count as u64, &mut needs), Err(Error::NoRecord));
+    assert_eq!(ffi::version_definitions(&input, &cut, 0, &mut needs), Err(Error::NoRecord));
+}
+
+// The C library that the test runs with, which defines versions.
+fn c_library() -> Vec<u8> {
+    let maps = std::fs::read_to_string("/proc/self/maps").expect("the maps of the test");
+    let mut paths = maps.lines().filter_map(|line| line.split_whitespace().last());
+    std::fs::read(paths.find(|path| path.ends_with("/libc.so.6")).expect("glibc")).expect("a file")
+}
+
+#[test]
+fn symbols_by_names_and_versions() {
+    let input = c_library();
+    let header = ffi::open(&input).expect("an ELF file");
+    let version_at = |index: u32| {
+        let mut version = [Version::default()];
+        assert_eq!(ffi::dynamic_symbol_versions(&input, &header, index.into(), &mut version), Ok(1));
+        (version[0].name.text_in(&input), version[0].hidden)
+    };
+    // glibc defines two symbols of this name, of which the older one is hidden.
+    let found = |version: &[u8]| ffi::find_symbol(&input, &header, b"memcpy", version).expect("not refused");
+    let (newest, older) = (found(b""), found(b"GLIBC_2.2.5"));
+    assert_eq!((newest.found, older.found), (1, 1));
+    assert_eq!((version_at(newest.index), version_at(older.index)), (("GLIBC_2.14", 0), ("GLIBC_2.2.5", 1)));
+    assert_eq!((found(b"GLIBC_2.14"), found(b"GLIBC_2.15")), (newest, FoundSymbol::default()));
+    for one in [newest, older] {
+        let (mut symbols, mut names) = ([Entry::default()], [Name::default()]);
+        assert_eq!(ffi::dynamic_symbols(&input, &header, one.index.into(), &mut symbols), Ok(1));
+        assert_eq!(ffi::dynamic_symbol_names(&input, &header, one.index.into(), &mut names), Ok(1));
+        assert_eq!((symbols[0], names[0].range().map(|range| range.text_in(&input))), (one.symbol, Ok("memcpy")));
+    }
+    assert_eq!(ffi::find_symbol(&input, &header, b"no_such_name", b""), Ok(FoundSymbol::default()));
+    assert_eq!(ffi::find_symbol(&input, &header, b"\xff", b""), Err(Error::TextUtf8));
+    assert_eq!(ffi::find_symbol(&input, &header, b"memcpy", b"\xff"), Err(Error::TextUtf8));
+    assert_eq!(ffi::find_symbol(&[], &header, b"", b""), Err(Error::LinkNoDynamic));
+    let file = crate::ElfFile::new(&input).expect("an ELF file");
+    assert_eq!(file.find_symbol("memcpy", None), Ok(Some((newest.index, newest.symbol))));
+    assert_eq!(file.find_symbol("memcpy", Some("GLIBC_2.2.5")), Ok(Some((older.index, older.symbol))));
+    assert_eq!(file.find_symbol("no_such_name", None), Ok(None));
 }
 
 #[test]

@@ -1,7 +1,7 @@
 //! Damaged files: every call returns, and each part that it gives lies in the input.
 
 use xmas_elf_proved::program::Type;
-use xmas_elf_proved::{Answer, ByteRange, Dynamic, ElfFile, Entry, Error, HashTable, Name, ProgramHeader, Relocation, Section, SectionHeader};
+use xmas_elf_proved::{Answer, ByteRange, Dynamic, ElfFile, Entry, Error, HashTable, Name, ProgramHeader, Relocation, Section, SectionHeader, Version, VersionKind};
 
 // A stream of numbers (Marsaglia's xorshift of 64 bits), the same in each run.
 struct Numbers(u64);
@@ -117,6 +117,31 @@ fn visit_dynamic_symbols(file: &ElfFile<'_>) {
     assert!(file.dynamic_symbols().take(2000).all(|symbol| symbol.index() < counted));
 }
 
+// The versions by many at once are those of the iterators, their names lie in the input, and a version with an error is the
+// last of its list.
+fn visit_versions(file: &ElfFile<'_>) {
+    let mut many = [Version::default(); 7];
+    let count = file.dynamic_symbol_versions_from(3, &mut many).unwrap_or(0);
+    assert!(file.dynamic_symbol_versions().skip(3).take(7).eq(many[..count].iter().map(|one| file.version_of(one))));
+    let symbols = file.dynamic_symbols_from(3, &mut [Entry::default(); 7]).unwrap_or(0);
+    assert!(count == 0 || count == symbols);
+    let count = file.version_definitions_from(1, &mut many).unwrap_or(0);
+    assert!(file.version_definitions().skip(1).take(7).eq(many[..count].iter().map(|one| file.version_of(one))));
+    let count = file.version_needs_from(1, &mut many).unwrap_or(0);
+    assert!(file.version_needs().skip(1).take(7).eq(many[..count].iter().map(|one| file.version_of(one))));
+    let lists = [file.version_definitions().take(2000).collect::<Vec<_>>(), file.version_needs().take(2000).collect()];
+    for list in &lists {
+        assert!(list.iter().rev().skip(1).all(|version| version.is_ok()));
+    }
+    for version in file.dynamic_symbol_versions().take(2000).chain(lists.into_iter().flatten()).flatten() {
+        for name in [version.name(), version.library()] {
+            assert!(name.map_or(true, |name| name.map_or(true, |name| lies_in(file.input(), name.as_bytes()))));
+        }
+        assert_eq!(version.kind() == VersionKind::Unnamed, version.name() == Ok(None));
+        assert_eq!(version.kind() == VersionKind::Needed, version.library() != Ok(None));
+    }
+}
+
 fn visit_section(input: &[u8], section: &Section<'_, '_>) -> usize {
     let mut found = 0;
     assert_eq!(section.check(), section.get_type().map(|_| ()));
@@ -199,6 +224,7 @@ fn visit(input: &[u8]) -> usize {
     file.sections().take(200).for_each(|section| visit_batches(&file, &section));
     visit_segments(&file);
     visit_dynamic_symbols(&file);
+    visit_versions(&file);
     assert!(file.build_id().map_or(true, |id| lies_in(input, id)));
     #[cfg(feature = "alloc")]
     visit_symbol_map(&file);

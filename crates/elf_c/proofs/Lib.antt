@@ -10,3 +10,5 @@ pub mod Statuses
 pub mod Opened
 pub mod StoredNames
 pub mod GivenRanges
+pub mod VersionRecords
+pub mod FoundSymbols

@@ -25,7 +25,7 @@ use Rattle.elf_c.specs.declared.names.Range.{Range}
 use Rattle.elf_c.specs.declared.status.Refusal.{Refusal}
 
 -- what is stored has each property that the items have
-stored : {T : Type 0} (P : T → Type 0) (item : ℕ → Result T Refusal) (first : ℕ) (old : List T) (answer : Result ℕ Refusal) (new : List T) → ((i : ℕ) (x : T) → item i ≡ Ok x → P x) → Fills item first old answer new → IfOk answer (λ count. (k : ℕ) (x : T) → k < count → slice_get new k ≡ Some x → P x)
+pub stored : {T : Type 0} (P : T → Type 0) (item : ℕ → Result T Refusal) (first : ℕ) (old : List T) (answer : Result ℕ Refusal) (new : List T) → ((i : ℕ) (x : T) → item i ≡ Ok x → P x) → Fills item first old answer new → IfOk answer (λ count. (k : ℕ) (x : T) → k < count → slice_get new k ≡ Some x → P x)
 stored P item first old (Err why) new has fills = tt
 stored {T} P item first old (Ok count) new has fills = λ k x below at. has (first + k) x (sym ((batch (item first) fills).each k below) ∙ ap (taken_for (λ y. y)) at)
   where
@@ -34,7 +34,7 @@ stored {T} P item first old (Ok count) new has fills = λ k x below at. has (fir
     batch (Err why) is = absurd is
 
 -- an item that is found has each property that all items have
-found_has : {A T : Type 0} (P : T → Type 0) (value : A → T) (r : Option A) (x : T) → ((a : A) → P (value a)) → taken_for value r ≡ Ok x → P x
+pub found_has : {A T : Type 0} (P : T → Type 0) (value : A → T) (r : Option A) (x : T) → ((a : A) → P (value a)) → taken_for value r ≡ Ok x → P x
 found_has P value None x has is = absurd (cc)
 found_has P value (Some a) x has is = let same : value a ≡ x = cc in subst P same (has a)
 

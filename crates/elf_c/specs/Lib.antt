@@ -15,3 +15,5 @@ pub mod Batch
 pub mod HashTables
 pub mod Lookup
 pub mod LookUps
+pub mod Versions
+pub mod FoundSymbols

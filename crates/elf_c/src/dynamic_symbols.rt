@@ -28,14 +28,14 @@ use xmas_elf::bytes::{Record, Table};
 use xmas_elf::symbol_table::Entry;
 
 // Whether a file is of class 32.
-fn is_narrow(file: &ElfFile<'_>) -> bool
+pub(crate) fn is_narrow(file: &ElfFile<'_>) -> bool
     ensures { result ≡ (file_class file.now.header == 1) }
 {
     file.header.pt1.class.raw() == 1
 }
 
 // The number of symbols of the dynamic segment.
-fn symbol_count(file: &ElfFile<'_>) -> Result<u64, LinkError>
+pub(crate) fn symbol_count(file: &ElfFile<'_>) -> Result<u64, LinkError>
     ensures { IsDynamicCount file.now result }
 {
     match DynamicView::read(file) {

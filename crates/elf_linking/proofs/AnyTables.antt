@@ -6,7 +6,7 @@ use Rattle.std.specs.Borrow.{Bor}
 use Rattle.std.specs.Fn.{Shared, FnReturnsAt}
 use Rattle.elf_base.specs.declared.error.ElfError.{ElfError}
 use Rattle.elf_base.specs.declared.error.ElfError.TheVariants.{HashCycle}
-use Rattle.elf_linking.specs.AnyTable.{FindsAllBy, IsFor, IsSameCountBy, LooksBy}
+use Rattle.elf_linking.specs.AnyTable.{FindsAllBy, IsFor, IsSameCountBy, LooksWhereBy}
 use Rattle.elf_linking.specs.DynamicView.{as_link_error}
 use Rattle.elf_linking.specs.declared.any_table.AnyTable.{AnyTable}
 use Rattle.elf_linking.specs.declared.any_table.AnyTable.TheVariants.{Gnu, Sysv}
@@ -26,7 +26,7 @@ zero_or n other = go (eqb_tells n 0)
     go (inr (_, some)) = absurd (other some)
 
 -- a symbol that a table is for has the name
-named_for : {E : Type 0} (table : AnyTable) (symbols : Symbols E) (i : ℕ) (e : E) (name : List ℕ) → IsFor table symbols i e name → symbols.text e ≡ Some name
+pub named_for : {E : Type 0} (table : AnyTable) (symbols : Symbols E) (i : ℕ) (e : E) (name : List ℕ) → IsFor table symbols i e name → symbols.text e ≡ Some name
 named_for (Sysv table) symbols i e name global = global.named
 named_for (Gnu table) symbols i e name exported = exported.global.named
 
@@ -40,16 +40,16 @@ module _ {F E : Type 0} (test : Shared F (Bor E × Unit {0}) Bool) (f : F) (P : 
       none i e is_for (named_for table symbols i e name is_for, passed)
 
 -- a look-up in a table of the standard has only one result, with its error in `Elf`
-pub only_sysv : {E : Type 0} (P : E → Type 0) (table : HashTable) (items : List E) (name : List ℕ) (result : Result (Option (ℕ × E)) ElfError) (n : ℕ)
-    → ((other : Result (Option (ℕ × E)) ElfError) (count : ℕ) → gabi.Looks P table items name other count → (other ≡ result) × (other ≢ Err HashCycle → count ≡ n))
-    → (other : Result (Option (ℕ × E)) LinkError) (count : ℕ) → LooksBy P (Sysv table) items name other count → (other ≡ as_link_error result) × (other ≢ Err (Elf HashCycle) → count ≡ n)
+pub only_sysv : {E : Type 0} (P : ℕ × E → Type 0) (table : HashTable) (items : List E) (name : List ℕ) (result : Result (Option (ℕ × E)) ElfError) (n : ℕ)
+    → ((other : Result (Option (ℕ × E)) ElfError) (count : ℕ) → gabi.LooksWhere P table items name other count → (other ≡ result) × (other ≢ Err HashCycle → count ≡ n))
+    → (other : Result (Option (ℕ × E)) LinkError) (count : ℕ) → LooksWhereBy P (Sysv table) items name other count → (other ≡ as_link_error result) × (other ≢ Err (Elf HashCycle) → count ≡ n)
 only_sysv P table items name result n only other count (found, looks, is) =
     let (same, counted) = only found count looks in (is ∙ ap as_link_error same, λ unlike. counted (λ cycle. unlike (is ∙ ap as_link_error cycle)))
 
 -- the same where it is refused
-pub only_refused : {E : Type 0} (P : E → Type 0) (any : AnyTable) (table : HashTable) (items : List E) (name : List ℕ) (result : Result (Option (ℕ × E)) ElfError) (n : ℕ) (error : ElfError) → any ≡ Sysv table → result ≡ Err error
-    → ((other : Result (Option (ℕ × E)) ElfError) (count : ℕ) → gabi.Looks P table items name other count → (other ≡ result) × (other ≢ Err HashCycle → count ≡ n))
-    → (other : Result (Option (ℕ × E)) LinkError) (count : ℕ) → LooksBy P any items name other count → (other ≡ Err (Elf error)) × IsSameCountBy any other count n
+pub only_refused : {E : Type 0} (P : ℕ × E → Type 0) (any : AnyTable) (table : HashTable) (items : List E) (name : List ℕ) (result : Result (Option (ℕ × E)) ElfError) (n : ℕ) (error : ElfError) → any ≡ Sysv table → result ≡ Err error
+    → ((other : Result (Option (ℕ × E)) ElfError) (count : ℕ) → gabi.LooksWhere P table items name other count → (other ≡ result) × (other ≢ Err HashCycle → count ≡ n))
+    → (other : Result (Option (ℕ × E)) LinkError) (count : ℕ) → LooksWhereBy P any items name other count → (other ≡ Err (Elf error)) × IsSameCountBy any other count n
 only_refused P any table items name result n error is refused only other count looks =
-    let (same, counted) = only_sysv P table items name result n only other count (subst (λ t. LooksBy P t items name other count) is looks) in
+    let (same, counted) = only_sysv P table items name result n only other count (subst (λ t. LooksWhereBy P t items name other count) is looks) in
     (same ∙ ap as_link_error refused, subst (λ t. IsSameCountBy t other count n) (sym is) counted)

@@ -3,9 +3,8 @@ use Rattle.std.proofs.Common.{◌≡◌, ◌≢◌, ℕ, ◌==◌, Bool, true, f
 use Rattle.std.proofs.lemmas.Bool.{eqb-true, ne_eqb}
 use Rattle.elf_base.specs.FileHeader.{class_of, file_class, file_order}
 use Rattle.elf_base.specs.declared.header.numbers.Class.TheVariants as class
-use Rattle.elf_base.specs.declared.bytes.Order.{Order}
 use Rattle.elf_base.specs.declared.error.ElfError.{ElfError}
-use Rattle.elf_linking.specs.DynamicView.{all_entries, before_null, dynamic_entries_of, dynamic_segment_of, entries_in, entries_of_segment, whole_entries}
+use Rattle.elf_linking.specs.DynamicView.{before_null, dynamic_entries_of, dynamic_segment_of, entries_in, entries_of_segment, whole_entries}
 use Rattle.elf_linking.specs.Layouts.{dynamic_entry_32, dynamic_entry_64}
 use Rattle.elf_linking.specs.declared.error.LinkError.{LinkError}
 use Rattle.elf_linking.specs.declared.view.entry.DynamicEntry.{DynamicEntry}

@@ -1,6 +1,5 @@
 pub mod lemmas
 pub mod Shifts
-pub mod Lists
 pub mod Words
 pub mod Runs
 pub mod Looks
@@ -22,3 +21,8 @@ pub mod AnyTables
 pub mod VersionPlaces
 pub mod VersionItems
 pub mod VersionSearch
+mod Finds
+mod VersionsRead
+pub mod DynamicObjects
+pub mod ObjectRefusals
+pub mod VersionChecks

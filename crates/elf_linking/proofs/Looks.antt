@@ -3,7 +3,7 @@ use Rattle.std.proofs.Common.{◌≡◌, ◌≢◌, ◌%◌, ◌<◌, ◌≤◌,
 use Rattle.std.proofs.Math.Dec.{eqb}
 use Rattle.std.proofs.lemmas.Bool.{cases_order, eqb-false}
 use Rattle.std.specs.Prelude.{◌||◌, not, if◌then◌else◌}
-use Rattle.elf_linking.specs.GnuHash.{AreGoodBelow, Ends, EndsRun, FindsAll, IsBucketGood, IsExported, IsGood, IsHeld, IsHit, Looks, LooksFrom, NoHit, Run, Stops, bucket_count_of, bucket_word, ended, first_symbol_of, found, goes, may_hold, no_run, refused, start_at, start_of, too_early}
+use Rattle.elf_linking.specs.GnuHash.{AreGoodBelow, Ends, EndsRun, FindsAllWhere, IsBucketGood, IsExported, IsGood, IsHeld, IsHit, LooksFrom, LooksWhere, NoHit, Run, Stops, bucket_count_of, bucket_word, ended, first_symbol_of, found, goes, may_hold, no_run, refused, start_at, start_of, too_early}
 use Rattle.elf_linking.specs.Layouts.{gnu_hash_number}
 use Rattle.elf_linking.specs.declared.error.LinkError.{LinkError}
 use Rattle.elf_linking.specs.declared.gnu_hash.GnuHashTable.{GnuHashTable}
@@ -26,9 +26,9 @@ start_bucket table h from starts =
     let above : word ≢ 0 = eqb-false word 0 other in
     (eqb-false (bucket_count_of table) 0 some, same, omega arith)
 
-module _ {E : Type 0} (P : E → Type 0) (table : GnuHashTable) (symbols : List E) (name : List ℕ) where
+module _ {E : Type 0} (P : ℕ × E → Type 0) (table : GnuHashTable) (symbols : List E) (name : List ℕ) where
   -- a look-up has only one result and one number of chain words
-  pub looks_once : (a b : Result (Option (ℕ × E)) LinkError) (n m : ℕ) → Looks P table symbols name a n → Looks P table symbols name b m → (a ≡ b) × (n ≡ m)
+  pub looks_once : (a b : Result (Option (ℕ × E)) LinkError) (n m : ℕ) → LooksWhere P table symbols name a n → LooksWhere P table symbols name b m → (a ≡ b) × (n ≡ m)
   looks_once _ _ _ _ (no_run none) (no_run none') = (refl, refl)
   looks_once _ _ _ _ (no_run none) (too_early from starts early) = absurd (cc)
   looks_once _ _ _ _ (no_run none) (goes from m b starts begins looks) = absurd (cc)
@@ -44,9 +44,9 @@ module _ {E : Type 0} (P : E → Type 0) (table : GnuHashTable) (symbols : List 
       let moved : LooksFrom P (gnu_hash_number name) table symbols from' a n = subst (λ x. LooksFrom P (gnu_hash_number name) table symbols x a n) same looks in
       looks_from_once table symbols P (gnu_hash_number name) from' n m a b moved looks'
 
-module _ {E : Type 0} (P : E → Type 0) (table : GnuHashTable) (symbols : List E) (name : List ℕ) where
+module _ {E : Type 0} (P : ℕ × E → Type 0) (table : GnuHashTable) (symbols : List E) (name : List ℕ) where
   -- a look-up by the hash number of the name is a look-up for the name
-  pub goes_by : (h from n : ℕ) (a : Result (Option (ℕ × E)) LinkError) → h ≡ gnu_hash_number name → start_of table name ≡ Some from → first_symbol_of table ≤ from → LooksFrom P h table symbols from a n → Looks P table symbols name a n
+  pub goes_by : (h from n : ℕ) (a : Result (Option (ℕ × E)) LinkError) → h ≡ gnu_hash_number name → start_of table name ≡ Some from → first_symbol_of table ≤ from → LooksFrom P h table symbols from a n → LooksWhere P table symbols name a n
   goes_by h from n a same starts begins looks = goes from n a starts begins (subst (λ x. LooksFrom P x table symbols from a n) same looks)
 
 -- if the buckets are good, a look-up begins at the first symbol or later, on a run that ends
@@ -61,9 +61,9 @@ start_ends {E} table symbols h from good starts =
     go same above (inl none) = absurd (omega arith)
     go same above (inr (begins, ends)) = (above, omega arith, subst (λ x. Ends table symbols x) same ends)
 
-module _ {E : Type 0} (P : E → Type 0) (table : GnuHashTable) (symbols : Symbols E) (name : List ℕ) where
+module _ {E : Type 0} (P : ℕ × E → Type 0) (table : GnuHashTable) (symbols : Symbols E) (name : List ℕ) where
   -- a symbol that a look-up passes without a hit is not one that it must find
-  missed_all : (from last : ℕ) → start_of table name ≡ Some from → IsGood table symbols → Run table symbols.items from last → NoHit P (gnu_hash_number name) table symbols.items from last → EndsRun table last → ((e : E) → IsHit P (gnu_hash_number name) table symbols.items last e → ⊥) → (i : ℕ) (e : E) → IsExported table symbols i e name → P e → ⊥
+  missed_all : (from last : ℕ) → start_of table name ≡ Some from → IsGood table symbols → Run table symbols.items from last → NoHit P (gnu_hash_number name) table symbols.items from last → EndsRun table last → ((e : E) → IsHit P (gnu_hash_number name) table symbols.items last e → ⊥) → (i : ℕ) (e : E) → IsExported table symbols i e name → P (i, e) → ⊥
   missed_all from last starts good run missed ends none i e exported holds = go (cases_order i last)
     where
       held : IsHeld table symbols.items name i
@@ -84,7 +84,7 @@ module _ {E : Type 0} (P : E → Type 0) (table : GnuHashTable) (symbols : Symbo
       go (inr (inr behind)) = here.goes_on last run.ordered behind ends
 
   -- at a stop of a run that ends, the result is the right one
-  stop_finds : (from last n : ℕ) (a : Result (Option (ℕ × E)) LinkError) → 0 < from → first_symbol_of table ≤ from → Ends table symbols.items from → start_of table name ≡ Some from → IsGood table symbols → Run table symbols.items from last → NoHit P (gnu_hash_number name) table symbols.items from last → Stops P (gnu_hash_number name) table symbols.items last a n → FindsAll table symbols name P a
+  stop_finds : (from last n : ℕ) (a : Result (Option (ℕ × E)) LinkError) → 0 < from → first_symbol_of table ≤ from → Ends table symbols.items from → start_of table name ≡ Some from → IsGood table symbols → Run table symbols.items from last → NoHit P (gnu_hash_number name) table symbols.items from last → Stops P (gnu_hash_number name) table symbols.items last a n → FindsAllWhere table symbols name P a
   stop_finds from last _ _ above begins run_ends starts good run missed (found e hit) =
       let ordered : from ≤ last = run.ordered in
       (omega arith, omega arith, hit.symbol, hit.holds)
@@ -94,7 +94,7 @@ module _ {E : Type 0} (P : E → Type 0) (table : GnuHashTable) (symbols : Symbo
       ends_cut table symbols.items from error run_ends (record { last = last; run = run; lacks = lacks })
 
   -- in a good table a look-up has no error and finds what must be found
-  pub finds_all : (a : Result (Option (ℕ × E)) LinkError) (n : ℕ) → IsGood table symbols → Looks P table symbols.items name a n → FindsAll table symbols name P a
+  pub finds_all : (a : Result (Option (ℕ × E)) LinkError) (n : ℕ) → IsGood table symbols → LooksWhere P table symbols.items name a n → FindsAllWhere table symbols name P a
   finds_all _ _ good (no_run none) = λ (i, e, exported, holds).
       let held : IsHeld table symbols.items name i = good.holds i e name exported in
       let starts : start_of table name ≡ Some held.from = held.starts in

@@ -115,7 +115,7 @@ module _ {E : Type 0} (table : GnuHashTable) (symbols : List E) where
       only i run (inl behind) = omega arith
       only i run (inr before) = absurd (stops (run.there index before (omega arith)) (run.goes_on index before (omega arith)))
 
-  module _ (P : E → Type 0) (h : ℕ) where
+  module _ (P : ℕ × E → Type 0) (h : ℕ) where
     -- if there are no more symbols, a look-up is refused
     pub looks_past : (from index n : ℕ) → Run table symbols from index → NoHit P h table symbols from index → symbol_end symbols ≤ index → (from ≤ symbol_end symbols → index ≤ symbol_end symbols) → n ≡ symbol_end symbols - from → LooksFrom P h table symbols from (Err SymbolIndex) n
     looks_past from index n run missed past within counted = go (cases_lt (symbol_end symbols) from)
@@ -139,6 +139,11 @@ module _ {E : Type 0} (table : GnuHashTable) (symbols : List E) where
               stop = refused SymbolIndex (no_symbol past);
               counted = omega arith;
             }
+
+    -- a look-up passes one more index without a hit
+    pub missed_next : (from i : ℕ) → NoHit P h table symbols from i → ((e : E) → IsHit P h table symbols i e → ⊥) → NoHit P h table symbols from (i + 1)
+    missed_next from i missed none k e above below hit =
+        below_more (λ j. (d : E) → from ≤ j → IsHit P h table symbols j d → ⊥) i (λ j under d over. missed j d over under) (λ d _. none d) k below e above hit
 
     -- a look-up doesn't continue from where it stops
     pub stop_passed : (i n : ℕ) (a : Result (Option (ℕ × E)) LinkError) → Stops P h table symbols i a n → IsThere table symbols i → (EndsRun table i → ⊥) → ((e : E) → IsHit P h table symbols i e → ⊥) → ⊥

@@ -1,6 +1,6 @@
 -- The number of symbols of a dynamic segment has only one result: GNU hash tables with the same bytes count the
 -- same.
-use Rattle.std.proofs.Common.{◌≡◌, ◌≢◌, ◌+◌, ◌*◌, ◌%◌, ◌<◌, ◌≤◌, ◌^◌, ℕ, List, length, Option, None, Some, Result, Ok, Err, refl, sym, ap, ◌∙◌, subst, arith}
+use Rattle.std.proofs.Common.{◌≡◌, ◌+◌, ◌%◌, ◌<◌, ◌≤◌, ℕ, List, length, Result, Ok, Err, sym, ap, ◌∙◌, subst}
 use Rattle.elf_linking.specs.DynamicView.{AreSymbols, CountStops, CountsFrom, GoesTo, IsGnuCount, IsLastRun, IsSymbolCount, by_gnu, by_hash, counted, ended, gnu_hash_table_of, no_run, no_table, number_with, refused, symbol_bytes, too_long}
 use Rattle.elf_linking.specs.GnuHash.{EndsRun, HasChain, bucket_count_of, bucket_word, chain_of, chain_place, chain_word, first_symbol_of, gnu_class, gnu_data, gnu_order}
 use Rattle.elf_linking.specs.declared.error.LinkError.{LinkError}

@@ -1,21 +1,19 @@
 -- Hash tables of either kind: their check, and look-ups (gABI, "Hash Table"; the convention of GNU binutils
 -- and glibc).
--- The value of a name in a file, found like a dynamic linker does: by the dynamic segment, without section
--- headers.
-use Rattle.std.specs.Prelude.{◌≡◌, ◌≢◌, ◌<◌, ◌≤◌, ℕ, List, Option, Some, None, MatchOption, MatchResult, Result, Ok, Err, slice_get, option_map}
+use Rattle.std.specs.Prelude.{◌≡◌, ◌≢◌, ◌<◌, ◌≤◌, ℕ, List, Option, Some, None, MatchOption, MatchResult, Result, Ok, Err, slice_get}
 use Rattle.std.specs.Result.{result_ok}
-use Rattle.elf_base.specs.FileHeader.{file_order, file_class}
+use Rattle.elf_base.specs.FileHeader.{file_order}
 use Rattle.elf_base.specs.declared.error.ElfError.TheVariants.{HashCycle}
 use Rattle.elf_base.specs.Table.{records}
 use Rattle.xmas_elf.specs.HashTable.{chain_count_of, hash_data, hash_order}
 use Rattle.xmas_elf.specs.Types.{ElfError, ElfFile, HashTable, DynEntry32, DynEntry64, Order}
 use Rattle.xmas_elf.specs.Symbol.{IsGlobal, Symbols, dyn_entry_32, dyn_entry_32_fields, dyn_entry_64, dyn_entry_64_fields}
-use Rattle.elf_linking.specs.DynamicView.{AreSymbols, IsGnuTableBy, as_link_error, dynamic_entries_of, gnu_hash_table_of, hash_table_of, linked_text_of, number_with}
+use Rattle.elf_linking.specs.DynamicView.{IsGnuTableBy, as_link_error, gnu_hash_table_of, hash_table_of, linked_text_of, number_with}
 use Rattle.elf_linking.specs.GnuHash.{first_symbol_of}
 use Rattle.elf_linking.specs.declared.any_table.AnyTable.{AnyTable}
 use Rattle.elf_linking.specs.declared.any_table.AnyTable.TheVariants.{Gnu, Sysv}
 use Rattle.elf_linking.specs.declared.error.LinkError.{LinkError}
-use Rattle.elf_linking.specs.declared.error.LinkError.TheVariants.{Elf, UnknownClass}
+use Rattle.elf_linking.specs.declared.error.LinkError.TheVariants.{Elf}
 use Rattle.elf_linking.specs.declared.gnu_hash.GnuHashTable.{GnuHashTable}
 use Rattle.elf_linking.specs.declared.view.entry.DynamicEntry.{DynamicEntry}
 use Rattle.elf_linking.specs.declared.view.tags.TheConstants.{DT_GNU_HASH}
@@ -50,11 +48,17 @@ IsCheckBy (Sysv table) symbols (Err (Elf error)) = gabi.IsCheck table symbols (E
 IsCheckBy (Sysv table) symbols (Err _) = ⊥
 IsCheckBy (Gnu table) symbols answer = gnu.IsCheck table symbols answer
 
--- the result of a look-up for the name and P, and the number of symbols or chain words read
+-- the result of a look-up for the name and P, a property of a symbol and its index, and the number of symbols or
+-- chain words read
+abbrev pub LooksWhereBy : {E : Type 0} → (ℕ × E → Type 0) → AnyTable → List E → List ℕ → Result (Option (ℕ × E)) LinkError → ℕ → Type 0
+LooksWhereBy {E} P (Sysv table) symbols name answer count = (found : Result (Option (ℕ × E)) ElfError)
+    × gabi.LooksWhere P table symbols name found count × (answer ≡ as_link_error found)
+LooksWhereBy P (Gnu table) symbols name answer count = gnu.LooksWhere P table symbols name answer count
+
+-- the result of a look-up for the name and P, a property of a symbol, and the number of symbols or chain words
+-- read
 abbrev pub LooksBy : {E : Type 0} → (E → Type 0) → AnyTable → List E → List ℕ → Result (Option (ℕ × E)) LinkError → ℕ → Type 0
-LooksBy {E} P (Sysv table) symbols name answer count = (found : Result (Option (ℕ × E)) ElfError)
-    × gabi.Looks P table symbols name found count × (answer ≡ as_link_error found)
-LooksBy P (Gnu table) symbols name answer count = gnu.Looks P table symbols name answer count
+LooksBy P table symbols name = LooksWhereBy (λ at. P at.1) table symbols name
 
 -- a bound on the number of symbols read: the chain count of the standard's table; GNU's table has no such count
 abbrev pub IsCountBy : AnyTable → ℕ → Type 0
@@ -76,13 +80,18 @@ abbrev pub IsIndexBy : AnyTable → ℕ → Type 0
 IsIndexBy (Sysv table) i = 0 < i
 IsIndexBy (Gnu table) i = (0 < i) × (first_symbol_of table ≤ i)
 
--- there is no error; what is found is one of the symbols and has P, and if nothing is found, there is no such
--- symbol that look-ups must find
-abbrev pub FindsAllBy : {E : Type 0} → AnyTable → Symbols E → List ℕ → (E → Type 0) → Result (Option (ℕ × E)) LinkError → Type 0
-FindsAllBy {E} table symbols name P answer = MatchResult answer
-    (λ found. MatchOption found ((i : ℕ) (e : E) → IsFor table symbols i e name → ¬ P e)
-    (λ (p : ℕ × E). IsIndexBy table p.0 × (slice_get symbols.items p.0 ≡ Some p.1) × P p.1))
+-- there is no error; what is found is one of the symbols and has P at its index, and if nothing is found, there is
+-- no such symbol that look-ups must find
+abbrev pub FindsAllWhereBy : {E : Type 0} → AnyTable → Symbols E → List ℕ → (ℕ × E → Type 0) → Result (Option (ℕ × E)) LinkError → Type 0
+FindsAllWhereBy {E} table symbols name P answer = MatchResult answer
+    (λ found. MatchOption found ((i : ℕ) (e : E) → IsFor table symbols i e name → ¬ P (i, e))
+    (λ (p : ℕ × E). IsIndexBy table p.0 × (slice_get symbols.items p.0 ≡ Some p.1) × P p))
     (λ error. ⊥)
+
+-- there is no error; what is found is one of the symbols and has P, a property of a symbol, and if nothing is
+-- found, there is no such symbol that look-ups must find
+abbrev pub FindsAllBy : {E : Type 0} → AnyTable → Symbols E → List ℕ → (E → Type 0) → Result (Option (ℕ × E)) LinkError → Type 0
+FindsAllBy table symbols name P = FindsAllWhereBy table symbols name (λ at. P at.1)
 
 -- symbol e at index i, which a look-up can return, has the name and is defined (its section index is not 0,
 -- SHN_UNDEF)
@@ -111,14 +120,6 @@ abbrev pub LooksForDefined : {E : Type 0} → AnyTable → Symbols E → List �
 LooksForDefined table symbols name found =
     (count : ℕ) × LooksBy (HasDefinedName symbols name) table symbols.items name (Ok found) count
 
--- the value found is that of the symbol that a look-up for a defined symbol with the name has as its result;
--- if there is none, look-ups must find none
-pub record IsDefinedValue {E : Type 0} (table : AnyTable) (symbols : Symbols E) (name : List ℕ) (found : Option ℕ) : Type 0 where
-  pub entry : Option (ℕ × E)
-  pub answer : LooksForDefined table symbols name entry
-  pub defined : IsDefinedBy table symbols name entry
-  pub value : found ≡ option_map (λ p. (symbols.fields p.1).value) entry
-
 -- the symbols in bytes, of either class, with their names in the string table of the dynamic segment
 abbrev pub linked_symbols_32 : ElfFile → Order → List ℕ → Symbols (Linked DynEntry32)
 linked_symbols_32 file order bytes = record {
@@ -133,31 +134,3 @@ linked_symbols_64 file order bytes = record {
   fields = λ e. dyn_entry_64_fields e.0;
   text = λ e. result_ok (linked_text_of file (dyn_entry_64_fields e.0).name);
 }
-
--- the result for some symbols, after the check: the value of the name, or the error of the check
-pub data IsChecked {E : Type 0} (table : AnyTable) (symbols : Symbols E) (name : List ℕ) : Result (Option ℕ) LinkError → Type 0 where
-  passed : (found : Option ℕ) → IsGoodBy table symbols → IsDefinedValue table symbols name found
-      → IsChecked table symbols name (Ok found)
-  faulty : (error : LinkError) → IsCheckBy table symbols (Err error) → IsChecked table symbols name (Err error)
-
--- the result for a table, by the class of the file
-pub data IsByClass (file : ElfFile) (entries : List (DynamicEntry ℕ)) (table : AnyTable) (name : List ℕ) : Result (Option ℕ) LinkError → Type 0 where
-  narrow : (bytes : List ℕ) (answer : Result (Option ℕ) LinkError) → file_class file.header ≡ 1
-      → AreSymbols file entries 16 (Ok bytes) → IsChecked table (linked_symbols_32 file (file_order file.header) bytes) name answer
-      → IsByClass file entries table name answer
-  no_narrow : (error : LinkError) → file_class file.header ≡ 1 → AreSymbols file entries 16 (Err error)
-      → IsByClass file entries table name (Err error)
-  wide : (bytes : List ℕ) (answer : Result (Option ℕ) LinkError) → file_class file.header ≡ 2
-      → AreSymbols file entries 24 (Ok bytes) → IsChecked table (linked_symbols_64 file (file_order file.header) bytes) name answer
-      → IsByClass file entries table name answer
-  no_wide : (error : LinkError) → file_class file.header ≡ 2 → AreSymbols file entries 24 (Err error)
-      → IsByClass file entries table name (Err error)
-
--- the result for a file: the entries of its dynamic segment, then the table, then the symbols
-pub data IsFileAnswer (file : ElfFile) (name : List ℕ) : Result (Option ℕ) LinkError → Type 0 where
-  no_view : (error : LinkError) → dynamic_entries_of file ≡ Err error → IsFileAnswer file name (Err error)
-  no_table : (entries : List (DynamicEntry ℕ)) (error : LinkError) → dynamic_entries_of file ≡ Ok entries
-      → IsTableRefused file entries error → IsFileAnswer file name (Err error)
-  by_table : (entries : List (DynamicEntry ℕ)) (table : AnyTable) (answer : Result (Option ℕ) LinkError)
-      → dynamic_entries_of file ≡ Ok entries → IsLinkedTable file entries table
-      → IsByClass file entries table name answer → IsFileAnswer file name answer

@@ -129,21 +129,21 @@ pub record ComeFrom {E : Type 0} (table : GnuHashTable) (symbols : List E) (from
   pub come : (i : ℕ) → from ≤ i → i ≤ index → Run table symbols i index
   pub only : (i : ℕ) → 0 < i → Run table symbols i index → from ≤ i
 
--- a look-up for P by the hash number h finds symbol e at index i
-pub record IsHit {E : Type 0} (P : E → Type 0) (h : ℕ) (table : GnuHashTable) (symbols : List E) (i : ℕ) (e : E) : Type 0 where
+-- a look-up for P, a property of a symbol and its index, by the hash number h finds symbol e at index i
+pub record IsHit {E : Type 0} (P : ℕ × E → Type 0) (h : ℕ) (table : GnuHashTable) (symbols : List E) (i : ℕ) (e : E) : Type 0 where
   pub there : IsThere table symbols i
   pub symbol : slice_get symbols i ≡ Some e
   pub agrees : chain_word table i / 2 ≡ h / 2
-  pub holds : P e
+  pub holds : P (i, e)
 
 -- a look-up finds no symbol from one index up to another, which is excluded
-abbrev pub NoHit : {E : Type 0} → (E → Type 0) → ℕ → GnuHashTable → List E → ℕ → ℕ → Type 0
+abbrev pub NoHit : {E : Type 0} → (ℕ × E → Type 0) → ℕ → GnuHashTable → List E → ℕ → ℕ → Type 0
 NoHit {E} P h table symbols from last =
     (i : ℕ) (e : E) → from ≤ i → i < last → IsHit P h table symbols i e → ⊥
 
 -- a look-up for P stops at index i, with a result and the number of chain words read there: at a hit, at the
 -- end of the run, or where a symbol or a chain word is missing
-pub data Stops {E : Type 0} (P : E → Type 0) (h : ℕ) (table : GnuHashTable) (symbols : List E) (i : ℕ) : Result (Option (ℕ × E)) LinkError → ℕ → Type 0 where
+pub data Stops {E : Type 0} (P : ℕ × E → Type 0) (h : ℕ) (table : GnuHashTable) (symbols : List E) (i : ℕ) : Result (Option (ℕ × E)) LinkError → ℕ → Type 0 where
   found : (e : E) → IsHit P h table symbols i e → Stops P h table symbols i (Ok (Some (i, e))) 1
   ended : IsThere table symbols i → EndsRun table i → ((e : E) → IsHit P h table symbols i e → ⊥)
       → Stops P h table symbols i (Ok None) 1
@@ -151,7 +151,7 @@ pub data Stops {E : Type 0} (P : E → Type 0) (h : ℕ) (table : GnuHashTable) 
 
 -- the result of a look-up for P from an index on, and the number of chain words read: that of the stop that
 -- its run comes to
-pub record LooksFrom {E : Type 0} (P : E → Type 0) (h : ℕ) (table : GnuHashTable) (symbols : List E) (from : ℕ) (answer : Result (Option (ℕ × E)) LinkError) (n : ℕ) : Type 0 where
+pub record LooksFrom {E : Type 0} (P : ℕ × E → Type 0) (h : ℕ) (table : GnuHashTable) (symbols : List E) (from : ℕ) (answer : Result (Option (ℕ × E)) LinkError) (n : ℕ) : Type 0 where
   pub last : ℕ
   pub here : ℕ
   pub run : Run table symbols from last
@@ -159,15 +159,20 @@ pub record LooksFrom {E : Type 0} (P : E → Type 0) (h : ℕ) (table : GnuHashT
   pub stop : Stops P h table symbols last answer here
   pub counted : n ≡ last - from + here
 
--- the result of a look-up for the name and P, and the number of chain words read
-pub data Looks {E : Type 0} (P : E → Type 0) (table : GnuHashTable) (symbols : List E) (name : List ℕ) : Result (Option (ℕ × E)) LinkError → ℕ → Type 0 where
-  no_run : start_of table name ≡ None → Looks P table symbols name (Ok None) 0
+-- the result of a look-up for the name and P, a property of a symbol and its index, and the number of chain words
+-- read
+pub data LooksWhere {E : Type 0} (P : ℕ × E → Type 0) (table : GnuHashTable) (symbols : List E) (name : List ℕ) : Result (Option (ℕ × E)) LinkError → ℕ → Type 0 where
+  no_run : start_of table name ≡ None → LooksWhere P table symbols name (Ok None) 0
   too_early : (from : ℕ) → start_of table name ≡ Some from → from < first_symbol_of table
-      → Looks P table symbols name (Err ChainIndex) 0
+      → LooksWhere P table symbols name (Err ChainIndex) 0
   goes : (from n : ℕ) (answer : Result (Option (ℕ × E)) LinkError)
       → start_of table name ≡ Some from → first_symbol_of table ≤ from
       → LooksFrom P (gnu_hash_number name) table symbols from answer n
-      → Looks P table symbols name answer n
+      → LooksWhere P table symbols name answer n
+
+-- the result of a look-up for the name and P, a property of a symbol, and the number of chain words read
+abbrev pub Looks : {E : Type 0} → (E → Type 0) → GnuHashTable → List E → List ℕ → Result (Option (ℕ × E)) LinkError → ℕ → Type 0
+Looks P table symbols name = LooksWhere (λ at. P at.1) table symbols name
 
 -- Tables whose runs end and contain every symbol that a search must find.
 
@@ -233,16 +238,25 @@ pub data IsCheck {E : Type 0} (table : GnuHashTable) (symbols : Symbols E) : Res
       → IsExported table symbols i e name → ¬ IsHeld table symbols.items name i
       → IsCheck table symbols (Err Missing)
 
--- the table exports a symbol with the name and P
-abbrev pub MustBeFound : {E : Type 0} → GnuHashTable → Symbols E → List ℕ → (E → Type 0) → Type 0
-MustBeFound {E} table symbols name P =
-    (i : ℕ) × (e : E) × IsExported table symbols i e name × P e
+-- the table exports a symbol with the name and P, a property of a symbol and its index
+abbrev pub MustBeFoundWhere : {E : Type 0} → GnuHashTable → Symbols E → List ℕ → (ℕ × E → Type 0) → Type 0
+MustBeFoundWhere {E} table symbols name P =
+    (i : ℕ) × (e : E) × IsExported table symbols i e name × P (i, e)
 
--- there is no error; what is found is one of the symbols and has P, and if nothing is found, the table
--- exports no such symbol
-abbrev pub FindsAll : {E : Type 0} → GnuHashTable → Symbols E → List ℕ → (E → Type 0) → Result (Option (ℕ × E)) LinkError → Type 0
-FindsAll {E} table symbols name P answer = MatchResult answer
-    (λ found. MatchOption found (¬ MustBeFound table symbols name P)
+-- the table exports a symbol with the name and P, a property of a symbol
+abbrev pub MustBeFound : {E : Type 0} → GnuHashTable → Symbols E → List ℕ → (E → Type 0) → Type 0
+MustBeFound table symbols name P = MustBeFoundWhere table symbols name (λ at. P at.1)
+
+-- there is no error; what is found is one of the symbols and has P at its index, and if nothing is found, the
+-- table exports no such symbol
+abbrev pub FindsAllWhere : {E : Type 0} → GnuHashTable → Symbols E → List ℕ → (ℕ × E → Type 0) → Result (Option (ℕ × E)) LinkError → Type 0
+FindsAllWhere {E} table symbols name P answer = MatchResult answer
+    (λ found. MatchOption found (¬ MustBeFoundWhere table symbols name P)
     (λ (p : ℕ × E). (0 < p.0) × (first_symbol_of table ≤ p.0)
-    × (slice_get symbols.items p.0 ≡ Some p.1) × P p.1))
+    × (slice_get symbols.items p.0 ≡ Some p.1) × P p))
     (λ error. ⊥)
+
+-- there is no error; what is found is one of the symbols and has P, a property of a symbol, and if nothing is
+-- found, the table exports no such symbol
+abbrev pub FindsAll : {E : Type 0} → GnuHashTable → Symbols E → List ℕ → (E → Type 0) → Result (Option (ℕ × E)) LinkError → Type 0
+FindsAll table symbols name P = FindsAllWhere table symbols name (λ at. P at.1)

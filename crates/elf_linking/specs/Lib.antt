@@ -10,3 +10,6 @@ pub mod BuildIds
 pub mod LinkedSections
 pub mod VersionTables
 pub mod Versions
+pub mod Find
+pub mod DynamicObject
+pub mod Values

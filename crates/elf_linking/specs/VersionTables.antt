@@ -93,11 +93,13 @@ abbrev pub item_by : {A B : Type 0} → (A → B) → Result A LinkError → Res
 item_by make (Ok item) = Ok (make item)
 item_by make (Err error) = Err error
 
--- a definition (Verdef): 2 bytes of version, flags, number and count each, then hash, aux and next of 4
+-- a definition (Verdef): 2 bytes of version, flags, number and count each, then hash, aux and next of 4; its
+-- name begins at an offset in the string table
 pub record DefinitionParts : Type 0 where
   pub flags : ℕ
   pub number : ℕ
   pub hash : ℕ
+  pub name_offset : Result ℕ LinkError
   pub name : Result (List ℕ) LinkError
 
 -- the offset in the string table that a record of names (Verdaux) of 8 bytes begins with
@@ -116,6 +118,7 @@ definition_at records place = record {
   flags = field records 2 place 2;
   number = field records 2 place 4;
   hash = field records 4 place 8;
+  name_offset = name_offset records (place + field records 4 place 12);
   name = text_at_offset records.strings (name_offset records (place + field records 4 place 12));
 }
 
@@ -129,13 +132,15 @@ abbrev pub definitions_in : VersionRecords → List (Result DefinitionParts Link
 definitions_in records = map (item_by (definition_at records)) (places_of records 16 0 records.count)
 
 -- a part of a need (Vernaux): hash of 4 bytes, flags and other of 2, name and next of 4; the file is that of
--- its need
+-- its need. The names of both begin at offsets in the string table.
 pub record NeedParts : Type 0 where
+  pub file_offset : ℕ
   pub file : Result (List ℕ) LinkError
   pub flags : ℕ
   pub number : ℕ
   pub hidden : Bool
   pub hash : ℕ
+  pub name_offset : ℕ
   pub name : Result (List ℕ) LinkError
 
 -- the number of a version (bits 0 to 14), and whether it is hidden (bit 15), in a number of 16 bits
@@ -148,11 +153,13 @@ is_hidden raw = nat_le 0x8000 raw
 -- the part at a place, of a need whose file has its name at an offset
 abbrev pub need_at : VersionRecords → ℕ → ℕ → NeedParts
 need_at records file place = record {
+  file_offset = file;
   file = text_in_strings records.strings file;
   flags = field records 2 place 4;
   number = version_number (field records 2 place 6);
   hidden = is_hidden (field records 2 place 6);
   hash = field records 4 place 0;
+  name_offset = field records 4 place 8;
   name = text_in_strings records.strings (field records 4 place 8);
 }
 
@@ -261,6 +268,7 @@ definition_parts d = record {
   flags = d.flags;
   number = d.number;
   hash = d.hash;
+  name_offset = d.name;
   name = text_at_offset (lent d.strings) d.name;
 }
 
@@ -269,11 +277,13 @@ definition_item item = item_by definition_parts item
 
 abbrev pub need_parts : Need → NeedParts
 need_parts need = record {
+  file_offset = need.file;
   file = text_in_strings (lent need.strings) need.file;
   flags = need.flags;
   number = need.number;
   hidden = need.hidden;
   hash = need.hash;
+  name_offset = need.name;
   name = text_in_strings (lent need.strings) need.name;
 }
 

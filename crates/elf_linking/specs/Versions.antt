@@ -1,6 +1,6 @@
 -- The version of a symbol: its number, and what bears that number (LSB, "Symbol Versioning"; that the
 -- definitions go before the needs, and the first that fits, is this project's own).
-use Rattle.std.specs.Prelude.{◌≡◌, ◌≢◌, ℕ, ◌+◌, ◌*◌, ◌%◌, ◌<◌, ◌≤◌, ◌==◌, ◌&&◌, nat_lt, not, Bool, List, [], ◌∷◌, length, slice_get, Option, Some, None, option_map, Result, Ok, Err, if◌then◌else◌}
+use Rattle.std.specs.Prelude.{All, IsOk, IsOkAnd, false, ◌≡◌, ◌≢◌, ℕ, ◌+◌, ◌*◌, ◌%◌, ◌<◌, ◌≤◌, ◌==◌, ◌&&◌, nat_lt, not, Bool, List, [], ◌∷◌, length, slice_get, Option, Some, None, option_map, Result, Ok, Err, if◌then◌else◌}
 use Rattle.elf_base.specs.Number.{number}
 use Rattle.elf_base.specs.Refusal.{and_then}
 use Rattle.elf_linking.specs.VersionTables.{DefinitionParts, NeedParts, VersionTables, definition_parts, definitions_in, is_hidden, item_by, need_parts, needs_in, version_number}
@@ -129,3 +129,27 @@ version_parts v = record { number = v.number; hidden = v.hidden; named = option_
 
 abbrev pub version_item : Result (Option SymbolVersion) LinkError → Result (Option VersionParts) LinkError
 version_item answer = item_by (option_map version_parts) answer
+
+-- the versions of some symbols can be read: there is a number for each symbol, or there are no numbers, and each
+-- definition and each part of a need is whole and has a name
+pub record CanBeRead (tables : VersionTables) (count : ℕ) : Type 0 where
+  pub numbers : (i : ℕ) → i < count → IsOk (number_of tables i)
+  pub definitions : All (λ item. IsOkAnd item (λ d. IsOk d.name)) (definitions_in tables.definitions)
+  pub needs : All (λ item. IsOkAnd item (λ need. IsOk need.name)) (needs_in tables.needs)
+
+-- there are fewer numbers than symbols
+abbrev pub lacks_numbers : Option (List ℕ) → ℕ → Bool
+lacks_numbers None count = false
+lacks_numbers (Some numbers) count = nat_lt (length numbers) (count * 2)
+
+-- the first error of some items, or of the name of one
+abbrev pub name_error : {A : Type 0} → (A → Result (List ℕ) LinkError) → List (Result A LinkError) → Result (Unit {0}) LinkError
+name_error name [] = Ok tt
+name_error name (Err error ∷ items) = Err error
+name_error name (Ok item ∷ items) = and_then (name item) (λ _. name_error name items)
+
+-- why the versions can't be read, the first reason: a number is missing; then the first error of the definitions,
+-- and of the needs
+abbrev pub versions_error : VersionTables → ℕ → Result (Unit {0}) LinkError
+versions_error tables count = if lacks_numbers tables.numbers count then Err SymbolIndex
+    else and_then (name_error (λ d. d.name) (definitions_in tables.definitions)) (λ _. name_error (λ need. need.name) (needs_in tables.needs))

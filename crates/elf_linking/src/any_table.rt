@@ -2,12 +2,12 @@
 //! GNU binutils and glibc).
 
 ghost use Rattle.std.specs.Borrow.{Bor};
-ghost use Rattle.std.specs.Prelude.{◌≡◌, ◌≢◌, ◌≤◌, ◌↔◌, ℕ, Contains, IsOk, IsTrue, MatchResult};
-ghost use Rattle.std.specs.Prelude.{Option, Result, length};
+ghost use Rattle.std.specs.Prelude.{◌≡◌, ◌≢◌, ◌≤◌, ◌<◌, ◌^◌, ◌↔◌, ℕ, Contains, IsOk, IsTrue};
+ghost use Rattle.std.specs.Prelude.{MatchResult, Option, Result, Some, length, slice_get};
 ghost use Rattle.elf_linking.specs.declared.error.LinkError.{LinkError};
 ghost use Rattle.elf_linking.specs.DynamicView.{view_entries};
 ghost use Rattle.xmas_elf.specs.SymbolTable.{table_symbols};
-ghost use Rattle.xmas_elf.specs.Symbols.{Decides, IsMatch};
+ghost use Rattle.xmas_elf.specs.Symbols.{Decides, DecidesWhere, IsMatch, IsMatchWhere};
 
 use crate::LinkError;
 use crate::gnu_hash::GnuHashTable;
@@ -27,9 +27,10 @@ pub enum AnyTable<'a> {
 }
 
 impl<'a> AnyTable<'a> {
-    ghost use Rattle.elf_linking.specs.AnyTable.{FindsAllBy, IsCheckBy, IsCountBy, IsDefinedBy};
-    ghost use Rattle.elf_linking.specs.AnyTable.{IsGoodBy, IsLinkedTable, IsSameCountBy};
-    ghost use Rattle.elf_linking.specs.AnyTable.{IsTableRefused, LooksBy, LooksForDefined};
+    ghost use Rattle.elf_linking.specs.AnyTable.{FindsAllBy, FindsAllWhereBy, IsCheckBy, IsCountBy};
+    ghost use Rattle.elf_linking.specs.AnyTable.{IsDefinedBy, IsGoodBy, IsLinkedTable};
+    ghost use Rattle.elf_linking.specs.AnyTable.{IsSameCountBy, IsTableRefused, LooksBy};
+    ghost use Rattle.elf_linking.specs.AnyTable.{LooksForDefined, LooksWhereBy};
 
     /// The hash table of the dynamic segment: GNU's if there is an entry GnuHash, otherwise that of
     /// the ELF standard.
@@ -120,6 +121,35 @@ impl<'a> AnyTable<'a> {
                 }
             }
             AnyTable::Gnu(table) => table.lookup_counted_in(name, symbols, f),
+        }
+    }
+
+    /// The result of the table's own `lookup_where`, with the same contract.
+    pub fn lookup_where<E: Entry + Record, F: Fn(u32, &E) -> bool>(
+        &self,
+        name: &str,
+        symbols: &SymbolTable<'_, E>,
+        f: F,
+    ) -> Result<Option<(u32, E)>, LinkError>
+        requires callable { (index : ℕ) (e : Bor E) → index < 2 ^ 32
+            → slice_get (table_symbols symbols.now).items index ≡ Some e.now → F.pre f index e }
+        ensures answer { let all = table_symbols symbols.now in DecidesWhere all F.Fn f
+            → (count : ℕ) × LooksWhereBy (IsMatchWhere all F.Fn f name.now) self.now all.items
+            name.now result count }
+        ensures only { let all = table_symbols symbols.now in
+            DecidesWhere all F.Fn f → (other : Result (Option (ℕ × E)) LinkError) (count : ℕ)
+            → LooksWhereBy (IsMatchWhere all F.Fn f name.now) self.now all.items name.now other
+            count → other ≡ result }
+        ensures good { let all = table_symbols symbols.now in DecidesWhere all F.Fn f
+            → IsGoodBy self.now all
+            → FindsAllWhereBy self.now all name.now (IsMatchWhere all F.Fn f name.now) result }
+    {
+        match self {
+            AnyTable::Sysv(table) => match table.lookup_where(name, symbols, f) {
+                Ok(found) => Ok(found),
+                Err(refusal) => Err(LinkError::Elf(refusal)),
+            },
+            AnyTable::Gnu(table) => table.lookup_where(name, symbols, f),
         }
     }
 

@@ -16,7 +16,8 @@ pub enum LinkError {
     /// A GNU hash table has fewer than 16 bytes, or its Bloom words and buckets extend past the end
     /// of the data. Returned by `GnuHashTable::read`.
     ShortTable,
-    /// The class is neither 1 nor 2. Returned by `GnuHashTable::read` and `Relr::new`.
+    /// The class is neither 1 nor 2. Returned by `GnuHashTable::read` and `Relr::new`; by
+    /// `DynamicObject::read` if it is another than that of the symbols.
     UnknownClass,
     /// The number of Bloom words of a GNU hash table is not a power of two; 0 is not one. Returned
     /// by `GnuHashTable::read`.
@@ -32,7 +33,7 @@ pub enum LinkError {
     ChainData,
     /// The index of a symbol is not below the number of symbols, or does not fit in 32 bits.
     /// Returned by `GnuHashTable::lookup`, `lookup_counted`, `check` and `symbol_count`, and by
-    /// `Versions::number` and `version_of`.
+    /// `Versions::number` and `version_of` and by `DynamicObject::name` and `version`.
     SymbolIndex,
     /// A symbol is not in the chain that its name selects. Returned by `GnuHashTable::check`.
     Missing,

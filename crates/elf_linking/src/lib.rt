@@ -4,8 +4,10 @@
 mod any_table;
 pub mod build_ids;
 mod error;
+pub mod find;
 pub mod gnu_hash;
 pub mod notes;
+pub mod object;
 pub mod relr;
 pub mod sections;
 pub mod values;
@@ -14,3 +16,4 @@ pub mod view;
 
 pub use crate::any_table::AnyTable;
 pub use crate::error::LinkError;
+pub use crate::object::DynamicObject;

@@ -3,13 +3,18 @@
 
 ghost use Rattle.std.specs.Prelude.{◌≡◌, Ok, Err, MatchResult};
 ghost use Rattle.elf_base.specs.FileHeader.{header_of};
-ghost use Rattle.elf_linking.specs.DynamicView.{dynamic_entries_of, view_entries};
-ghost use Rattle.elf_linking.specs.AnyTable.{IsByClass, IsChecked, IsFileAnswer};
+ghost use Rattle.elf_linking.specs.DynamicView.{dynamic_entries_of, strings_by, view_entries};
+ghost use Rattle.elf_linking.specs.DynamicView.{view_strings};
+ghost use Rattle.elf_linking.specs.Find.{dynamic_symbols};
+ghost use Rattle.elf_linking.specs.Values.{IsAmong, IsByClass, IsChecked, IsFileAnswer};
+ghost use Rattle.elf_linking.specs.VersionTables.{version_tables};
 ghost use Rattle.elf_linking.specs.declared.error.LinkError.TheVariants.{Elf};
 ghost use Rattle.xmas_elf.specs.SymbolTable.{table_symbols};
 ghost use Rattle.xmas_elf.specs.Symbols.{symbols_of};
 ghost use Rattle.xmas_elf.specs.Types.{ElfFile};
 
+use crate::find::{Use, Wanted};
+use crate::versions::Versions;
 use crate::view::DynamicView;
 use crate::{AnyTable, LinkError};
 use elf_base::header::Class;
@@ -17,37 +22,45 @@ use xmas_elf::ElfFile;
 use xmas_elf::bytes::{Record, Table};
 use xmas_elf::symbol_table::{Entry, SymbolTable};
 
-/// The value of the symbol that `AnyTable::defined_symbol` returns, by a table of either kind,
-/// after its check; `None` if it returns none.
+/// The value of the symbol that a reference without a version gets (`Wanted::Newest`), by a table of
+/// either kind, after its check; `None` if it gets none.
 ///
-/// The errors are those of `AnyTable::check`.
-pub fn defined_value<E: Entry + Record>(
+/// Errors: those of `AnyTable::check`; those of `DynamicObject::find`.
+pub fn newest_value<E: Entry + Record>(
     table: &AnyTable<'_>,
     name: &str,
     symbols: &SymbolTable<'_, E>,
+    versions: &Versions<'_>,
 ) -> Result<Option<u64>, LinkError>
-    ensures { IsChecked table.now (table_symbols symbols.now) name.now result }
+    ensures { IsChecked (dynamic_symbols table.now (table_symbols symbols.now)
+        (version_tables versions.now)) name.now result }
 {
     match table.check(symbols) {
-        Ok(()) => match table.defined_symbol(name, symbols) {
-            Some((_index, symbol)) => Ok(Some(symbol.value())),
-            None => Ok(None),
+        Ok(()) => match table.find_in(name, symbols, versions, &Wanted::Newest, Use::Any) {
+            Ok(Some((_index, symbol))) => Ok(Some(symbol.value())),
+            Ok(None) => Ok(None),
+            Err(error) => Err(error),
         },
         Err(error) => Err(error),
     }
 }
 
-// The value among the symbols of a table of the file.
-fn value_among<E: Entry + Record>(
+// The value among the symbols of a table of the file, with their versions.
+fn value_among<'a, E: Entry + Record>(
+    view: &DynamicView<'a>,
     table: &AnyTable<'_>,
     name: &str,
     symbols: &Table<'_, E>,
-    file: &ElfFile<'_>,
+    file: &ElfFile<'a>,
 ) -> Result<Option<u64>, LinkError>
-    ensures { IsChecked table.now (symbols_of E.fields E.text_in symbols.now file.now)
-        name.now result }
+    requires { view_strings view.now ≡ strings_by file.now (view_entries view.now) }
+    ensures { IsAmong file.now (view_entries view.now) table.now
+        (symbols_of E.fields E.text_in symbols.now file.now) name.now result }
 {
-    defined_value(table, name, &SymbolTable::new(*symbols, file))
+    match Versions::read(view, file, symbols.len() as u64) {
+        Ok(versions) => newest_value(table, name, &SymbolTable::new(*symbols, file), &versions),
+        Err(error) => Err(error),
+    }
 }
 
 // The value among the symbols of the dynamic segment, by the class of the file.
@@ -57,25 +70,29 @@ fn value_by_class<'a>(
     name: &str,
     file: &ElfFile<'a>,
 ) -> Result<Option<u64>, LinkError>
-    requires { dynamic_entries_of file.now ≡ Ok (view_entries view.now) }
+    requires entries { dynamic_entries_of file.now ≡ Ok (view_entries view.now) }
+    requires strings { view_strings view.now ≡ strings_by file.now (view_entries view.now) }
     ensures { IsByClass file.now (view_entries view.now) table.now name.now result }
 {
     match file.header.pt1.class() {
         Class::ThirtyTwo => match view.symbols_32(file) {
-            Ok(symbols) => value_among(table, name, &symbols, file),
+            Ok(symbols) => value_among(view, table, name, &symbols, file),
             Err(error) => Err(error),
         },
         // A view has entries only in these two classes.
         _ => match view.symbols_64(file) {
-            Ok(symbols) => value_among(table, name, &symbols, file),
+            Ok(symbols) => value_among(view, table, name, &symbols, file),
             Err(error) => Err(error),
         },
     }
 }
 
-/// The value of the defined symbol with this name in a file, by the dynamic segment: by GNU's table
-/// if there is one, otherwise by that of the ELF standard, after its check. `None` if no symbol of
-/// the table has the name and is defined.
+/// The value of the symbol with this name in a file that `dlsym` finds, by the dynamic segment: by
+/// GNU's table if there is one, otherwise by that of the ELF standard, after its check; of several
+/// versions the default. `None` if there is none.
+///
+/// Errors, the first of these: those of `DynamicView::read`; those of `AnyTable::read`; those of
+/// `DynamicView::symbols`; those of `Versions::read`; those of `newest_value`.
 pub fn value_in_file(file: &ElfFile<'_>, name: &str) -> Result<Option<u64>, LinkError>
     ensures { IsFileAnswer file.now name.now result }
 {
@@ -89,7 +106,7 @@ pub fn value_in_file(file: &ElfFile<'_>, name: &str) -> Result<Option<u64>, Link
     }
 }
 
-/// The value of the defined symbol with this name in the file in `input`.
+/// The value of the symbol with this name in the file in `input`, as `value_in_file` finds it.
 ///
 /// Errors: those of `ElfFile::new` and of `value_in_file`.
 pub fn value_by_name(input: &[u8], name: &str) -> Result<Option<u64>, LinkError>

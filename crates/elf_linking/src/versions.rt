@@ -7,6 +7,7 @@ ghost use Rattle.elf_linking.specs.DynamicView.{number_with, view_entries, view_
 ghost use Rattle.elf_linking.specs.VersionTables.{item_by, numbers_at, records_by, records_data};
 ghost use Rattle.elf_linking.specs.declared.view.tags.TheConstants.{DT_VERSYM};
 
+mod check;
 mod definitions;
 mod needs;
 mod records;
@@ -136,7 +137,7 @@ fn records_by<'a>(
         (number_with at (view_entries view.now)) (number_with counted (view_entries view.now)) }
 {
     let order = file.byte_order();
-    let strings = view.string_table();
+    let strings = view.strings();
     let Some(address) = view.entry(at) else {
         return Ok(Records {
             bytes: &[],

@@ -2,8 +2,9 @@
 #![tactic(auto)]
 
 ghost use Rattle.std.specs.Borrow.{Bor};
-ghost use Rattle.std.specs.Prelude.{◌≡◌, ◌≤◌, IfOk, IfSome, IsSomeAnd, List, ℕ};
+ghost use Rattle.std.specs.Prelude.{◌≡◌, ◌≤◌, IfOk, IfSome, IsOk, IsSome, IsSomeAnd, List, ℕ};
 ghost use Rattle.xmas_elf.proofs.lemmas.Flushes.{report_flushed};
+ghost use Rattle.xmas_elf.specs.FileHeader.{header_of};
 ghost use Rattle.xmas_elf.specs.Report.{WritesReport};
 
 use program_ends::{Output, Stop, read_whole, say, write_buffered};
@@ -35,7 +36,8 @@ enum Fault<'a> {
 /// and answers the exit status.
 ///
 /// `file` is `None` where there is a path that does not open. The status is 0 once the whole report
-/// is written and flushed, and 1 otherwise; the contract says nothing of `err`.
+/// is written and flushed, and 1 otherwise. The contract says that the status is 0 only for a file
+/// that is accepted, and nothing of what `out` and `err` hold.
 pub fn run<R: Read + Drop, W: Write, E: Write>(
     alloc: Global,
     path: Option<&str>,
@@ -43,7 +45,9 @@ pub fn run<R: Read + Drop, W: Write, E: Write>(
     out: &mut W,
     err: &mut E,
 ) -> u8
-    ensures { result ≤ 1 }
+    ensures bound { result ≤ 1 }
+    ensures accepted { result ≡ 0 → IsSome path.entry × IsSomeAnd file (λ reader.
+        IfSome (R.remaining reader) (λ bytes. IsOk (header_of bytes))) }
 {
     let printed = print_report(alloc, path, file, &mut *out).map(|_| ());
     match printed {
@@ -79,7 +83,8 @@ fn print_report<'a, R: Read + Drop, W: Write + Drop>(
     file: Option<R>,
     out: W,
 ) -> Result<W, Fault<'a>>
-    ensures { IfOk result (λ back. IsSomeAnd file (λ reader. IfSome (R.remaining reader)
+    ensures path { IfOk result (λ _. IsSome path.entry) }
+    ensures written { IfOk result (λ back. IsSomeAnd file (λ reader. IfSome (R.remaining reader)
         (λ bytes. (input : Bor (List ℕ)) × (input.now ≡ bytes)
         × WritesReport input (W.contents out) (W.contents back)))) }
 {

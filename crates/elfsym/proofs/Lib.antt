@@ -1,1 +1,2 @@
+mod LibraryLines
 mod LineLists

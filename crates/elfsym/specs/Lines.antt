@@ -1,61 +1,99 @@
--- What the program writes of names (this project's own): a line for each, with the value and the size of the
--- symbol that a look-up by the dynamic segment is defined to have as its result.
-use Rattle.std.specs.Prelude.{◌≡◌, ℕ, ◌++◌, false, List, Option, None, Some, Ok, codes, option_map, IsOkAnd}
+-- What the program writes of references (this project's own): a line for each, with the value and the size of the
+-- symbol that the reference is defined to get by the dynamic segment.
+use Rattle.std.specs.Prelude.{◌≡◌, ◌<◌, ◌==◌, ℕ, ◌++◌, Bool, false, List, length, Option, None, Some, Ok, Err, codes, option_map, IsOkAnd}
 use Rattle.std.specs.Borrow.{Bor}
 use Rattle.std.specs.Fmt.{digits}
-use Rattle.std.specs.List.{AllZip, concat}
-use Rattle.elf_base.specs.FileHeader.{file_class, file_order, header_of}
-use Rattle.elf_linking.specs.AnyTable.{IsDefinedBy, IsGoodBy, IsLinkedTable, LooksForDefined, linked_symbols_32, linked_symbols_64}
-use Rattle.elf_linking.specs.DynamicView.{AreSymbols, dynamic_entries_of}
+use Rattle.std.specs.List.{AllZip, after_first, before_first, concat, position_or_len}
+use Rattle.elf_base.specs.FileHeader.{file_order, header_of}
+use Rattle.elf_linking.specs.AnyTable.{IsGoodBy, IsLinkedTable, linked_symbols_32, linked_symbols_64}
+use Rattle.elf_linking.specs.DynamicObject.{AreOfClass}
+use Rattle.elf_linking.specs.DynamicView.{dynamic_entries_of, strings_of}
+use Rattle.elf_linking.specs.Find.{AreReadable, DynamicSymbols, FindsRight, IsFound, dynamic_symbols, version_wanted}
+use Rattle.elf_linking.specs.VersionTables.{VersionTables, version_tables_of}
 use Rattle.elf_linking.specs.declared.any_table.AnyTable.{AnyTable}
+use Rattle.elf_linking.specs.declared.error.LinkError.{LinkError}
+use Rattle.elf_linking.specs.declared.find.Use.TheVariants.{Any}
+use Rattle.elf_linking.specs.declared.find.Wanted.{Wanted}
+use Rattle.elf_linking.specs.declared.find.Wanted.TheVariants.{Newest}
 use Rattle.elf_linking.specs.declared.view.entry.DynamicEntry.{DynamicEntry}
 use Rattle.xmas_elf.specs.Symbol.{Symbols}
 use Rattle.xmas_elf.specs.Types.{ElfFile}
 
--- the line of a name: the value and the size of its symbol in hexadecimal, or that there is none
+-- the line of a reference: the value and the size of its symbol in hexadecimal, or that there is none
 abbrev pub line_text : List ℕ → Option (ℕ × ℕ) → List ℕ
-line_text name (Some numbers) =
-    name ++ (codes " 0x" ++ (digits 16 false numbers.0 ++ (codes " 0x" ++ (digits 16 false numbers.1 ++ codes "\n"))))
-line_text name None = name ++ codes ": none\n"
+line_text reference (Some numbers) =
+    reference ++ (codes " 0x" ++ (digits 16 false numbers.0 ++ (codes " 0x" ++ (digits 16 false numbers.1 ++ codes "\n"))))
+line_text reference None = reference ++ codes ": none\n"
 
--- the value and the size of the symbol that a look-up for a defined symbol with the name has as its result; if
--- there is none, look-ups must find none
-pub record AreNumbers {E : Type 0} (table : AnyTable) (symbols : Symbols E) (name : List ℕ) (numbers : Option (ℕ × ℕ)) : Type 0 where
+-- a byte is '@'
+abbrev pub is_at : ℕ → Bool
+is_at byte = byte == 64
+
+-- what a reference asks for: a name and, if it has an '@', the version after the first one; the name is the text
+-- before it
+pub data Asks (reference : List ℕ) : List ℕ → Wanted → Type 0 where
+  newest : position_or_len is_at reference ≡ length reference → Asks reference reference Newest
+  by_version : (version : Bor (List ℕ)) → position_or_len is_at reference < length reference
+      → version.now ≡ after_first is_at reference
+      → Asks reference (before_first is_at reference) (version_wanted version)
+
+-- the value and the size of the symbol that a search for the reference, for any use, has as its result; if the
+-- versions can be read, it is what the list of symbols says
+pub record AreNumbers {E : Type 0} (file : DynamicSymbols E) (reference : List ℕ) (numbers : Option (ℕ × ℕ)) : Type 0 where
+  pub name : List ℕ
+  pub wanted : Wanted
+  pub asked : Asks reference name wanted
   pub found : Option (ℕ × E)
-  pub answer : LooksForDefined table symbols name found
-  pub defined : IsDefinedBy table symbols name found
-  pub numbers_are : numbers ≡ option_map (λ p. ((symbols.fields p.1).value, (symbols.fields p.1).size)) found
+  pub answer : IsFound file name wanted Any (Ok found)
+  pub right : AreReadable file → FindsRight file name wanted Any (Ok found)
+  pub numbers_are : numbers ≡ option_map (λ at. ((file.symbols.fields at.1).value, (file.symbols.fields at.1).size)) found
 
--- the line of a name by a table
-abbrev pub IsLine : {E : Type 0} → AnyTable → Symbols E → List ℕ → List ℕ → Type 0
-IsLine table symbols name line =
-    (numbers : Option (ℕ × ℕ)) × AreNumbers table symbols name numbers × (line ≡ line_text name numbers)
+-- the error that such a search has as its result; there is none if the versions can be read
+pub record IsSearchError {E : Type 0} (file : DynamicSymbols E) (reference : List ℕ) (error : LinkError) : Type 0 where
+  pub name : List ℕ
+  pub wanted : Wanted
+  pub asked : Asks reference name wanted
+  pub answer : IsFound file name wanted Any (Err error)
+  pub right : AreReadable file → FindsRight file name wanted Any (Err error)
 
--- the text is a line for each name, in order, by a table that passed its check
-pub record AreLines {E S : Type 0} (text_of : S → List ℕ) (table : AnyTable) (symbols : Symbols E) (names : List S) (text : List ℕ) : Type 0 where
-  pub good : IsGoodBy table symbols
+-- the line of a reference by the symbols of a file
+abbrev pub IsLine : {E : Type 0} → DynamicSymbols E → List ℕ → List ℕ → Type 0
+IsLine file reference line =
+    (numbers : Option (ℕ × ℕ)) × AreNumbers file reference numbers × (line ≡ line_text reference numbers)
+
+-- the text is a line for each reference, in order, by a hash table that passed its check
+pub record AreLines {E S : Type 0} (text_of : S → List ℕ) (file : DynamicSymbols E) (references : List S) (text : List ℕ) : Type 0 where
+  pub good : IsGoodBy file.table file.symbols
   pub lines : List (List ℕ)
-  pub each : AllZip (λ name line. IsLine table symbols (text_of name) line) names lines
+  pub each : AllZip (λ reference line. IsLine file (text_of reference) line) references lines
   pub text_is : text ≡ concat lines
 
--- the lines for a table, by the class of the file
-pub data AreLinesByClass {S : Type 0} (text_of : S → List ℕ) (file : ElfFile) (entries : List (DynamicEntry ℕ)) (table : AnyTable) (names : List S) (text : List ℕ) : Type 0 where
-  narrow : (bytes : List ℕ) → file_class file.header ≡ 1 → AreSymbols file entries 16 (Ok bytes)
-      → AreLines text_of table (linked_symbols_32 file (file_order file.header) bytes) names text
-      → AreLinesByClass text_of file entries table names text
-  wide : (bytes : List ℕ) → file_class file.header ≡ 2 → AreSymbols file entries 24 (Ok bytes)
-      → AreLines text_of table (linked_symbols_64 file (file_order file.header) bytes) names text
-      → AreLinesByClass text_of file entries table names text
+-- the lines by some symbols of a file, with the version tables for their number
+pub record AreLinesOf {E S : Type 0} (text_of : S → List ℕ) (file : ElfFile) (entries : List (DynamicEntry ℕ)) (table : AnyTable) (strings : List ℕ) (symbols : Symbols E) (references : List S) (text : List ℕ) : Type 0 where
+  pub versions : VersionTables
+  pub versions_are : version_tables_of file entries (Ok strings) (length symbols.items) ≡ Ok versions
+  pub lines : AreLines text_of (dynamic_symbols table symbols versions) references text
 
--- the lines for a file: the entries of its dynamic segment, then the table, then the symbols
-pub record AreFileLines {S : Type 0} (text_of : S → List ℕ) (file : ElfFile) (names : List S) (text : List ℕ) : Type 0 where
+-- the lines for a hash table and a string table, by the class of the file
+pub data AreLinesByClass {S : Type 0} (text_of : S → List ℕ) (file : ElfFile) (entries : List (DynamicEntry ℕ)) (table : AnyTable) (strings : List ℕ) (references : List S) (text : List ℕ) : Type 0 where
+  narrow : (bytes : List ℕ) → AreOfClass 1 16 file entries bytes
+      → AreLinesOf text_of file entries table strings (linked_symbols_32 file (file_order file.header) bytes) references text
+      → AreLinesByClass text_of file entries table strings references text
+  wide : (bytes : List ℕ) → AreOfClass 2 24 file entries bytes
+      → AreLinesOf text_of file entries table strings (linked_symbols_64 file (file_order file.header) bytes) references text
+      → AreLinesByClass text_of file entries table strings references text
+
+-- the lines for a file: the entries of its dynamic segment, then the hash table, the string table, and the symbols
+pub record AreFileLines {S : Type 0} (text_of : S → List ℕ) (file : ElfFile) (references : List S) (text : List ℕ) : Type 0 where
   pub entries : List (DynamicEntry ℕ)
   pub table : AnyTable
+  pub strings : List ℕ
   pub entries_are : dynamic_entries_of file ≡ Ok entries
   pub linked : IsLinkedTable file entries table
-  pub by_class : AreLinesByClass text_of file entries table names text
+  pub strings_are : strings_of file ≡ Ok strings
+  pub by_class : AreLinesByClass text_of file entries table strings references text
 
 -- the lines for an input that is accepted
 abbrev pub AreInputLines : {S : Type 0} → (S → List ℕ) → Bor (List ℕ) → List S → List ℕ → Type 0
-AreInputLines text_of input names text = IsOkAnd (header_of input.now)
-    (λ header. AreFileLines text_of (record { input = input; header = header }) names text)
+AreInputLines text_of input references text = IsOkAnd (header_of input.now)
+    (λ header. AreFileLines text_of (record { input = input; header = header }) references text)

@@ -1,20 +1,24 @@
-//! Looks symbols of an ELF file up by their names, as a dynamic linker does: by the dynamic
-//! segment, with no section header.
+//! Looks symbols of an ELF file up by their names and versions, as a dynamic linker does: by the
+//! dynamic segment, with no section header.
 //!
-//! `elfsym PATH NAME..` writes a line for each name, with the value and the size of the defined
-//! symbol that bears it: `ab 0x1016 0xb`, or `ab: none`. `elfsym --needed PATH` writes the names of
-//! the libraries that the file needs, a line for each.
+//! `elfsym PATH NAME..` writes a line for each name, with the value and the size of the symbol that
+//! `dlsym` finds by it: `ab 0x1016 0xb`, or `ab: none`. `NAME@VERSION` asks for the symbol with that
+//! version: `ab@V1 0x1016 0xb`. `elfsym --needed PATH` writes the names of the libraries that the
+//! file needs, a line for each.
 #![tactic(auto)]
 
 ghost use Rattle.std.specs.Borrow.{Bor};
-ghost use Rattle.std.specs.Prelude.{◌≡◌, ◌≤◌, IfOk, IfSome, IsSomeAnd, List, ℕ};
+ghost use Rattle.std.specs.Prelude.{◌≡◌, ◌≢◌, ◌≤◌, Err, IfOk, IfSome, IsOk, IsSomeAnd, List};
+ghost use Rattle.std.specs.Prelude.{OnOk, ℕ};
+ghost use Rattle.elf_base.specs.FileHeader.{header_of};
+ghost use Rattle.elfsym.specs.Libraries.{AreInputLibraries};
 ghost use Rattle.elfsym.specs.Lines.{AreInputLines};
 ghost use Rattle.program_ends.specs.Appended.{AppendsSome};
 
+use crate::libraries::Libraries;
 use crate::lines::Lines;
 use elf_linking::LinkError;
-use elf_linking::view::DynamicView;
-use program_ends::{Output, Stop, read_whole, say, write_buffered};
+use program_ends::{Stop, read_whole, say, write_buffered};
 use std::alloc::Global;
 use std::convert::AsStr;
 use std::fs::File;
@@ -22,8 +26,8 @@ use std::io::{Read, Write};
 use std::process::ExitCode;
 use std::{env, io};
 use thiserror::Error;
-use xmas_elf::ElfFile;
 
+mod libraries;
 mod lines;
 
 /// Why the program ends with status 1, and what it says then.
@@ -31,7 +35,7 @@ mod lines;
 enum Fault<'a> {
     #[error("elfsym: cannot read the arguments")]
     Arguments,
-    #[error("usage: elfsym <binary_path> <name>.. | elfsym --needed <binary_path>")]
+    #[error("usage: elfsym <binary_path> <name>[@<version>].. | elfsym --needed <binary_path>")]
     Usage,
     #[error("elfsym: cannot read {path}")]
     Read { path: &'a str },
@@ -46,15 +50,16 @@ enum Fault<'a> {
 pub enum Question<'a, S> {
     /// The libraries that it needs.
     Needed,
-    /// The symbols with these names.
-    Names(&'a [S]),
+    /// The symbols that these references get, each a name or `NAME@VERSION`.
+    Symbols(&'a [S]),
 }
 
 /// Writes what is asked of the file to `out`, or says on `err` why it can't,
 /// and answers the exit status.
 ///
 /// `file` is `None` where the path does not open. The status is 0 once all is written and flushed,
-/// and 1 otherwise; the contract says nothing of what is written.
+/// and 1 otherwise. The contract says that the status is 0 only for a file that is accepted, and
+/// nothing of what `out` and `err` hold.
 pub fn run<S: AsStr, R: Read + Drop, W: Write, E: Write>(
     alloc: Global,
     path: &str,
@@ -63,33 +68,13 @@ pub fn run<S: AsStr, R: Read + Drop, W: Write, E: Write>(
     out: &mut W,
     err: &mut E,
 ) -> u8
-    ensures { result ≤ 1 }
+    ensures bound { result ≤ 1 }
+    ensures accepted { result ≡ 0 → IsSomeAnd file (λ reader.
+        IfSome (R.remaining reader) (λ bytes. IsOk (header_of bytes))) }
 {
     match answer(alloc, path, question, file, out) {
         Ok(()) => 0,
         Err(fault) => say(&fault, err),
-    }
-}
-
-// The names of the libraries that the file that these bytes are needs, a line for each.
-#[derive(Clone, Copy)]
-struct Libraries<'a>(&'a [u8]);
-
-impl Output for Libraries<'_> {
-    // What is written isn't claimed.
-    ghost Writes = { λ libraries old new. Unit {0} };
-
-    ghost flushed = { λ libraries old new kept written keeps. tt };
-
-    type Refusal = LinkError;
-
-    fn write_to<W: Write>(&self, out: &mut W) -> Result<(), Stop<LinkError>> {
-        let file = ElfFile::new(self.0).map_err(|error| Stop::Refused(LinkError::Elf(error)))?;
-        let view = DynamicView::read(&file).map_err(Stop::Refused)?;
-        for name in view.needed() {
-            writeln!(out, "{}", name.map_err(Stop::Refused)?)?;
-        }
-        Ok(())
     }
 }
 
@@ -100,50 +85,65 @@ fn answer<'a, S: AsStr, R: Read + Drop, W: Write>(
     question: Question<'_, S>,
     file: Option<R>,
     out: &mut W,
-) -> Result<(), Fault<'a>> {
+) -> Result<(), Fault<'a>>
+    ensures { OnOk result (IsSomeAnd file (λ reader.
+        IfSome (R.remaining reader) (λ bytes. IsOk (header_of bytes)))) }
+{
     match question {
-        Question::Needed => print_libraries(alloc, path, file, out),
-        Question::Names(names) => print_lines(alloc, path, names, file, &mut *out).map(|_| ()),
+        Question::Needed => print_libraries(alloc, path, file, &mut *out).map(|_| ()),
+        Question::Symbols(references) => {
+            print_lines(alloc, path, references, file, &mut *out).map(|_| ())
+        }
     }
 }
 
-// Writes the names of the libraries that the file needs.
-fn print_libraries<'a, R: Read + Drop, W: Write>(
+// Writes a line for each library that a file needs, which is all that the reader has left, and
+// gives the writer back.
+fn print_libraries<'a, R: Read + Drop, W: Write + Drop>(
     alloc: Global,
     path: &'a str,
     file: Option<R>,
-    out: &mut W,
-) -> Result<(), Fault<'a>> {
+    out: W,
+) -> Result<W, Fault<'a>>
+    ensures arguments { result ≢ Err Fault.Arguments }
+    ensures usage { result ≢ Err Fault.Usage }
+    ensures written { IfOk result (λ back. IsSomeAnd file (λ reader. IfSome (R.remaining reader)
+        (λ bytes. (input : Bor (List ℕ)) × (input.now ≡ bytes)
+        × AppendsSome (AreInputLibraries input) (W.contents out) (W.contents back)))) }
+{
     let input = read_whole(alloc, file).ok_or(Fault::Read { path })?;
-    match write_buffered(alloc, &Libraries(&input), out) {
-        Ok(_) => Ok(()),
-        Err(stop) => Err(fault_of(stop, path)),
-    }
+    write_buffered(alloc, &Libraries(&input), out).map_err(|stop| fault_of(stop, path))
 }
 
-// Writes a line for each name in the file that is all that the reader has left, and gives the
+// Writes a line for each reference in the file that is all that the reader has left, and gives the
 // writer back.
 fn print_lines<'a, S: AsStr, R: Read + Drop, W: Write + Drop>(
     alloc: Global,
     path: &'a str,
-    names: &[S],
+    references: &[S],
     file: Option<R>,
     out: W,
 ) -> Result<W, Fault<'a>>
-    ensures { IfOk result (λ back. IsSomeAnd file (λ reader. IfSome (R.remaining reader)
+    ensures arguments { result ≢ Err Fault.Arguments }
+    ensures usage { result ≢ Err Fault.Usage }
+    ensures written { IfOk result (λ back. IsSomeAnd file (λ reader. IfSome (R.remaining reader)
         (λ bytes. (input : Bor (List ℕ)) × (input.now ≡ bytes)
-        × AppendsSome (AreInputLines S.text input names.now) (W.contents out) (W.contents back)))) }
+        × AppendsSome (AreInputLines S.text input references.now)
+        (W.contents out) (W.contents back)))) }
 {
     let input = read_whole(alloc, file).ok_or(Fault::Read { path })?;
     let lines = Lines {
         input: &input,
-        names,
+        references,
     };
     write_buffered(alloc, &lines, out).map_err(|stop| fault_of(stop, path))
 }
 
 // What the program says where an output isn't written to its end.
-fn fault_of(stop: Stop<LinkError>, path: &str) -> Fault<'_> {
+fn fault_of(stop: Stop<LinkError>, path: &str) -> Fault<'_>
+    ensures arguments { result ≢ Fault.Arguments }
+    ensures usage { result ≢ Fault.Usage }
+{
     match stop {
         Stop::Refused(error) => Fault::Refused { path, error },
         Stop::Write => Fault::Write,
@@ -179,7 +179,7 @@ fn asked<S: AsStr>(arguments: &[S]) -> Option<(&str, Question<'_, S>)> {
     let (first, others) = arguments.split_first()?;
     let second = others.first()?;
     if first.as_str() != "--needed" {
-        return Some((first.as_str(), Question::Names(others)));
+        return Some((first.as_str(), Question::Symbols(others)));
     }
     if others.len() > 1 {
         return None;

@@ -1,3 +1,5 @@
 mod Early
 mod FirstNotes
+mod FoundValues
+mod NamedSymbols
 mod VersionNames

@@ -1,3 +1,4 @@
 pub mod FirstNotes
 pub mod LinkedFunction
+pub mod LinkedName
 pub mod VersionNames

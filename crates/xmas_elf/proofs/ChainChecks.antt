@@ -27,7 +27,7 @@ module _ {E : Type 0} (table : HashTable) (symbols : List E) where
   )
 
   -- if all chains end, a walk along the chain of a name has no error
-  pub unrefused : (name : List ℕ) (first n : ℕ) (error : ElfError) → EndsBelow table symbols (bucket_count_of table) → start_of table name ≡ Some (Ok first) → LooksFrom (λ (e : E). ⊥) (chains_of table symbols) (Some (Ok first)) (Err error) n → ⊥
+  pub unrefused : (name : List ℕ) (first n : ℕ) (error : ElfError) → EndsBelow table symbols (bucket_count_of table) → start_of table name ≡ Some (Ok first) → LooksFrom (λ (at : ℕ × E). ⊥) (chains_of table symbols) (Some (Ok first)) (Err error) n → ⊥
   unrefused name first n error each start looks =
       let (some, at) = start_at table name (Ok first) start in
       not_at_fault table symbols _ error (each (hash_number name % bucket_count_of table) (omega arith)) (n, rw at looks)

@@ -5,7 +5,7 @@ use Rattle.xmas_elf.specs.Prelude.{ElfError}
 use Rattle.xmas_elf.specs.HashTable.{Chains, StandsAt, Stops, at_end, past_chains, past_symbols, found, refused, Comes, NoneBefore, LooksFrom, no_bucket, bad_bucket, reaches, endless}
 use Rattle.xmas_elf.proofs.ChainPaths.{by_order, comes_in, comes_once, goes_on, stop_or_link}
 
-module _ {E : Type 0} (P : E → Type 0) (chains : Chains E) where
+module _ {E : Type 0} (P : ℕ × E → Type 0) (chains : Chains E) where
   -- two results are equal, and so are their numbers of compared symbols
   abbrev Both : Result (Option (ℕ × E)) ElfError → ℕ → Result (Option (ℕ × E)) ElfError → ℕ → Type 0
   Both a n b m = (a ≡ b) × (n ≡ m)
@@ -15,8 +15,8 @@ module _ {E : Type 0} (P : E → Type 0) (chains : Chains E) where
   Told i a n = ((i ≡ 0) × Both a n (Ok None) 0)
       ⊎ (((0 < i) × (chains.count ≤ i) × Both a n (Err ChainIndex) 0)
       ⊎ (((0 < i) × (i < chains.count) × (slice_get chains.symbols i ≡ None) × Both a n (Err SymbolIndex) 0)
-      ⊎ (((e : E) × StandsAt chains i e × P e × Both a n (Ok (Some (i, e))) 1)
-      ⊎ ((e : E) × (error : ElfError) × StandsAt chains i e × (P e → ⊥) × (chains.chain i ≡ Err error) × Both a n (Err error) 1))))
+      ⊎ (((e : E) × StandsAt chains i e × P (i, e) × Both a n (Ok (Some (i, e))) 1)
+      ⊎ ((e : E) × (error : ElfError) × StandsAt chains i e × (P (i, e) → ⊥) × (chains.chain i ≡ Err error) × Both a n (Err error) 1))))
 
   told : (i n : ℕ) (a : Result (Option (ℕ × E)) ElfError) → Stops P chains i a n → Told i a n
   told _ _ _ at_end = inl (refl, (refl, refl))

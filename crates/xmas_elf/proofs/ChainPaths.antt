@@ -131,9 +131,9 @@ passes_all chains first _ _ (goes n i j c l) =
     let one : n + 1 ≡ suc n = omega arith in
     subst (λ k. Picked chains (λ _. IsTrue true) first k k) one (picked_next chains (λ _. IsTrue true) first n i n 1 true refl (λ h. h, λ h. h) c (passes_all chains first n i c))
 
-module _ {E : Type 0} (P : E → Type 0) (chains : Chains E) where
+module _ {E : Type 0} (P : ℕ × E → Type 0) (chains : Chains E) where
   -- there is no step from an index where the walk stops
-  pub stop_or_link : (i j n : ℕ) (a : Result (Option (ℕ × E)) ElfError) → Stops P chains i a n → Links chains i j → ((e : E) → StandsAt chains i e → P e → ⊥) → ⊥
+  pub stop_or_link : (i j n : ℕ) (a : Result (Option (ℕ × E)) ElfError) → Stops P chains i a n → Links chains i j → ((e : E) → StandsAt chains i e → P (i, e) → ⊥) → ⊥
   stop_or_link _ j _ _ at_end l none = end_links chains 0 j refl l
   stop_or_link _ j _ _ (past_chains i above past) l none = let h : i < chains.count = l.stands.below in omega arith
   stop_or_link _ j _ _ (past_symbols i above within absent) l none = let h : slice_get chains.symbols i ≡ Some l.entry = l.stands.symbol in cc
@@ -188,11 +188,11 @@ module _ {E : Type 0} (Over : ℕ × E → Type 0) (chains : Chains E) where
   }
 
 module _ {E : Type 0} (Stop Over : ℕ × E → Type 0) (chains : Chains E) (first : ℕ) where
-  none_over : (P : E → Type 0) (n i : ℕ) → ((i : ℕ) (e : E) → StandsAt chains i e → Over (i, e) → P e → ⊥) → Walked Over chains first n i → NoneBefore P chains first n
+  none_over : (P : ℕ × E → Type 0) (n i : ℕ) → ((i : ℕ) (e : E) → StandsAt chains i e → Over (i, e) → P (i, e) → ⊥) → Walked Over chains first n i → NoneBefore P chains first n
   none_over P n i lacks w m below x e at stands = lacks x e stands (w.over m x e below at stands)
 
   -- a walk that stops at symbols with P, and passes others, has the result of a look-up for P
-  pub walk_looks : (P : E → Type 0) (n : ℕ) (a : Result (Option (ℕ × E)) ElfError) → Walks Stop Over chains first a n → ((i : ℕ) (e : E) → a ≡ Ok (Some (i, e)) → Stop (i, e) → P e) → ((i : ℕ) (e : E) → StandsAt chains i e → Over (i, e) → P e → ⊥) → LooksFrom P chains (Some (Ok first)) a n
+  pub walk_looks : (P : ℕ × E → Type 0) (n : ℕ) (a : Result (Option (ℕ × E)) ElfError) → Walks Stop Over chains first a n → ((i : ℕ) (e : E) → a ≡ Ok (Some (i, e)) → Stop (i, e) → P (i, e)) → ((i : ℕ) (e : E) → StandsAt chains i e → Over (i, e) → P (i, e) → ⊥) → LooksFrom P chains (Some (Ok first)) a n
   walk_looks P _ _ (ends n w) has lacks = looks P chains first 0 n 0 n (Ok None) w.comes (none_over P n 0 lacks w) at_end (omega arith)
   walk_looks P _ _ (stops n i e w stands stop) has lacks = looks P chains first i n 1 (n + 1) (Ok (Some (i, e))) w.comes (none_over P n i lacks w) (found i e stands (has i e refl stop)) refl
   walk_looks P _ _ (halts n i error w above halt) has lacks = looks_halted P chains first i n error w.comes (none_over P n i lacks w) above halt

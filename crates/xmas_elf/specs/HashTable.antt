@@ -111,24 +111,25 @@ pub data Comes {E : Type 0} (chains : Chains E) (first : ℕ) : ℕ → ℕ → 
 abbrev pub Reaches : {E : Type 0} → Chains E → ℕ → ℕ → Type 0
 Reaches chains first last = (n : ℕ) × Comes chains first n last
 
--- no symbol at an index that the walk comes to in fewer than n steps has P
-abbrev pub NoneBefore : {E : Type 0} → (E → Type 0) → Chains E → ℕ → ℕ → Type 0
+-- no symbol at an index that the walk comes to in fewer than n steps has P there
+abbrev pub NoneBefore : {E : Type 0} → (ℕ × E → Type 0) → Chains E → ℕ → ℕ → Type 0
 NoneBefore {E} P chains first n =
-    (m : ℕ) → m < n → (i : ℕ) (e : E) → Comes chains first m i → StandsAt chains i e → ¬ P e
+    (m : ℕ) → m < n → (i : ℕ) (e : E) → Comes chains first m i → StandsAt chains i e → ¬ P (i, e)
 
--- a walk that looks for P stops at an index with a result, and compares a number of symbols there
-pub data Stops {E : Type 0} (P : E → Type 0) (chains : Chains E) : ℕ → Result (Option (ℕ × E)) ElfError → ℕ → Type 0 where
+-- a walk that looks for P, a property of a symbol and its index, stops at an index with a result, and compares a
+-- number of symbols there
+pub data Stops {E : Type 0} (P : ℕ × E → Type 0) (chains : Chains E) : ℕ → Result (Option (ℕ × E)) ElfError → ℕ → Type 0 where
   at_end : Stops P chains 0 (Ok None) 0
   past_chains : (i : ℕ) → 0 < i → chains.count ≤ i → Stops P chains i (Err ChainIndex) 0
   past_symbols : (i : ℕ) → 0 < i → i < chains.count → slice_get chains.symbols i ≡ None
       → Stops P chains i (Err SymbolIndex) 0
-  found : (i : ℕ) (e : E) → StandsAt chains i e → P e → Stops P chains i (Ok (Some (i, e))) 1
-  refused : (i : ℕ) (e : E) (error : ElfError) → StandsAt chains i e → (P e → ⊥)
+  found : (i : ℕ) (e : E) → StandsAt chains i e → P (i, e) → Stops P chains i (Ok (Some (i, e))) 1
+  refused : (i : ℕ) (e : E) (error : ElfError) → StandsAt chains i e → (P (i, e) → ⊥)
       → chains.chain i ≡ Err error → Stops P chains i (Err error) 1
 
 -- the result of a walk that begins at a bucket, and the number of symbols it compares: that of the first stop
 -- that it reaches, or HashCycle if it reaches none
-pub data LooksFrom {E : Type 0} (P : E → Type 0) (chains : Chains E) : Option (Result ℕ ElfError) → Result (Option (ℕ × E)) ElfError → ℕ → Type 0 where
+pub data LooksFrom {E : Type 0} (P : ℕ × E → Type 0) (chains : Chains E) : Option (Result ℕ ElfError) → Result (Option (ℕ × E)) ElfError → ℕ → Type 0 where
   no_bucket : LooksFrom P chains None (Ok None) 0
   bad_bucket : (error : ElfError) → LooksFrom P chains (Some (Err error)) (Err error) 0
   reaches : (first last n more : ℕ) (answer : Result (Option (ℕ × E)) ElfError)
@@ -138,9 +139,13 @@ pub data LooksFrom {E : Type 0} (P : E → Type 0) (chains : Chains E) : Option 
       → ((last m more : ℕ) (answer : Result (Option (ℕ × E)) ElfError) → Comes chains first m last → NoneBefore P chains first m → Stops P chains last answer more → ⊥)
       → LooksFrom P chains (Some (Ok first)) (Err HashCycle) n
 
--- the result of a look-up for P, which begins at the bucket of the name
+-- the result of a look-up for P, a property of a symbol and its index, which begins at the bucket of the name
+abbrev pub LooksWhere : {E : Type 0} → (ℕ × E → Type 0) → HashTable → List E → List ℕ → Result (Option (ℕ × E)) ElfError → ℕ → Type 0
+LooksWhere P table symbols name = LooksFrom P (chains_of table symbols) (start_of table name)
+
+-- the result of a look-up for P, a property of a symbol
 abbrev pub Looks : {E : Type 0} → (E → Type 0) → HashTable → List E → List ℕ → Result (Option (ℕ × E)) ElfError → ℕ → Type 0
-Looks P table symbols name = LooksFrom P (chains_of table symbols) (start_of table name)
+Looks P table symbols name = LooksWhere (λ at. P at.1) table symbols name
 
 -- why a walk stops at an index that isn't the end, after `passed` symbols
 pub data Halts {E : Type 0} (chains : Chains E) (passed i : ℕ) : ElfError → Type 0 where
@@ -167,7 +172,7 @@ pub data Walks {E : Type 0} (Stop Over : ℕ × E → Type 0) (chains : Chains E
       → chains.chain i ≡ Err error → Walks Stop Over chains first (Err error) (n + 1)
 
 -- a walk that looks for P begins at an index, and reaches no stop
-abbrev pub IsEndless : {E : Type 0} → (E → Type 0) → Chains E → Option (Result ℕ ElfError) → Type 0
+abbrev pub IsEndless : {E : Type 0} → (ℕ × E → Type 0) → Chains E → Option (Result ℕ ElfError) → Type 0
 IsEndless {E} P chains start = (first : ℕ) × (start ≡ Some (Ok first))
     × ((last m more : ℕ) (answer : Result (Option (ℕ × E)) ElfError) → Comes chains first m last → NoneBefore P chains first m → Stops P chains last answer more → ⊥)
 
@@ -225,14 +230,23 @@ IsHeldBy table symbols k i = Belongs table symbols k i × ((first : ℕ)
 abbrev pub IsHeldBelow : {E : Type 0} → HashTable → Symbols E → ℕ → ℕ → Type 0
 IsHeldBelow table symbols n i = (k : ℕ) × (k < n) × IsHeldBy table symbols k i
 
--- a search of all symbols for the name and P finds one
-abbrev pub MustBeFound : {E : Type 0} → Symbols E → List ℕ → (E → Type 0) → Type 0
-MustBeFound {E} symbols name P = (i : ℕ) × (e : E) × IsGlobal symbols i e name × P e
+-- a search of all symbols for the name and P, a property of a symbol and its index, finds one
+abbrev pub MustBeFoundWhere : {E : Type 0} → Symbols E → List ℕ → (ℕ × E → Type 0) → Type 0
+MustBeFoundWhere {E} symbols name P = (i : ℕ) × (e : E) × IsGlobal symbols i e name × P (i, e)
 
--- there is no error; what is found is one of the symbols and has P, and if nothing is found, a search of all
--- symbols finds nothing either
-abbrev pub FindsAll : {E : Type 0} → Symbols E → List ℕ → (E → Type 0) → Result (Option (ℕ × E)) ElfError → Type 0
-FindsAll {E} symbols name P answer = MatchResult answer
-    (λ found. MatchOption found (¬ MustBeFound symbols name P)
-    (λ (p : ℕ × E). (0 < p.0) × (slice_get symbols.items p.0 ≡ Some p.1) × P p.1))
+-- a search of all symbols for the name and P, a property of a symbol, finds one
+abbrev pub MustBeFound : {E : Type 0} → Symbols E → List ℕ → (E → Type 0) → Type 0
+MustBeFound symbols name P = MustBeFoundWhere symbols name (λ at. P at.1)
+
+-- there is no error; what is found is one of the symbols and has P at its index, and if nothing is found, a
+-- search of all symbols finds nothing either
+abbrev pub FindsAllWhere : {E : Type 0} → Symbols E → List ℕ → (ℕ × E → Type 0) → Result (Option (ℕ × E)) ElfError → Type 0
+FindsAllWhere {E} symbols name P answer = MatchResult answer
+    (λ found. MatchOption found (¬ MustBeFoundWhere symbols name P)
+    (λ (p : ℕ × E). (0 < p.0) × (slice_get symbols.items p.0 ≡ Some p.1) × P p))
     (λ error. ⊥)
+
+-- there is no error; what is found is one of the symbols and has P, a property of a symbol, and if nothing is
+-- found, a search of all symbols finds nothing either
+abbrev pub FindsAll : {E : Type 0} → Symbols E → List ℕ → (E → Type 0) → Result (Option (ℕ × E)) ElfError → Type 0
+FindsAll symbols name P = FindsAllWhere symbols name (λ at. P at.1)

@@ -1,7 +1,7 @@
 -- The symbols of a table in a file, as in look-ups and checks (gABI, "Symbol Table").
-use Rattle.std.specs.Prelude.{◌≡◌, ℕ, List, Option, Some, Bool, true, false, Contains}
+use Rattle.std.specs.Prelude.{◌≡◌, ◌^◌, ◌<◌, ℕ, List, Option, Some, Bool, true, false, Contains, slice_get}
 use Rattle.std.specs.Borrow.{Bor}
-use Rattle.std.specs.Fn.{Shared, FnReturnsAt}
+use Rattle.std.specs.Fn.{Shared, FnReturns, FnReturnsAt}
 use Rattle.std.specs.Result.{result_ok}
 use Rattle.elf_base.specs.Table.{records, table_items}
 use Rattle.xmas_elf.specs.Prelude.{DynEntry32, DynEntry64, ElfFile, Entry32, Entry64, Order, Table}
@@ -42,3 +42,18 @@ Decides {F} {E} symbols test f =
 -- a symbol has the name and passes the test
 abbrev pub IsMatch : {F E : Type 0} → Symbols E → Shared F (Bor E × Unit {0}) Bool → F → List ℕ → E → Type 0
 IsMatch symbols test f name e = (symbols.text e ≡ Some name) × FnReturnsAt test f e true
+
+-- a test of an index and a symbol may have the result r for symbol at.1 at index at.0
+pub record ReturnsWhere {F E : Type 0} (test : Shared F (ℕ × (Bor E × Unit {0})) Bool) (f : F) (at : ℕ × E) (r : Bool) : Type 0 where
+  pub shown : Bor E
+  pub shows : shown.now ≡ at.1
+  pub says : FnReturns test f (at.0, (shown, tt)) r
+
+-- such a test has at most one result for each of the symbols at its index, if that fits in 32 bits
+abbrev pub DecidesWhere : {F E : Type 0} → Symbols E → Shared F (ℕ × (Bor E × Unit {0})) Bool → F → Type 0
+DecidesWhere {F} {E} symbols test f = (i : ℕ) (e : E) → i < 2 ^ 32 → slice_get symbols.items i ≡ Some e
+    → ReturnsWhere test f (i, e) true → ReturnsWhere test f (i, e) false → ⊥
+
+-- a symbol has the name and passes the test with its index
+abbrev pub IsMatchWhere : {F E : Type 0} → Symbols E → Shared F (ℕ × (Bor E × Unit {0})) Bool → F → List ℕ → ℕ × E → Type 0
+IsMatchWhere symbols test f name at = (symbols.text at.1 ≡ Some name) × ReturnsWhere test f at true

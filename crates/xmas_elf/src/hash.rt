@@ -3,7 +3,7 @@
 ghost use Rattle.std.specs.Borrow.{Bor};
 ghost use Rattle.std.specs.Fn.{FnReturnsAt};
 ghost use Rattle.std.specs.Prelude.{◌≡◌, ◌↔◌, ◌+◌, ◌^◌, ◌<◌, ◌≤◌, ℕ, true, false};
-ghost use Rattle.std.specs.Prelude.{Contains, Err, IfOk, IsOk, MatchResult, Ok, Some, length};
+ghost use Rattle.std.specs.Prelude.{Err, IfOk, IsOk, MatchResult, Ok, Some, length, slice_get};
 
 mod check;
 mod lookup;
@@ -122,7 +122,7 @@ impl<'a> HashTable<'a> {
         requires { 0 < index }
         ensures { let chains = chains_of self.now (table_symbols symbols.now).items in MatchResult result
             (λ entry. StandsAt chains index entry × (passed < chains.count)
-            × (passed < length chains.symbols) × (passed + 1 < 2 ^ 32))
+            × (passed < length chains.symbols) × (passed + 1 < 2 ^ 32) × (index < 2 ^ 32))
             (Halts chains passed index) }
     {
         let chain_count = self.chain_count();
@@ -148,12 +148,13 @@ impl<'a> HashTable<'a> {
         symbols: &SymbolTable<'_, E>,
         stops: F,
     ) -> (Result<Option<(u32, E)>, ElfError>, u32)
-        requires { (at : Bor (ℕ × E)) → Contains (table_symbols symbols.now).items at.now.1
+        requires { (at : Bor (ℕ × E)) → at.now.0 < 2 ^ 32
+            → slice_get (table_symbols symbols.now).items at.now.0 ≡ Some at.now.1
             → F.pre stops at }
         ensures in_chains { result.1 ≤ chain_count_of self.now }
         ensures in_symbols { result.1 ≤ length (table_symbols symbols.now).items }
         ensures answer { Walks (λ at. FnReturnsAt F.Fn stops at true)
-            (λ at. FnReturnsAt F.Fn stops at false)
+            (λ at. (at.0 < 2 ^ 32) × FnReturnsAt F.Fn stops at false)
             (chains_of self.now (table_symbols symbols.now).items) first result.0 result.1 }
     {
         let mut index = first;

@@ -201,7 +201,7 @@ pub fn lookup_anywhere<E: Entry + Record, F: Fn(&E) -> bool>(
     ensures answer { let all = symbols_of E.fields E.text_in symbols.now file.now in (count : ℕ)
         × Looks (IsMatch all F.Fn f name.now) table.now all.items name.now result count }
     ensures cycle { let all = symbols_of E.fields E.text_in symbols.now file.now in
-        (result ≡ Err ElfError.HashCycle) ↔ IsEndless (IsMatch all F.Fn f name.now)
+        (result ≡ Err ElfError.HashCycle) ↔ IsEndless (λ at. IsMatch all F.Fn f name.now at.1)
         (chains_of table.now all.items) (start_of table.now name.now) }
 {
     table.lookup(name, symbols, file, f)

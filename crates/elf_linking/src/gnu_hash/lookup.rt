@@ -2,13 +2,14 @@
 
 ghost use Rattle.std.specs.Borrow.{Bor};
 ghost use Rattle.std.specs.Fn.{FnReturnsAt};
-ghost use Rattle.std.specs.Prelude.{◌≡◌, ◌≢◌, ◌≤◌, ◌<◌, ◌+◌, ◌-◌, ◌/◌, ◌↔◌};
+ghost use Rattle.std.specs.Prelude.{◌≡◌, ◌≢◌, ◌≤◌, ◌<◌, ◌+◌, ◌-◌, ◌/◌, ◌^◌, ◌↔◌};
 ghost use Rattle.std.specs.Prelude.{ℕ, Bool, true, false, Contains, IfSome, IsTrue, List};
 ghost use Rattle.std.specs.Prelude.{MatchOption, Option, Result, Ok, Err, Some, length, slice_get};
 ghost use Rattle.elf_base.specs.Table.{table_items};
 ghost use Rattle.elf_linking.specs.GnuHash.{symbol_end};
 ghost use Rattle.xmas_elf.specs.SymbolTable.{table_symbols};
-ghost use Rattle.xmas_elf.specs.Symbols.{Decides, IsMatch, symbols_of};
+ghost use Rattle.xmas_elf.specs.Symbols.{Decides, DecidesWhere, IsMatch, IsMatchWhere};
+ghost use Rattle.xmas_elf.specs.Symbols.{ReturnsWhere, symbols_of};
 
 use crate::LinkError;
 use crate::gnu_hash::{GnuHashTable, gnu_hash};
@@ -18,38 +19,42 @@ use xmas_elf::symbol_table::{Entry, SymbolTable};
 
 // Whether a symbol has the name and passes the test, which is called only if it has the name.
 #[inline(always)]
-fn passes<E: Entry + Record, F: Fn(&E) -> bool>(
+fn passes<E: Entry + Record, F: Fn(u32, &E) -> bool>(
+    index: u32,
     entry: &E,
     name: &str,
     symbols: &SymbolTable<'_, E>,
     f: &F,
 ) -> bool
-    requires { (e : Bor E) → e.now ≡ entry.now → F.pre f.now e }
+    requires { (e : Bor E) → e.now ≡ entry.now → F.pre f.now index e }
     ensures yes { IsTrue result
-        → IsMatch (table_symbols symbols.now) F.Fn f.now name.now entry.now }
+        → IsMatchWhere (table_symbols symbols.now) F.Fn f.now name.now (index, entry.now) }
     ensures no { result ≡ false
-        → (FnReturnsAt F.Fn f.now entry.now true → FnReturnsAt F.Fn f.now entry.now false → ⊥)
-        → IsMatch (table_symbols symbols.now) F.Fn f.now name.now entry.now → ⊥ }
+        → (ReturnsWhere F.Fn f.now (index, entry.now) true
+        → ReturnsWhere F.Fn f.now (index, entry.now) false → ⊥)
+        → IsMatchWhere (table_symbols symbols.now) F.Fn f.now name.now (index, entry.now) → ⊥ }
 {
-    symbols.has_name(entry, name) && f(entry)
+    symbols.has_name(entry, name) && f(index, entry)
 }
 
 // The symbol at an index, if it has the name and passes the test.
 #[inline(always)]
-fn symbol_at<E: Entry + Record, F: Fn(&E) -> bool>(
-    index: usize,
+fn symbol_at<E: Entry + Record, F: Fn(u32, &E) -> bool>(
+    index: u32,
     name: &str,
     symbols: &SymbolTable<'_, E>,
     f: &F,
 ) -> Option<E>
-    requires { (e : Bor E) → Contains (table_symbols symbols.now).items e.now → F.pre f.now e }
+    requires { (index : ℕ) (e : Bor E) → index < 2 ^ 32
+        → slice_get (table_symbols symbols.now).items index ≡ Some e.now → F.pre f.now index e }
     ensures yes { let all = table_symbols symbols.now in (e : E) → result ≡ Some e
-        → (slice_get all.items index ≡ Some e) × IsMatch all F.Fn f.now name.now e }
-    ensures no { let all = table_symbols symbols.now in Decides all F.Fn f.now → result ≡ None
-        → (e : E) → slice_get all.items index ≡ Some e → IsMatch all F.Fn f.now name.now e → ⊥ }
+        → (slice_get all.items index ≡ Some e) × IsMatchWhere all F.Fn f.now name.now (index, e) }
+    ensures no { let all = table_symbols symbols.now in DecidesWhere all F.Fn f.now → result ≡ None
+        → (e : E) → slice_get all.items index ≡ Some e
+        → IsMatchWhere all F.Fn f.now name.now (index, e) → ⊥ }
 {
-    let entry = symbols.get(index)?;
-    if passes(&entry, name, symbols, f) {
+    let entry = symbols.get(index as usize)?;
+    if passes(index, &entry, name, symbols, f) {
         Some(entry)
     } else {
         None
@@ -57,8 +62,8 @@ fn symbol_at<E: Entry + Record, F: Fn(&E) -> bool>(
 }
 
 impl<'a> GnuHashTable<'a> {
-    ghost use Rattle.elf_linking.specs.GnuHash.{FindsAll, IsGood, Looks, LooksFrom};
-    ghost use Rattle.elf_linking.specs.GnuHash.{first_symbol_of};
+    ghost use Rattle.elf_linking.specs.GnuHash.{FindsAll, FindsAllWhere, IsGood, Looks, LooksFrom};
+    ghost use Rattle.elf_linking.specs.GnuHash.{LooksWhere, first_symbol_of};
     ghost use Rattle.elf_linking.specs.Layouts.{gnu_hash_number};
 
     /// The first symbol in the run of a name that has the name's hash number, has the name and
@@ -167,21 +172,55 @@ impl<'a> GnuHashTable<'a> {
             → IsGood self.now all
             → FindsAll self.now all name.now (IsMatch all F.Fn f name.now) result.0 }
     {
-        self.search(name, symbols, &f)
+        // The test of a symbol as a test of its index, which it leaves out.
+        let test = |_index: u32, symbol: &E| -> bool
+            requires { F.pre f symbol }
+            ensures { FnReturnsAt F.Fn f symbol.now result }
+        { f(symbol) };
+        self.search(name, symbols, &test)
+    }
+
+    /// The result of `lookup_in` with a test that also knows the index of the symbol, as one that
+    /// reads `.gnu.version` there.
+    ///
+    /// Errors: those of `lookup`.
+    ///
+    /// The contract holds for a test with only one result for each symbol and its index.
+    pub fn lookup_where<E: Entry + Record, F: Fn(u32, &E) -> bool>(
+        &self,
+        name: &str,
+        symbols: &SymbolTable<'_, E>,
+        f: F,
+    ) -> Result<Option<(u32, E)>, LinkError>
+        requires callable { (index : ℕ) (e : Bor E) → index < 2 ^ 32
+            → slice_get (table_symbols symbols.now).items index ≡ Some e.now → F.pre f index e }
+        ensures answer { let all = table_symbols symbols.now in DecidesWhere all F.Fn f
+            → (count : ℕ) × LooksWhere (IsMatchWhere all F.Fn f name.now) self.now all.items
+            name.now result count }
+        ensures only { let all = table_symbols symbols.now in
+            DecidesWhere all F.Fn f → (other : Result (Option (ℕ × E)) LinkError) (count : ℕ)
+            → LooksWhere (IsMatchWhere all F.Fn f name.now) self.now all.items name.now other count
+            → other ≡ result }
+        ensures good { let all = table_symbols symbols.now in DecidesWhere all F.Fn f
+            → IsGood self.now all
+            → FindsAllWhere self.now all name.now (IsMatchWhere all F.Fn f name.now) result }
+    {
+        self.search(name, symbols, &f).0
     }
 
     // The look-up with a borrowed test: the walk from the bucket of the name.
-    fn search<E: Entry + Record, F: Fn(&E) -> bool>(
+    fn search<E: Entry + Record, F: Fn(u32, &E) -> bool>(
         &self,
         name: &str,
         symbols: &SymbolTable<'_, E>,
         f: &F,
     ) -> (Result<Option<(u32, E)>, LinkError>, u32)
-        requires { (e : Bor E) → Contains (table_symbols symbols.now).items e.now
-            → F.pre f.now e }
+        requires { (index : ℕ) (e : Bor E) → index < 2 ^ 32
+            → slice_get (table_symbols symbols.now).items index ≡ Some e.now
+            → F.pre f.now index e }
         ensures in_symbols { result.1 ≤ length (table_symbols symbols.now).items }
-        ensures answer { let all = table_symbols symbols.now in Decides all F.Fn f.now
-            → Looks (IsMatch all F.Fn f.now name.now)
+        ensures answer { let all = table_symbols symbols.now in DecidesWhere all F.Fn f.now
+            → LooksWhere (IsMatchWhere all F.Fn f.now name.now)
             self.now all.items name.now result.0 result.1 }
     {
         let hash = gnu_hash(name);
@@ -195,7 +234,7 @@ impl<'a> GnuHashTable<'a> {
     }
 
     // The walk from an index on, by the hash number of the name.
-    fn walk<E: Entry + Record, F: Fn(&E) -> bool>(
+    fn walk<E: Entry + Record, F: Fn(u32, &E) -> bool>(
         &self,
         from: u32,
         hash: u32,
@@ -205,11 +244,12 @@ impl<'a> GnuHashTable<'a> {
     ) -> (Result<Option<(u32, E)>, LinkError>, u32)
         requires above { 0 < from }
         requires begins { first_symbol_of self.now ≤ from }
-        requires callable { (e : Bor E) → Contains (table_symbols symbols.now).items e.now
-            → F.pre f.now e }
+        requires callable { (index : ℕ) (e : Bor E) → index < 2 ^ 32
+            → slice_get (table_symbols symbols.now).items index ≡ Some e.now
+            → F.pre f.now index e }
         ensures in_symbols { result.1 ≤ length (table_symbols symbols.now).items }
-        ensures answer { let all = table_symbols symbols.now in Decides all F.Fn f.now
-            → LooksFrom (IsMatch all F.Fn f.now name.now) hash
+        ensures answer { let all = table_symbols symbols.now in DecidesWhere all F.Fn f.now
+            → LooksFrom (IsMatchWhere all F.Fn f.now name.now) hash
             self.now all.items from result.0 result.1 }
     {
         let end = symbol_end(symbols);
@@ -220,7 +260,7 @@ impl<'a> GnuHashTable<'a> {
                 Err(error) => return (Err(error), passed as u32),
             };
             if word / 2 == hash / 2 {
-                if let Some(entry) = symbol_at(index as usize, name, symbols, f) {
+                if let Some(entry) = symbol_at(index as u32, name, symbols, f) {
                     return (Ok(Some((index as u32, entry))), passed as u32 + 1);
                 }
             }

@@ -39,6 +39,15 @@ impl<'a> Definition<'a> {
         self.number == number && !self.is_base()
     }
 
+    /// The offset of the name in the string table, in bytes, by the first record of names.
+    ///
+    /// The error is `ShortVersion` if that record extends past the end of the segment.
+    pub fn name_offset(&self) -> Result<u32, LinkError>
+        ensures { result ≡ (definition_parts self.now).name_offset }
+    {
+        self.name
+    }
+
     /// The name of the version, by the first record of names.
     ///
     /// Errors: `ShortVersion` if that record extends past the end of the segment; those of

@@ -34,6 +34,20 @@ impl<'a> Need<'a> {
         self.number == number
     }
 
+    /// The offset of the name of the version in the string table, in bytes.
+    pub fn name_offset(&self) -> u32
+        ensures { result ≡ (need_parts self.now).name_offset }
+    {
+        self.name
+    }
+
+    /// The offset of the name of the library in the string table, in bytes.
+    pub fn file_offset(&self) -> u32
+        ensures { result ≡ (need_parts self.now).file_offset }
+    {
+        self.file
+    }
+
     /// The name of the version; the errors are those of `view::strings` and of `bytes::text_at`.
     pub fn name(&self) -> Result<&'a str, LinkError>
         ensures { lent result ≡ (need_parts self.now).name }

@@ -121,9 +121,10 @@ impl<'a> DynamicView<'a> {
         self.text_with(DT_RPATH)
     }
 
-    // The string table.
-    pub(crate) fn string_table(&self) -> Result<&'a [u8], LinkError>
-        ensures { result ≡ view_table self.now }
+    /// The string table; the errors are those of `view::strings` once the entries are read.
+    pub fn strings(&self) -> Result<&'a [u8], LinkError>
+        ensures table { result ≡ view_table self.now }
+        ensures value { lent result ≡ view_strings self.now }
     {
         self.strings
     }

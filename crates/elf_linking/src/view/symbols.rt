@@ -11,9 +11,10 @@ ghost use Rattle.elf_linking.specs.Loaded.{lent};
 use crate::LinkError;
 use crate::view::dynamic::DynamicView;
 use crate::view::linked_entry::{LinkedEntry32, LinkedEntry64};
+use crate::view::linked_symbol::LinkedSymbol;
 use crate::view::loaded::bytes_at;
 use crate::view::tags::{DT_HASH, DT_SYMTAB};
-use elf_base::bytes::Table;
+use elf_base::bytes::{Record, Table};
 use xmas_elf::ElfFile;
 
 impl<'a> DynamicView<'a> {
@@ -43,10 +44,33 @@ impl<'a> DynamicView<'a> {
         }
     }
 
-    /// The symbols of a file of class 32: `symbol_count` symbols at the address in the entry
-    /// SymTab.
+    /// The symbols of a file of the class of `E`: `symbol_count` symbols at the address in the entry
+    /// SymTab. The class of the file is not compared.
     ///
     /// Errors: those of `symbol_count`; `NoEntry` if there is no entry SymTab; those of `bytes_at`.
+    pub fn symbols<E: LinkedSymbol>(&self, file: &ElfFile<'a>) -> Result<Table<'a, E>, LinkError>
+        ensures exact { let are = AreSymbols file.now (view_entries self.now) E.SIZE in
+            MatchResult result
+            (λ symbols. are (Ok (table_data symbols))
+            × (table_order symbols ≡ file_order file.now.header))
+            (λ error. are (Err error)) }
+        ensures only { (other : Result (List ℕ) LinkError)
+            → AreSymbols file.now (view_entries self.now) E.SIZE other → MatchResult result
+            (λ symbols. other ≡ Ok (table_data symbols)) (λ error. other ≡ Err error) }
+        ensures place { IfOk result (λ symbols.
+            LieAsSymbols file.now (view_entries self.now) (table_bytes symbols)) }
+    {
+        let bytes = match self.symbol_bytes(file, E::SIZE as u64) {
+            Ok(bytes) => bytes,
+            Err(error) => return Err(error),
+        };
+        match Table::new(bytes, file.byte_order()) {
+            Ok(symbols) => Ok(symbols),
+            Err(_) => unreachable!(),
+        }
+    }
+
+    /// The symbols of a file of class 32, as `symbols` has them.
     pub fn symbols_32(&self, file: &ElfFile<'a>) -> Result<Table<'a, LinkedEntry32>, LinkError>
         ensures exact { let are = AreSymbols file.now (view_entries self.now) 16 in MatchResult result
             (λ symbols. are (Ok (table_data symbols))
@@ -58,17 +82,10 @@ impl<'a> DynamicView<'a> {
         ensures place { IfOk result (λ symbols.
             LieAsSymbols file.now (view_entries self.now) (table_bytes symbols)) }
     {
-        let bytes = match self.symbol_bytes(file, 16) {
-            Ok(bytes) => bytes,
-            Err(error) => return Err(error),
-        };
-        match Table::new(bytes, file.byte_order()) {
-            Ok(symbols) => Ok(symbols),
-            Err(_) => unreachable!(),
-        }
+        self.symbols(file)
     }
 
-    /// The symbols of a file of class 64; the errors are those of `symbols_32`.
+    /// The symbols of a file of class 64, as `symbols` has them.
     pub fn symbols_64(&self, file: &ElfFile<'a>) -> Result<Table<'a, LinkedEntry64>, LinkError>
         ensures exact { let are = AreSymbols file.now (view_entries self.now) 24 in MatchResult result
             (λ symbols. are (Ok (table_data symbols))
@@ -80,14 +97,7 @@ impl<'a> DynamicView<'a> {
         ensures place { IfOk result (λ symbols.
             LieAsSymbols file.now (view_entries self.now) (table_bytes symbols)) }
     {
-        let bytes = match self.symbol_bytes(file, 24) {
-            Ok(bytes) => bytes,
-            Err(error) => return Err(error),
-        };
-        match Table::new(bytes, file.byte_order()) {
-            Ok(symbols) => Ok(symbols),
-            Err(_) => unreachable!(),
-        }
+        self.symbols(file)
     }
 
     // The bytes of the symbols, where each has `size` bytes.

@@ -7,7 +7,6 @@ use elf_base::ElfError;
 use elf_base::bytes::{Order, Record, Table};
 use elf_base::header::Class;
 use elf_linking::gnu_hash::GnuHashTable;
-use elf_linking::values::defined_value;
 use elf_linking::{AnyTable, LinkError};
 use linking_callers::callers::{finds_all, words_looked_at};
 use std::process::Abort;
@@ -41,7 +40,14 @@ fn value_of<E: Entry + Record>(
     symbols: &Table<'_, E>,
     file: &ElfFile<'_>,
 ) -> Result<Option<u64>, LinkError> {
-    defined_value(table, name, &SymbolTable::new(*symbols, file))
+    let symbols = SymbolTable::new(*symbols, file);
+    match table.check(&symbols) {
+        Ok(()) => match table.defined_symbol(name, &symbols) {
+            Some((_index, symbol)) => Ok(Some(symbol.value())),
+            None => Ok(None),
+        },
+        Err(error) => Err(error),
+    }
 }
 
 // Wants the value of the one name, and that none is found by another.

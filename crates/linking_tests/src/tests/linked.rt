@@ -32,7 +32,7 @@ const LITTLE: Order = Order::Little;
 // -Wl,-z,max-page-size=16,-z,common-page-size=16 -Wl,-soname=libsmall.so,-rpath=/opt/lib` beside a
 // library that calls itself libneed.so and has `outer`. What lies behind the segments is cut off,
 // and e_shoff, e_shnum and e_shstrndx are 0.
-const SMALL: &[u8; 912] = b"\
+pub const SMALL: &[u8; 912] = b"\
     \x7fELF\x02\x01\x01\0\0\0\0\0\0\0\0\0\x03\0>\0\x01\0\0\0\0\0\0\0\0\0\0\0@\0\0\0\0\0\0\0\0\0\0\
     \0\0\0\0\0\0\0\0\0@\0\x38\0\x04\0@\0\0\0\0\0\x01\0\0\0\x05\0\0\0\0\0\0\0\0\0\0\0\0\0\0\0\0\0\0\
     \0\0\0\0\0\0\0\0\0H\x02\0\0\0\0\0\0H\x02\0\0\0\0\0\0\x10\0\0\0\0\0\0\0\x01\0\0\0\x06\0\0\0P\

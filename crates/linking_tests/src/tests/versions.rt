@@ -1,8 +1,8 @@
 //! Versions of symbols in files of both classes and orders, written field by field from the layouts
 //! of the records.
 
-mod file;
-mod shared_object;
+pub mod file;
+pub mod shared_object;
 
 use crate::tests::versions::file::{
     ALL, DEFINITIONS, Field, KINDS, NEEDS, NUMBERS_ENTRY, set_fields, set_segment_end, version_file,
@@ -10,9 +10,10 @@ use crate::tests::versions::file::{
 use crate::tests::versions::shared_object::{NARROW, NARROW_TABLES, WIDE, WIDE_TABLES};
 use crate::tests::want::{open, want, want_at};
 use elf_base::ElfError;
+use elf_base::bytes::text_at;
 use elf_linking::LinkError;
 use elf_linking::versions::{Definition, NamedVersion, Need, SymbolVersion, Versions};
-use elf_linking::view::DynamicView;
+use elf_linking::view::{DynamicView, strings};
 use linking_callers::callers::versions::{
     definition_count, definition_of, first_need_of, library_of, need_count,
 };
@@ -88,6 +89,7 @@ const DEFINED: &[(u16, u16, u32, &str)] = &[
 fn reads_definitions(rt: HostRuntime) -> Result<(), LinkError> {
     for &(class, order) in KINDS {
         let bytes = version_file(class, order, ALL);
+        let table = strings(&open(&rt, &bytes))?;
         let mut definitions = read(&rt, &bytes, SYMBOLS)?.definitions();
         for &(flags, number, hash, name) in DEFINED {
             let Some(Ok(definition)) = definitions.next() else {
@@ -97,6 +99,8 @@ fn reads_definitions(rt: HostRuntime) -> Result<(), LinkError> {
             want_at(&rt, number, definition.number, number);
             want_at(&rt, number, definition.hash, hash);
             want_at(&rt, number, definition.name(), Ok(name));
+            let offset = definition.name_offset()?;
+            want_at(&rt, number, text_at(table, offset as usize), Ok(name));
             want_at(&rt, number, definition.is_base(), number == 1);
         }
         want(&rt, definitions.next().is_none(), true);
@@ -114,6 +118,7 @@ const NEEDED: &[(u16, u16, bool, u32, &str, &str)] = &[
 fn reads_needs(rt: HostRuntime) -> Result<(), LinkError> {
     for &(class, order) in KINDS {
         let bytes = version_file(class, order, ALL);
+        let table = strings(&open(&rt, &bytes))?;
         let mut needs = read(&rt, &bytes, SYMBOLS)?.needs();
         for &(flags, number, hidden, hash, name, file) in NEEDED {
             let Some(Ok(need)) = needs.next() else {
@@ -124,6 +129,9 @@ fn reads_needs(rt: HostRuntime) -> Result<(), LinkError> {
             want_at(&rt, number, need.hidden, hidden);
             want_at(&rt, number, need.hash, hash);
             want_at(&rt, number, need.name(), Ok(name));
+            let offsets = [need.name_offset(), need.file_offset()];
+            want_at(&rt, number, text_at(table, offsets[0] as usize), Ok(name));
+            want_at(&rt, number, text_at(table, offsets[1] as usize), Ok(file));
             want_at(&rt, number, need.file(), Ok(file));
         }
         want(&rt, needs.next().is_none(), true);
@@ -274,7 +282,7 @@ fn tells_names_that_are_cut_off(rt: HostRuntime) -> Result<(), LinkError> {
 }
 
 // The number of a version, whether it is hidden, and the name of what bears it.
-fn parts(
+pub fn parts(
     version: Result<Option<SymbolVersion<'_>>, LinkError>,
 ) -> Result<Option<(u16, bool, Option<&str>)>, LinkError> {
     let Some(version) = version? else {

@@ -206,7 +206,7 @@ impl<'a> HashTable<'a> {
             (λ (entry, next). StandsAt chains index entry × (chains.chain index ≡ Ok next)
             × (passed < chains.count) × (passed + 1 < 2 ^ 32))
             (λ error. (first : ℕ) → Comes chains first passed index
-            → (n : ℕ) × LooksFrom (λ (e : E). ⊥) chains (Some (Ok first)) (Err error) n) }
+            → (n : ℕ) × LooksFrom (λ (at : ℕ × E). ⊥) chains (Some (Ok first)) (Err error) n) }
     {
         let entry = match self.symbol_at(index, passed, symbols) {
             Ok(entry) => entry,

@@ -2,10 +2,11 @@
 
 ghost use Rattle.std.specs.Borrow.{Bor};
 ghost use Rattle.std.specs.Fn.{FnReturnsAt};
-ghost use Rattle.std.specs.Prelude.{◌≡◌, ◌≢◌, ◌≤◌, ◌↔◌, ℕ, true, false, Contains, IfSome};
-ghost use Rattle.std.specs.Prelude.{IsTrue, Option, Result, Ok, Err, Some, length};
+ghost use Rattle.std.specs.Prelude.{◌≡◌, ◌≢◌, ◌≤◌, ◌<◌, ◌^◌, ◌↔◌, ℕ, true, false, Contains, IfSome};
+ghost use Rattle.std.specs.Prelude.{IsTrue, Option, Result, Ok, Err, Some, length, slice_get};
 ghost use Rattle.elf_base.specs.Table.{table_items};
-ghost use Rattle.xmas_elf.specs.Symbols.{Decides, IsMatch, symbols_of};
+ghost use Rattle.xmas_elf.specs.Symbols.{Decides, DecidesWhere, IsMatch, IsMatchWhere};
+ghost use Rattle.xmas_elf.specs.Symbols.{ReturnsWhere, symbols_of};
 
 use crate::bytes::{Record, Table};
 use crate::hash::HashTable;
@@ -13,7 +14,8 @@ use crate::symbol_table::{Entry, SymbolTable};
 use crate::{ElfError, ElfFile};
 
 impl<'a> HashTable<'a> {
-    ghost use Rattle.xmas_elf.specs.HashTable.{FindsAll, IsGood, Looks, chain_count_of};
+    ghost use Rattle.xmas_elf.specs.HashTable.{FindsAll, FindsAllWhere, IsGood, Looks, LooksWhere};
+    ghost use Rattle.xmas_elf.specs.HashTable.{chain_count_of};
     ghost use Rattle.xmas_elf.specs.SymbolTable.{table_symbols};
 
     /// The first symbol in the chain of a name that has the name and passes the test, with its
@@ -124,23 +126,57 @@ impl<'a> HashTable<'a> {
         ensures good { let all = table_symbols symbols.now in Decides all F.Fn f
             → IsGood self.now all → FindsAll all name.now (IsMatch all F.Fn f name.now) result.0 }
     {
-        self.search(name, symbols, &f)
+        // The test of a symbol as a test of its index, which it leaves out.
+        let test = |_index: u32, symbol: &E| -> bool
+            requires { F.pre f symbol }
+            ensures { FnReturnsAt F.Fn f symbol.now result }
+        { f(symbol) };
+        self.search(name, symbols, &test)
+    }
+
+    /// The result of `lookup_in` with a test that also knows the index of the symbol, as one that
+    /// reads `.gnu.version` there.
+    ///
+    /// Errors: those of `lookup`.
+    ///
+    /// The contract holds for a test with only one result for each symbol and its index.
+    pub fn lookup_where<E: Entry + Record, F: Fn(u32, &E) -> bool>(
+        &self,
+        name: &str,
+        symbols: &SymbolTable<'_, E>,
+        f: F,
+    ) -> Result<Option<(u32, E)>, ElfError>
+        requires callable { (index : ℕ) (e : Bor E) → index < 2 ^ 32
+            → slice_get (table_symbols symbols.now).items index ≡ Some e.now → F.pre f index e }
+        ensures answer { let all = table_symbols symbols.now in DecidesWhere all F.Fn f
+            → (count : ℕ) × LooksWhere (IsMatchWhere all F.Fn f name.now) self.now all.items
+            name.now result count }
+        ensures only { let all = table_symbols symbols.now in
+            DecidesWhere all F.Fn f → (other : Result (Option (ℕ × E)) ElfError) (count : ℕ)
+            → LooksWhere (IsMatchWhere all F.Fn f name.now) self.now all.items name.now other count
+            → other ≡ result }
+        ensures good { let all = table_symbols symbols.now in DecidesWhere all F.Fn f
+            → IsGood self.now all
+            → FindsAllWhere all name.now (IsMatchWhere all F.Fn f name.now) result }
+    {
+        self.search(name, symbols, &f).0
     }
 
     // The look-up with a borrowed test: the walk from the bucket of the name.
-    fn search<E: Entry + Record, F: Fn(&E) -> bool>(
+    fn search<E: Entry + Record, F: Fn(u32, &E) -> bool>(
         &self,
         name: &str,
         symbols: &SymbolTable<'_, E>,
         f: &F,
     ) -> (Result<Option<(u32, E)>, ElfError>, u32)
-        requires { (e : Bor E) → Contains (table_symbols symbols.now).items e.now
-            → F.pre f.now e }
+        requires { (index : ℕ) (e : Bor E) → index < 2 ^ 32
+            → slice_get (table_symbols symbols.now).items index ≡ Some e.now
+            → F.pre f.now index e }
         ensures in_chains { result.1 ≤ chain_count_of self.now }
         ensures in_symbols { result.1 ≤ length (table_symbols symbols.now).items }
-        ensures answer { let all = table_symbols symbols.now in Decides all F.Fn f.now
-            → Looks (IsMatch all F.Fn f.now name.now) self.now all.items name.now result.0
-            result.1 }
+        ensures answer { let all = table_symbols symbols.now in DecidesWhere all F.Fn f.now
+            → LooksWhere (IsMatchWhere all F.Fn f.now name.now) self.now all.items name.now
+            result.0 result.1 }
     {
         let first = match self.start(name) {
             None => return (Ok(None), 0),
@@ -152,14 +188,16 @@ impl<'a> HashTable<'a> {
             first,
             symbols,
             |at: &(u32, E)| -> bool
-                requires { (e : Bor E) → e.now ≡ at.now.1 → F.pre f.now e }
+                requires { (e : Bor E) → e.now ≡ at.now.1 → F.pre f.now at.now.0 e }
                 ensures yes { IsTrue result
-                    → IsMatch (table_symbols symbols.entry.now) F.Fn f.entry.now name.entry.now at.now.1 }
+                    → IsMatchWhere (table_symbols symbols.entry.now) F.Fn f.entry.now
+                    name.entry.now at.now }
                 ensures no { result ≡ false
-                    → (FnReturnsAt F.Fn f.entry.now at.now.1 true
-                    → FnReturnsAt F.Fn f.entry.now at.now.1 false → ⊥)
-                    → IsMatch (table_symbols symbols.entry.now) F.Fn f.entry.now name.entry.now at.now.1 → ⊥ }
-            { symbols.has_name(&at.1, name) && f(&at.1) },
+                    → (ReturnsWhere F.Fn f.entry.now at.now true
+                    → ReturnsWhere F.Fn f.entry.now at.now false → ⊥)
+                    → IsMatchWhere (table_symbols symbols.entry.now) F.Fn f.entry.now
+                    name.entry.now at.now → ⊥ }
+            { symbols.has_name(&at.1, name) && f(at.0, &at.1) },
         )
     }
 }

@@ -2,7 +2,7 @@
 
 ghost use Rattle.std.specs.Option.{ForSome};
 ghost use Rattle.std.specs.Prelude.{◌≡◌, ◌↔◌, ◌<◌, ◌^◌, IfSome, IsNone, IsSomeAnd, IsTrue};
-ghost use Rattle.std.specs.Prelude.{MatchOption, MatchResult, None, Some, length, slice_get};
+ghost use Rattle.std.specs.Prelude.{MatchOption, MatchResult, None, Ok, Some, length, slice_get};
 ghost use Rattle.xmas_elf.specs.SymbolName.{HoldsNames};
 ghost use Rattle.xmas_elf.specs.Symbols.{symbols_of};
 
@@ -37,6 +37,26 @@ impl<'a, E: Entry + Record> SymbolTable<'a, E> {
         Self {
             table,
             strings: E::string_table(file),
+            file: ElfFile {
+                input: file.input,
+                header: file.header,
+            },
+        }
+    }
+
+    /// The symbols of a table of this file, with the names in a string table of theirs that was
+    /// found before.
+    #[inline(always)]
+    pub fn with_strings(table: Table<'a, E>, strings: &'a [u8], file: &ElfFile<'a>) -> Self
+        requires names { HoldsNames E.fields (λ e. E.text_in e file.now) (Ok strings) }
+        ensures symbols { table_symbols result
+            ≡ symbols_of E.fields E.text_in table.entry file.now }
+        ensures table { carried_table result ≡ table.entry }
+        ensures strings { carried_strings result ≡ Some (Ok strings.entry) }
+    {
+        Self {
+            table,
+            strings: Some(Ok(strings)),
             file: ElfFile {
                 input: file.input,
                 header: file.header,

@@ -1,5 +1,5 @@
 use Rattle.elf_linking.specs.DynamicView.{view_entries}
-use Rattle.elf_linking.specs.AnyTable.{by_table, no_table, no_view}
+use Rattle.elf_linking.specs.Values.{by_table, no_table, no_view}
 use Rattle.elf_linking.proofs.values.value_in_file.Goals as goal
 
 pub returns-in-Err : goal.returns-in-Err

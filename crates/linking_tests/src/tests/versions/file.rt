@@ -13,9 +13,10 @@ pub const KINDS: &[(u8, Order)] = &[(1, LITTLE), (1, BIG), (2, LITTLE), (2, BIG)
 /// How many bytes lie in memory before those of the file: the address of byte 0.
 const BASE: u64 = 0x1000;
 
-// Where the parts of the file are: the program headers, the dynamic entries and the strings.
-const PROGRAMS: usize = 0x40;
+/// Where the program headers are.
+pub const PROGRAMS: usize = 0x40;
 
+// Where the dynamic entries and the strings are.
 const DYNAMIC: usize = 0xb0;
 
 const STRINGS: usize = 0x130;
@@ -43,8 +44,11 @@ pub const ALL: &[(u64, u64)] = &[
 /// A field of a record: its offset in the table, its width, and its number.
 pub type Field = (usize, usize, u64);
 
-// The base, and the versions V1 and V2, each before its record of names.
-const DEFINED: &[Field] = &[
+/// The strings, which the records name by their offsets.
+pub const NAMES: &[u8] = b"\0ab\0libc\0libm\0V1\0V2\0V3\0V4\0V5\0";
+
+/// The base, and the versions V1 and V2, each before its record of names.
+pub const DEFINED: &[Field] = &[
     (0, 2, 1),
     (2, 2, 1),
     (4, 2, 1),
@@ -68,8 +72,8 @@ const DEFINED: &[Field] = &[
     (76, 4, 17),
 ];
 
-// V3 and the hidden V4 of `libc`, and V5 of `libm`.
-const NEEDED: &[Field] = &[
+/// V3 and the hidden V4 of `libc`, and V5 of `libm`.
+pub const NEEDED: &[Field] = &[
     (0, 2, 1),
     (2, 2, 2),
     (4, 4, 4),
@@ -110,8 +114,14 @@ pub fn set_fields(file: &mut [u8], start: usize, fields: &[Field], order: Order)
     }
 }
 
-// The type, the offset and the size of a segment.
-fn set_program(file: &mut [u8], start: usize, class: u8, numbers: (u64, u64, u64), order: Order) {
+/// Writes the type, the offset and the size of a segment.
+pub fn set_program(
+    file: &mut [u8],
+    start: usize,
+    class: u8,
+    numbers: (u64, u64, u64),
+    order: Order,
+) {
     let address = numbers.1.wrapping_add(BASE);
     if class == 1 {
         set(file, start, program_32::TYPE, numbers.0, order);
@@ -126,8 +136,8 @@ fn set_program(file: &mut [u8], start: usize, class: u8, numbers: (u64, u64, u64
     }
 }
 
-// The size of a program header, and of a number in a dynamic entry.
-fn sizes(class: u8) -> (usize, usize) {
+/// The size of a program header, and of a number in a dynamic entry.
+pub fn sizes(class: u8) -> (usize, usize) {
     if class == 1 { (32, 4) } else { (56, 8) }
 }
 
@@ -136,7 +146,8 @@ pub fn set_segment_end(file: &mut [u8], class: u8, end: usize, order: Order) {
     set_program(file, PROGRAMS, class, (1, 0, end as u64), order);
 }
 
-fn set_header(file: &mut [u8], class: u8, order: Order) {
+/// Writes the header of a file with two program headers.
+pub fn set_header(file: &mut [u8], class: u8, order: Order) {
     let encoding = if order == LITTLE { 1 } else { 2 };
     put(file, 0, &[0x7f, b'E', b'L', b'F', class, encoding, 1]);
     let size = sizes(class).0 as u64;
@@ -149,6 +160,12 @@ fn set_header(file: &mut [u8], class: u8, order: Order) {
         set(file, 0, header_64::PH_ENTRY_SIZE, size, order);
         set(file, 0, header_64::PH_COUNT, 2, order);
     }
+}
+
+/// Writes a dynamic entry with numbers of this width.
+pub fn set_entry(file: &mut [u8], start: usize, width: usize, entry: (u64, u64), order: Order) {
+    set(file, start, Place(0, width), entry.0, order);
+    set(file, start, Place(width, width), entry.1, order);
 }
 
 /// The file with these dynamic entries behind those of the strings.
@@ -168,14 +185,9 @@ pub fn version_file(class: u8, order: Order, entries: &[(u64, u64)]) -> [u8; SIZ
     let strings = [(5, 0x1130), (10, 32)];
     for (k, entry) in strings.iter().chain(entries.iter()).enumerate() {
         let start = DYNAMIC.wrapping_add(k.wrapping_mul(width).wrapping_mul(2));
-        set(&mut file, start, Place(0, width), entry.0, order);
-        set(&mut file, start, Place(width, width), entry.1, order);
+        set_entry(&mut file, start, width, *entry, order);
     }
-    put(
-        &mut file,
-        STRINGS,
-        b"\0ab\0libc\0libm\0V1\0V2\0V3\0V4\0V5\0",
-    );
+    put(&mut file, STRINGS, NAMES);
     set_fields(&mut file, NUMBERS, SYMBOLS, order);
     set_fields(&mut file, DEFINITIONS, DEFINED, order);
     set_fields(&mut file, NEEDS, NEEDED, order);

@@ -1,7 +1,7 @@
 use Rattle.std.proofs.Common.{◌≡◌, ◌≤◌, ◌<◌, ◌%◌, ◌/◌, Err, refl, sym, ◌∙◌, subst, arith}
 use Rattle.elf_linking.specs.GnuHash.{HasChain, IsThere, chain_of, chain_word, ended, first_symbol_of, found, refused, symbol_end}
 use Rattle.xmas_elf.specs.SymbolTable.{table_symbols}
-use Rattle.elf_linking.proofs.Runs.{looks_past}
+use Rattle.elf_linking.proofs.Runs.{looks_past, missed_next, run_next}
 use Rattle.elf_linking.proofs.Words.{chain_refused}
 use Rattle.elf_linking.proofs.gnu_hash.GnuHashTable.walk.Goals as goal
 use Rattle.elf_linking.proofs.gnu_hash.GnuHashTable.walk.Goals.{then-word-hash+in_default, else-word-hash}
@@ -55,6 +55,20 @@ returns-then-word-eq1-clause-answer g c = λ d.
         | else-word-hash w ↦ w.if-word-hash.false (subst (λ x. x / 2 ≡ c.args.hash / 2) (sym same) hit.agrees)
       ]);
       counted = omega arith;
+    }
+
+pub loop-index-preserved : goal.loop-index-preserved
+loop-index-preserved g c =
+    let items = (table_symbols c.args.symbols.now).items in
+    let word : HasChain c.args.self.now c.loop-index.index = c.in-Ok.ensures.readable.0 refl in
+    let there : IsThere c.args.self.now items c.loop-index.index = record { symbol = omega arith; word = word } in
+    let same : c.in-Ok.word ≡ chain_word c.args.self.now c.loop-index.index = c.in-Ok.ensures.value in
+    record {
+      run = run_next c.args.self.now items c.args.from c.loop-index.index c.loop-index.invariant.run there (λ ends. c.if-word-eq1.false (subst (λ w. w % 2 ≡ 1) (sym same) ends));
+      missed = λ d. missed_next c.args.self.now items _ c.args.hash c.args.from c.loop-index.index (c.loop-index.invariant.missed d) (λ e hit. elim c.if-word-hash.branch [
+        | then-word-hash+in_default w ↦ w.symbol_at.ensures.no d w.in_default.is e hit.symbol hit.holds
+        | else-word-hash w ↦ w.if-word-hash.false (subst (λ x. x / 2 ≡ c.args.hash / 2) (sym same) hit.agrees)
+      ]);
     }
 
 pub returns-clause-answer : goal.returns-clause-answer

@@ -1,4 +1,4 @@
-use Rattle.xmas_elf.specs.Symbols.{Decides, IsMatch}
+use Rattle.xmas_elf.specs.Symbols.{DecidesWhere, IsMatchWhere}
 use Rattle.elf_linking.specs.GnuHash.{NoHit, Run}
 use Rattle.xmas_elf.specs.SymbolTable.{table_symbols}
 use Rattle.elf_linking.proofs.gnu_hash.GnuHashTable.walk.Given as goal
@@ -8,5 +8,5 @@ invariant-loop-index g l =
     let all = table_symbols l.symbols in
     record {
       run : Run l.self (table_symbols l.symbols).items l.from l.index;
-      missed : Decides all g.F.Fn l.f → NoHit (IsMatch all g.F.Fn l.f l.name) l.hash l.self (table_symbols l.symbols).items l.from l.index;
+      missed : DecidesWhere all g.F.Fn l.f → NoHit (IsMatchWhere all g.F.Fn l.f l.name) l.hash l.self (table_symbols l.symbols).items l.from l.index;
     }

@@ -24,4 +24,5 @@ returns g c = (
   omega arith,
   omega arith,
   omega arith,
+  omega arith,
 )

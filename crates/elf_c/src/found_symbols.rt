@@ -1,0 +1,161 @@
+//! The symbol that a reference gets by its name and version, found by the dynamic segment, without
+//! section headers (gABI, "Dynamic Section"; LSB, "Symbol Versioning").
+
+ghost use Rattle.std.specs.Prelude.{◌≡◌, Result};
+ghost use Rattle.elf_c.specs.FoundSymbols.{IsFoundBy, IsFoundSymbol, IsSearch, IsWanted};
+ghost use Rattle.elf_c.specs.FoundSymbols.{found_answer, found_symbol, symbols_by};
+ghost use Rattle.elf_c.specs.LookUps.{IfUtf8, IsNamed};
+ghost use Rattle.elf_c.specs.Parsed.{file_of};
+ghost use Rattle.elf_c.specs.Status.{GivesHere};
+ghost use Rattle.elf_c.specs.declared.found_symbols.FoundSymbol.{FoundSymbol};
+ghost use Rattle.elf_c.specs.declared.status.Refusal.{Refusal};
+
+use crate::dynamic_symbols::is_narrow;
+use crate::file::Parsed;
+use crate::status::{Refusal, give};
+use crate::symbols::Symbol;
+use elf_base::ElfError;
+use elf_linking::find::{Use, Wanted};
+use elf_linking::view::{LinkedEntry32, LinkedEntry64, LinkedSymbol};
+use elf_linking::{DynamicObject, LinkError};
+use std::str::from_utf8;
+use xmas_elf::ElfFile;
+use xmas_elf::bytes::Record;
+use xmas_elf::symbol_table::Entry;
+
+// The numbers of no symbol.
+const NO_SYMBOL: Symbol = Symbol {
+    value: 0,
+    size: 0,
+    name: 0,
+    shndx: 0,
+    info: 0,
+    other: 0,
+};
+
+/// The symbol that a reference gets, as numbers.
+#[repr(C)]
+#[derive(Clone, Copy, Debug)]
+pub struct FoundSymbol {
+    /// The symbol, or 0 in each field.
+    pub symbol: Symbol,
+    /// 1 if a symbol is found, otherwise 0.
+    pub found: u32,
+    /// The index of the symbol, or 0.
+    pub index: u32,
+}
+
+impl FoundSymbol {
+    // The numbers of the symbol that a search found, if any.
+    fn of<E: Entry + Record>(found: Option<(u32, E)>) -> FoundSymbol
+        ensures { result ≡ found_symbol E.fields found }
+    {
+        match found {
+            Some((index, entry)) => FoundSymbol {
+                symbol: Symbol::of(&entry),
+                found: 1,
+                index,
+            },
+            None => FoundSymbol {
+                symbol: NO_SYMBOL,
+                found: 0,
+                index: 0,
+            },
+        }
+    }
+}
+
+// The result of a search, as numbers.
+fn said<E: Entry + Record>(
+    found: Result<Option<(u32, E)>, LinkError>,
+) -> Result<FoundSymbol, Refusal>
+    ensures { result ≡ found_answer E.fields found }
+{
+    match found {
+        Ok(found) => Ok(FoundSymbol::of(found)),
+        Err(error) => Err(Refusal::Link(error)),
+    }
+}
+
+// What is asked for: the version with a name, and with an empty one what `dlsym` asks for.
+fn wanted_of(version: &str) -> Wanted<'_>
+    ensures { IsWanted version.now result }
+{
+    if version.is_empty() {
+        Wanted::Newest
+    } else {
+        Wanted::version(version)
+    }
+}
+
+// Searches the dynamic symbols of a file of the class of `E`.
+fn search<E: LinkedSymbol>(
+    file: &ElfFile<'_>,
+    name: &str,
+    version: &str,
+) -> Result<FoundSymbol, Refusal>
+    ensures { IsSearch E.CLASS E.SIZE (symbols_by E.SIZE E.value E.fields E.text_in) file.now
+        name.now version.now result }
+{
+    match DynamicObject::<E>::read(file) {
+        Ok(object) => said(object.find(name, &wanted_of(version), Use::Any)),
+        Err(error) => Err(Refusal::Link(error)),
+    }
+}
+
+// Searches the dynamic symbols of a file, by its class.
+fn search_by_class(file: &ElfFile<'_>, name: &str, version: &str) -> Result<FoundSymbol, Refusal>
+    ensures { IsFoundSymbol file.now name.now version.now result }
+{
+    if is_narrow(file) {
+        search::<LinkedEntry32>(file, name, version)
+    } else {
+        search::<LinkedEntry64>(file, name, version)
+    }
+}
+
+// A name in bytes, which may not be UTF-8.
+fn text_of(bytes: &[u8]) -> Result<&str, Refusal>
+    ensures { IfUtf8 IsNamed bytes.now result }
+{
+    match from_utf8(bytes) {
+        Ok(text) => Ok(text),
+        Err(_) => Err(Refusal::Elf(ElfError::TextUtf8)),
+    }
+}
+
+// Searches for a name and a version in bytes, which may not be UTF-8.
+fn search_by(file: &ElfFile<'_>, name: &[u8], version: &[u8]) -> Result<FoundSymbol, Refusal>
+    ensures { IsFoundBy file.now name.now version.now result }
+{
+    let name = match text_of(name) {
+        Ok(name) => name,
+        Err(error) => return Err(error),
+    };
+    match text_of(version) {
+        Ok(version) => search_by_class(file, name, version),
+        Err(error) => Err(error),
+    }
+}
+
+/// The symbol that a reference gets by a name and the name of a version: the result of
+/// `DynamicObject::find` for `Wanted::version`, and with an empty version, of which the pointer may
+/// be null, for `Wanted::Newest`, as `dlsym` asks; the use is `Use::Any`. It needs no section
+/// headers.
+///
+/// Errors: `TextUtf8` if the name or the version is not UTF-8; those of `DynamicObject::read`; those
+/// of `DynamicObject::find`.
+#[unsafe(no_mangle)]
+pub extern "C" fn xmas_elf_find_symbol(
+    input: &[u8],
+    header: &Parsed,
+    name: &[u8],
+    version: &[u8],
+    out: &mut FoundSymbol,
+) -> u32
+    ensures { (answer : Result FoundSymbol Refusal)
+        × IsFoundBy (file_of input.entry header.now) name.now version.now answer
+        × GivesHere answer out.old result out.new }
+{
+    give(search_by(&header.file(input), name, version), out)
+}

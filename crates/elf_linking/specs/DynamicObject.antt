@@ -1,0 +1,111 @@
+-- One value with the dynamic symbols of a file: the entries of its dynamic segment, its hash table, its
+-- symbols, the string table of their names, and its version tables.
+use Rattle.std.specs.Prelude.{◌≡◌, ◌≢◌, ◌/◌, ℕ, List, Option, Some, None, Result, Ok, Err, MatchResult, length, slice_get}
+use Rattle.std.specs.Borrow.{Bor}
+use Rattle.elf_base.specs.FileHeader.{file_class, file_order}
+use Rattle.elf_base.specs.Table.{table_bytes, table_data, table_items, table_order}
+use Rattle.elf_base.specs.declared.bytes.table.Table.{Table}
+use Rattle.elf_linking.specs.AnyTable.{IsLinkedTable, IsTableRefused}
+use Rattle.elf_linking.specs.DynamicView.{AreSymbols, LieAsSymbols, LiesAsFileStrings, dynamic_entries_of, strings_by, strings_of, text_in_strings, view_entries, view_strings}
+use Rattle.elf_linking.specs.Find.{DynamicSymbols, dynamic_symbols}
+use Rattle.elf_linking.specs.VersionTables.{version_tables, version_tables_of}
+use Rattle.elf_linking.specs.declared.any_table.AnyTable.{AnyTable}
+use Rattle.elf_linking.specs.declared.error.LinkError.{LinkError}
+use Rattle.elf_linking.specs.declared.error.LinkError.TheVariants.{SymbolIndex, UnknownClass}
+use Rattle.elf_linking.specs.declared.object.DynamicObject.{DynamicObject}
+use Rattle.elf_linking.specs.declared.versions.Versions.{Versions}
+use Rattle.elf_linking.specs.declared.view.dynamic.DynamicView.{DynamicView}
+use Rattle.elf_linking.specs.declared.view.entry.DynamicEntry.{DynamicEntry}
+use Rattle.xmas_elf.specs.Symbol.{SymbolFields, Symbols}
+use Rattle.xmas_elf.specs.Symbols.{symbols_of}
+use Rattle.xmas_elf.specs.declared.ElfFile.{ElfFile}
+
+-- the parts of an object: the dynamic segment, the hash table, the symbols without and with their names, the
+-- string table of the names, the version tables, and the file
+abbrev pub object_view : {E : Type 0} → {r : _} → DynamicObject E r → DynamicView
+object_view object = object.view
+
+abbrev pub object_table : {E : Type 0} → {r : _} → DynamicObject E r → AnyTable
+object_table object = object.table
+
+abbrev pub object_records : {E : Type 0} → {r : _} → DynamicObject E r → Table E r
+object_records object = object.symbols
+
+abbrev pub object_strings : {E : Type 0} → {r : _} → DynamicObject E r → Bor (List ℕ)
+object_strings object = object.strings
+
+abbrev pub object_versions : {E : Type 0} → {r : _} → DynamicObject E r → Versions
+object_versions object = object.versions
+
+abbrev pub object_file : {E : Type 0} → {r : _} → DynamicObject E r → ElfFile
+object_file object = object.file
+
+abbrev pub object_symbols : {E : Type 0} → {r : _} → (E → SymbolFields) → (E → ElfFile → Option (List ℕ)) → DynamicObject E r → Symbols E
+object_symbols fields text_in object = symbols_of fields text_in (object_records object) (object_file object)
+
+-- what a search for the symbol that a reference gets reads of it
+abbrev pub object_dynamic_symbols : {E : Type 0} → {r : _} → (E → SymbolFields) → (E → ElfFile → Option (List ℕ)) → DynamicObject E r → DynamicSymbols E
+object_dynamic_symbols fields text_in object =
+    dynamic_symbols (object_table object) (object_symbols fields text_in object) (version_tables (object_versions object))
+
+-- the bytes of the symbols of a file of this class, which have this size each
+pub record AreOfClass (class size : ℕ) (file : ElfFile) (entries : List (DynamicEntry ℕ)) (bytes : List ℕ) : Type 0 where
+  pub class_is : file_class file.header ≡ class
+  pub symbols_are : AreSymbols file entries size (Ok bytes)
+
+-- why there are none
+pub data AreRefused (class size : ℕ) (file : ElfFile) (entries : List (DynamicEntry ℕ)) : LinkError → Type 0 where
+  other_class : file_class file.header ≢ class → AreRefused class size file entries UnknownClass
+  unreadable : (error : LinkError) → file_class file.header ≡ class
+      → AreSymbols file entries size (Err error) → AreRefused class size file entries error
+
+-- the object is that of a file of this class, with symbols of this size: each part is what the calls of the
+-- dynamic segment return
+pub record IsObject {E : Type 0} {r : _} (class size : ℕ) (file : ElfFile) (object : DynamicObject E r) : Type 0 where
+  pub file_is : object_file object ≡ file
+  pub entries_are : dynamic_entries_of file ≡ Ok (view_entries (object_view object))
+  pub table_is : IsLinkedTable file (view_entries (object_view object)) (object_table object)
+  pub symbols_are : AreOfClass class size file (view_entries (object_view object)) (table_data (object_records object))
+  pub order_is : table_order (object_records object) ≡ file_order file.header
+  pub symbols_lie : LieAsSymbols file (view_entries (object_view object)) (table_bytes (object_records object))
+  pub strings_are : strings_of file ≡ Ok (object_strings object).now
+  pub strings_lie : LiesAsFileStrings file (object_strings object)
+  pub view_strings_are : view_strings (object_view object) ≡ Ok (object_strings object).now
+  pub versions_are : version_tables_of file (view_entries (object_view object)) (Ok (object_strings object).now)
+      (length (table_items (object_records object))) ≡ Ok (version_tables (object_versions object))
+
+-- why there is no such object: the first refusal, of the entries, of the hash table, of the symbols, of the
+-- string table, or of the version tables
+pub data IsObjectRefused (class size : ℕ) (file : ElfFile) : LinkError → Type 0 where
+  no_entries : (error : LinkError) → dynamic_entries_of file ≡ Err error → IsObjectRefused class size file error
+  no_table : (entries : List (DynamicEntry ℕ)) (error : LinkError) → dynamic_entries_of file ≡ Ok entries
+      → IsTableRefused file entries error → IsObjectRefused class size file error
+  no_symbols : (entries : List (DynamicEntry ℕ)) (table : AnyTable) (error : LinkError)
+      → dynamic_entries_of file ≡ Ok entries → IsLinkedTable file entries table
+      → AreRefused class size file entries error → IsObjectRefused class size file error
+  no_strings : (entries : List (DynamicEntry ℕ)) (table : AnyTable) (symbols : List ℕ) (error : LinkError)
+      → dynamic_entries_of file ≡ Ok entries → IsLinkedTable file entries table
+      → AreOfClass class size file entries symbols → strings_by file entries ≡ Err error
+      → IsObjectRefused class size file error
+  no_versions : (entries : List (DynamicEntry ℕ)) (table : AnyTable) (symbols strings : List ℕ) (error : LinkError)
+      → dynamic_entries_of file ≡ Ok entries → IsLinkedTable file entries table
+      → AreOfClass class size file entries symbols → strings_by file entries ≡ Ok strings
+      → version_tables_of file entries (Ok strings) (length symbols / size) ≡ Err error
+      → IsObjectRefused class size file error
+
+-- the text in a string table at the name of the symbol at an index, or why there is none
+abbrev pub name_of_symbol : {E : Type 0} → (E → SymbolFields) → List ℕ → Option E → Result (List ℕ) LinkError
+name_of_symbol fields strings None = Err SymbolIndex
+name_of_symbol fields strings (Some symbol) = text_in_strings (Ok strings) (fields symbol).name
+
+-- the name of the symbol at an index of an object
+abbrev pub object_name : {E : Type 0} → {r : _} → (E → SymbolFields) → DynamicObject E r → ℕ → Result (List ℕ) LinkError
+object_name fields object index =
+    name_of_symbol fields (object_strings object).now (slice_get (table_items (object_records object)) index)
+
+-- the result of a call is the name of the symbol, if it has one, or an error that is `SymbolIndex` if there is
+-- no symbol
+abbrev pub IsNameAt : {E : Type 0} → (E → Option (List ℕ)) → Option E → Result (Bor (List ℕ)) LinkError → Type 0
+IsNameAt text None answer = answer ≡ Err SymbolIndex
+IsNameAt text (Some symbol) answer =
+    MatchResult answer (λ name. text symbol ≡ Some name.now) (λ error. text symbol ≡ None)

@@ -1,0 +1,207 @@
+-- The symbol of a file that a reference by a name and a version gets (LSB, "Symbol Versioning"; which symbols
+-- serve a use, and that a hidden version is no default, as glibc's linker has it).
+use Rattle.std.specs.Prelude.{◌≡◌, ◌≢◌, ℕ, ◌%◌, ◌==◌, ◌&&◌, ◌||◌, nat_lt, not, Bool, true, false, List, length, slice_get, Option, Some, None, Result, Ok, Err, IsOkAnd, if◌then◌else◌}
+use Rattle.std.specs.Borrow.{Bor}
+use Rattle.std.specs.Str.{bytes_eq}
+use Rattle.elf_base.specs.Refusal.{and_then}
+use Rattle.elf_records.specs.HashNumber.{hash_number}
+use Rattle.elf_linking.specs.AnyTable.{IsFor, IsIndexBy, LooksWhereBy}
+use Rattle.elf_linking.specs.VersionTables.{VersionTables, is_hidden, item_by, version_number}
+use Rattle.elf_linking.specs.Versions.{CanBeRead, NamedParts, VersionParts, named_hash, named_name, number_of, version_at}
+use Rattle.elf_linking.specs.declared.any_table.AnyTable.{AnyTable}
+use Rattle.elf_linking.specs.declared.error.LinkError.{LinkError}
+use Rattle.elf_linking.specs.declared.find.Use as uses
+use Rattle.elf_linking.specs.declared.find.Use.TheVariants.{Any, Copy, Defined}
+use Rattle.elf_linking.specs.declared.find.Wanted.{Wanted}
+use Rattle.elf_linking.specs.declared.find.Wanted.TheVariants.{Newest, Unversioned, Version}
+use Rattle.xmas_elf.specs.Symbol.{SymbolFields, Symbols}
+
+-- the dynamic symbols of a file: their hash table, the symbols, and the version tables
+pub record DynamicSymbols (E : Type 0) : Type 0 where
+  pub table : AnyTable
+  pub symbols : Symbols E
+  pub versions : VersionTables
+
+-- Which symbols serve a use.
+
+-- the type is one that look-ups return: none, an object, a function, a common block, thread-local storage
+-- (STT_TLS), or GNU's indirect function
+abbrev pub has_linked_type : SymbolFields → Bool
+has_linked_type e = let kind = e.info % 16 in
+    kind == 0 || (kind == 1 || (kind == 2 || (kind == 5 || (kind == 6 || kind == 10))))
+
+-- the symbol has a value, is absolute (SHN_ABS), or is thread-local, so that its value may be 0
+abbrev pub has_place : SymbolFields → Bool
+has_place e = not (e.value == 0) || (e.shndx == 65521 || e.info % 16 == 6)
+
+-- a use that wants a defined symbol isn't served by one with section index 0 (SHN_UNDEF)
+abbrev pub is_defined_for : uses.Use → SymbolFields → Bool
+is_defined_for Defined e = not (e.shndx == 0)
+is_defined_for Any e = true
+is_defined_for Copy e = true
+
+abbrev pub serves : uses.Use → SymbolFields → Bool
+serves purpose e = has_linked_type e && (has_place e && is_defined_for purpose e)
+
+-- a candidate for a name and a use: the symbol has the name and serves the use
+abbrev pub IsCandidate : {E : Type 0} → DynamicSymbols E → List ℕ → uses.Use → E → Type 0
+IsCandidate file name purpose e = (file.symbols.text e ≡ Some name) × (serves purpose (file.symbols.fields e) ≡ true)
+
+-- Which versions a reference accepts.
+
+-- what bears a version has the hash number and the name; the name is read only if it has the hash number
+abbrev pub is_version : List ℕ → ℕ → Option NamedParts → Result Bool LinkError
+is_version name hash None = Ok false
+is_version name hash (Some named) = if named_hash named == hash
+    then item_by (λ other. bytes_eq other name) (named_name named) else Ok false
+
+-- a version by no hash number: nothing bears it, or what does has hash number 0
+abbrev pub has_no_hash : Option NamedParts → Bool
+has_no_hash None = true
+has_no_hash (Some named) = named_hash named == 0
+
+-- such a version is accepted too, unless it is hidden or the reference wants a hidden one
+abbrev pub is_open : Bool → VersionParts → Bool
+is_open hidden version = has_no_hash version.named && (not hidden && not version.hidden)
+
+-- a reference by a version accepts that of a symbol; in a file without numbers of symbols any
+abbrev pub accepts_version : List ℕ → ℕ → Bool → Option VersionParts → Result Bool LinkError
+accepts_version name hash hidden None = Ok true
+accepts_version name hash hidden (Some version) =
+    item_by (λ same. same || is_open hidden version) (is_version name hash version.named)
+
+-- the version with a name, which isn't hidden
+abbrev pub version_wanted : Bor (List ℕ) → Wanted
+version_wanted name = Version name (hash_number name.now) false
+
+-- the number of a version is below the least one that needs a name; in a file without numbers of symbols that
+-- of each symbol is
+abbrev pub is_below : ℕ → Option ℕ → Bool
+is_below least None = true
+is_below least (Some raw) = nat_lt (version_number raw) least
+
+-- whether a reference accepts the symbol at an index at once, or why the symbol's version can't be read
+abbrev pub accepted : VersionTables → Wanted → ℕ → Result Bool LinkError
+accepted tables (Version name hash hidden) index =
+    and_then (version_at tables index) (accepts_version name.now hash hidden)
+accepted tables Unversioned index = item_by (is_below 3) (number_of tables index)
+accepted tables Newest index = item_by (is_below 2) (number_of tables index)
+
+-- the symbol at an index has a version that isn't hidden
+abbrev pub is_default : Result (Option ℕ) LinkError → Bool
+is_default (Ok (Some raw)) = not (is_hidden raw)
+is_default _ = false
+
+-- The symbol that a reference gets.
+
+-- the result of a look-up for a property of a symbol and its index
+abbrev pub Seeks : {E : Type 0} → (ℕ × E → Type 0) → DynamicSymbols E → List ℕ → Result (Option (ℕ × E)) LinkError → Type 0
+Seeks P file name answer = (count : ℕ) × LooksWhereBy P file.table file.symbols.items name answer count
+
+-- what follows a look-up: its error, or what its result leads to
+abbrev pub Then : {A B : Type 0} → Result A LinkError → (A → Result B LinkError → Type 0) → Result B LinkError → Type 0
+Then (Ok found) Next answer = Next found answer
+Then (Err error) Next answer = answer ≡ Err error
+
+-- a candidate that is accepted at once, or whose version can't be read
+abbrev pub IsAsked : {E : Type 0} → DynamicSymbols E → List ℕ → Wanted → uses.Use → ℕ × E → Type 0
+IsAsked file name wanted purpose at = IsCandidate file name purpose at.1 × (accepted file.versions wanted at.0 ≢ Ok false)
+
+-- a candidate whose version isn't hidden, at another index than one, if there is one
+abbrev pub IsShown : {E : Type 0} → DynamicSymbols E → List ℕ → uses.Use → Option ℕ → ℕ × E → Type 0
+IsShown file name purpose but at = IsCandidate file name purpose at.1
+    × ((is_default (number_of file.versions at.0) ≡ true) × (but ≢ Some at.0))
+
+-- after a look-up for candidates that aren't hidden: the one found, unless there is another
+abbrev pub if_alone : {A : Type 0} → A → Option A → Option A
+if_alone found None = Some found
+if_alone found (Some other) = None
+
+abbrev pub IsAlone : {E : Type 0} → DynamicSymbols E → List ℕ → uses.Use → Option (ℕ × E) → Result (Option (ℕ × E)) LinkError → Type 0
+IsAlone file name purpose None answer = answer ≡ Ok None
+IsAlone {E} file name purpose (Some found) answer = (other : Result (Option (ℕ × E)) LinkError)
+    × Seeks (IsShown file name purpose (Some found.0)) file name other
+    × Then other (λ second answer. answer ≡ Ok (if_alone found second)) answer
+
+-- the default: the one candidate that isn't hidden, if there is exactly one
+abbrev pub IsDefault : {E : Type 0} → DynamicSymbols E → List ℕ → uses.Use → Result (Option (ℕ × E)) LinkError → Type 0
+IsDefault {E} file name purpose answer = (shown : Result (Option (ℕ × E)) LinkError)
+    × Seeks (IsShown file name purpose None) file name shown × Then shown (IsAlone file name purpose) answer
+
+-- if no candidate is accepted at once, a reference by a version gets none, and another one the default
+abbrev pub IsOtherwise : {E : Type 0} → DynamicSymbols E → List ℕ → Wanted → uses.Use → Result (Option (ℕ × E)) LinkError → Type 0
+IsOtherwise file name (Version _ _ _) purpose answer = answer ≡ Ok None
+IsOtherwise file name Unversioned purpose answer = IsDefault file name purpose answer
+IsOtherwise file name Newest purpose answer = IsDefault file name purpose answer
+
+-- the first candidate that is accepted at once, or why its version can't be read; or else the default
+abbrev pub IsFirstOf : {E : Type 0} → DynamicSymbols E → List ℕ → Wanted → uses.Use → Option (ℕ × E) → Result (Option (ℕ × E)) LinkError → Type 0
+IsFirstOf file name wanted purpose None answer = IsOtherwise file name wanted purpose answer
+IsFirstOf file name wanted purpose (Some found) answer =
+    answer ≡ item_by (λ _. Some found) (accepted file.versions wanted found.0)
+
+-- the result of a search for the symbol that a reference gets
+abbrev pub IsFound : {E : Type 0} → DynamicSymbols E → List ℕ → Wanted → uses.Use → Result (Option (ℕ × E)) LinkError → Type 0
+IsFound {E} file name wanted purpose answer = (first : Result (Option (ℕ × E)) LinkError)
+    × Seeks (IsAsked file name wanted purpose) file name first × Then first (IsFirstOf file name wanted purpose) answer
+
+-- What a search of the list of symbols says of it, if look-ups in the table find what they must.
+
+-- the versions of a file can be read
+abbrev pub AreReadable : {E : Type 0} → DynamicSymbols E → Type 0
+AreReadable file = CanBeRead file.versions (length file.symbols.items)
+
+-- look-ups for the name must find symbol e at index i, and it serves the use
+abbrev pub MustServe : {E : Type 0} → DynamicSymbols E → List ℕ → uses.Use → ℕ → E → Type 0
+MustServe file name purpose i e =
+    IsFor file.table file.symbols i e name × (serves purpose (file.symbols.fields e) ≡ true)
+
+-- no such symbol is accepted at once
+abbrev pub NoneAccepted : {E : Type 0} → DynamicSymbols E → List ℕ → Wanted → uses.Use → Type 0
+NoneAccepted {E} file name wanted purpose =
+    (i : ℕ) (e : E) → MustServe file name purpose i e → accepted file.versions wanted i ≡ Ok false
+
+-- a candidate of the file at an index that look-ups can return
+pub record Stands {E : Type 0} (file : DynamicSymbols E) (name : List ℕ) (purpose : uses.Use) (at : ℕ × E) : Type 0 where
+  pub index : IsIndexBy file.table at.0
+  pub symbol : slice_get file.symbols.items at.0 ≡ Some at.1
+  pub candidate : IsCandidate file name purpose at.1
+
+-- such a candidate whose version isn't hidden
+abbrev pub StandsShown : {E : Type 0} → DynamicSymbols E → List ℕ → uses.Use → ℕ × E → Type 0
+StandsShown file name purpose at =
+    Stands file name purpose at × (is_default (number_of file.versions at.0) ≡ true)
+
+-- a reference by a version
+abbrev pub is_by_version : Wanted → Bool
+is_by_version (Version _ _ _) = true
+is_by_version _ = false
+
+-- the default in the list of symbols: the one candidate that isn't hidden; nothing if there is none among those
+-- that look-ups must find, or if there are two
+pub data IsRightDefault {E : Type 0} (file : DynamicSymbols E) (name : List ℕ) (purpose : uses.Use) : Option (ℕ × E) → Type 0 where
+  alone : (at : ℕ × E) → StandsShown file name purpose at
+      → ((i : ℕ) (e : E) → MustServe file name purpose i e → is_default (number_of file.versions i) ≡ true → i ≡ at.0)
+      → IsRightDefault file name purpose (Some at)
+  all_hidden : ((i : ℕ) (e : E) → MustServe file name purpose i e → is_default (number_of file.versions i) ≡ false)
+      → IsRightDefault file name purpose None
+  several : (one other : ℕ × E) → StandsShown file name purpose one → StandsShown file name purpose other
+      → other.0 ≢ one.0 → IsRightDefault file name purpose None
+
+-- what is found in the list of symbols: a candidate that is accepted at once; if there is none, nothing for a
+-- reference by a version, and the default for another one
+pub data IsRight {E : Type 0} (file : DynamicSymbols E) (name : List ℕ) (wanted : Wanted) (purpose : uses.Use) : Option (ℕ × E) → Type 0 where
+  at_once : (at : ℕ × E) → Stands file name purpose at → accepted file.versions wanted at.0 ≡ Ok true
+      → IsRight file name wanted purpose (Some at)
+  no_version : is_by_version wanted ≡ true → NoneAccepted file name wanted purpose
+      → IsRight file name wanted purpose None
+  by_default : (found : Option (ℕ × E)) → is_by_version wanted ≡ false → NoneAccepted file name wanted purpose
+      → IsRightDefault file name purpose found → IsRight file name wanted purpose found
+
+-- there is no error, and what is found is what the list of symbols says
+abbrev pub FindsRight : {E : Type 0} → DynamicSymbols E → List ℕ → Wanted → uses.Use → Result (Option (ℕ × E)) LinkError → Type 0
+FindsRight file name wanted purpose answer = IsOkAnd answer (IsRight file name wanted purpose)
+
+-- the parts of such a search
+abbrev pub dynamic_symbols : {E : Type 0} → AnyTable → Symbols E → VersionTables → DynamicSymbols E
+dynamic_symbols table symbols versions = record { table = table; symbols = symbols; versions = versions }

@@ -1,0 +1,266 @@
+//! The dynamic symbols of a file, in one value (gABI, "Dynamic Section", "Hash Table" and "Symbol
+//! Table"; LSB, "Symbol Versioning").
+
+ghost use Rattle.std.specs.Borrow.{Bor};
+ghost use Rattle.std.specs.Prelude.{◌≡◌, ◌↔◌, ℕ, Contains, Err, IfOk, IsOk, MatchResult, Ok};
+ghost use Rattle.std.specs.Prelude.{Option, Result, Some, length, slice_get};
+ghost use Rattle.elf_base.specs.FileHeader.{file_order};
+ghost use Rattle.elf_base.specs.Table.{table_bytes, table_data, table_order};
+ghost use Rattle.elf_linking.specs.DynamicView.{LieAsSymbols, strings_of};
+ghost use Rattle.elf_linking.specs.DynamicView.{view_entries};
+ghost use Rattle.elf_linking.specs.Loaded.{lent};
+ghost use Rattle.elf_linking.specs.declared.error.LinkError.{LinkError};
+
+use crate::find::{Use, Wanted};
+use crate::versions::{SymbolVersion, Versions};
+use crate::view::{DynamicView, LinkedSymbol, text_by};
+use crate::{AnyTable, LinkError};
+use elf_base::bytes::{Record, Table};
+use xmas_elf::ElfFile;
+use xmas_elf::symbol_table::SymbolTable;
+
+/// The dynamic segment of a file with its symbols: the hash table, the symbols, the string table of
+/// their names, and the version tables.
+///
+/// They are read once, so that no call on this value reads the program headers or the dynamic
+/// segment again, or looks for a string table.
+#[derive(Drop)]
+pub struct DynamicObject<'a, E: Record> {
+    view: DynamicView<'a>,
+    table: AnyTable<'a>,
+    symbols: Table<'a, E>,
+    strings: &'a [u8],
+    versions: Versions<'a>,
+    file: ElfFile<'a>,
+    ghost found: { strings_of file ≡ Ok strings.now },
+}
+
+impl<'a, E: LinkedSymbol> DynamicObject<'a, E> {
+    ghost use Rattle.elf_linking.specs.AnyTable.{FindsAllBy, IsCheckBy, IsDefinedBy, IsGoodBy};
+    ghost use Rattle.elf_linking.specs.AnyTable.{LooksBy, LooksForDefined};
+    ghost use Rattle.elf_linking.specs.DynamicObject.{AreOfClass, AreRefused, IsNameAt, IsObject};
+    ghost use Rattle.elf_linking.specs.DynamicObject.{IsObjectRefused, object_dynamic_symbols};
+    ghost use Rattle.elf_linking.specs.DynamicObject.{object_name};
+    ghost use Rattle.elf_linking.specs.DynamicObject.{object_records, object_strings};
+    ghost use Rattle.elf_linking.specs.DynamicObject.{object_symbols, object_table};
+    ghost use Rattle.elf_linking.specs.DynamicObject.{object_versions, object_view};
+    ghost use Rattle.elf_linking.specs.Find.{AreReadable, FindsRight, IsFound};
+    ghost use Rattle.elf_linking.specs.VersionTables.{version_tables};
+    ghost use Rattle.elf_linking.specs.Versions.{IsVersion, version_at, version_item};
+    ghost use Rattle.elf_linking.specs.Versions.{versions_error};
+    ghost use Rattle.xmas_elf.specs.SymbolTable.{carried_strings, carried_table, table_symbols};
+    ghost use Rattle.xmas_elf.specs.Symbols.{Decides, IsMatch};
+
+    /// Reads the dynamic segment of a file of the class of `E`, and what it leads to.
+    ///
+    /// Errors, the first of these: those of `DynamicView::read`; those of `AnyTable::read`;
+    /// `UnknownClass` if the file has another class; those of `DynamicView::symbols`; those of
+    /// `DynamicView::strings`; those of `Versions::read`.
+    #[tactic(auto, unfolding(crate::specs::DynamicView::strings_of))]
+    pub fn read(file: &ElfFile<'a>) -> Result<Self, LinkError>
+        ensures exact { MatchResult result (IsObject E.CLASS E.SIZE file.now)
+            (IsObjectRefused E.CLASS E.SIZE file.now) }
+        ensures only { (error : LinkError) → IsObjectRefused E.CLASS E.SIZE file.now error
+            → result ≡ Err error }
+    {
+        let view = match DynamicView::read(file) {
+            Ok(view) => view,
+            Err(error) => return Err(error),
+        };
+        let table = match AnyTable::read(&view, file) {
+            Ok(table) => table,
+            Err(error) => return Err(error),
+        };
+        let symbols = match Self::symbols_of_class(&view, file) {
+            Ok(symbols) => symbols,
+            Err(error) => return Err(error),
+        };
+        let strings = match view.strings() {
+            Ok(strings) => strings,
+            Err(error) => return Err(error),
+        };
+        match Versions::read(&view, file, symbols.len() as u64) {
+            Ok(versions) => Ok(Self {
+                view,
+                table,
+                symbols,
+                strings,
+                versions,
+                file: ElfFile {
+                    input: file.input,
+                    header: file.header,
+                },
+            }),
+            Err(error) => Err(error),
+        }
+    }
+
+    /// The dynamic segment: its entries, the libraries that the file needs, and the file's own name.
+    pub fn view(&self) -> DynamicView<'a>
+        ensures { result ≡ object_view self.now }
+    {
+        self.view
+    }
+
+    /// The hash table of the symbols.
+    pub fn table(&self) -> AnyTable<'a>
+        ensures { result ≡ object_table self.now }
+    {
+        self.table
+    }
+
+    /// The version tables.
+    pub fn versions(&self) -> Versions<'a>
+        ensures { result ≡ object_versions self.now }
+    {
+        self.versions
+    }
+
+    /// The symbols with their names.
+    pub fn symbols(&self) -> SymbolTable<'a, E>
+        ensures symbols { table_symbols result ≡ object_symbols E.fields E.text_in self.now }
+        ensures table { carried_table result ≡ object_records self.now }
+        ensures strings { carried_strings result ≡ Some (Ok (object_strings self.now)) }
+    {
+        SymbolTable::with_strings(self.symbols, self.strings, &self.file)
+    }
+
+    /// The number of symbols.
+    pub fn symbol_count(&self) -> usize
+        ensures { result ≡ length (object_symbols E.fields E.text_in self.now).items }
+    {
+        self.symbols.len()
+    }
+
+    /// The symbol at an index, or `None` if it is `symbol_count` or more.
+    pub fn symbol(&self, index: u32) -> Option<E>
+        ensures { result ≡ slice_get (object_symbols E.fields E.text_in self.now).items index }
+    {
+        self.symbols.get(index as usize)
+    }
+
+    /// The name of the symbol at an index, which lives as long as the input.
+    ///
+    /// Errors: `SymbolIndex` if there is no such symbol; `Elf` with those of `bytes::text_at`.
+    pub fn name(&self, index: u32) -> Result<&'a str, LinkError>
+        ensures text { let all = object_symbols E.fields E.text_in self.now in
+            IsNameAt all.text (slice_get all.items index) result }
+        ensures exact { lent result ≡ object_name E.fields self.now index }
+    {
+        match self.symbol(index) {
+            Some(symbol) => text_by(Ok(self.strings), u64::from(symbol.name())),
+            None => Err(LinkError::SymbolIndex),
+        }
+    }
+
+    /// The version of the symbol at an index: the result of `Versions::version_of`.
+    pub fn version(&self, index: u32) -> Result<Option<SymbolVersion<'a>>, LinkError>
+        ensures answer { IsVersion (version_tables (object_versions self.now)) index
+            (version_item result) }
+        ensures exact { version_item result
+            ≡ version_at (version_tables (object_versions self.now)) index }
+    {
+        self.versions.version_of(index)
+    }
+
+    /// Checks that look-ups find every symbol that the hash table is for: the result of
+    /// `AnyTable::check`.
+    pub fn check(&self) -> Result<(), LinkError>
+        ensures accepts { IsOk result
+            ↔ IsGoodBy (object_table self.now) (object_symbols E.fields E.text_in self.now) }
+        ensures exact { IsCheckBy (object_table self.now)
+            (object_symbols E.fields E.text_in self.now) result }
+    {
+        self.table.check(&self.symbols())
+    }
+
+    /// Checks that the versions of the symbols can be read: the result of `Versions::check` for
+    /// their number.
+    pub fn check_versions(&self) -> Result<(), LinkError>
+        ensures accepts { IsOk result
+            ↔ AreReadable (object_dynamic_symbols E.fields E.text_in self.now) }
+        ensures exact { result ≡ versions_error (version_tables (object_versions self.now))
+            (length (object_symbols E.fields E.text_in self.now).items) }
+    {
+        self.versions.check(self.symbols.len())
+    }
+
+    /// The result of `AnyTable::lookup`, with the same contract.
+    pub fn lookup<F: Fn(&E) -> bool>(&self, name: &str, f: F) -> Result<Option<(u32, E)>, LinkError>
+        requires callable { (e : Bor E)
+            → Contains (object_symbols E.fields E.text_in self.now).items e.now → F.pre f e }
+        ensures answer { let all = object_symbols E.fields E.text_in self.now in
+            Decides all F.Fn f → (count : ℕ)
+            × LooksBy (IsMatch all F.Fn f name.now) (object_table self.now) all.items name.now
+            result count }
+        ensures only { let all = object_symbols E.fields E.text_in self.now in
+            Decides all F.Fn f → (other : Result (Option (ℕ × E)) LinkError) (count : ℕ)
+            → LooksBy (IsMatch all F.Fn f name.now) (object_table self.now) all.items name.now
+            other count → other ≡ result }
+        ensures good { let all = object_symbols E.fields E.text_in self.now in
+            Decides all F.Fn f → IsGoodBy (object_table self.now) all
+            → FindsAllBy (object_table self.now) all name.now (IsMatch all F.Fn f name.now) result }
+    {
+        self.table.lookup(name, &self.symbols(), f)
+    }
+
+    /// The result of `AnyTable::defined_symbol`, with the same contract.
+    pub fn defined_symbol(&self, name: &str) -> Option<(u32, E)>
+        requires good { IsGoodBy (object_table self.now)
+            (object_symbols E.fields E.text_in self.now) }
+        ensures found { IsDefinedBy (object_table self.now)
+            (object_symbols E.fields E.text_in self.now) name.now result }
+        ensures answer { LooksForDefined (object_table self.now)
+            (object_symbols E.fields E.text_in self.now) name.now result }
+    {
+        self.table.defined_symbol(name, &self.symbols())
+    }
+
+    /// The symbol that a reference gets, with its index. A candidate has the name and serves the
+    /// use, and a symbol without a type, a value or a section that look-ups can return serves none.
+    ///
+    /// For `Wanted::Version` it is the first candidate in the chain of the name whose version is
+    /// accepted. For `Unversioned` and `Newest` it is the first that `Wanted::accepts`; if there is
+    /// none, and exactly one candidate isn't hidden, that one. Otherwise `None`.
+    ///
+    /// Errors: those of `AnyTable::lookup_where`; those of `Wanted::accepts` for a candidate before
+    /// the first that is accepted. If `check` and `check_versions` are Ok, there is no error, and
+    /// no symbol is missed. A call goes through the chain of the name three times at most, and for
+    /// `Wanted::Version` through the definitions and needs for each candidate.
+    pub fn find(
+        &self,
+        name: &str,
+        wanted: &Wanted<'_>,
+        use_: Use,
+    ) -> Result<Option<(u32, E)>, LinkError>
+        ensures answer { IsFound (object_dynamic_symbols E.fields E.text_in self.now) name.now
+            wanted.now use_ result }
+        ensures only { (other : Result (Option (ℕ × E)) LinkError)
+            → IsFound (object_dynamic_symbols E.fields E.text_in self.now) name.now wanted.now use_
+            other → other ≡ result }
+        ensures good { let file = object_dynamic_symbols E.fields E.text_in self.now in
+            IsGoodBy file.table file.symbols → AreReadable file
+            → FindsRight file name.now wanted.now use_ result }
+    {
+        self.table
+            .find_in(name, &self.symbols(), &self.versions, wanted, use_)
+    }
+
+    // The symbols of a file, if it has their class.
+    fn symbols_of_class(
+        view: &DynamicView<'a>,
+        file: &ElfFile<'a>,
+    ) -> Result<Table<'a, E>, LinkError>
+        ensures exact { MatchResult result
+            (λ symbols. AreOfClass E.CLASS E.SIZE file.now (view_entries view.now) (table_data symbols)
+            × (table_order symbols ≡ file_order file.now.header))
+            (AreRefused E.CLASS E.SIZE file.now (view_entries view.now)) }
+        ensures place { IfOk result (λ symbols.
+            LieAsSymbols file.now (view_entries view.now) (table_bytes symbols)) }
+    {
+        if file.header.pt1.class.raw() != E::CLASS {
+            return Err(LinkError::UnknownClass);
+        }
+        view.symbols(file)
+    }
+}

@@ -1,0 +1,73 @@
+//! A line for each library that a file needs: its name.
+
+ghost use Rattle.std.specs.Prelude.{OnOk};
+ghost use Rattle.elf_linking.specs.DynamicView.{needed_of};
+ghost use Rattle.elf_linking.specs.Loaded.{lent};
+ghost use Rattle.elfsym.specs.Libraries.{AreFileLibraries, AreInputLibraries, AreLibraryLines};
+ghost use Rattle.elfsym.specs.Libraries.{IsLibraryLine};
+ghost use Rattle.program_ends.proofs.Flushed.{appended_flushed};
+ghost use Rattle.program_ends.specs.Appended.{AppendsSome};
+
+use elf_linking::LinkError;
+use elf_linking::view::DynamicView;
+use program_ends::{Output, Stop};
+use std::io::Write;
+use xmas_elf::ElfFile;
+
+// A line for each library that the file that these bytes are needs.
+#[derive(Clone, Copy)]
+pub(crate) struct Libraries<'a>(pub(crate) &'a [u8]);
+
+impl Output for Libraries<'_> {
+    ghost Writes = { λ libraries. AppendsSome (AreInputLibraries libraries.0) };
+
+    ghost flushed = { λ libraries. appended_flushed (AreInputLibraries libraries.0) };
+
+    type Refusal = LinkError;
+
+    fn write_to<W: Write>(&self, out: &mut W) -> Result<(), Stop<LinkError>> {
+        match ElfFile::new(self.0) {
+            Ok(file) => write_libraries(&file, out),
+            Err(error) => Err(Stop::Refused(LinkError::Elf(error))),
+        }
+    }
+}
+
+// The lines of a file.
+fn write_libraries<W: Write>(file: &ElfFile<'_>, out: &mut W) -> Result<(), Stop<LinkError>>
+    ensures { OnOk result (AppendsSome (AreFileLibraries file.now)
+        (W.contents out.old) (W.contents out.new)) }
+{
+    match DynamicView::read(file) {
+        Ok(view) => write_needed(&view, out),
+        Err(error) => Err(Stop::Refused(error)),
+    }
+}
+
+// The lines by a view of the dynamic segment.
+fn write_needed<W: Write>(view: &DynamicView<'_>, out: &mut W) -> Result<(), Stop<LinkError>>
+    ensures { OnOk result (AppendsSome (AreLibraryLines (needed_of view.now))
+        (W.contents out.old) (W.contents out.new)) }
+{
+    for name in view.needed() {
+        write_library(name, out)?;
+    }
+    Ok(())
+}
+
+// The line of a library, by its name.
+fn write_library<W: Write>(
+    name: Result<&str, LinkError>,
+    out: &mut W,
+) -> Result<(), Stop<LinkError>>
+    ensures { OnOk result (AppendsSome (IsLibraryLine (lent name.entry))
+        (W.contents out.old) (W.contents out.new)) }
+{
+    match name {
+        Ok(text) => {
+            writeln!(out, "{text}")?;
+            Ok(())
+        }
+        Err(error) => Err(Stop::Refused(error)),
+    }
+}

@@ -1,0 +1,69 @@
+//! Callers that read the dynamic symbols of a file once, and answer all about them by what was
+//! read.
+
+ghost use Rattle.std.specs.Prelude.{◌≡◌, ℕ, MatchOption};
+ghost use Rattle.elf_linking.specs.AnyTable.{IsDefined, IsGoodBy, NoneDefined};
+ghost use Rattle.elf_linking.specs.DynamicObject.{IsObjectRefused, object_name, object_symbols};
+ghost use Rattle.elf_linking.specs.DynamicObject.{object_table, object_versions};
+ghost use Rattle.elf_linking.specs.VersionTables.{version_tables};
+ghost use Rattle.elf_linking.specs.declared.error.LinkError.{LinkError};
+ghost use Rattle.linking_callers.specs.LinkedName.{IsLinkedName, named_version, with_version};
+
+use elf_linking::versions::SymbolVersion;
+use elf_linking::view::{LinkedEntry32, LinkedEntry64, LinkedSymbol};
+use elf_linking::{DynamicObject, LinkError};
+use xmas_elf::ElfFile;
+
+/// The value of the symbol that is defined and has this name, by an object whose check passed; `None`
+/// if each symbol with the name that look-ups must find is undefined.
+pub fn defined_value<E: LinkedSymbol>(object: &DynamicObject<'_, E>, name: &str) -> Option<u64>
+    requires good { IsGoodBy (object_table object.now)
+        (object_symbols E.fields E.text_in object.now) }
+    ensures { let all = object_symbols E.fields E.text_in object.now in MatchOption result
+        (NoneDefined (object_table object.now) all name.now)
+        (λ value. (i : ℕ) × (e : E) × IsDefined (object_table object.now) all i e name.now
+        × (value ≡ (E.fields e).value)) }
+{
+    match object.defined_symbol(name) {
+        Some((_index, symbol)) => Some(symbol.value()),
+        None => None,
+    }
+}
+
+/// The name of the symbol at an index, with its version. Refused as `name` is, and then as `version`
+/// is.
+pub fn name_and_version<'a, E: LinkedSymbol>(
+    object: &DynamicObject<'a, E>,
+    index: u32,
+) -> Result<(&'a str, Option<SymbolVersion<'a>>), LinkError>
+    ensures { named_version result ≡ with_version (object_name E.fields object.now index)
+        (version_tables (object_versions object.now)) index }
+{
+    let name = object.name(index)?;
+    let version = object.version(index)?;
+    Ok((name, version))
+}
+
+/// The name of the symbol at an index in a file of class 64. Refused as `DynamicObject::read` is,
+/// and then as `name` is.
+pub fn symbol_name<'a>(file: &ElfFile<'a>, index: u32) -> Result<&'a str, LinkError>
+    ensures { IsLinkedName file.now index result }
+{
+    match DynamicObject::<LinkedEntry64>::read(file) {
+        Ok(object) => object.name(index),
+        Err(error) => Err(error),
+    }
+}
+
+/// Why the dynamic symbols of a file can't be read as those of class 32; `None` if nothing is
+/// refused.
+pub fn narrow_refusal(file: &ElfFile<'_>) -> Option<LinkError>
+    ensures { MatchOption result
+        ((error : LinkError) → IsObjectRefused 1 16 file.now error → ⊥)
+        (IsObjectRefused 1 16 file.now) }
+{
+    match DynamicObject::<LinkedEntry32>::read(file) {
+        Ok(_object) => None,
+        Err(error) => Some(error),
+    }
+}

@@ -1,0 +1,673 @@
+//! The symbol that a reference by a name and a version gets: rows worked by hand from the rules
+//! over files in which up to three symbols have one name, and shared objects with two versions of
+//! one.
+
+mod file;
+
+use crate::tests::find::Asked::{By, Hidden};
+use crate::tests::find::file::{
+    DEFINITIONS, KINDS, Kind, Symbol, drop_numbers, find_file, set_symbol,
+};
+use crate::tests::versions::file::{Field, set_fields};
+use crate::tests::versions::shared_object::{NARROW, NARROW_TABLES, WIDE, WIDE_TABLES};
+use crate::tests::want::{open, want, want_at};
+use elf_base::ElfError;
+use elf_linking::find::{Use, Wanted};
+use elf_linking::view::{LinkedEntry32, LinkedEntry64, LinkedSymbol};
+use elf_linking::{DynamicObject, LinkError};
+use linking_callers::callers::find::{default_value, versioned_value};
+use std::process::Abort;
+use worked_files::places::put;
+
+const SHORT: LinkError = LinkError::ShortVersion;
+
+const PAST: LinkError = LinkError::Elf(ElfError::TextStart);
+
+// What a reference asks for: a version by its name and its hash number, which is hidden or not, or
+// none.
+#[derive(Clone, Copy, Debug)]
+enum Asked {
+    By(&'static str, u32),
+    Hidden(&'static str, u32),
+    Plain,
+    Latest,
+}
+
+impl Asked {
+    fn wanted(self) -> Wanted<'static> {
+        match self {
+            Asked::By(name, hash) => Wanted::Version {
+                name,
+                hash,
+                hidden: false,
+            },
+            Asked::Hidden(name, hash) => Wanted::Version {
+                name,
+                hash,
+                hidden: true,
+            },
+            Asked::Plain => Wanted::Unversioned,
+            Asked::Latest => Wanted::Newest,
+        }
+    }
+}
+
+const PLAIN: Asked = Asked::Plain;
+
+const LATEST: Asked = Asked::Latest;
+
+const V1: Asked = By("V1", 0x591);
+
+const V2: Asked = By("V2", 0x592);
+
+const V3: Asked = By("V3", 0x593);
+
+const HIDDEN_V1: Asked = Hidden("V1", 0x591);
+
+type Found = Result<Option<(u32, u64)>, LinkError>;
+
+// The index and the value of the symbol that a reference gets.
+fn found_of<E: LinkedSymbol>(
+    rt: &impl Abort,
+    bytes: &[u8],
+    name: &str,
+    wanted: &Wanted<'_>,
+    use_: Use,
+) -> Found {
+    let file = open(rt, bytes);
+    let object = DynamicObject::<E>::read(&file)?;
+    match object.find(name, wanted, use_) {
+        Ok(Some((index, symbol))) => Ok(Some((index, symbol.value()))),
+        Ok(None) => Ok(None),
+        Err(error) => Err(error),
+    }
+}
+
+// The same in a file of either class.
+fn found_in(
+    rt: &impl Abort,
+    class: u8,
+    bytes: &[u8],
+    name: &str,
+    wanted: &Wanted<'_>,
+    use_: Use,
+) -> Found {
+    if class == 1 {
+        found_of::<LinkedEntry32>(rt, bytes, name, wanted, use_)
+    } else {
+        found_of::<LinkedEntry64>(rt, bytes, name, wanted, use_)
+    }
+}
+
+// The index of the symbol `ab` that any use gets; each has 16 times its index as its value.
+fn index_in(
+    rt: &impl Abort,
+    class: u8,
+    bytes: &[u8],
+    asked: Asked,
+) -> Result<Option<u32>, LinkError> {
+    match found_in(rt, class, bytes, "ab", &asked.wanted(), Use::Any) {
+        Ok(Some((index, value))) => {
+            want(rt, value, u64::from(index).wrapping_mul(16));
+            Ok(Some(index))
+        }
+        Ok(None) => Ok(None),
+        Err(error) => Err(error),
+    }
+}
+
+// The numbers of symbols from index 1 on, which version is asked for, and the symbol found. Number
+// 2 is V1, number 3 is V2; number 4 is V3 and number 5 the hidden V4 of a library; nothing bears 9.
+const BY_VERSION: &[(&[u16], Asked, Option<u32>)] = &[
+    (&[], V1, None),
+    (&[0x8002, 3], V1, Some(1)),
+    (&[0x8002, 3], V2, Some(2)),
+    (&[0x8002, 3], V3, None),
+    (&[3, 0x8002], V1, Some(2)),
+    (&[3, 2], V1, Some(2)),
+    (&[3, 2, 2], V1, Some(2)),
+    // the default is no answer to another version
+    (&[3], V1, None),
+    (&[3], V3, None),
+    (&[4, 3], V3, Some(1)),
+    (&[3, 0x8005], By("V4", 0x594), Some(2)),
+    // the name and the hash number must both be the same
+    (&[2, 3], By("V2", 0x591), None),
+    (&[2, 3], By("V1", 0x592), None),
+    (&[2], By("V1", 0), None),
+    (&[2], By("", 0x591), None),
+    // a hidden version, which asks for no other
+    (&[2], HIDDEN_V1, Some(1)),
+    (&[3, 0x8002], HIDDEN_V1, Some(2)),
+    // a version without a hash number is accepted too, if neither is hidden
+    (&[9], V1, Some(1)),
+    (&[0x8009], V1, None),
+    (&[9], HIDDEN_V1, None),
+    (&[0x8009], HIDDEN_V1, None),
+    (&[0], V1, Some(1)),
+    (&[1], V1, Some(1)),
+    (&[0x8001], V1, None),
+    (&[1], HIDDEN_V1, None),
+    (&[9, 2], V1, Some(1)),
+    (&[0x8009, 2], V1, Some(2)),
+    (&[9, 2], HIDDEN_V1, Some(2)),
+];
+
+// The same for a reference without a version: what `Unversioned` finds, and `Newest`.
+const BY_NONE: &[(&[u16], Option<u32>, Option<u32>)] = &[
+    (&[], None, None),
+    // a number below 3 or below 2, hidden or not
+    (&[0], Some(1), Some(1)),
+    (&[1], Some(1), Some(1)),
+    (&[0x8000], Some(1), Some(1)),
+    (&[0x8001], Some(1), Some(1)),
+    (&[0x8002], Some(1), None),
+    (&[0x8002, 3], Some(1), Some(2)),
+    (&[3, 2], Some(2), None),
+    (&[3, 0x8002], Some(2), Some(1)),
+    (&[3, 4, 1], Some(3), Some(3)),
+    (&[3, 2, 1], Some(2), Some(3)),
+    // one default
+    (&[2], Some(1), Some(1)),
+    (&[3], Some(1), Some(1)),
+    (&[9], Some(1), Some(1)),
+    (&[3, 0x8004], Some(1), Some(1)),
+    (&[0x8004, 3], Some(2), Some(2)),
+    (&[0x8003, 0x8004, 3], Some(3), Some(3)),
+    (&[0x8003, 0x7fff, 0xffff], Some(2), Some(2)),
+    // two and three of them
+    (&[3, 4], None, None),
+    (&[3, 3], None, None),
+    (&[3, 0x8003, 9], None, None),
+    (&[3, 4, 5], None, None),
+    // none
+    (&[0x8003], None, None),
+    (&[0x8009], None, None),
+    (&[0x8003, 0x8004, 0xffff], None, None),
+];
+
+#[test]
+fn finds_a_symbol_by_its_version(rt: HostRuntime) {
+    for (row, &(numbers, asked, index)) in BY_VERSION.iter().enumerate() {
+        for &kind in KINDS {
+            let bytes = find_file(kind, numbers);
+            want_at(
+                &rt,
+                (row, kind),
+                index_in(&rt, kind.0, &bytes, asked),
+                Ok(index),
+            );
+        }
+    }
+}
+
+#[test]
+fn finds_a_symbol_without_a_version(rt: HostRuntime) {
+    for (row, &(numbers, plain, latest)) in BY_NONE.iter().enumerate() {
+        for &kind in KINDS {
+            let bytes = find_file(kind, numbers);
+            want_at(
+                &rt,
+                (row, kind),
+                index_in(&rt, kind.0, &bytes, PLAIN),
+                Ok(plain),
+            );
+            want_at(
+                &rt,
+                (row, kind),
+                index_in(&rt, kind.0, &bytes, LATEST),
+                Ok(latest),
+            );
+        }
+    }
+}
+
+// In a file without numbers of symbols each symbol is accepted.
+#[test]
+fn finds_the_first_symbol_without_numbers(rt: HostRuntime) {
+    for (row, asked) in [V1, HIDDEN_V1, By("", 0), PLAIN, LATEST].iter().enumerate() {
+        for &kind in KINDS {
+            let mut bytes = find_file(kind, &[0x8003, 3, 4]);
+            drop_numbers(&mut bytes, kind);
+            want_at(
+                &rt,
+                (row, kind),
+                index_in(&rt, kind.0, &bytes, *asked),
+                Ok(Some(1)),
+            );
+        }
+    }
+}
+
+// A symbol, and whether it serves any use, one that wants a defined symbol, and a copy.
+const SERVING: &[(Symbol, bool, bool, bool)] = &[
+    ((0x12, 5, 0x10), true, true, true),
+    ((0x22, 5, 0x10), true, true, true),
+    // undefined, as a function that is called through the file's own table
+    ((0x12, 0, 0x10), true, false, true),
+    ((0x12, 0, 0), false, false, false),
+    // the value 0: in a section, absolute, common, and thread-local
+    ((0x11, 5, 0), false, false, false),
+    ((0x11, 0xfff1, 0), true, true, true),
+    ((0x12, 0xfff1, 0), true, true, true),
+    ((0x11, 0xfff2, 0), false, false, false),
+    ((0x16, 5, 0), true, true, true),
+    ((0x16, 0, 0), true, false, true),
+    // each type
+    ((0x10, 5, 0x10), true, true, true),
+    ((0x11, 5, 0x10), true, true, true),
+    ((0x13, 5, 0x10), false, false, false),
+    ((0x14, 0xfff1, 0x10), false, false, false),
+    ((0x15, 5, 0x10), true, true, true),
+    ((0x16, 5, 0x10), true, true, true),
+    ((0x17, 5, 0x10), false, false, false),
+    ((0x18, 5, 0x10), false, false, false),
+    ((0x19, 5, 0x10), false, false, false),
+    ((0x1a, 5, 0x10), true, true, true),
+    ((0x1a, 5, 0), false, false, false),
+    ((0x1b, 5, 0x10), false, false, false),
+    ((0x1f, 5, 0x10), false, false, false),
+];
+
+// Wants symbol 1 for a use if it serves it, and otherwise symbol 2, which has the same number.
+fn check_serving(rt: &impl Abort, row: usize, symbol: Symbol, use_: Use, serves: bool) {
+    let wanted = if serves { (1, symbol.2) } else { (2, 0x20) };
+    for &kind in KINDS {
+        let mut bytes = find_file(kind, &[2, 2]);
+        set_symbol(&mut bytes, kind, 1, symbol);
+        let found = found_in(rt, kind.0, &bytes, "ab", &V1.wanted(), use_);
+        want_at(rt, (row, use_, kind), found, Ok(Some(wanted)));
+    }
+}
+
+#[test]
+fn passes_over_symbols_that_do_not_serve(rt: HostRuntime) {
+    for (row, &(symbol, any, defined, copy)) in SERVING.iter().enumerate() {
+        check_serving(&rt, row, symbol, Use::Any, any);
+        check_serving(&rt, row, symbol, Use::Defined, defined);
+        check_serving(&rt, row, symbol, Use::Copy, copy);
+    }
+}
+
+// Two symbols that aren't hidden, the first of which is undefined: only one serves a jump slot.
+#[test]
+fn counts_no_default_that_does_not_serve(rt: HostRuntime) {
+    for &kind in KINDS {
+        let mut bytes = find_file(kind, &[3, 4]);
+        set_symbol(&mut bytes, kind, 1, (0x12, 0, 0x10));
+        let found = found_in(&rt, kind.0, &bytes, "ab", &PLAIN.wanted(), Use::Defined);
+        want_at(&rt, kind, found, Ok(Some((2, 0x20))));
+        let found = found_in(&rt, kind.0, &bytes, "ab", &PLAIN.wanted(), Use::Any);
+        want_at(&rt, kind, found, Ok(None));
+        let found = found_in(&rt, kind.0, &bytes, "cd", &PLAIN.wanted(), Use::Any);
+        want_at(&rt, kind, found, Ok(None));
+    }
+}
+
+type Answer = Result<Option<u32>, LinkError>;
+
+// The definition of V1 ends the list, and its next is past the end; its name is past the end of the
+// strings, or its record of names is cut off; its hash number is 0; and V2 has the same as V1.
+const CUT: Field = (44, 4, 0x1000);
+
+const PAST_STRINGS: Field = (48, 4, 0x1000);
+
+const CUT_NAME: Field = (40, 4, 0x1000);
+
+const NO_HASH: Field = (36, 4, 0);
+
+const SAME_HASH: Field = (64, 4, 0x591);
+
+// Changed fields of the definitions, the numbers of symbols, which version is asked for, and what
+// is found, or why it can't be told.
+const UNREADABLE: &[(&[Field], &[u16], Asked, Answer)] = &[
+    (&[CUT], &[2], V1, Ok(Some(1))),
+    (&[CUT], &[3], V1, Err(SHORT)),
+    (&[CUT], &[3], V2, Err(SHORT)),
+    (&[CUT], &[4], V3, Err(SHORT)),
+    (&[CUT], &[3, 2], V1, Err(SHORT)),
+    (&[CUT], &[9, 2], V1, Err(SHORT)),
+    (&[CUT], &[2, 3], V1, Ok(Some(1))),
+    (&[CUT], &[1, 3], V1, Ok(Some(1))),
+    (&[CUT], &[0x8001, 2, 3], V1, Ok(Some(2))),
+    (&[CUT], &[2, 3], V2, Err(SHORT)),
+    // a reference without a version reads none
+    (&[CUT], &[3], PLAIN, Ok(Some(1))),
+    (&[CUT], &[3], LATEST, Ok(Some(1))),
+    (&[CUT], &[3, 1], PLAIN, Ok(Some(2))),
+    // a name is read only if the hash number is the same
+    (&[PAST_STRINGS], &[2], V1, Err(PAST)),
+    (&[PAST_STRINGS], &[2, 3], V2, Ok(Some(2))),
+    (&[PAST_STRINGS], &[3, 2], V1, Err(PAST)),
+    (&[PAST_STRINGS], &[1, 2], V1, Ok(Some(1))),
+    (&[CUT_NAME], &[2], V1, Err(SHORT)),
+    (&[CUT_NAME], &[2, 3], V2, Ok(Some(2))),
+    (&[PAST_STRINGS, NO_HASH], &[2], By("V1", 0), Err(PAST)),
+    // a version with the hash number 0 is accepted in place of each that isn't hidden
+    (&[NO_HASH], &[2], V2, Ok(Some(1))),
+    (&[NO_HASH], &[2], V1, Ok(Some(1))),
+    (&[NO_HASH], &[0x8002], V1, Ok(None)),
+    (&[NO_HASH], &[2], HIDDEN_V1, Ok(None)),
+    (&[NO_HASH], &[0x8002], By("V1", 0), Ok(Some(1))),
+    (&[NO_HASH], &[0x8002, 2], Hidden("V2", 0), Ok(None)),
+    // two versions with the same hash number
+    (&[SAME_HASH], &[3, 2], V1, Ok(Some(2))),
+    (&[SAME_HASH], &[3, 2], By("V2", 0x591), Ok(Some(1))),
+    (&[SAME_HASH], &[3], V2, Ok(None)),
+];
+
+#[test]
+fn tells_why_a_version_is_not_accepted(rt: HostRuntime) {
+    for (row, &(fields, numbers, asked, answer)) in UNREADABLE.iter().enumerate() {
+        for &kind in KINDS {
+            let mut bytes = find_file(kind, numbers);
+            set_fields(&mut bytes, DEFINITIONS, fields, kind.1);
+            want_at(
+                &rt,
+                (row, kind),
+                index_in(&rt, kind.0, &bytes, asked),
+                answer,
+            );
+        }
+    }
+}
+
+// Whether a reference accepts a symbol at once: those with the numbers 2, hidden 3 and 9.
+const ACCEPTED: &[(u32, Asked, Result<bool, LinkError>)] = &[
+    (0, V1, Ok(true)),
+    (1, V1, Ok(true)),
+    (1, V2, Ok(false)),
+    (2, V2, Ok(true)),
+    (3, V1, Ok(true)),
+    (3, HIDDEN_V1, Ok(false)),
+    (1, PLAIN, Ok(true)),
+    (2, PLAIN, Ok(false)),
+    (3, PLAIN, Ok(false)),
+    (0, LATEST, Ok(true)),
+    (1, LATEST, Ok(false)),
+    (4, V1, Err(LinkError::SymbolIndex)),
+    (4, PLAIN, Err(LinkError::SymbolIndex)),
+    (u32::MAX, LATEST, Err(LinkError::SymbolIndex)),
+];
+
+#[test]
+fn accepts_a_symbol_by_its_index(rt: HostRuntime) -> Result<(), LinkError> {
+    for &kind in KINDS {
+        let bytes = find_file(kind, &[2, 0x8003, 9]);
+        let file = open(&rt, &bytes);
+        let versions = if kind.0 == 1 {
+            DynamicObject::<LinkedEntry32>::read(&file)?.versions()
+        } else {
+            DynamicObject::<LinkedEntry64>::read(&file)?.versions()
+        };
+        for &(index, asked, accepted) in ACCEPTED {
+            want_at(
+                &rt,
+                (index, asked),
+                asked.wanted().accepts(&versions, index),
+                accepted,
+            );
+        }
+    }
+    Ok(())
+}
+
+// What a reference to a name of the shared objects gets, by `readelf -W --dyn-syms -V`: `ab@@V2` is
+// symbol 3 with number 3, and `ab@V1` symbol 4 with the hidden number 2.
+const LINKED: &[(&str, Asked, Option<u32>)] = &[
+    ("ab", V1, Some(4)),
+    ("ab", V2, Some(3)),
+    ("ab", V3, None),
+    ("ab", HIDDEN_V1, Some(4)),
+    ("ab", PLAIN, Some(4)),
+    ("ab", LATEST, Some(3)),
+    ("call", V1, None),
+    ("call", V2, Some(5)),
+    ("call", PLAIN, Some(5)),
+    ("call", LATEST, Some(5)),
+    ("V1", V1, Some(2)),
+    ("V1", V2, None),
+    ("outer", By("W1", 0x5a1), None),
+    ("outer", PLAIN, None),
+    ("a", PLAIN, None),
+];
+
+// The index of the symbol that a jump slot gets.
+fn linked_index(rt: &impl Abort, class: u8, bytes: &[u8], name: &str, asked: Asked) -> Answer {
+    match found_in(rt, class, bytes, name, &asked.wanted(), Use::Defined) {
+        Ok(Some((index, _value))) => Ok(Some(index)),
+        Ok(None) => Ok(None),
+        Err(error) => Err(error),
+    }
+}
+
+#[test]
+fn finds_versions_that_a_linker_wrote(rt: HostRuntime) {
+    for (row, &(name, asked, index)) in LINKED.iter().enumerate() {
+        want_at(
+            &rt,
+            row,
+            linked_index(&rt, 1, NARROW, name, asked),
+            Ok(index),
+        );
+        want_at(&rt, row, linked_index(&rt, 2, WIDE, name, asked), Ok(index));
+    }
+    for (name, values) in [("V1", (0x240, 0x2f0)), ("V2", (0x246, 0x2f6))] {
+        let wanted = Wanted::version(name);
+        let found = found_in(&rt, 1, NARROW, "ab", &wanted, Use::Copy);
+        want_at(
+            &rt,
+            name,
+            found.map(|found| found.map(|found| found.1)),
+            Ok(Some(values.0)),
+        );
+        let found = found_in(&rt, 2, WIDE, "ab", &wanted, Use::Copy);
+        want_at(
+            &rt,
+            name,
+            found.map(|found| found.map(|found| found.1)),
+            Ok(Some(values.1)),
+        );
+    }
+}
+
+// The values of `ab@V1` and `ab@@V2` by an object whose checks passed.
+fn check_values<E: LinkedSymbol>(
+    rt: &impl Abort,
+    bytes: &[u8],
+    values: (u64, u64),
+) -> Result<(), LinkError> {
+    let file = open(rt, bytes);
+    let object = DynamicObject::<E>::read(&file)?;
+    object.check()?;
+    object.check_versions()?;
+    want(rt, default_value(&object, "ab"), Some(values.1));
+    want(rt, default_value(&object, "outer"), None);
+    want(rt, versioned_value(&object, "ab", "V1"), Some(values.0));
+    want(rt, versioned_value(&object, "ab", "V2"), Some(values.1));
+    want(rt, versioned_value(&object, "ab", "W1"), None);
+    want(rt, versioned_value(&object, "call", "V1"), None);
+    Ok(())
+}
+
+#[test]
+fn finds_values_by_versions(rt: HostRuntime) -> Result<(), LinkError> {
+    check_values::<LinkedEntry32>(&rt, NARROW, (0x240, 0x246))?;
+    check_values::<LinkedEntry64>(&rt, WIDE, (0x2f0, 0x2f6))
+}
+
+// Changed fields of the definitions, and whether the versions of the symbols can be read.
+const CHECKED: &[(&[Field], Result<(), LinkError>)] = &[
+    (&[], Ok(())),
+    (&[CUT], Err(SHORT)),
+    (&[PAST_STRINGS], Err(PAST)),
+    (&[CUT_NAME], Err(SHORT)),
+    (&[NO_HASH], Ok(())),
+    (&[SAME_HASH], Ok(())),
+];
+
+#[test]
+fn checks_that_versions_can_be_read(rt: HostRuntime) -> Result<(), LinkError> {
+    for (row, &(fields, answer)) in CHECKED.iter().enumerate() {
+        for &kind in KINDS {
+            let mut bytes = find_file(kind, &[2, 3]);
+            set_fields(&mut bytes, DEFINITIONS, fields, kind.1);
+            let file = open(&rt, &bytes);
+            let checked = if kind.0 == 1 {
+                DynamicObject::<LinkedEntry32>::read(&file)?.check_versions()
+            } else {
+                DynamicObject::<LinkedEntry64>::read(&file)?.check_versions()
+            };
+            want_at(&rt, (row, kind), checked, answer);
+        }
+    }
+    Ok(())
+}
+
+// Where the fields lie that a reference to `ab` reads, from the start of the version tables on: the
+// numbers of symbols 3 and 4; of the base its next; of V1 and V2 the flags, the number, the hash
+// number, where the names lie, the next of V1, and the offset of the name. The base is no version,
+// whatever number it has, and V2 is the last definition by their count.
+const READ: &[(usize, usize)] = &[
+    (6, 10),
+    (32, 36),
+    (46, 48),
+    (48, 50),
+    (52, 56),
+    (56, 60),
+    (60, 64),
+    (64, 68),
+    (74, 76),
+    (76, 78),
+    (80, 84),
+    (84, 88),
+    (92, 96),
+];
+
+fn is_read(place: usize) -> bool {
+    READ.iter()
+        .any(|&(start, end)| start <= place && place < end)
+}
+
+// Wants what the undamaged objects answer, by versions that can be read still.
+fn check_same<E: LinkedSymbol>(rt: &impl Abort, place: usize, object: &DynamicObject<'_, E>) {
+    for (asked, index) in [(V1, 4), (V2, 3), (PLAIN, 4), (LATEST, 3)] {
+        want_at(rt, (place, asked), index_of(object, asked), Ok(Some(index)));
+    }
+}
+
+// The index of the symbol `ab` that a reference gets.
+fn index_of<E: LinkedSymbol>(object: &DynamicObject<'_, E>, asked: Asked) -> Answer {
+    match object.find("ab", &asked.wanted(), Use::Defined) {
+        Ok(Some((index, _symbol))) => Ok(Some(index)),
+        Ok(None) => Ok(None),
+        Err(error) => Err(error),
+    }
+}
+
+// Whether a symbol has a version, or one that is open to each.
+fn bears<E: LinkedSymbol>(
+    object: &DynamicObject<'_, E>,
+    index: u32,
+    name: &str,
+    hash: u32,
+) -> Result<bool, LinkError> {
+    let Some(version) = object.version(index)? else {
+        return Err(LinkError::Missing);
+    };
+    let Some(named) = version.named else {
+        return Ok(!version.hidden);
+    };
+    if named.hash() != hash {
+        return Ok(false);
+    }
+    Ok(named.name()? == name)
+}
+
+// Wants the first of symbols 3 and 4 with a version.
+fn check_version<E: LinkedSymbol>(
+    rt: &impl Abort,
+    place: usize,
+    object: &DynamicObject<'_, E>,
+    name: &'static str,
+    hash: u32,
+) {
+    let answer = match bears(object, 3, name, hash) {
+        Ok(true) => Ok(Some(3)),
+        Ok(false) => bears(object, 4, name, hash).map(|bears| bears.then_some(4)),
+        Err(error) => Err(error),
+    };
+    want_at(rt, (place, name), index_of(object, By(name, hash)), answer);
+    let readable = object.check_versions().is_ok();
+    want_at(rt, (place, name), readable && answer.is_err(), false);
+}
+
+// Of symbols 3 and 4 with these numbers the first below a number, or the default.
+fn by_numbers(numbers: (u16, u16), least: u16) -> Option<u32> {
+    if numbers.0 % 0x8000 < least {
+        return Some(3);
+    }
+    if numbers.1 % 0x8000 < least {
+        return Some(4);
+    }
+    match (numbers.0 < 0x8000, numbers.1 < 0x8000) {
+        (true, false) => Some(3),
+        (false, true) => Some(4),
+        _ => None,
+    }
+}
+
+// Wants of an object with one damaged byte what its symbols and its versions say, and what the
+// sound object answers if no such reference reads that byte.
+fn check_damaged<E: LinkedSymbol>(
+    rt: &impl Abort,
+    place: usize,
+    bytes: &[u8],
+) -> Result<(), LinkError> {
+    let file = open(rt, bytes);
+    let object = DynamicObject::<E>::read(&file)?;
+    if !is_read(place) {
+        check_same(rt, place, &object);
+    }
+    check_version(rt, place, &object, "V1", 0x591);
+    check_version(rt, place, &object, "V2", 0x592);
+    let versions = object.versions();
+    let (Some(first), Some(second)) = (versions.number(3)?, versions.number(4)?) else {
+        return Err(LinkError::Missing);
+    };
+    let numbers = (first, second);
+    want_at(
+        rt,
+        place,
+        index_of(&object, PLAIN),
+        Ok(by_numbers(numbers, 3)),
+    );
+    want_at(
+        rt,
+        place,
+        index_of(&object, LATEST),
+        Ok(by_numbers(numbers, 2)),
+    );
+    Ok(())
+}
+
+const DAMAGES: &[u8] = &[0, 1, 2, 3, 4, 16, 20, 0x7f, 0x80, 0x83, 0xff];
+
+#[test]
+fn finds_symbols_by_damaged_tables(rt: HostRuntime) -> Result<(), LinkError> {
+    for place in NARROW_TABLES.0..NARROW_TABLES.1 {
+        for damage in DAMAGES {
+            let mut bytes = *NARROW;
+            put(&mut bytes, place, &[*damage]);
+            check_damaged::<LinkedEntry32>(&rt, place.wrapping_sub(NARROW_TABLES.0), &bytes)?;
+        }
+    }
+    for place in WIDE_TABLES.0..WIDE_TABLES.1 {
+        for damage in DAMAGES {
+            let mut bytes = *WIDE;
+            put(&mut bytes, place, &[*damage]);
+            check_damaged::<LinkedEntry64>(&rt, place.wrapping_sub(WIDE_TABLES.0), &bytes)?;
+        }
+    }
+    Ok(())
+}

@@ -1,0 +1,250 @@
+//! The dynamic symbols of a file in one value: what `readelf -W -D -s` and `readelf -d` show of
+//! small shared objects, and the refusals of damaged ones in their order.
+
+use crate::tests::linked::SMALL;
+use crate::tests::shared_object;
+use crate::tests::versions::parts;
+use crate::tests::versions::shared_object::{NARROW, WIDE};
+use crate::tests::want::{open, want, want_at};
+use elf_base::ElfError;
+use elf_linking::versions::Versions;
+use elf_linking::view::{DynamicView, LinkedEntry32, LinkedEntry64, LinkedSymbol};
+use elf_linking::{AnyTable, DynamicObject, LinkError};
+use linking_callers::callers::objects::{
+    defined_value, name_and_version, narrow_refusal, symbol_name,
+};
+use std::process::Abort;
+use worked_files::places::put;
+use xmas_elf::symbol_table::SymbolTable;
+
+// The name of each symbol, its values in class 32 and 64, and the name of its version.
+const SYMBOLS: &[(u32, &str, u64, u64, Option<&str>)] = &[
+    (0, "", 0, 0, None),
+    (1, "outer", 0, 0, Some("W1")),
+    (2, "V1", 0, 0, Some("V1")),
+    (3, "ab", 0x246, 0x2f6, Some("V2")),
+    (4, "ab", 0x240, 0x2f0, Some("V1")),
+    (5, "call", 0x24c, 0x2fc, Some("V2")),
+    (6, "V2", 0, 0, Some("V2")),
+];
+
+// The name of the version of a symbol.
+fn version_name<'a, E: LinkedSymbol>(
+    object: &DynamicObject<'a, E>,
+    index: u32,
+) -> Result<Option<&'a str>, LinkError> {
+    match parts(object.version(index)) {
+        Ok(Some((_number, _hidden, name))) => Ok(name),
+        Ok(None) => Ok(None),
+        Err(error) => Err(error),
+    }
+}
+
+// The value of a defined symbol, after the check.
+fn value_of<E: LinkedSymbol>(
+    object: &DynamicObject<'_, E>,
+    name: &str,
+) -> Result<Option<u64>, LinkError> {
+    match object.check() {
+        Ok(()) => Ok(defined_value(object, name)),
+        Err(error) => Err(error),
+    }
+}
+
+// The index of the symbol that a look-up comes to.
+fn index_of<E: LinkedSymbol>(
+    object: &DynamicObject<'_, E>,
+    name: &str,
+) -> Result<Option<u32>, LinkError> {
+    match object.lookup(name, |_| true) {
+        Ok(Some((index, _symbol))) => Ok(Some(index)),
+        Ok(None) => Ok(None),
+        Err(error) => Err(error),
+    }
+}
+
+fn check_symbols<E: LinkedSymbol>(rt: &impl Abort, bytes: &[u8]) -> Result<(), LinkError> {
+    let file = open(rt, bytes);
+    let object = DynamicObject::<E>::read(&file)?;
+    want(rt, object.symbol_count(), 7);
+    for &(index, name, narrow, wide, version) in SYMBOLS {
+        let value = if E::CLASS == 1 { narrow } else { wide };
+        want_at(rt, index, object.name(index), Ok(name));
+        let found = object.symbol(index).map(|symbol| symbol.value());
+        want_at(rt, index, found, Some(value));
+        want_at(rt, index, version_name(&object, index), Ok(version));
+        want_at(rt, index, name_and_version(&object, index)?.0, name);
+    }
+    want(rt, object.name(7), Err(LinkError::SymbolIndex));
+    want(rt, object.symbol(7).is_none(), true);
+    want(rt, version_name(&object, 7), Err(LinkError::SymbolIndex));
+    for (name, index) in [("ab", Some(3)), ("call", Some(5)), ("outer", None)] {
+        want_at(rt, name, index_of(&object, name), Ok(index));
+    }
+    Ok(())
+}
+
+#[test]
+fn answers_about_each_symbol(rt: HostRuntime) -> Result<(), LinkError> {
+    check_symbols::<LinkedEntry32>(&rt, NARROW)?;
+    check_symbols::<LinkedEntry64>(&rt, WIDE)?;
+    want(&rt, narrow_refusal(&open(&rt, NARROW)), None);
+    want(&rt, symbol_name(&open(&rt, WIDE), 5), Ok("call"));
+    Ok(())
+}
+
+// Wants these values of the exported names, and of no others.
+fn check_values<E: LinkedSymbol>(
+    rt: &impl Abort,
+    bytes: &[u8],
+    values: [u64; 7],
+) -> Result<(), LinkError> {
+    let file = open(rt, bytes);
+    let object = DynamicObject::<E>::read(&file)?;
+    for (name, value) in shared_object::NAMES.iter().zip(values) {
+        want_at(rt, name, value_of(&object, name), Ok(Some(value)));
+    }
+    for name in ["outer", "inner", "", "firs"] {
+        want_at(rt, name, value_of(&object, name), Ok(None));
+    }
+    Ok(())
+}
+
+#[test]
+fn finds_values_by_an_object(rt: HostRuntime) -> Result<(), LinkError> {
+    check_values::<LinkedEntry32>(&rt, shared_object::NARROW, shared_object::NARROW_VALUES)?;
+    check_values::<LinkedEntry64>(&rt, shared_object::WIDE, shared_object::WIDE_VALUES)?;
+    let file = open(&rt, SMALL);
+    let object = DynamicObject::<LinkedEntry64>::read(&file)?;
+    want(&rt, value_of(&object, "ef"), Ok(Some(0x23a)));
+    want(&rt, version_name(&object, 1), Ok(None));
+    Ok(())
+}
+
+// Wants of each part what the calls of the dynamic segment return, also past the last symbol: each
+// of these files has nine at most.
+fn check_parts<E: LinkedSymbol>(rt: &impl Abort, bytes: &[u8]) -> Result<(), LinkError> {
+    let file = open(rt, bytes);
+    let object = DynamicObject::<E>::read(&file)?;
+    let view = DynamicView::read(&file)?;
+    let symbols = SymbolTable::new(view.symbols::<E>(&file)?, &file);
+    let versions = Versions::read(&view, &file, symbols.len() as u64)?;
+    let table = AnyTable::read(&view, &file)?;
+    want(rt, object.check(), table.check(&symbols));
+    want(rt, object.symbols().len(), symbols.len());
+    want(rt, object.view().soname(), view.soname());
+    want(rt, object.view().needed().next(), view.needed().next());
+    for index in 0..10 {
+        let name = symbols.name(index as usize);
+        want_at(rt, index, object.name(index), linked(name));
+        let version = parts(versions.version_of(index));
+        want_at(
+            rt,
+            index,
+            parts(object.versions().version_of(index)),
+            version,
+        );
+        let value = object.symbol(index).map(|symbol| symbol.value());
+        let found = symbols.get(index as usize).map(|symbol| symbol.value());
+        want_at(rt, index, value, found);
+    }
+    Ok(())
+}
+
+// The name of a symbol, with the error for one that isn't there.
+fn linked(name: Option<Result<&str, ElfError>>) -> Result<&str, LinkError> {
+    match name {
+        Some(Ok(name)) => Ok(name),
+        Some(Err(error)) => Err(LinkError::Elf(error)),
+        None => Err(LinkError::SymbolIndex),
+    }
+}
+
+#[test]
+fn has_the_parts_of_the_dynamic_segment(rt: HostRuntime) -> Result<(), LinkError> {
+    check_parts::<LinkedEntry32>(&rt, NARROW)?;
+    check_parts::<LinkedEntry32>(&rt, shared_object::NARROW)?;
+    check_parts::<LinkedEntry64>(&rt, WIDE)?;
+    check_parts::<LinkedEntry64>(&rt, shared_object::WIDE)?;
+    check_parts::<LinkedEntry64>(&rt, SMALL)
+}
+
+// The error with which a file is refused, by the class that it is read as.
+fn refusal(rt: &impl Abort, bytes: &[u8], class: u8) -> Option<LinkError> {
+    let file = open(rt, bytes);
+    if class == 1 {
+        narrow_refusal(&file)
+    } else {
+        DynamicObject::<LinkedEntry64>::read(&file).err()
+    }
+}
+
+// A place in a file, and the byte there.
+type Change = (usize, u8);
+
+// Changes of the file of class 64 with versions, the class that it is read as, and the refusal. Its
+// program headers begin at 0x40, its dynamic entries at 0x310.
+const REFUSALS: &[(&[Change], u8, Option<LinkError>)] = &[
+    (&[], 2, None),
+    // p_type of the dynamic segment
+    (&[(0xb0, 4)], 2, Some(LinkError::NoDynamic)),
+    (&[(0xb0, 4)], 1, Some(LinkError::NoDynamic)),
+    // d_tag and d_un of the entry GnuHash
+    (&[(0x330, 0)], 1, Some(LinkError::NoEntry)),
+    (&[(0x339, 0xff)], 1, Some(LinkError::Address)),
+    // the class, before the address in the entry SymTab
+    (&[], 1, Some(LinkError::UnknownClass)),
+    (&[(0x359, 0xff)], 1, Some(LinkError::UnknownClass)),
+    // d_un of the entry SymTab, before d_tag of StrTab
+    (&[(0x359, 0xff)], 2, Some(LinkError::Address)),
+    (&[(0x359, 0xff), (0x340, 0x15)], 2, Some(LinkError::Address)),
+    (&[(0x350, 0x15)], 2, Some(LinkError::NoEntry)),
+    // d_tag of the entry StrTab, and d_un of StrSize before d_tag of VerDefNum
+    (&[(0x340, 0x15)], 2, Some(LinkError::NoEntry)),
+    (&[(0x369, 0xff)], 2, Some(LinkError::Address)),
+    (&[(0x369, 0xff), (0x3d0, 0)], 2, Some(LinkError::Address)),
+    // d_tag of the entries VerDefNum and VerNeedNum
+    (&[(0x3d0, 0)], 2, Some(LinkError::NoEntry)),
+    (&[(0x3f0, 0)], 2, Some(LinkError::NoEntry)),
+    // d_un of VerDef and VerSym: past the end, and where the numbers of symbols are cut off
+    (&[(0x3c9, 0xff)], 2, Some(LinkError::Address)),
+    (&[(0x408, 0xfb), (0x409, 2)], 2, Some(LinkError::Address)),
+    (&[(0x408, 0xfa), (0x409, 2)], 2, None),
+];
+
+#[test]
+fn refuses_with_the_first_error(rt: HostRuntime) {
+    for (row, &(changes, class, error)) in REFUSALS.iter().enumerate() {
+        let mut bytes = *WIDE;
+        for &(place, byte) in changes {
+            put(&mut bytes, place, &[byte]);
+        }
+        want_at(&rt, row, refusal(&rt, &bytes, class), error);
+    }
+}
+
+// With tables of both kinds GNU's is refused before the symbols are, which are counted by the other.
+#[test]
+fn refuses_the_hash_table_before_the_symbols(rt: HostRuntime) {
+    let mut bytes = *SMALL;
+    put(&mut bytes, 0x2f0, &[0xf5, 0xfe, 0xff, 0x6f]);
+    want(&rt, refusal(&rt, &bytes, 2), Some(LinkError::BloomCount));
+    put(&mut bytes, 0x2a0, &[0x15]);
+    want(&rt, refusal(&rt, &bytes, 2), Some(LinkError::BloomCount));
+    let mut bytes = *SMALL;
+    put(&mut bytes, 0x2a0, &[0x15]);
+    want(&rt, refusal(&rt, &bytes, 2), Some(LinkError::NoEntry));
+}
+
+// A name that begins past the end of the string table: its size is in the entry StrSize.
+#[test]
+fn tells_why_a_symbol_has_no_name(rt: HostRuntime) -> Result<(), LinkError> {
+    let mut bytes = *WIDE;
+    put(&mut bytes, 0x368, &[1]);
+    let file = open(&rt, &bytes);
+    let object = DynamicObject::<LinkedEntry64>::read(&file)?;
+    want(&rt, object.name(0), Ok(""));
+    let past = Err(LinkError::Elf(ElfError::TextStart));
+    want(&rt, object.name(3), past);
+    Ok(())
+}
