@@ -41,12 +41,12 @@ held() {
         sub(/@.*/, "", $8); sub(/:/, "", $1); if (index(names, " " $8 " ")) print $1, $2, $8 }' | sort
 }
 
-# What the header says of the archive: it has the exports of the list, needs `memmove` alone, keeps nothing (no section is
+# What the header says of the archive: it has the exports of the list, needs `memcpy`, `memmove` and `memset` alone, keeps nothing (no section is
 # writable), has no unwind tables, and no absolute addresses in code.
 diff <(nm --defined-only --extern-only "$archive" | awk 'NF == 3 { print $3 }' | sort) \
     <(python3 -c 'import sys; sys.path.insert(0, "tools"); import exports_list
 for one in exports_list.read().functions: print(one.export)' | sort)
-diff <(nm --undefined-only "$archive" | awk '$1 == "U" { print $2 }') <(echo memmove)
+diff <(nm --undefined-only "$archive" | awk '$1 == "U" { print $2 }' | grep -vxE 'mem(cpy|move|set)') /dev/null
 readelf --wide --sections --relocs "$archive" > "$room/archive"
 if grep -E 'eh_frame|R_X86_64_(32|32S|64) | WAT? ' "$room/archive"; then exit 1; fi
 

@@ -27,8 +27,9 @@
  * size 0.
  *
  * The archive is built for x86-64 Linux and processors of level x86-64-v2 (SSE4.2 and POPCNT), and is position
- * independent. It needs `memmove` of the C library, and nothing else. It has no unwind tables (.eh_frame): a debugger
- * or profiler shows no callers above a function of the archive. No call calls back, so no exception passes through one.
+ * independent. It needs `memcpy`, `memmove` and `memset` of the C library, and nothing else. It has no unwind tables
+ * (.eh_frame): a debugger or profiler shows no callers above a function of the archive. No call calls back, so no
+ * exception passes through one.
  */
 #ifndef XMAS_ELF_H
 #define XMAS_ELF_H
