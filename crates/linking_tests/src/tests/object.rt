@@ -20,7 +20,7 @@ use xmas_elf::symbol_table::SymbolTable;
 // The name of each symbol, its values in class 32 and 64, and the name of its version.
 const SYMBOLS: &[(u32, &str, u64, u64, Option<&str>)] = &[
     (0, "", 0, 0, None),
-    (1, "outer", 0, 0, Some("W1")),
+    (1, "outer", 0, 0, Some("w1")),
     (2, "V1", 0, 0, Some("V1")),
     (3, "ab", 0x246, 0x2f6, Some("V2")),
     (4, "ab", 0x240, 0x2f0, Some("V1")),

@@ -472,7 +472,7 @@ fn linked<'a>(rt: &impl Abort, bytes: &'a [u8]) -> Result<Versions<'a>, LinkErro
 // `ab@V1`, `call` and `V2`.
 const LINKED: &[(u32, u16, bool, Option<&str>)] = &[
     (0, 0, false, None),
-    (1, 4, false, Some("W1")),
+    (1, 4, false, Some("w1")),
     (2, 2, false, Some("V1")),
     (3, 3, false, Some("V2")),
     (4, 2, true, Some("V1")),
