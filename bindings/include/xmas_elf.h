@@ -721,13 +721,13 @@ XMAS_ELF_NODISCARD uint32_t xmas_elf_version_needs(const uint8_t *input, size_t 
     XMAS_ELF_NOEXCEPT;
 
 /* The symbol of the dynamic segment that a reference gets by a name and a version (DT_VERSYM): the first symbol on
- * the chain of the name whose version has the name `version`, or whose number nothing bears and which isn't hidden.
- * With `version_size` 0 it is the one that `dlsym` gets: the first with a number below 2, or else the one whose
- * version isn't hidden, if there is exactly one. A symbol counts if it has a value, or is absolute or thread-local,
- * and a type that linkers use: also one that is not defined and has a value. That no symbol is found is no refusal.
- * Each call counts the symbols of the dynamic segment anew; for many names `xmas_elf_gnu_look_ups` is faster, which
- * knows no versions. The call is refused with (in the order of the tests) XMAS_ELF_TEXT_UTF_8,
- * XMAS_ELF_LINK_NO_DYNAMIC, XMAS_ELF_DATA_RANGE, XMAS_ELF_NOT_MULTIPLE, XMAS_ELF_LINK_NO_ENTRY,
+ * the chain of the name whose version has the name `version`, or whose number nothing bears and which isn't hidden;
+ * in a file without versions, the first. With `version_size` 0 it is the one that `dlsym` gets: the first with a
+ * number below 2, or else the one whose version isn't hidden, if there is exactly one. A symbol counts if it has a
+ * value, or is absolute or thread-local, and a type that linkers use: also one that is not defined and has a value.
+ * That no symbol is found is no refusal. Each call counts the symbols of the dynamic segment anew; for many names
+ * `xmas_elf_gnu_look_ups` is faster, which knows no versions. The call is refused with (in the order of the tests)
+ * XMAS_ELF_TEXT_UTF_8, XMAS_ELF_LINK_NO_DYNAMIC, XMAS_ELF_DATA_RANGE, XMAS_ELF_NOT_MULTIPLE, XMAS_ELF_LINK_NO_ENTRY,
  * XMAS_ELF_LINK_ADDRESS, XMAS_ELF_SHORT_DATA, XMAS_ELF_LINK_SHORT_TABLE, XMAS_ELF_LINK_BLOOM_COUNT,
  * XMAS_ELF_LINK_CHAIN_INDEX, XMAS_ELF_LINK_CHAIN_DATA, XMAS_ELF_LINK_SYMBOL_INDEX, XMAS_ELF_HASH_DATA,
  * XMAS_ELF_CHAIN_INDEX, XMAS_ELF_SYMBOL_INDEX, XMAS_ELF_CHAIN_SUM, XMAS_ELF_HASH_CYCLE, XMAS_ELF_LINK_SHORT_VERSION,

@@ -526,15 +526,16 @@ pub(crate) fn version_needs(input: &[u8], header: &Header, first: u64, out: &mut
 }
 
 /// The symbol of the dynamic segment that a reference gets by a name and a version (DT_VERSYM): the first symbol on
-/// the chain of the name whose version has the name `version`, or whose number nothing bears and which isn't hidden.
-/// With `version_size` 0 it is the one that `dlsym` gets: the first with a number below 2, or else the one whose
-/// version isn't hidden, if there is exactly one. A symbol counts if it has a value, or is absolute or thread-local,
-/// and a type that linkers use: also one that is not defined and has a value. That no symbol is found is no refusal.
-/// Each call counts the symbols of the dynamic segment anew; for many names `gnu_look_ups` is faster, which knows no
-/// versions. The call is refused with (in the order of the tests) `TextUtf8`, `LinkNoDynamic`, `DataRange`,
-/// `NotMultiple`, `LinkNoEntry`, `LinkAddress`, `ShortData`, `LinkShortTable`, `LinkBloomCount`, `LinkChainIndex`,
-/// `LinkChainData`, `LinkSymbolIndex`, `HashData`, `ChainIndex`, `SymbolIndex`, `ChainSum`, `HashCycle`,
-/// `LinkShortVersion`, `LinkVersionCount`, `TextStart`, `TextEnd`.
+/// the chain of the name whose version has the name `version`, or whose number nothing bears and which isn't hidden;
+/// in a file without versions, the first. With `version_size` 0 it is the one that `dlsym` gets: the first with a
+/// number below 2, or else the one whose version isn't hidden, if there is exactly one. A symbol counts if it has a
+/// value, or is absolute or thread-local, and a type that linkers use: also one that is not defined and has a value.
+/// That no symbol is found is no refusal. Each call counts the symbols of the dynamic segment anew; for many names
+/// `gnu_look_ups` is faster, which knows no versions. The call is refused with (in the order of the tests)
+/// `TextUtf8`, `LinkNoDynamic`, `DataRange`, `NotMultiple`, `LinkNoEntry`, `LinkAddress`, `ShortData`,
+/// `LinkShortTable`, `LinkBloomCount`, `LinkChainIndex`, `LinkChainData`, `LinkSymbolIndex`, `HashData`,
+/// `ChainIndex`, `SymbolIndex`, `ChainSum`, `HashCycle`, `LinkShortVersion`, `LinkVersionCount`, `TextStart`,
+/// `TextEnd`.
 pub(crate) fn find_symbol(input: &[u8], header: &Header, name: &[u8], version: &[u8]) -> Result<FoundSymbol, Error> {
     let mut out = FoundSymbol::default();
     // SAFETY: see the head of this file.

@@ -216,12 +216,13 @@ impl<'a, E: LinkedSymbol> DynamicObject<'a, E> {
         self.table.defined_symbol(name, &self.symbols())
     }
 
-    /// The symbol that a reference gets, with its index. A candidate has the name and serves the
-    /// use, and a symbol without a type, a value or a section that look-ups can return serves none.
+    /// The symbol that a reference gets, with its index. A candidate is a symbol with the name that
+    /// serves the use: its type is none, object, function, common, thread-local or IFUNC; it has a
+    /// value, is absolute or is thread-local; and for `Use::Defined` it is defined.
     ///
-    /// For `Wanted::Version` it is the first candidate in the chain of the name whose version is
-    /// accepted. For `Unversioned` and `Newest` it is the first that `Wanted::accepts`; if there is
-    /// none, and exactly one candidate isn't hidden, that one. Otherwise `None`.
+    /// The symbol is the first candidate in the chain of the name that `Wanted::accepts`. If there
+    /// is none, `Unversioned` and `Newest` get the one candidate that isn't hidden, if there is
+    /// exactly one. Otherwise the result is `None`.
     ///
     /// Errors: those of `AnyTable::lookup_where`; those of `Wanted::accepts` for a candidate before
     /// the first that is accepted. If `check` and `check_versions` are Ok, there is no error, and
