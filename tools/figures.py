@@ -37,6 +37,7 @@ PATHS = {
     "tools/compare_versions.py": (*LINKING, "crates/elf_c/src", "bindings/rust/src", "bindings/rust/examples/versions.rs", "tools/compare_versions.py"),
     "tools/compare_dlsym.py": (*LINKING, "crates/elf_c/src", "tools/compare_dlsym.py"),
     "tools/compare_elfsym.py": (*LINKING, "crates/elfsym/src", "tools/compare_elfsym.py"),
+    "tools/compare_bindings.py": (*LINKING, "crates/elfbind/src", "tools/compare_bindings.py"),
     "tools/bindings.sh": (*LINKING, "crates/elf_c/src", "bindings/rust/src", "bindings/compare/src"),
     "tools/web_page.py": (*LINKING, "crates/elf_c/src", "bindings/web", "tools/web_page.py"),
     "tools/python.sh": (*LINKING, "crates/elf_c/src", "bindings/python/xmas_elf", "bindings/python/speed.py"),

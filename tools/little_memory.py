@@ -1,5 +1,5 @@
 #!/usr/bin/env python3
-"""Has each request of the built elfinfo and elfsym for memory refused in turn, and each read and write failed.
+"""Has each request of the built elfinfo, elfsym and elfbind for memory refused in turn, and each read and write failed.
 
 Over some files and each build of a program, until a run makes no more such calls. With memory refused it
 says that it cannot read its arguments, then that it cannot read the file, then that it cannot write; with a
@@ -25,6 +25,14 @@ CRATES = TOP / "crates"
 SAMPLE = CRATES / "elfanswers" / "data"
 STRTAB = (CRATES / "elfinfo" / "data" / "strtab.elf").read_bytes()
 LINKED = (CRATES / "elfsym" / "data" / "versions.so").read_bytes()
+FIRST = (CRATES / "elfbind" / "data" / "libfirst.so").read_bytes()
+# What this library alone is bound to, as `readelf -rsW` says of it before its section headers are cut off.
+FIRST_LINES = b"".join(
+    b"a.elf %s@V1 -> a.elf %s\n" % line
+    for line in (
+        (b"per_thread", b"0x4"), (b"per_thread", b"0x4"), (b"shared", b"0x16d4"), (b"own", b"0x4e3"), (b"own", b"0x4e3"), (b"choose", b"0x4f5"),
+    )
+)
 
 
 @dataclasses.dataclass(frozen=True)
@@ -50,6 +58,7 @@ PROGRAMS = [
     Program("elfinfo", [], FILES, (CRATES / "elfinfo" / "stdout").read_bytes(), (20, 300)),
     Program("elfsym", (CRATES / "elfsym" / "args").read_text().split()[1:], {"a hash table": LINKED, "three bytes": LINKED[:3]},
         (CRATES / "elfsym" / "stdout").read_bytes(), (20, 16)),
+    Program("elfbind", [], {"a library": FIRST, "three bytes": FIRST[:3]}, FIRST_LINES, (40, 4)),
 ]
 
 # More calls of a kind than the program makes.

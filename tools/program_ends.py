@@ -1,5 +1,5 @@
 #!/usr/bin/env python3
-"""Wants the output, the error text and the status of each way in which the built elfinfo and elfsym end.
+"""Wants the output, the error text and the status of each way in which the built elfinfo, elfsym and elfbind end.
 
 It runs each program as each compiler built it, on files that are good, refused, missing or unreadable,
 and into outputs that fail. Run it at the top of the repository once the programs are built, or give it
@@ -25,6 +25,14 @@ REPORT = (CRATES / "elfinfo" / "stdout").read_bytes()
 LINKED = (CRATES / "elfsym" / "data" / "versions.so").read_bytes()
 STRIPPED = (CRATES / "elfsym" / "data" / "stripped.so").read_bytes()
 SYMBOLS = (CRATES / "elfsym" / "stdout").read_bytes()
+NARROW = (CRATES / "elfsections" / "data" / "narrow.so").read_bytes()
+BINDINGS = (CRATES / "elfbind" / "stdout").read_bytes()
+
+# A program and its two libraries of either class, as crates/elfbind/data/make.sh makes them.
+BOUND = CRATES / "elfbind" / "data"
+WIDE_BOUND = ["caller", "libfirst.so", "libsecond.so"]
+OTHER_BOUND = ["caller", "libsecond.so", "libfirst.so"]
+NARROW_BOUND = ["caller_32", "libfirst_32.so", "libsecond_32.so"]
 
 # A program as LLVM builds it, and as Rattle's own compiler does.
 BUILDS = ("", ".by-rattle")
@@ -130,6 +138,46 @@ SYM_ENDS_ON_A_FULL_DISK = {
     "no argument": ([], 1, b""),
 }
 
+BIND_USAGE = b"usage: elfbind <binary_path>.. | elfbind --check <binary_path>..\n"
+BIND_NO_WRITE = b"elfbind: cannot write\n"
+SECOND_LINES = b"libsecond.so only -> libsecond.so 0x16d0\n" + b"".join(
+    b"libsecond.so %s -> unresolved\n" % name
+    for name in b"static_thread absent taken shared shared version taken per_thread".split()
+)
+CHAIN = b"Chain index is out of range"
+
+BIND_ENDS = {
+    "no argument": ([], 1, BIND_USAGE, b""),
+    "no file to check": (["--check"], 1, BIND_USAGE, b""),
+    "a missing path": (["caller", "missing.so"], 1, b"", b"elfbind: cannot read missing.so\n"),
+    "a folder": (["folder"], 1, b"", b"elfbind: cannot read folder\n"),
+    "a file whose read fails": (["/proc/self/mem"], 1, b"", b"elfbind: cannot read /proc/self/mem\n"),
+    "a path that is not UTF-8": ([NOT_UTF8], 1, b"", b"elfbind: cannot read the arguments\n"),
+    "an empty file": (["empty.elf"], 1, b"", b"elfbind: empty.elf: File is shorter than the first ELF header part\n"),
+    "a refused file": (["caller", "zeros.elf"], 1, b"", b"elfbind: zeros.elf: Did not find ELF magic number\n"),
+    "a refused first file": (["zeros.elf", "caller"], 1, b"", b"elfbind: zeros.elf: Did not find ELF magic number\n"),
+    "a file without a dynamic segment": (["caller", "link.elf"], 1, b"", b"elfbind: link.elf: No dynamic segment\n"),
+    "a file of another class": (["caller", "narrow.so"], 1, b"", b"elfbind: narrow.so: Class is neither 1 nor 2\n"),
+    "a good file": (WIDE_BOUND, 0, BINDINGS, b""),
+    "the libraries in the other order": (OTHER_BOUND, 0, (BOUND / "bound_other.txt").read_bytes(), b""),
+    "a program and two libraries of class 32": (NARROW_BOUND, 0, (BOUND / "bound_32.txt").read_bytes(), b""),
+    "files of both classes": (["caller", "libfirst_32.so"], 1, b"", b"elfbind: libfirst_32.so: Class is neither 1 nor 2\n"),
+    "a good file through a pipe": (["/dev/stdin", *WIDE_BOUND[1:]], 0, BINDINGS.replace(b"caller", b"/dev/stdin"), b""),
+    "references that get no symbol": (["libsecond.so"], 1, SECOND_LINES, b""),
+    "good files to check": (["--check", *WIDE_BOUND[:2]], 0, b"caller: ok\nlibfirst.so: ok\n", b""),
+    "a hash table that fails its check": (["caller", f"damaged-{0x128}.so"], 1, b"", b"elfbind: damaged-%d.so: %s\n" % (0x128, CHAIN)),
+    "such a table to check": (["--check", f"damaged-{0x128}.so", "caller"], 1, b"damaged-%d.so: %s\ncaller: ok\n" % (0x128, CHAIN), b""),
+    "definitions that are cut": (["caller", "cut.so"], 1, b"", b"elfbind: cut.so: Version record is cut off\n"),
+    "such definitions to check": (["--check", "cut.so"], 1, b"cut.so: Version record is cut off\n", b""),
+    "a path like an option": (["-h"], 1, b"", b"elfbind: cannot read -h\n"),
+}
+
+BIND_ENDS_ON_A_FULL_DISK = {
+    "good files": (WIDE_BOUND, 1, BIND_NO_WRITE),
+    "a refused file": (["zeros.elf"], 1, b"elfbind: zeros.elf: Did not find ELF magic number\n"),
+    "no argument": ([], 1, b""),
+}
+
 SECTIONS = 1000
 
 
@@ -183,6 +231,7 @@ class Program:
 PROGRAMS = [
     Program("elfinfo", ENDS, ENDS_ON_A_FULL_DISK, STRTAB, NO_WRITE, ["missing.elf"]),
     Program("elfsym", SYM_ENDS, SYM_ENDS_ON_A_FULL_DISK, LINKED, SYM_NO_WRITE, ["missing.so", "ab"]),
+    Program("elfbind", BIND_ENDS, BIND_ENDS_ON_A_FULL_DISK, (BOUND / "caller").read_bytes(), BIND_NO_WRITE, ["missing.so"]),
 ]
 
 
@@ -247,7 +296,8 @@ def unlike(program, built: pathlib.Path) -> int:
         os.mkdir(f"{room}/folder")
         files = {b"strtab.elf": STRTAB, NOT_UTF8: STRTAB, b"empty.elf": b"", b"zeros.elf": bytes(16), b"linked.so": LINKED}
         files |= {b"far.elf": far_file(), b"three.elf": STRTAB[:3], b"link.elf": debug_link(), b"hash.elf": hash_file(), b"needs.so": NEEDS}
-        files |= {b"stripped.so": STRIPPED, b"cut.so": CUT_VERSIONS}
+        files |= {b"stripped.so": STRIPPED, b"cut.so": CUT_VERSIONS, b"narrow.so": NARROW}
+        files |= {name.encode(): (BOUND / name).read_bytes() for name in WIDE_BOUND + NARROW_BOUND}
         files |= {b"damaged-%d.so" % place: damaged(place, byte) for place, byte, _ in NEEDS_REFUSALS}
         for name, held in {**files, b"long.elf": long_file()}.items():
             pathlib.Path(room, os.fsdecode(name)).write_bytes(held)

@@ -196,6 +196,10 @@ enum xmas_elf_status {
     XMAS_ELF_LINK_SHORT_VERSION = 114,
     /* Version needs have more parts than bytes. */
     XMAS_ELF_LINK_VERSION_COUNT = 115,
+    /* Kind of relocations is neither Rel nor Rela. */
+    XMAS_ELF_LINK_RELOCATION_KIND = 116,
+    /* Object index is out of range. */
+    XMAS_ELF_LINK_OBJECT_INDEX = 117,
     /* A section holds other data than what is asked for. */
     XMAS_ELF_OTHER_DATA = 201,
     /* A table has no record with this index. */

@@ -531,6 +531,10 @@ class Status(IntEnum):
     """Version record is cut off."""
     LINK_VERSION_COUNT = 115
     """Version needs have more parts than bytes."""
+    LINK_RELOCATION_KIND = 116
+    """Kind of relocations is neither Rel nor Rela."""
+    LINK_OBJECT_INDEX = 117
+    """Object index is out of range."""
     OTHER_DATA = 201
     """A section holds other data than what is asked for."""
     NO_RECORD = 202

@@ -144,6 +144,10 @@ pub enum Error {
     LinkShortVersion,
     /// Version needs have more parts than bytes.
     LinkVersionCount,
+    /// Kind of relocations is neither Rel nor Rela.
+    LinkRelocationKind,
+    /// Object index is out of range.
+    LinkObjectIndex,
     /// A section holds other data than what is asked for.
     OtherData,
     /// A table has no record with this index.
@@ -228,6 +232,8 @@ impl Error {
             113 => Error::LinkNotMultiple,
             114 => Error::LinkShortVersion,
             115 => Error::LinkVersionCount,
+            116 => Error::LinkRelocationKind,
+            117 => Error::LinkObjectIndex,
             201 => Error::OtherData,
             202 => Error::NoRecord,
             203 => Error::NotFound,
@@ -308,6 +314,8 @@ impl Error {
             Error::LinkNotMultiple => 113,
             Error::LinkShortVersion => 114,
             Error::LinkVersionCount => 115,
+            Error::LinkRelocationKind => 116,
+            Error::LinkObjectIndex => 117,
             Error::OtherData => 201,
             Error::NoRecord => 202,
             Error::NotFound => 203,

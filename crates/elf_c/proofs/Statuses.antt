@@ -84,6 +84,8 @@ link_above link_error.ShortNote = lit< tt
 link_above link_error.NotMultiple = lit< tt
 link_above link_error.ShortVersion = lit< tt
 link_above link_error.VersionCount = lit< tt
+link_above link_error.RelocationKind = lit< tt
+link_above link_error.ObjectIndex = lit< tt
 
 pub refusal_above : (refusal : Refusal) → 0 < refusal_number refusal
 refusal_above (Elf error) = error_above error

@@ -86,6 +86,8 @@ fn refusal_with(number: u32) -> Option<Refusal>
         113 => Some(Refusal::Link(LinkError::NotMultiple)),
         114 => Some(Refusal::Link(LinkError::ShortVersion)),
         115 => Some(Refusal::Link(LinkError::VersionCount)),
+        116 => Some(Refusal::Link(LinkError::RelocationKind)),
+        117 => Some(Refusal::Link(LinkError::ObjectIndex)),
         201 => Some(Refusal::OtherData),
         202 => Some(Refusal::NoRecord),
         203 => Some(Refusal::NotFound),

@@ -80,6 +80,8 @@ impl Numbered for LinkError {
             LinkError::NotMultiple => 113,
             LinkError::ShortVersion => 114,
             LinkError::VersionCount => 115,
+            LinkError::RelocationKind => 116,
+            LinkError::ObjectIndex => 117,
         }
     }
 }

@@ -12,6 +12,7 @@ pub mod Firsts
 pub mod LoadedBytes
 pub mod EntryItems
 pub mod NeededItems
+pub mod ReferenceItems
 pub mod LinkedNames
 pub mod ViewTables
 pub mod SymbolCounts
@@ -22,7 +23,13 @@ pub mod VersionPlaces
 pub mod VersionItems
 pub mod VersionSearch
 mod Finds
+mod Early
+mod FoundOnce
+mod Accepted
 mod VersionsRead
+mod Scopes
+mod Questions
+mod Bindings
 pub mod DynamicObjects
 pub mod ObjectRefusals
 pub mod VersionChecks

@@ -11,7 +11,7 @@ use Rattle.elf_linking.specs.declared.error.LinkError.{LinkError}
 use Rattle.elf_linking.specs.declared.find.Wanted.{Wanted}
 use Rattle.elf_linking.specs.declared.find.Wanted.TheVariants.{Newest, Unversioned, Version}
 
-item_ok : {A B : Type 0} (make : A → B) (answer : Result A LinkError) → IsOk answer → IsOk (item_by make answer)
+pub item_ok : {A B : Type 0} (make : A → B) (answer : Result A LinkError) → IsOk answer → IsOk (item_by make answer)
 item_ok make (Ok item) ok = refl
 item_ok make (Err error) ok = ok
 
@@ -27,7 +27,7 @@ module _ {A : Type 0} (test : A → Bool) (Q : A → Type 0) where
       picked false has rest = rest
 
 -- what bears a version, if anything does, has a name
-abbrev HasName : Option NamedParts → Type 0
+abbrev pub HasName : Option NamedParts → Type 0
 HasName named = IfSome named (λ n. IsOk (named_name n))
 
 module _ (tables : VersionTables) (defined : All (λ item. IsOkAnd item (λ d. IsOk d.name)) (definitions_in tables.definitions)) (needed : All (λ item. IsOkAnd item (λ need. IsOk need.name)) (needs_in tables.needs)) where
@@ -52,7 +52,7 @@ module _ (tables : VersionTables) (defined : All (λ item. IsOkAnd item (λ d. I
   with_name raw (Ok named) read = read
   with_name raw (Err error) read = absurd read
 
-  version_read : (answer : Result (Option ℕ) LinkError) → IsOk answer → IsOkAnd (and_then answer (version_with tables)) (λ version. IfSome version (λ v. HasName v.named))
+  pub version_read : (answer : Result (Option ℕ) LinkError) → IsOk answer → IsOkAnd (and_then answer (version_with tables)) (λ version. IfSome version (λ v. HasName v.named))
   version_read (Ok None) read = tt
   version_read (Ok (Some raw)) read = with_name raw (named_of tables (version_number raw)) (named_read (version_number raw))
   version_read (Err error) read = absurd (cc)

@@ -2,7 +2,7 @@
 -- symbols, the string table of their names, and its version tables.
 use Rattle.std.specs.Prelude.{◌≡◌, ◌≢◌, ◌/◌, ℕ, List, Option, Some, None, Result, Ok, Err, MatchResult, length, slice_get}
 use Rattle.std.specs.Borrow.{Bor}
-use Rattle.elf_base.specs.FileHeader.{file_class, file_order}
+use Rattle.elf_base.specs.FileHeader.{file_class, file_order, header_fields, machine_number}
 use Rattle.elf_base.specs.Table.{table_bytes, table_data, table_items, table_order}
 use Rattle.elf_base.specs.declared.bytes.table.Table.{Table}
 use Rattle.elf_linking.specs.AnyTable.{IsLinkedTable, IsTableRefused}
@@ -58,6 +58,10 @@ pub data AreRefused (class size : ℕ) (file : ElfFile) (entries : List (Dynamic
   other_class : file_class file.header ≢ class → AreRefused class size file entries UnknownClass
   unreadable : (error : LinkError) → file_class file.header ≡ class
       → AreSymbols file entries size (Err error) → AreRefused class size file entries error
+
+-- the machine of the file (e_machine)
+abbrev pub object_machine : {E : Type 0} → {r : _} → DynamicObject E r → ℕ
+object_machine object = machine_number (header_fields (object_file object).header.pt2).machine
 
 -- the object is that of a file of this class, with symbols of this size: each part is what the calls of the
 -- dynamic segment return

@@ -1,6 +1,6 @@
 -- What the dynamic segment of a file leads to (gABI, "Dynamic Section"): its entries, the string table, the hash
 -- tables, and the symbols with their number and their names.
-use Rattle.std.specs.Prelude.{ℕ, ◌%◌, ◌==◌, not, Bool, List, [], ◌∷◌, length, Option, Result, Err, option_map, if◌then◌else◌, ◌≡◌, None, Some, IsSomeAnd, Ok, IsOkAnd, nat_lt, ◌≢◌, ◌+◌, ◌^◌, ◌<◌, ◌≤◌, ◌*◌}
+use Rattle.std.specs.Prelude.{ℕ, ◌/◌, ◌%◌, ◌==◌, ◌||◌, is_some, false, not, Bool, List, [], ◌∷◌, length, Option, Result, Err, option_map, if◌then◌else◌, ◌≡◌, None, Some, IsSomeAnd, Ok, IsOkAnd, nat_lt, ◌≢◌, ◌+◌, ◌^◌, ◌<◌, ◌≤◌, ◌*◌}
 use Rattle.std.specs.List.{find}
 use Rattle.std.specs.Borrow.{Bor}
 use Rattle.elf_base.specs.Table.{records, table_items, table_rest}
@@ -19,7 +19,7 @@ use Rattle.elf_linking.specs.declared.error.LinkError.{LinkError}
 use Rattle.elf_linking.specs.declared.error.LinkError.TheVariants.{Elf, NoDynamic, NoEntry, SymbolIndex}
 use Rattle.elf_linking.specs.declared.view.entries.DynamicEntries.{DynamicEntries}
 use Rattle.elf_linking.specs.declared.view.entry.DynamicEntry.{DynamicEntry}
-use Rattle.elf_linking.specs.declared.view.tags.TheConstants.{DT_NULL, DT_NEEDED, DT_STRSZ, DT_STRTAB, DT_GNU_HASH, DT_HASH, DT_SYMTAB}
+use Rattle.elf_linking.specs.declared.view.tags.TheConstants.{DT_NULL, DT_NEEDED, DT_STRSZ, DT_STRTAB, DT_FLAGS, DT_GNU_HASH, DT_HASH, DT_SYMBOLIC, DT_SYMTAB}
 use Rattle.elf_linking.specs.declared.view.entries.Pairs.{Pairs}
 use Rattle.elf_linking.specs.declared.view.entries.Rest.{Rest}
 use Rattle.elf_linking.specs.Loaded.{LiesAsLoaded, bytes_at_of, lent, bytes_from_of}
@@ -58,6 +58,16 @@ has_tag tag entry = entry.tag == tag
 -- the number in the first entry with a tag
 abbrev pub number_with : ℕ → List (DynamicEntry ℕ) → Option ℕ
 number_with tag entries = option_map (λ entry. entry.number) (find (has_tag tag) entries)
+
+-- a number of flags has the flag 2 (DF_SYMBOLIC)
+abbrev pub has_symbolic_flag : Option ℕ → Bool
+has_symbolic_flag None = false
+has_symbolic_flag (Some flags) = flags / 2 % 2 == 1
+
+-- references of the file are bound within it first: there is an entry DT_SYMBOLIC, or the entry DT_FLAGS has the
+-- flag DF_SYMBOLIC
+abbrev pub is_symbolic : List (DynamicEntry ℕ) → Bool
+is_symbolic entries = is_some (number_with DT_SYMBOLIC entries) || has_symbolic_flag (number_with DT_FLAGS entries)
 
 -- the entries of a table, those that remain of it, and those that an iterator has not yet returned
 abbrev pub pairs_of : Pairs → List (DynamicEntry ℕ)

@@ -1,6 +1,6 @@
 -- The symbol of a file that a reference by a name and a version gets (LSB, "Symbol Versioning"; which symbols
 -- serve a use, and that a hidden version is no default, as glibc's linker has it).
-use Rattle.std.specs.Prelude.{◌≡◌, ◌≢◌, ℕ, ◌%◌, ◌==◌, ◌&&◌, ◌||◌, nat_lt, not, Bool, true, false, List, length, slice_get, Option, Some, None, Result, Ok, Err, IsOkAnd, if◌then◌else◌}
+use Rattle.std.specs.Prelude.{◌≡◌, ◌≢◌, ℕ, ◌%◌, ◌==◌, ◌&&◌, ◌||◌, nat_lt, not, Bool, true, false, List, length, slice_get, Option, Some, None, option_map, Result, Ok, Err, IsOkAnd, if◌then◌else◌}
 use Rattle.std.specs.Borrow.{Bor}
 use Rattle.std.specs.Str.{bytes_eq}
 use Rattle.elf_base.specs.Refusal.{and_then}
@@ -87,6 +87,24 @@ accepted tables (Version name hash hidden) index =
 accepted tables Unversioned index = item_by (is_below 3) (number_of tables index)
 accepted tables Newest index = item_by (is_below 2) (number_of tables index)
 
+-- a reference by a version accepts that of a symbol (the rule of glibc's linker): the file has no numbers of
+-- symbols; or the version has the hash number and the name; or it has no hash number, and neither it nor the
+-- reference is hidden
+pub data IsAcceptedBy (name : List ℕ) (hash : ℕ) (hidden : Bool) : Option VersionParts → Type 0 where
+  unnumbered : IsAcceptedBy name hash hidden None
+  same : (version : VersionParts) (named : NamedParts) → version.named ≡ Some named → named_hash named ≡ hash
+      → named_name named ≡ Ok name → IsAcceptedBy name hash hidden (Some version)
+  nameless : (version : VersionParts) → has_no_hash version.named ≡ true → hidden ≡ false → version.hidden ≡ false
+      → IsAcceptedBy name hash hidden (Some version)
+
+-- a reference accepts the symbol at an index at once: by a version, as above; otherwise the number of the version
+-- is below the least that needs a name, or the file has no numbers of symbols
+abbrev pub IsAccepted : VersionTables → Wanted → ℕ → Type 0
+IsAccepted tables (Version name hash hidden) index = (version : Option VersionParts)
+    × (version_at tables index ≡ Ok version) × IsAcceptedBy name.now hash hidden version
+IsAccepted tables Unversioned index = (number : Option ℕ) × (number_of tables index ≡ Ok number) × (is_below 3 number ≡ true)
+IsAccepted tables Newest index = (number : Option ℕ) × (number_of tables index ≡ Ok number) × (is_below 2 number ≡ true)
+
 -- the symbol at an index has a version that isn't hidden
 abbrev pub is_default : Result (Option ℕ) LinkError → Bool
 is_default (Ok (Some raw)) = not (is_hidden raw)
@@ -144,6 +162,29 @@ IsFirstOf file name wanted purpose (Some found) answer =
 abbrev pub IsFound : {E : Type 0} → DynamicSymbols E → List ℕ → Wanted → uses.Use → Result (Option (ℕ × E)) LinkError → Type 0
 IsFound {E} file name wanted purpose answer = (first : Result (Option (ℕ × E)) LinkError)
     × Seeks (IsAsked file name wanted purpose) file name first × Then first (IsFirstOf file name wanted purpose) answer
+
+-- What a search looks for first.
+
+-- a number that is below the least one that needs a name, or isn't hidden, or can't be read
+abbrev pub is_near : ℕ → Result (Option ℕ) LinkError → Bool
+is_near least (Ok (Some raw)) = nat_lt (version_number raw) least || not (is_hidden raw)
+is_near least _ = true
+
+-- whether a reference may get the symbol at an index: by a version any symbol; otherwise one that is accepted at
+-- once, or whose version can't be read or isn't hidden
+abbrev pub is_likely : VersionTables → Wanted → ℕ → Bool
+is_likely tables (Version _ _ _) index = true
+is_likely tables Unversioned index = is_near 3 (number_of tables index)
+is_likely tables Newest index = is_near 2 (number_of tables index)
+
+-- a candidate that a reference may get
+abbrev pub IsLikely : {E : Type 0} → DynamicSymbols E → List ℕ → Wanted → uses.Use → ℕ × E → Type 0
+IsLikely file name wanted purpose at = IsCandidate file name purpose at.1 × (is_likely file.versions wanted at.0 ≡ true)
+
+-- the symbol at an index, with the index
+abbrev pub symbol_at : {E : Type 0} → List E → Option ℕ → Option (ℕ × E)
+symbol_at items None = None
+symbol_at items (Some i) = option_map (λ e. (i, e)) (slice_get items i)
 
 -- What a search of the list of symbols says of it, if look-ups in the table find what they must.
 

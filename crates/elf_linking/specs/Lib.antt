@@ -12,4 +12,6 @@ pub mod VersionTables
 pub mod Versions
 pub mod Find
 pub mod DynamicObject
+pub mod References
 pub mod Values
+pub mod Scope

@@ -53,6 +53,11 @@ pub enum LinkError {
     /// The needs so far have more parts than the bytes have room for. Returned by the iterator over
     /// needs and `Versions::version_of`.
     VersionCount,
+    /// The relocations of a procedure linkage table are of a kind that is neither Rel nor Rela.
+    /// Returned by `DynamicView::references`.
+    RelocationKind,
+    /// An index is not below the number of objects in a scope. Returned by `Scope::find` and `bind`.
+    ObjectIndex,
 }
 
 impl LinkError {
@@ -77,6 +82,8 @@ impl LinkError {
             LinkError::NotMultiple => "Data is not a whole number of words",
             LinkError::ShortVersion => "Version record is cut off",
             LinkError::VersionCount => "Version needs have more parts than bytes",
+            LinkError::RelocationKind => "Kind of relocations is neither Rel nor Rela",
+            LinkError::ObjectIndex => "Object index is out of range",
         }
     }
 }

@@ -1,12 +1,13 @@
 //! Which symbols a reference accepts: who asks, and for which version (LSB, "Symbol Versioning";
 //! the rules of glibc's linker).
 
-ghost use Rattle.std.specs.Prelude.{◌≡◌, option_map};
-ghost use Rattle.elf_linking.specs.Find.{accepted, accepts_version, is_below, is_default};
-ghost use Rattle.elf_linking.specs.Find.{is_open, is_version, serves};
+ghost use Rattle.std.specs.Prelude.{◌≡◌, ◌↔◌, IfOk, IsTrue, option_map};
+ghost use Rattle.elf_linking.specs.Find.{IsAccepted, accepted, accepts_version, is_below, is_default};
+ghost use Rattle.elf_linking.specs.Find.{is_likely, is_near, is_open, is_version, serves};
 ghost use Rattle.elf_linking.specs.VersionTables.{item_by, version_tables};
 ghost use Rattle.elf_linking.specs.Versions.{named_parts, number_of, version_parts};
 
+mod early;
 mod search;
 
 use crate::LinkError;
@@ -67,16 +68,25 @@ impl<'v> Wanted<'v> {
     /// Errors: those of `Versions::version_of` and, if the hash number is the same, of
     /// `NamedVersion::name`; for `Unversioned` and `Newest` those of `Versions::number`.
     pub fn accepts(&self, versions: &Versions<'_>, index: u32) -> Result<bool, LinkError>
-        ensures { result ≡ accepted (version_tables versions.now) self.now index }
+        ensures law { IfOk result (λ accepts.
+            IsTrue accepts ↔ IsAccepted (version_tables versions.now) self.now index) }
+        ensures exact { result ≡ accepted (version_tables versions.now) self.now index }
     {
-        match self {
-            Wanted::Version { name, hash, hidden } => match versions.version_of(index) {
-                Ok(version) => accepts_version(name, *hash, *hidden, version),
-                Err(error) => Err(error),
-            },
-            Wanted::Unversioned => number_below(versions, index, 3),
-            Wanted::Newest => number_below(versions, index, 2),
-        }
+        is_accepted(self, versions, index)
+    }
+}
+
+// Whether a reference accepts the symbol at an index at once.
+fn is_accepted(wanted: &Wanted<'_>, versions: &Versions<'_>, index: u32) -> Result<bool, LinkError>
+    ensures { result ≡ accepted (version_tables versions.now) wanted.now index }
+{
+    match wanted {
+        Wanted::Version { name, hash, hidden } => match versions.version_of(index) {
+            Ok(version) => accepts_version(name, *hash, *hidden, version),
+            Err(error) => Err(error),
+        },
+        Wanted::Unversioned => number_below(versions, index, 3),
+        Wanted::Newest => number_below(versions, index, 2),
     }
 }
 
@@ -155,4 +165,26 @@ pub(crate) fn is_default(versions: &Versions<'_>, index: u32) -> bool
     ensures { result ≡ is_default (number_of (version_tables versions.now) index) }
 {
     matches!(versions.number(index), Ok(Some(raw)) if raw < 0x8000)
+}
+
+// Whether a reference may get the symbol at an index.
+pub(crate) fn is_likely(versions: &Versions<'_>, wanted: &Wanted<'_>, index: u32) -> bool
+    ensures { result ≡ is_likely (version_tables versions.now) wanted.now index }
+{
+    match wanted {
+        Wanted::Version { .. } => true,
+        Wanted::Unversioned => is_near(versions, index, 3),
+        Wanted::Newest => is_near(versions, index, 2),
+    }
+}
+
+// Whether the number of a symbol's version is below the least that needs a name, or isn't hidden,
+// or can't be read.
+fn is_near(versions: &Versions<'_>, index: u32, least: u16) -> bool
+    ensures { result ≡ is_near least (number_of (version_tables versions.now) index) }
+{
+    match versions.number(index) {
+        Ok(Some(raw)) => raw % 0x8000 < least || raw < 0x8000,
+        Ok(None) | Err(_) => true,
+    }
 }

@@ -3,15 +3,16 @@
 
 ghost use Rattle.std.specs.Borrow.{Bor};
 ghost use Rattle.std.specs.Prelude.{◌≡◌, ◌↔◌, ℕ, Contains, Err, IfOk, IsOk, MatchResult, Ok};
-ghost use Rattle.std.specs.Prelude.{Option, Result, Some, length, slice_get};
+ghost use Rattle.std.specs.Prelude.{Option, Result, Some, length, slice_get, ◌<◌, ◌^◌};
 ghost use Rattle.elf_base.specs.FileHeader.{file_order};
 ghost use Rattle.elf_base.specs.Table.{table_bytes, table_data, table_order};
-ghost use Rattle.elf_linking.specs.DynamicView.{LieAsSymbols, strings_of};
+ghost use Rattle.elf_linking.specs.DynamicView.{LieAsSymbols, is_symbolic, strings_of};
 ghost use Rattle.elf_linking.specs.DynamicView.{view_entries};
 ghost use Rattle.elf_linking.specs.Loaded.{lent};
 ghost use Rattle.elf_linking.specs.declared.error.LinkError.{LinkError};
 
 use crate::find::{Use, Wanted};
+use crate::references::References;
 use crate::versions::{SymbolVersion, Versions};
 use crate::view::{DynamicView, LinkedSymbol, text_by};
 use crate::{AnyTable, LinkError};
@@ -22,8 +23,8 @@ use xmas_elf::symbol_table::SymbolTable;
 /// The dynamic segment of a file with its symbols: the hash table, the symbols, the string table of
 /// their names, and the version tables.
 ///
-/// They are read once, so that no call on this value reads the program headers or the dynamic
-/// segment again, or looks for a string table.
+/// They are read once, so that no call on this value except `references` reads the program headers
+/// or the dynamic segment again, and none looks for a string table.
 #[derive(Drop)]
 pub struct DynamicObject<'a, E: Record> {
     view: DynamicView<'a>,
@@ -32,7 +33,9 @@ pub struct DynamicObject<'a, E: Record> {
     strings: &'a [u8],
     versions: Versions<'a>,
     file: ElfFile<'a>,
+    symbolic: bool,
     ghost found: { strings_of file ≡ Ok strings.now },
+    ghost symbolic_is: { symbolic ≡ is_symbolic (view_entries view) },
 }
 
 impl<'a, E: LinkedSymbol> DynamicObject<'a, E> {
@@ -40,11 +43,12 @@ impl<'a, E: LinkedSymbol> DynamicObject<'a, E> {
     ghost use Rattle.elf_linking.specs.AnyTable.{LooksBy, LooksForDefined};
     ghost use Rattle.elf_linking.specs.DynamicObject.{AreOfClass, AreRefused, IsNameAt, IsObject};
     ghost use Rattle.elf_linking.specs.DynamicObject.{IsObjectRefused, object_dynamic_symbols};
-    ghost use Rattle.elf_linking.specs.DynamicObject.{object_name};
+    ghost use Rattle.elf_linking.specs.DynamicObject.{object_file, object_machine, object_name};
     ghost use Rattle.elf_linking.specs.DynamicObject.{object_records, object_strings};
     ghost use Rattle.elf_linking.specs.DynamicObject.{object_symbols, object_table};
     ghost use Rattle.elf_linking.specs.DynamicObject.{object_versions, object_view};
     ghost use Rattle.elf_linking.specs.Find.{AreReadable, FindsRight, IsFound};
+    ghost use Rattle.elf_linking.specs.References.{references_left, references_of};
     ghost use Rattle.elf_linking.specs.VersionTables.{version_tables};
     ghost use Rattle.elf_linking.specs.Versions.{IsVersion, version_at, version_item};
     ghost use Rattle.elf_linking.specs.Versions.{versions_error};
@@ -90,6 +94,7 @@ impl<'a, E: LinkedSymbol> DynamicObject<'a, E> {
                     input: file.input,
                     header: file.header,
                 },
+                symbolic: view.is_symbolic(),
             }),
             Err(error) => Err(error),
         }
@@ -114,6 +119,21 @@ impl<'a, E: LinkedSymbol> DynamicObject<'a, E> {
         ensures { result ≡ object_versions self.now }
     {
         self.versions
+    }
+
+    /// Whether references of the file are bound within it first, as `DynamicView::is_symbolic` says;
+    /// no entry is read again.
+    pub fn is_symbolic(&self) -> bool
+        ensures { result ≡ is_symbolic (view_entries (object_view self.now)) }
+    {
+        self.symbolic
+    }
+
+    // The machine of the file (gABI, "ELF Header", e_machine).
+    pub(crate) fn machine(&self) -> u16
+        ensures { result ≡ object_machine self.now }
+    {
+        self.file.header.pt2.machine().raw()
     }
 
     /// The symbols with their names.
@@ -161,6 +181,19 @@ impl<'a, E: LinkedSymbol> DynamicObject<'a, E> {
             ≡ version_at (version_tables (object_versions self.now)) index }
     {
         self.versions.version_of(index)
+    }
+
+    /// An iterator over the relocations of the file that name a symbol: the result of
+    /// `DynamicView::references`, which reads the dynamic entries and the program headers, once per
+    /// call.
+    pub fn references(&self) -> Result<References<'a>, LinkError>
+        ensures exact { let answer = references_of (object_file self.now)
+            (view_entries (object_view self.now)) in
+            MatchResult result (λ references. answer ≡ Ok (references_left references))
+            (λ error. answer ≡ Err error) }
+        ensures fits { IfOk result (λ references. length (references_left references) < 2 ^ 64) }
+    {
+        self.view.references(&self.file)
     }
 
     /// Checks that look-ups find every symbol that the hash table is for: the result of
@@ -226,8 +259,10 @@ impl<'a, E: LinkedSymbol> DynamicObject<'a, E> {
     ///
     /// Errors: those of `AnyTable::lookup_where`; those of `Wanted::accepts` for a candidate before
     /// the first that is accepted. If `check` and `check_versions` are Ok, there is no error, and
-    /// no symbol is missed. A call goes through the chain of the name three times at most, and for
-    /// `Wanted::Version` through the definitions and needs for each candidate.
+    /// no symbol is missed. With GNU's table a call goes through the chain of the name once if one
+    /// of the first two candidates decides it, and otherwise four times at most; with the standard's
+    /// table, three times at most. For `Wanted::Version` it goes through the definitions and needs
+    /// for each candidate that it comes to.
     pub fn find(
         &self,
         name: &str,

@@ -1,4 +1,6 @@
 pub mod FirstNotes
 pub mod LinkedFunction
 pub mod LinkedName
+pub mod SecondFile
+pub mod SecondObject
 pub mod VersionNames

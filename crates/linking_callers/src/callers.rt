@@ -19,6 +19,8 @@ pub mod lookups;
 pub mod notes;
 pub mod objects;
 pub mod relr;
+pub mod scope;
+pub mod second_file;
 pub mod versions;
 pub mod view;
 

@@ -1,6 +1,7 @@
 //! Expected values are worked out by hand from the format,
 //! and never taken from the program's output.
 
+mod bind;
 mod by_index;
 mod callers;
 mod find;
@@ -9,6 +10,7 @@ mod linked;
 mod messages;
 mod notes;
 mod object;
+mod references;
 mod relr;
 mod sections;
 mod shared_object;

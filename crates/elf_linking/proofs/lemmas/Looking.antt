@@ -2,11 +2,13 @@
 use Rattle.std.proofs.Common.{◌≡◌, ℕ, List, Option, None, Some, Result, Ok, Err, Bool, true, refl, sym, subst}
 use Rattle.std.specs.Borrow.{Bor}
 use Rattle.std.specs.Fn.{Shared}
+use Rattle.elf_linking.specs.GnuHash.{LooksBehind}
 use Rattle.elf_linking.specs.AnyTable.{FindsAllBy, FindsAllWhereBy, LooksBy, LooksWhereBy}
 use Rattle.elf_linking.proofs.lemmas.GnuTables as gnu
 use Rattle.elf_linking.specs.declared.any_table.AnyTable.{AnyTable}
 use Rattle.elf_linking.specs.declared.any_table.AnyTable.TheVariants.{Gnu, Sysv}
 use Rattle.elf_linking.specs.declared.error.LinkError.{LinkError}
+use Rattle.elf_linking.specs.declared.gnu_hash.GnuHashTable.{GnuHashTable}
 use Rattle.xmas_elf.specs.HashTable.{chains_of, start_of}
 use Rattle.xmas_elf.proofs.lemmas.Walks as gabi
 use Rattle.xmas_elf.specs.Symbol.{Symbols}
@@ -60,3 +62,6 @@ module _ {F E : Type 0} (test : Shared F (ℕ × (Bor E × Unit {0})) Bool) (f :
 
   pub finds_where : (table : AnyTable) (answer : Result (Option (ℕ × E)) LinkError) → FindsAllWhereBy table symbols name (IsMatchWhere symbols test f name) answer → FindsAllWhereBy table symbols name Q answer
   finds_where table answer = finds_where_so (IsMatchWhere symbols test f name) Q to_where from_where table symbols name answer
+
+  pub behind_where : (table : GnuHashTable) (i : ℕ) (answer : Result (Option (ℕ × E)) LinkError) → LooksBehind (IsMatchWhere symbols test f name) table symbols.items i answer → LooksBehind Q table symbols.items i answer
+  behind_where table i answer = gnu.behind_alike (IsMatchWhere symbols test f name) Q to_where from_where table symbols.items i answer

@@ -12,6 +12,7 @@ ghost use Rattle.elf_linking.specs.Versions.{number_of};
 ghost use Rattle.elf_linking.specs.declared.error.LinkError.{LinkError};
 ghost use Rattle.xmas_elf.specs.SymbolTable.{table_symbols};
 
+use crate::find::early::found_symbol;
 use crate::find::{Use, Wanted, is_default, serves};
 use crate::versions::Versions;
 use crate::{AnyTable, LinkError};
@@ -21,6 +22,33 @@ use xmas_elf::symbol_table::{Entry, SymbolTable};
 impl<'a> AnyTable<'a> {
     // The symbol that a reference gets.
     pub(crate) fn find_in<E: Entry + Record>(
+        &self,
+        name: &str,
+        symbols: &SymbolTable<'_, E>,
+        versions: &Versions<'_>,
+        wanted: &Wanted<'_>,
+        use_: Use,
+    ) -> Result<Option<(u32, E)>, LinkError>
+        ensures answer { let file = dynamic_symbols self.now (table_symbols symbols.now)
+            (version_tables versions.now) in IsFound file name.now wanted.now use_ result }
+        ensures only { let file = dynamic_symbols self.now (table_symbols symbols.now)
+            (version_tables versions.now) in (other : Result (Option (ℕ × E)) LinkError)
+            → IsFound file name.now wanted.now use_ other → other ≡ result }
+        ensures good { let file = dynamic_symbols self.now (table_symbols symbols.now)
+            (version_tables versions.now) in IsGoodBy file.table file.symbols → AreReadable file
+            → FindsRight file name.now wanted.now use_ result }
+    {
+        match self {
+            AnyTable::Gnu(table) => match table.find_early(name, symbols, versions, wanted, use_) {
+                Some(found) => found_symbol(found, symbols),
+                None => self.find_by_steps(name, symbols, versions, wanted, use_),
+            },
+            AnyTable::Sysv(_) => self.find_by_steps(name, symbols, versions, wanted, use_),
+        }
+    }
+
+    // The result of `find_in`, by a look-up for each of its steps.
+    fn find_by_steps<E: Entry + Record>(
         &self,
         name: &str,
         symbols: &SymbolTable<'_, E>,

@@ -33,6 +33,7 @@ impl<'a> Definition<'a> {
     }
 
     // Whether it bears a number, and isn't the base.
+    #[inline(always)]
     pub(crate) fn bears(&self, number: u16) -> bool
         ensures { result ≡ bears_defined number (definition_parts self.now) }
     {
@@ -63,6 +64,7 @@ impl<'a> Definition<'a> {
 }
 
 // The offset of a name in the string table, by the record of names at `place`.
+#[inline(always)]
 fn name_offset(records: &Records<'_>, place: usize) -> Result<u32, LinkError>
     ensures { result ≡ name_offset (records_data records.now) place }
 {
@@ -73,6 +75,7 @@ fn name_offset(records: &Records<'_>, place: usize) -> Result<u32, LinkError>
 }
 
 // The definition at `place`.
+#[inline(always)]
 fn definition_at<'a>(records: &Records<'a>, place: usize) -> Definition<'a>
     requires { place + 20 ≤ length (records_data records.now).bytes }
     ensures { definition_parts result ≡ definition_at (records_data records.now) place }
@@ -119,6 +122,7 @@ impl<'a> Iterator for Definitions<'a> {
     ghost remaining = { item_count definitions_left };
 
     #[tactic(auto, using(crate::proofs::VersionItems::items_end, crate::proofs::VersionItems::items_first))]
+    #[inline(always)]
     fn next(&mut self) -> Option<Result<Definition<'a>, LinkError>> {
         match self.chain.next(&self.records, 16)? {
             Ok(place) => Some(Ok(definition_at(&self.records, place))),

@@ -18,6 +18,7 @@ pub(crate) struct Records<'a> {
 
 impl Records<'_> {
     // Whether the bytes contain `size` bytes from `place` on.
+    #[inline(always)]
     pub(crate) fn contain(&self, place: usize, size: usize) -> bool
         ensures { result ≡ nat_le (place + size) (length (records_data self.now).bytes) }
     {
@@ -26,6 +27,7 @@ impl Records<'_> {
     }
 
     // The number of 16 bits that lies `offset` bytes after `place`.
+    #[inline(always)]
     pub(crate) fn u16_at(&self, place: usize, offset: usize) -> u16
         requires { place + offset + 2 ≤ length (records_data self.now).bytes }
         ensures { result ≡ field (records_data self.now) 2 place offset }
@@ -34,6 +36,7 @@ impl Records<'_> {
     }
 
     // The number of 32 bits that lies `offset` bytes after `place`.
+    #[inline(always)]
     pub(crate) fn u32_at(&self, place: usize, offset: usize) -> u32
         requires { place + offset + 4 ≤ length (records_data self.now).bytes }
         ensures { result ≡ field (records_data self.now) 4 place offset }
@@ -42,6 +45,7 @@ impl Records<'_> {
     }
 
     // The place as many bytes after `place` as the number of 32 bits `offset` bytes after it says.
+    #[inline(always)]
     pub(crate) fn place_behind(&self, place: usize, offset: usize) -> usize
         requires { place + offset + 4 ≤ length (records_data self.now).bytes }
         ensures { result ≡ place + field (records_data self.now) 4 place offset }
@@ -60,6 +64,7 @@ pub(crate) struct Chain {
 impl Chain {
     // The place of the next record, whose last four bytes lie `offset` bytes after it: `next`.
     #[tactic(auto, using(crate::proofs::VersionPlaces::places_end, crate::proofs::VersionPlaces::places_cut, crate::proofs::VersionPlaces::places_last, crate::proofs::VersionPlaces::places_more))]
+    #[inline(always)]
     pub(crate) fn next(
         &mut self,
         records: &Records<'_>,

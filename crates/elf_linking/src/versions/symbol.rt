@@ -59,6 +59,7 @@ impl<'a> Versions<'a> {
     /// has no numbers of symbols.
     ///
     /// The error is `SymbolIndex` if there is no number at this index.
+    #[inline(always)]
     pub fn number(&self, index: u32) -> Result<Option<u16>, LinkError>
         ensures { result ≡ number_of (version_tables self.now) index }
     {

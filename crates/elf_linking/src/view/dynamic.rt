@@ -13,7 +13,9 @@ use crate::LinkError;
 use crate::view::entries::{DynamicEntries, Pairs};
 use crate::view::loaded::bytes_at;
 use crate::view::needed::{Needed, text_by};
-use crate::view::tags::{DT_RPATH, DT_RUNPATH, DT_SONAME, DT_STRSZ, DT_STRTAB};
+use crate::view::tags::{
+    DT_FLAGS, DT_RPATH, DT_RUNPATH, DT_SONAME, DT_STRSZ, DT_STRTAB, DT_SYMBOLIC,
+};
 use xmas_elf::ElfFile;
 use xmas_elf::program::{ProgramHeader, Type};
 
@@ -46,7 +48,7 @@ fn dynamic_segment(file: &ElfFile<'_>) -> Option<ProgramHeader>
 
 impl<'a> DynamicView<'a> {
     ghost use Rattle.elf_linking.specs.DynamicView.{IsTextWith, LiesAsStrings, dynamic_entries_of};
-    ghost use Rattle.elf_linking.specs.DynamicView.{needed_left, needed_of, strings_by};
+    ghost use Rattle.elf_linking.specs.DynamicView.{is_symbolic, needed_left, needed_of, strings_by};
     ghost use Rattle.elf_linking.specs.DynamicView.{view_entries, view_strings, view_table};
 
     /// Reads the first segment of type Dynamic. Its entries end before the first with tag Null, or
@@ -96,6 +98,20 @@ impl<'a> DynamicView<'a> {
         ensures fits { length (needed_left result) < 2 ^ 64 }
     {
         Needed::new(self.entries(), self.strings)
+    }
+
+    /// Whether references of the file are bound within it first: it has the entry Symbolic, or the
+    /// flag 2 (DF_SYMBOLIC) in the entry Flags.
+    pub fn is_symbolic(&self) -> bool
+        ensures { result ≡ is_symbolic (view_entries self.now) }
+    {
+        if self.entry(DT_SYMBOLIC).is_some() {
+            return true;
+        }
+        match self.entry(DT_FLAGS) {
+            Some(flags) => flags / 2 % 2 == 1,
+            None => false,
+        }
     }
 
     /// The name of the file as a library (DT_SONAME); the errors are those of the items of

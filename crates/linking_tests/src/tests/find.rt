@@ -2,7 +2,7 @@
 //! over files in which up to three symbols have one name.
 
 mod damaged;
-mod file;
+pub mod file;
 mod linked;
 
 use crate::tests::find::Asked::{By, Hidden};

@@ -55,6 +55,11 @@ const TEXTS: &[(LinkError, &str)] = &[
         LinkError::VersionCount,
         "Version needs have more parts than bytes",
     ),
+    (
+        LinkError::RelocationKind,
+        "Kind of relocations is neither Rel nor Rela",
+    ),
+    (LinkError::ObjectIndex, "Object index is out of range"),
 ];
 
 #[test]

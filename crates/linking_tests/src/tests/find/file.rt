@@ -89,6 +89,26 @@ pub fn set_symbol(file: &mut [u8], kind: Kind, index: usize, symbol: Symbol) {
     }
 }
 
+/// Writes `st_other` of the symbol at an index.
+pub fn set_other(file: &mut [u8], kind: Kind, index: usize, other: u64) {
+    let place = if kind.0 == 1 {
+        symbol_32::OTHER
+    } else {
+        symbol_64::OTHER
+    };
+    set(file, symbol_start(kind.0, index), place, other, kind.1);
+}
+
+/// Writes where the name of the symbol at an index begins in the strings.
+pub fn set_name(file: &mut [u8], kind: Kind, index: usize, name: u64) {
+    let place = if kind.0 == 1 {
+        symbol_32::NAME
+    } else {
+        symbol_64::NAME
+    };
+    set(file, symbol_start(kind.0, index), place, name, kind.1);
+}
+
 fn set_words(file: &mut [u8], start: usize, words: &[u64], order: Order) {
     for (k, word) in words.iter().enumerate() {
         set(
@@ -131,16 +151,26 @@ fn set_dynamic(file: &mut [u8], kind: Kind) {
     }
 }
 
-/// Takes the numbers of symbols out of a file: its last dynamic entry.
-pub fn drop_numbers(file: &mut [u8], kind: Kind) {
+// Writes a dynamic entry behind so many others.
+fn set_entry_at(file: &mut [u8], kind: Kind, index: usize, entry: (u64, u64)) {
     let (_program, width) = sizes(kind.0);
     set_entry(
         file,
-        DYNAMIC.wrapping_add(width.wrapping_mul(16)),
+        DYNAMIC.wrapping_add(width.wrapping_mul(2).wrapping_mul(index)),
         width,
-        (0, 0),
+        entry,
         kind.1,
     );
+}
+
+/// Takes the numbers of symbols out of a file: its last dynamic entry.
+pub fn drop_numbers(file: &mut [u8], kind: Kind) {
+    set_entry_at(file, kind, 8, (0, 0));
+}
+
+/// Adds a dynamic entry behind that of the numbers of symbols.
+pub fn add_entry(file: &mut [u8], kind: Kind, entry: (u64, u64)) {
+    set_entry_at(file, kind, 9, entry);
 }
 
 /// The file whose symbols from index 1 on are `ab` with these numbers: functions of section 5 with

@@ -1,65 +1,41 @@
-use Rattle.std.proofs.Common.{◌≡◌, Some, Ok, false, ap, subst, sym, ◌∙◌}
-use Rattle.std.proofs.Math.Logic.{⊎_elim}
-use Rattle.std.proofs.lemmas.Option.{slice_get_within}
-use Rattle.elf_linking.specs.Find.{IsAsked, IsOtherwise, dynamic_symbols, is_by_version, no_version}
+use Rattle.std.proofs.Common.{◌≡◌, ℕ, IfSome, Option, Result, subst, sym}
+use Rattle.elf_linking.specs.AnyTable.{IsGoodBy}
+use Rattle.elf_linking.specs.Find.{AreReadable, FindsRight, IsFound, dynamic_symbols, symbol_at}
 use Rattle.elf_linking.specs.VersionTables.{item_by, version_tables}
-use Rattle.elf_linking.proofs.Finds.{accepted_stands, asked_stands, default_right, none_accepted, of_result, then_err, then_ok}
-use Rattle.elf_linking.proofs.VersionsRead.{accepted_read, not_refused}
+use Rattle.elf_linking.specs.declared.any_table.AnyTable.TheVariants.{Gnu}
+use Rattle.elf_linking.specs.declared.error.LinkError.{LinkError}
+use Rattle.elf_linking.proofs.FoundOnce.{found_once, found_right}
 use Rattle.elf_linking.proofs.any_table.AnyTable.find_in.Goals as goal
 use Rattle.xmas_elf.specs.SymbolTable.{table_symbols}
 
-pub returns-in-Ok-clause-only : goal.returns-in-Ok-clause-only
-returns-in-Ok-clause-only g c = λ other h.
-    then_ok _ _ _ c.first_asked.ensures.only _ (c.in-Ok-Some.is ∙ ap (λ x. Ok x) c.in-Ok-Some.field-0-is) other h
-    ∙ ap (item_by (λ _. Some (c.in-Ok-Some.index, c.in-Ok-Some.symbol))) (sym c.accepts.ensures ∙ c.in-Ok.is)
+pub returns-in-Some-clause-answer : goal.returns-in-Some-clause-answer
+returns-in-Some-clause-answer g c =
+    let symbols = table_symbols c.args.symbols.now in
+    let versions = version_tables c.args.versions.now in
+    let early = dynamic_symbols (Gnu c.in-Gnu.table) symbols versions in
+    let found : IsFound early c.args.name.now c.args.wanted.now c.args.use_ c.found_symbol.result =
+    subst (IsFound early c.args.name.now c.args.wanted.now c.args.use_) (sym c.found_symbol.ensures)
+    (subst (λ r. IfSome r (λ i. IsFound early c.args.name.now c.args.wanted.now c.args.use_ (item_by (symbol_at symbols.items) i))) c.in-Some.is c.find_early.ensures) in
+    subst (λ t. IsFound (dynamic_symbols t symbols versions) c.args.name.now c.args.wanted.now c.args.use_ c.found_symbol.result) (sym c.in-Gnu.is) found
 
-pub returns-in-Err-accepts-clause-only : goal.returns-in-Err-accepts-clause-only
-returns-in-Err-accepts-clause-only g c = λ other h.
-    then_ok _ _ _ c.first_asked.ensures.only _ (c.in-Ok-Some.is ∙ ap (λ x. Ok x) c.in-Ok-Some.field-0-is) other h
-    ∙ ap (item_by (λ _. Some (c.in-Ok-Some.index, c.in-Ok-Some.symbol))) (sym c.accepts.ensures ∙ c.in-Err-accepts.is)
+pub returns-in-Some-clause-only : goal.returns-in-Some-clause-only
+returns-in-Some-clause-only g c =
+    let symbols = table_symbols c.args.symbols.now in
+    let versions = version_tables c.args.versions.now in
+    let early = dynamic_symbols (Gnu c.in-Gnu.table) symbols versions in
+    let found : IsFound early c.args.name.now c.args.wanted.now c.args.use_ c.found_symbol.result =
+    subst (IsFound early c.args.name.now c.args.wanted.now c.args.use_) (sym c.found_symbol.ensures)
+    (subst (λ r. IfSome r (λ i. IsFound early c.args.name.now c.args.wanted.now c.args.use_ (item_by (symbol_at symbols.items) i))) c.in-Some.is c.find_early.ensures) in
+    subst (λ t. (other : Result (Option (ℕ × _)) LinkError) → IsFound (dynamic_symbols t symbols versions) c.args.name.now c.args.wanted.now c.args.use_ other → other ≡ c.found_symbol.result) (sym c.in-Gnu.is)
+    (λ other h. found_once c.in-Gnu.table symbols versions c.args.name.now c.args.use_ c.args.wanted.now other c.found_symbol.result h found)
 
-pub returns-in-Version-clause-only : goal.returns-in-Version-clause-only
-returns-in-Version-clause-only g c = λ other h.
-    let file = dynamic_symbols c.args.self.now (table_symbols c.args.symbols.now) (version_tables c.args.versions.now) in
-    subst (λ w. IsOtherwise file c.args.name.now w c.args.use_ other) c.in-Version.is
-    (then_ok _ _ _ c.first_asked.ensures.only _ (c.in-Ok-None.is ∙ ap (λ x. Ok x) c.in-Ok-None.field-0-is) other h)
-
-pub returns-in-Unversioned-clause-only : goal.returns-in-Unversioned-clause-only
-returns-in-Unversioned-clause-only g c = λ other h.
-    let file = dynamic_symbols c.args.self.now (table_symbols c.args.symbols.now) (version_tables c.args.versions.now) in
-    let otherwise = then_ok _ _ _ c.first_asked.ensures.only _ (c.in-Ok-None.is ∙ ap (λ x. Ok x) c.in-Ok-None.field-0-is) other h in
-    c.default_in.ensures.only other (⊎_elim
-    (λ is. subst (λ w. IsOtherwise file c.args.name.now w c.args.use_ other) is otherwise)
-    (λ is. subst (λ w. IsOtherwise file c.args.name.now w c.args.use_ other) is otherwise) c.in-Unversioned.is)
-
-pub returns-in-Err-clause-only : goal.returns-in-Err-clause-only
-returns-in-Err-clause-only g c = λ other h. then_err _ _ _ c.first_asked.ensures.only _ c.in-Err.is other h
-
-pub returns-in-Ok-clause-good : goal.returns-in-Ok-clause-good
-returns-in-Ok-clause-good g c = λ good readable.
-    let file = dynamic_symbols c.args.self.now (table_symbols c.args.symbols.now) (version_tables c.args.versions.now) in
-    accepted_stands file c.args.name.now c.args.use_ c.args.wanted.now (c.in-Ok-Some.index, c.in-Ok-Some.symbol) _
-    (of_result file _ (IsAsked file c.args.name.now c.args.wanted.now c.args.use_) _ _ (c.in-Ok-Some.is ∙ ap (λ x. Ok x) c.in-Ok-Some.field-0-is) (c.first_asked.ensures.good good))
-    (sym c.accepts.ensures ∙ c.in-Ok.is)
-
-pub returns-in-Err-accepts-clause-good : goal.returns-in-Err-accepts-clause-good
-returns-in-Err-accepts-clause-good g c = λ good readable.
-    let file = dynamic_symbols c.args.self.now (table_symbols c.args.symbols.now) (version_tables c.args.versions.now) in
-    let found = of_result file _ (IsAsked file c.args.name.now c.args.wanted.now c.args.use_) _ _ (c.in-Ok-Some.is ∙ ap (λ x. Ok x) c.in-Ok-Some.field-0-is) (c.first_asked.ensures.good good) in
-    let stands = asked_stands file c.args.name.now c.args.use_ c.args.wanted.now _ found in
-    not_refused _ (accepted_read file readable c.args.wanted.now c.in-Ok-Some.index (slice_get_within _ _ _ stands.symbol)) _
-    (sym c.accepts.ensures ∙ c.in-Err-accepts.is)
-
-pub returns-in-Version-clause-good : goal.returns-in-Version-clause-good
-returns-in-Version-clause-good g c = λ good readable.
-    let file = dynamic_symbols c.args.self.now (table_symbols c.args.symbols.now) (version_tables c.args.versions.now) in
-    no_version (ap is_by_version c.in-Version.is) (none_accepted file c.args.name.now c.args.use_ c.args.wanted.now
-    (of_result file _ (IsAsked file c.args.name.now c.args.wanted.now c.args.use_) _ _ (c.in-Ok-None.is ∙ ap (λ x. Ok x) c.in-Ok-None.field-0-is) (c.first_asked.ensures.good good)))
-
-pub returns-in-Unversioned-clause-good : goal.returns-in-Unversioned-clause-good
-returns-in-Unversioned-clause-good g c = λ good readable.
-    let file = dynamic_symbols c.args.self.now (table_symbols c.args.symbols.now) (version_tables c.args.versions.now) in
-    let other = ⊎_elim {C = is_by_version c.args.wanted.now ≡ false} (λ is. ap is_by_version is) (λ is. ap is_by_version is) c.in-Unversioned.is in
-    default_right file c.args.name.now c.args.use_ c.args.wanted.now _ other (none_accepted file c.args.name.now c.args.use_ c.args.wanted.now
-    (of_result file _ (IsAsked file c.args.name.now c.args.wanted.now c.args.use_) _ _ (c.in-Ok-None.is ∙ ap (λ x. Ok x) c.in-Ok-None.field-0-is) (c.first_asked.ensures.good good)))
-    (c.default_in.ensures.good good)
+pub returns-in-Some-clause-good : goal.returns-in-Some-clause-good
+returns-in-Some-clause-good g c =
+    let symbols = table_symbols c.args.symbols.now in
+    let versions = version_tables c.args.versions.now in
+    let early = dynamic_symbols (Gnu c.in-Gnu.table) symbols versions in
+    let found : IsFound early c.args.name.now c.args.wanted.now c.args.use_ c.found_symbol.result =
+    subst (IsFound early c.args.name.now c.args.wanted.now c.args.use_) (sym c.found_symbol.ensures)
+    (subst (λ r. IfSome r (λ i. IsFound early c.args.name.now c.args.wanted.now c.args.use_ (item_by (symbol_at symbols.items) i))) c.in-Some.is c.find_early.ensures) in
+    subst (λ t. IsGoodBy t symbols → AreReadable (dynamic_symbols t symbols versions) → FindsRight (dynamic_symbols t symbols versions) c.args.name.now c.args.wanted.now c.args.use_ c.found_symbol.result) (sym c.in-Gnu.is)
+    (λ good readable. found_right c.in-Gnu.table symbols versions c.args.name.now c.args.use_ good readable c.args.wanted.now c.found_symbol.result found)

@@ -1,0 +1,50 @@
+-- The remaining references of an iterator, relocation by relocation.
+use Rattle.std.proofs.Common.{◌≡◌, ◌≢◌, ℕ, ◌<◌, ◌≤◌, ◌*◌, ◌^◌, suc, length, arith, Bool, true, false, if◌then◌else◌, List, [], ◌∷◌, ◌++◌, length-append, filter, map, mul-le-mul_left, refl, ap, ◌∙◌}
+use Rattle.std.proofs.lemmas.Bool.{eq-eqb, ne_eqb}
+use Rattle.std.proofs.lemmas.List.{length-map}
+use Rattle.elf_linking.specs.References.{names_symbol}
+use Rattle.elf_linking.specs.declared.references.Reference.{Reference}
+
+-- the first of the relocations, which names a symbol or doesn't
+pub named_none : (relocations : List Reference) → relocations ≡ [] → filter names_symbol relocations ≡ []
+named_none relocations is = ap (filter names_symbol) is
+
+pub named_first : (relocations others : List Reference) (relocation : Reference) → relocations ≡ relocation ∷ others → relocation.symbol ≢ 0
+    → filter names_symbol relocations ≡ relocation ∷ filter names_symbol others
+named_first relocations others relocation is named = ap (filter names_symbol) is ∙ rw (ne_eqb relocation.symbol 0 named) refl
+
+pub named_other : (relocations others : List Reference) (relocation : Reference) → relocations ≡ relocation ∷ others → relocation.symbol ≡ 0
+    → filter names_symbol relocations ≡ filter names_symbol others
+named_other relocations others relocation is none = ap (filter names_symbol) is ∙ rw (eq-eqb relocation.symbol 0 none) refl
+
+-- the first relocation of a table and of those after it, and those after a table without any
+pub begins : (table others later : List Reference) (relocation : Reference) → table ≡ relocation ∷ others → table ++ later ≡ relocation ∷ (others ++ later)
+begins table others later relocation is = ap (λ list. list ++ later) is
+
+pub goes_on : (table later : List Reference) → table ≡ [] → table ++ later ≡ later
+goes_on table later is = ap (λ list. list ++ later) is
+
+-- the relocations of a table whose records have 8 bytes or more
+pub records_few : {R : Type 0} (reference : R → Reference) (items : List R) (size room : ℕ) → length items * size ≡ room → room < 2 ^ 64 → 8 ≤ size
+    → length (map reference items) < 2 ^ 61
+records_few reference items size room is below above =
+    let same = length-map items reference in
+    let least : length items * 8 ≤ length items * size = mul-le-mul_left (length items) above in
+    rw same (omega (arith, least, is, below))
+
+-- the references are no more than the relocations
+few_by : (b : Bool) (x : Reference) (kept : List Reference) (count : ℕ) → length kept ≤ count → length (if b then x ∷ kept else kept) ≤ suc count
+few_by true x kept count few = omega (arith, few)
+few_by false x kept count few = omega (arith, few)
+
+references_few : (relocations : List Reference) → length (filter names_symbol relocations) ≤ length relocations
+references_few [] = omega arith
+references_few (x ∷ relocations) = few_by (names_symbol x) x (filter names_symbol relocations) (length relocations) (references_few relocations)
+
+pub references_fit : (rela rel plt : List Reference) → length rela < 2 ^ 61 → length rel < 2 ^ 61 → length plt < 2 ^ 61
+    → length (filter names_symbol (rela ++ (rel ++ plt))) < 2 ^ 64
+references_fit rela rel plt a b c =
+    let few = references_few (rela ++ (rel ++ plt)) in
+    let both = length-append rela (rel ++ plt) in
+    let last = length-append rel plt in
+    omega (arith, few, both, last, a, b, c)

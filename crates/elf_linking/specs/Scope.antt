@@ -1,0 +1,194 @@
+-- Which symbol of which file a reference gets (gABI, "Dynamic Section", DT_SYMBOLIC, and "Symbol Table"; LSB,
+-- "Symbol Versioning"; the order of files, and which symbols of them serve, as glibc's linker has it).
+use Rattle.std.specs.Prelude.{◌≡◌, ◌≢◌, ℕ, ◌/◌, ◌%◌, ◌<◌, ◌==◌, ◌||◌, not, Bool, true, false, List, length, slice_get, Option, Some, None, option_map, Result, Ok, Err, MatchOption, MatchResult, IsOk, IsOkAnd, IsSomeAnd, if◌then◌else◌}
+use Rattle.std.specs.Borrow.{Bor}
+use Rattle.elf_base.specs.Refusal.{and_then}
+use Rattle.elf_base.specs.Table.{table_items}
+use Rattle.elf_linking.specs.AnyTable.{IsGoodBy}
+use Rattle.elf_linking.specs.DynamicObject.{object_dynamic_symbols, object_machine, object_name, object_records, object_versions, object_view}
+use Rattle.elf_linking.specs.DynamicView.{is_symbolic, view_entries}
+use Rattle.elf_linking.specs.Find.{AreReadable, DynamicSymbols, FindsRight, IsFound}
+use Rattle.elf_linking.specs.References.{use_of}
+use Rattle.elf_linking.specs.VersionTables.{item_by, version_tables}
+use Rattle.elf_linking.specs.Versions.{Defined, NamedParts, Needed, VersionParts, named_hash, named_name, version_at}
+use Rattle.elf_linking.specs.declared.error.LinkError.{LinkError}
+use Rattle.elf_linking.specs.declared.error.LinkError.TheVariants.{ObjectIndex, SymbolIndex}
+use Rattle.elf_linking.specs.declared.find.Use as uses
+use Rattle.elf_linking.specs.declared.find.Use.TheVariants.{Copy}
+use Rattle.elf_linking.specs.declared.find.Wanted.{Wanted}
+use Rattle.elf_linking.specs.declared.find.Wanted.TheVariants.{Newest, Unversioned, Version}
+use Rattle.elf_linking.specs.declared.object.DynamicObject.{DynamicObject}
+use Rattle.elf_linking.specs.declared.references.Reference.{Reference}
+use Rattle.elf_linking.specs.declared.scope.Bound.{Bound}
+use Rattle.elf_linking.specs.declared.scope.Scope.{Scope}
+use Rattle.elf_linking.specs.declared.scope.asking.Asked.{Asked}
+use Rattle.elf_linking.specs.declared.scope.asking.Asked.TheVariants.{Look, Own}
+use Rattle.xmas_elf.specs.Symbol.{SymbolFields}
+use Rattle.xmas_elf.specs.declared.ElfFile.{ElfFile}
+
+-- What a reference asks for.
+
+-- a reference to the symbol gets the symbol itself: its binding is local (STB_LOCAL, 0), or its visibility isn't
+-- the default (STV_DEFAULT, 0)
+abbrev pub binds_to_itself : SymbolFields → Bool
+binds_to_itself e = e.info / 16 == 0 || not (e.other % 4 == 0)
+
+-- a text as it is asked for, wherever it lies
+abbrev pub text_alone : List ℕ → Bor (List ℕ)
+text_alone bytes = record { ref_ptr = (0, 0); now = bytes }
+
+-- a version and a question with their texts alone
+abbrev pub wanted_parts : Wanted → Wanted
+wanted_parts (Version name hash hidden) = Version (text_alone name.now) hash hidden
+wanted_parts Unversioned = Unversioned
+wanted_parts Newest = Newest
+
+abbrev pub asked_parts : {E : Type 0} → Asked E → Asked E
+asked_parts (Own symbol) = Own symbol
+asked_parts (Look name wanted purpose) = Look (text_alone name.now) (wanted_parts wanted) purpose
+
+-- a need can be hidden (bit 15 of its number)
+abbrev pub is_hidden_need : NamedParts → Bool
+is_hidden_need (Defined d) = false
+is_hidden_need (Needed need) = need.hidden
+
+-- the version that is wanted, by what bears the version of the symbol: that version, if it has a hash number other
+-- than 0
+abbrev pub wanted_by : Option NamedParts → Result Wanted LinkError
+wanted_by None = Ok Unversioned
+wanted_by (Some named) = if named_hash named == 0 then Ok Unversioned
+    else item_by (λ name. Version (text_alone name) (named_hash named) (is_hidden_need named)) (named_name named)
+
+abbrev pub wanted_of : Option VersionParts → Result Wanted LinkError
+wanted_of None = Ok Unversioned
+wanted_of (Some version) = wanted_by version.named
+
+-- what a reference to a symbol asks for: the symbol itself, or its name and its version for a use; or why these
+-- can't be read
+abbrev pub asked_with : {E : Type 0} → {r : _} → (E → SymbolFields) → DynamicObject E r → Reference → Option E → Result (Asked E) LinkError
+asked_with fields object reference None = Err SymbolIndex
+asked_with fields object reference (Some symbol) = if binds_to_itself (fields symbol) then Ok (Own symbol)
+    else and_then (object_name fields object reference.symbol) (λ name.
+    and_then (version_at (version_tables (object_versions object)) reference.symbol) (λ version.
+    and_then (wanted_of version) (λ wanted.
+    Ok (Look (text_alone name) wanted (use_of (object_machine object) reference.kind)))))
+
+abbrev pub asked_of : {E : Type 0} → {r : _} → (E → SymbolFields) → DynamicObject E r → Reference → Result (Asked E) LinkError
+asked_of fields object reference =
+    asked_with fields object reference (slice_get (table_items (object_records object)) reference.symbol)
+
+-- The order in which objects are asked, and what each gives.
+
+-- the objects of a scope
+abbrev pub scope_objects : {E : Type 0} → {r : _} → Scope E r → Bor (List (DynamicObject E r))
+scope_objects scope = scope.objects
+
+-- the object at index `one` is asked before that at index `other`: first of all the one that asks, at index `from`,
+-- if it is symbolic; the others by their indices
+abbrev pub ComesBefore : Bool → ℕ → ℕ → ℕ → Type 0
+ComesBefore false from one other = one < other
+ComesBefore true from one other = (other ≢ from) × (one ≢ from → one < other)
+
+-- a symbol serves references of other objects: its binding is global (STB_GLOBAL), weak (STB_WEAK) or unique
+-- (STB_GNU_UNIQUE)
+abbrev pub can_bind : SymbolFields → Bool
+can_bind e = let binding = e.info / 16 in binding == 1 || (binding == 2 || binding == 10)
+
+-- what an object gives, by what a search in it finds: a symbol that serves, or nothing; or the error of the search
+pub data Gives {E : Type 0} (Finds : DynamicSymbols E → Result (Option (ℕ × E)) LinkError → Type 0) (file : DynamicSymbols E) : Result (Option (ℕ × E)) LinkError → Type 0 where
+  serves : (at : ℕ × E) → Finds file (Ok (Some at)) → can_bind (file.symbols.fields at.1) ≡ true
+      → Gives Finds file (Ok (Some at))
+  serves_none : (at : ℕ × E) → Finds file (Ok (Some at)) → can_bind (file.symbols.fields at.1) ≡ false
+      → Gives Finds file (Ok None)
+  lacks : Finds file (Ok None) → Gives Finds file (Ok None)
+  fails : (error : LinkError) → Finds file (Err error) → Gives Finds file (Err error)
+
+-- the same as a function: the symbol that was found, if it serves
+abbrev pub if_serving : {E : Type 0} → (E → SymbolFields) → Option (ℕ × E) → Option (ℕ × E)
+if_serving fields None = None
+if_serving fields (Some at) = if can_bind (fields at.1) then Some at else None
+
+-- a copy relocation of the program, at index 0, wants a symbol of a library
+abbrev pub is_passed_over : uses.Use → ℕ → Bool
+is_passed_over Copy index = index == 0
+is_passed_over _ index = false
+
+-- the dynamic symbols of the object at an index
+abbrev pub symbols_at : {E : Type 0} → {r : _} → (E → SymbolFields) → (E → ElfFile → Option (List ℕ)) → List (DynamicObject E r) → ℕ → Option (DynamicSymbols E)
+symbols_at fields text_in objects index = option_map (object_dynamic_symbols fields text_in) (slice_get objects index)
+
+-- what the object at an index gives: nothing if it is passed over
+pub data GivesAt {E : Type 0} (Finds : DynamicSymbols E → Result (Option (ℕ × E)) LinkError → Type 0) (objects : ℕ → Option (DynamicSymbols E)) (purpose : uses.Use) (index : ℕ) : Result (Option (ℕ × E)) LinkError → Type 0 where
+  passed_over : is_passed_over purpose index ≡ true → GivesAt Finds objects purpose index (Ok None)
+  asked : (file : DynamicSymbols E) (answer : Result (Option (ℕ × E)) LinkError) → is_passed_over purpose index ≡ false
+      → objects index ≡ Some file → Gives Finds file answer → GivesAt Finds objects purpose index answer
+
+-- The symbol that a reference gets.
+
+-- the objects that are asked before the one at an index give nothing
+abbrev pub NoneBefore : {E : Type 0} → (ℕ → Result (Option (ℕ × E)) LinkError → Type 0) → Bool → ℕ → ℕ → Type 0
+NoneBefore AtIndex symbolic from index = (i : ℕ) → ComesBefore symbolic from i index → AtIndex i (Ok None)
+
+-- what the first object gives that gives a symbol or an error; nothing if there is no such object
+pub data IsFirstGiven {E : Type 0} (AtIndex : ℕ → Result (Option (ℕ × E)) LinkError → Type 0) (count : ℕ) (symbolic : Bool) (from : ℕ) : Result (Option (Bound E)) LinkError → Type 0 where
+  given : (bound : Bound E) → bound.object < count → NoneBefore AtIndex symbolic from bound.object
+      → AtIndex bound.object (Ok (Some (bound.index, bound.symbol)))
+      → IsFirstGiven AtIndex count symbolic from (Ok (Some bound))
+  nowhere : ((i : ℕ) → i < count → AtIndex i (Ok None)) → IsFirstGiven AtIndex count symbolic from (Ok None)
+  refused : (index : ℕ) (error : LinkError) → index < count → NoneBefore AtIndex symbolic from index
+      → AtIndex index (Err error) → IsFirstGiven AtIndex count symbolic from (Err error)
+
+-- what the object at an index gives for a name, a version and a use, by a search in it
+abbrev pub FindsAt : {E : Type 0} → {r : _} → (E → SymbolFields) → (E → ElfFile → Option (List ℕ)) → List (DynamicObject E r) → List ℕ → Wanted → uses.Use → ℕ → Result (Option (ℕ × E)) LinkError → Type 0
+FindsAt fields text_in objects name wanted purpose =
+    GivesAt (λ file. IsFound file name wanted purpose) (symbols_at fields text_in objects) purpose
+
+-- the same by its list of symbols, whatever the hash table
+abbrev pub HasAt : {E : Type 0} → {r : _} → (E → SymbolFields) → (E → ElfFile → Option (List ℕ)) → List (DynamicObject E r) → List ℕ → Wanted → uses.Use → ℕ → Result (Option (ℕ × E)) LinkError → Type 0
+HasAt fields text_in objects name wanted purpose =
+    GivesAt (λ file. FindsRight file name wanted purpose) (symbols_at fields text_in objects) purpose
+
+-- what the first object gives, for the one at index `from`, if there is such an object
+abbrev pub IsFirstFor : {E : Type 0} → {r : _} → (ℕ → Result (Option (ℕ × E)) LinkError → Type 0) → List (DynamicObject E r) → ℕ → Result (Option (Bound E)) LinkError → Type 0
+IsFirstFor AtIndex objects from answer = MatchOption (slice_get objects from) (answer ≡ Err ObjectIndex)
+    (λ asking. IsFirstGiven AtIndex (length objects) (is_symbolic (view_entries (object_view asking))) from answer)
+
+-- the symbol that the objects give for a name, a version and a use
+abbrev pub IsBound : {E : Type 0} → {r : _} → (E → SymbolFields) → (E → ElfFile → Option (List ℕ)) → List (DynamicObject E r) → ℕ → List ℕ → Wanted → uses.Use → Result (Option (Bound E)) LinkError → Type 0
+IsBound fields text_in objects from name wanted purpose answer =
+    IsFirstFor (FindsAt fields text_in objects name wanted purpose) objects from answer
+
+-- look-ups in the objects find what they must, and their versions can be read
+abbrev pub AreGood : {E : Type 0} → {r : _} → (E → SymbolFields) → (E → ElfFile → Option (List ℕ)) → List (DynamicObject E r) → Type 0
+AreGood {E} fields text_in objects = (i : ℕ) (file : DynamicSymbols E) → symbols_at fields text_in objects i ≡ Some file
+    → IsGoodBy file.table file.symbols × AreReadable file
+
+-- there is no error, and the symbol is that of the first object in whose list of symbols there is one; nothing only
+-- if there is none in any object
+abbrev pub BindsRight : {E : Type 0} → {r : _} → (E → SymbolFields) → (E → ElfFile → Option (List ℕ)) → List (DynamicObject E r) → ℕ → List ℕ → Wanted → uses.Use → Result (Option (Bound E)) LinkError → Type 0
+BindsRight fields text_in objects from name wanted purpose answer = IsOkAnd answer (λ bound.
+    IsFirstFor (HasAt fields text_in objects name wanted purpose) objects from (Ok bound))
+
+-- the result of what a reference of the object at index `from` asks for, by what a search in the objects finds
+abbrev pub AnswersAsked : {E : Type 0} → (List ℕ → Wanted → uses.Use → Result (Option (Bound E)) LinkError → Type 0) → ℕ → ℕ → Asked E → Result (Option (Bound E)) LinkError → Type 0
+AnswersAsked Finds from index (Own symbol) answer =
+    answer ≡ Ok (Some (record { object = from; index = index; symbol = symbol }))
+AnswersAsked Finds from index (Look name wanted purpose) answer = Finds name.now wanted purpose answer
+
+-- the symbol that a reference of the object at index `from` gets, or why there is no answer
+abbrev pub IsReferenceBound : {E : Type 0} → {r : _} → (E → SymbolFields) → (E → ElfFile → Option (List ℕ)) → List (DynamicObject E r) → ℕ → Reference → Result (Option (Bound E)) LinkError → Type 0
+IsReferenceBound fields text_in objects from reference answer = MatchOption (slice_get objects from)
+    (answer ≡ Err ObjectIndex) (λ asking. MatchResult (asked_of fields asking reference)
+    (λ asked. AnswersAsked (IsBound fields text_in objects from) from reference.symbol asked answer)
+    (λ error. answer ≡ Err error))
+
+-- there is an object at index `from`, and the name of the reference's symbol can be read
+abbrev pub HasNamedSymbol : {E : Type 0} → {r : _} → (E → SymbolFields) → List (DynamicObject E r) → ℕ → Reference → Type 0
+HasNamedSymbol fields objects from reference =
+    IsSomeAnd (slice_get objects from) (λ asking. IsOk (object_name fields asking reference.symbol))
+
+-- there is no error, and a reference that isn't to its own symbol gets the one that the lists of symbols say
+abbrev pub BindsReference : {E : Type 0} → {r : _} → (E → SymbolFields) → (E → ElfFile → Option (List ℕ)) → List (DynamicObject E r) → ℕ → Reference → Result (Option (Bound E)) LinkError → Type 0
+BindsReference fields text_in objects from reference answer = IsSomeAnd (slice_get objects from) (λ asking.
+    IsOkAnd (asked_of fields asking reference) (λ asked. IsOkAnd answer (λ bound.
+    AnswersAsked (BindsRight fields text_in objects from) from reference.symbol asked (Ok bound))))

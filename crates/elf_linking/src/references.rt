@@ -1,0 +1,127 @@
+//! The relocations of a file that name a symbol (gABI, "Relocation" and "Dynamic Section").
+
+ghost use Rattle.std.specs.Prelude.{◌≡◌, ◌<◌, ◌^◌, Err, IfOk, IsOkAnd, List, MatchResult, Ok, length};
+ghost use Rattle.std.specs.Iterator.{YieldsFirst, item_count};
+ghost use Rattle.elf_linking.specs.References.{references_left, references_of, tables_left, use_of};
+
+mod tables;
+
+use crate::LinkError;
+use crate::find::Use;
+use crate::references::tables::Relocations;
+use crate::view::{
+    DT_JMPREL, DT_PLTREL, DT_PLTRELSZ, DT_REL, DT_RELA, DT_RELASZ, DT_RELSZ, DynamicView,
+};
+use xmas_elf::ElfFile;
+
+/// A relocation that names a symbol.
+#[derive(Clone, Copy, Debug, PartialEq, Eq)]
+pub struct Reference {
+    /// The location to relocate: a virtual address.
+    pub offset: u64,
+    /// The relocation type, whose meaning is that of the machine.
+    pub kind: u32,
+    /// The index of the dynamic symbol, which is not 0.
+    pub symbol: u32,
+    /// The addend, as an unsigned number of the file's class; 0 in a record without one, whose
+    /// addend is stored at the location.
+    pub addend: u64,
+}
+
+/// An iterator over the relocations of a file that name a symbol: those of the table Rela, then
+/// those of Rel, then those of the procedure linkage table (JmpRel), each table in order.
+///
+/// A record whose symbol index is 0 names none and is passed over, so that a call of `next` takes
+/// constant time but for such records, and all calls together read each record once.
+#[derive(Clone, Debug, Drop)]
+pub struct References<'a> {
+    rela: Relocations<'a>,
+    rel: Relocations<'a>,
+    plt: Relocations<'a>,
+}
+
+impl<'a> DynamicView<'a> {
+    ghost use Rattle.elf_linking.specs.DynamicView.{view_entries};
+    ghost use Rattle.elf_linking.specs.declared.error.LinkError.{LinkError};
+    ghost use Rattle.elf_linking.specs.declared.references.Reference.{Reference};
+
+    /// An iterator over the relocations of the file that name a symbol, of the tables Rela, Rel and
+    /// JmpRel in this order. A table without an entry for its address is absent. A record that lies
+    /// in two tables is returned twice.
+    ///
+    /// This call goes through the dynamic entries and the program headers; `next` does not.
+    ///
+    /// Errors, of the first table that has one: `NoEntry` if there is no entry for its size or, for
+    /// JmpRel, no entry PltRel; `RelocationKind` if the number in the entry PltRel is not that of Rel
+    /// or Rela; those of `bytes_at`; `UnknownClass` if the class of the file is neither 1 nor 2;
+    /// `Elf` with `NotMultiple` if the bytes are not a whole number of records.
+    #[tactic(auto, unfolding(crate::specs::References::references_of), using(crate::proofs::ReferenceItems::references_fit))]
+    pub fn references(&self, file: &ElfFile<'a>) -> Result<References<'a>, LinkError>
+        ensures exact { let answer = references_of file.now (view_entries self.now) in
+            MatchResult result (λ references. answer ≡ Ok (references_left references))
+            (λ error. answer ≡ Err error) }
+        ensures only { (items : List Reference)
+            → references_of file.now (view_entries self.now) ≡ Ok items
+            → IsOkAnd result (λ references. references_left references ≡ items) }
+        ensures refused { (error : LinkError)
+            → references_of file.now (view_entries self.now) ≡ Err error → result ≡ Err error }
+        ensures fits { IfOk result (λ references. length (references_left references) < 2 ^ 64) }
+    {
+        let rela = self.entry(DT_RELA);
+        let rela = Relocations::read(file, rela, self.entry(DT_RELASZ), Some(DT_RELA))?;
+        let rel = self.entry(DT_REL);
+        let rel = Relocations::read(file, rel, self.entry(DT_RELSZ), Some(DT_REL))?;
+        let (size, kind) = (self.entry(DT_PLTRELSZ), self.entry(DT_PLTREL));
+        let plt = Relocations::read(file, self.entry(DT_JMPREL), size, kind)?;
+        Ok(References { rela, rel, plt })
+    }
+}
+
+impl References<'_> {
+    // The next relocation, which may name no symbol.
+    #[tactic(auto, using(crate::proofs::ReferenceItems::begins, crate::proofs::ReferenceItems::goes_on))]
+    fn next_relocation(&mut self) -> Option<Reference>
+        ensures { YieldsFirst tables_left self.old result self.new }
+    {
+        if let Some(relocation) = self.rela.next() {
+            return Some(relocation);
+        }
+        if let Some(relocation) = self.rel.next() {
+            return Some(relocation);
+        }
+        self.plt.next()
+    }
+}
+
+impl Iterator for References<'_> {
+    type Item = Reference;
+
+    ghost next_gives = { YieldsFirst references_left };
+
+    ghost remaining = { item_count references_left };
+
+    #[tactic(auto, using(crate::proofs::ReferenceItems::named_none, crate::proofs::ReferenceItems::named_first, crate::proofs::ReferenceItems::named_other))]
+    fn next(&mut self) -> Option<Reference> {
+        loop {
+            let relocation = self.next_relocation()?;
+            if relocation.symbol != 0 {
+                return Some(relocation);
+            }
+        }
+    }
+}
+
+/// What a relocation of this type wants of its symbol, in a file for this machine (`e_machine`):
+/// `Copy` for a copy relocation; `Defined` for a jump slot and for thread-local storage; otherwise
+/// `Any`. The machines are x86-64, 386 and AArch64; for others it is always `Any`.
+pub fn use_of(machine: u16, kind: u32) -> Use
+    ensures { result ≡ use_of machine kind }
+{
+    match (machine, kind) {
+        (62 | 3, 5) | (183, 1024) => Use::Copy,
+        (62, 7 | 16 | 17 | 18 | 36) => Use::Defined,
+        (3, 7 | 14 | 35 | 36 | 37 | 41) => Use::Defined,
+        (183, 1026 | 1028 | 1029 | 1030 | 1031) => Use::Defined,
+        _ => Use::Any,
+    }
+}

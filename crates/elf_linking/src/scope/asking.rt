@@ -1,0 +1,107 @@
+//! What a reference asks for (LSB, "Symbol Versioning"; gABI, "Symbol Table"; the rules of glibc's
+//! linker).
+
+ghost use Rattle.std.specs.Prelude.{◌≡◌, option_map};
+ghost use Rattle.elf_linking.specs.Scope.{asked_of, asked_parts, binds_to_itself, wanted_by};
+ghost use Rattle.elf_linking.specs.Scope.{wanted_of, wanted_parts};
+ghost use Rattle.elf_linking.specs.VersionTables.{item_by};
+ghost use Rattle.elf_linking.specs.Versions.{named_parts, version_parts};
+
+use crate::find::{Use, Wanted};
+use crate::references::{Reference, use_of};
+use crate::versions::{NamedVersion, SymbolVersion};
+use crate::view::LinkedSymbol;
+use crate::{DynamicObject, LinkError};
+use xmas_elf::symbol_table::Entry;
+
+/// What a reference asks for.
+#[derive(Clone, Copy, Debug)]
+pub enum Asked<'a, E> {
+    /// The symbol that it names, without a look-up: the symbol is local, or its visibility isn't
+    /// the default.
+    Own(E),
+    /// The symbol that a look-up finds.
+    Look {
+        /// The name to look up.
+        name: &'a str,
+        /// The version that is wanted.
+        wanted: Wanted<'a>,
+        /// Who asks.
+        use_: Use,
+    },
+}
+
+impl<'a, E: LinkedSymbol> DynamicObject<'a, E> {
+    /// What a reference of this file asks for. If its symbol is local or has another visibility
+    /// than the default, that is the symbol itself. Otherwise it is a look-up of the symbol's name,
+    /// for the use that the type of the relocation has by the machine of the file, and for the
+    /// symbol's own version if what bears that has a hash number other than 0. Such a version is
+    /// hidden if it is a need with bit 15 of its number set.
+    ///
+    /// Errors: `SymbolIndex` if there is no such symbol; those of `name`; those of `version`; those
+    /// of `NamedVersion::name`. A call goes through the definitions and the needs once at most.
+    pub fn asked(&self, reference: &Reference) -> Result<Asked<'a, E>, LinkError>
+        ensures { item_by asked_parts result ≡ asked_of E.fields self.now reference.now }
+    {
+        let Some(symbol) = self.symbol(reference.symbol) else {
+            return Err(LinkError::SymbolIndex);
+        };
+        if binds_to_itself(&symbol) {
+            return Ok(Asked::Own(symbol));
+        }
+        let name = match self.name(reference.symbol) {
+            Ok(name) => name,
+            Err(error) => return Err(error),
+        };
+        let version = match self.version(reference.symbol) {
+            Ok(version) => version,
+            Err(error) => return Err(error),
+        };
+        match wanted_of(version) {
+            Ok(wanted) => Ok(Asked::Look {
+                name,
+                wanted,
+                use_: use_of(self.machine(), reference.kind),
+            }),
+            Err(error) => Err(error),
+        }
+    }
+}
+
+// Whether a reference to a symbol gets the symbol itself.
+fn binds_to_itself<E: Entry>(symbol: &E) -> bool
+    ensures { result ≡ binds_to_itself (E.fields symbol.now) }
+{
+    symbol.info() / 16 == 0 || symbol.other().raw() % 4 != 0
+}
+
+// The version that a reference wants, by the version of its symbol.
+fn wanted_of<'a>(version: Option<SymbolVersion<'a>>) -> Result<Wanted<'a>, LinkError>
+    ensures { item_by wanted_parts result ≡ wanted_of (option_map version_parts version.entry) }
+{
+    match version {
+        Some(version) => wanted_by(version.named),
+        None => Ok(Wanted::Unversioned),
+    }
+}
+
+// The version that a reference wants, by what bears the version of its symbol.
+fn wanted_by<'a>(named: Option<NamedVersion<'a>>) -> Result<Wanted<'a>, LinkError>
+    ensures { item_by wanted_parts result ≡ wanted_by (option_map named_parts named.entry) }
+{
+    let Some(named) = named else {
+        return Ok(Wanted::Unversioned);
+    };
+    let hash = named.hash();
+    if hash == 0 {
+        return Ok(Wanted::Unversioned);
+    }
+    let hidden = match named {
+        NamedVersion::Defined(_) => false,
+        NamedVersion::Needed(need) => need.hidden,
+    };
+    match named.name() {
+        Ok(name) => Ok(Wanted::Version { name, hash, hidden }),
+        Err(error) => Err(error),
+    }
+}

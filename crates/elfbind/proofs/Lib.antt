@@ -1,0 +1,4 @@
+pub mod Bounds
+pub mod Steps
+pub mod Objects
+pub mod ReferenceTexts

@@ -1,0 +1,43 @@
+-- Objects by their indices: that they are good, and those of the inputs in order.
+use Rattle.std.proofs.Common.{◌≡◌, ◌<◌, ◌++◌, ◌∷◌, [], ℕ, List, get_or, length, Option, Some, None, option_map, refl, sym, ap, ◌∙◌, subst}
+use Rattle.std.specs.Prelude.{IsSomeAnd, slice_get}
+use Rattle.std.specs.List.{AllZip}
+use Rattle.std.proofs.lemmas.Option.{same_Some, slice_get_read, slice_get_within}
+use Rattle.elf_linking.specs.AnyTable.{IsGoodBy}
+use Rattle.elf_linking.specs.DynamicObject.{object_dynamic_symbols}
+use Rattle.elf_linking.specs.Find.{AreReadable, DynamicSymbols}
+use Rattle.elf_linking.specs.Scope.{symbols_at}
+use Rattle.elf_linking.specs.declared.object.DynamicObject.{DynamicObject}
+use Rattle.xmas_elf.specs.Symbol.{SymbolFields}
+use Rattle.xmas_elf.specs.declared.ElfFile.{ElfFile}
+
+-- look-ups in a file find what they must, and its versions can be read
+abbrev pub IsGood : {E : Type 0} → DynamicSymbols E → Type 0
+IsGood file = IsGoodBy file.table file.symbols × AreReadable file
+
+abbrev pub IsGoodAt : {E : Type 0} → {r : _} → (E → SymbolFields) → (E → ElfFile → Option (List ℕ)) → List (DynamicObject E r) → ℕ → Type 0
+IsGoodAt {E} fields text_in objects i = (file : DynamicSymbols E) → symbols_at fields text_in objects i ≡ Some file → IsGood file
+
+-- a property of what is read at an index
+pub at_index : {A : Type 0} (P : A → Type 0) (items : List A) (index : ℕ) (item : A) → index < length items → item ≡ get_or items index item → P item → IsSomeAnd (slice_get items index) P
+at_index P items index item below is holds =
+    subst (λ found. IsSomeAnd found P) (sym (slice_get_read items (length items) index item refl below is)) holds
+
+pub good_at : {E : Type 0} {r : _} (fields : E → SymbolFields) (text_in : E → ElfFile → Option (List ℕ)) (objects : List (DynamicObject E r)) (index : ℕ) (object : DynamicObject E r) → index < length objects → object ≡ get_or objects index object → IsGood (object_dynamic_symbols fields text_in object) → IsGoodAt fields text_in objects index
+good_at fields text_in objects index object below is good file found =
+    let at = slice_get_read objects (length objects) index object refl below is in
+    subst IsGood (same_Some _ _ (sym (ap (option_map (object_dynamic_symbols fields text_in)) at) ∙ found)) good
+
+-- what is found in a list through a function lies in the list
+pub map_within : {A B : Type 0} (f : A → B) (items : List A) (index : ℕ) (item : B) → option_map f (slice_get items index) ≡ Some item → index < length items
+map_within {A} f items index item is = go (slice_get items index) refl is
+  where
+    go : (found : Option A) → slice_get items index ≡ found → option_map f found ≡ Some item → index < length items
+    go None at never = absurd (cc)
+    go (Some one) at same = slice_get_within items index one at
+
+pub zip_one_more : {A B : Type 0} (R : A → B → Type 0) (xs : List A) (ys : List B) (x : A) (y : B) → AllZip R xs ys → R x y → AllZip R (xs ++ (x ∷ [])) (ys ++ (y ∷ []))
+zip_one_more R [] [] x y all one = (one, tt)
+zip_one_more R [] (b ∷ ys) x y all one = absurd all
+zip_one_more R (a ∷ xs) [] x y all one = absurd all
+zip_one_more R (a ∷ xs) (b ∷ ys) x y all one = (all.0, zip_one_more R xs ys x y all.1 one)

@@ -1,0 +1,26 @@
+-- The files that the program is given, their objects, and what is written of them in order (this project's own).
+use Rattle.std.specs.Prelude.{◌≡◌, ℕ, ◌++◌, ◌||◌, Bool, false, List, [], ◌∷◌, Ok, length}
+use Rattle.std.specs.List.{AllZip}
+use Rattle.elf_base.specs.FileHeader.{header_of}
+use Rattle.elf_linking.specs.DynamicObject.{IsObject}
+use Rattle.elf_linking.specs.declared.object.DynamicObject.{DynamicObject}
+use Rattle.elfbind.specs.declared.files.Input.{Input}
+use Rattle.xmas_elf.specs.declared.ElfFile.{ElfFile}
+
+-- the object is that of a file of this class, which these bytes are
+pub record IsObjectOfBytes {E : Type 0} {r : _} (class size : ℕ) (bytes : List ℕ) (object : DynamicObject E r) : Type 0 where
+  pub file : ElfFile
+  pub bytes_are : file.input.now ≡ bytes
+  pub header_is : header_of bytes ≡ Ok file.header
+  pub object_is : IsObject class size file object
+
+-- the objects are those of the inputs, in order
+abbrev pub AreObjectsOf : {E : Type 0} → {r : _} → ℕ → ℕ → List Input → List (DynamicObject E r) → Type 0
+AreObjectsOf class size inputs objects =
+    AllZip (λ input object. IsObjectOfBytes class size input.bytes.items object) inputs objects
+
+-- what is written of some items in order: for each, by its index, a text, and whether something is wrong with it
+pub data AreWritten {A : Type 0} (Is : ℕ → A → Bool → List ℕ → Type 0) : List A → Bool → List ℕ → Type 0 where
+  nothing : AreWritten Is [] false []
+  further : (items : List A) (item : A) (wrong own : Bool) (text line : List ℕ) → AreWritten Is items wrong text
+      → Is (length items) item own line → AreWritten Is (items ++ (item ∷ [])) (wrong || own) (text ++ line)

@@ -1,0 +1,4 @@
+pub mod Answers
+pub mod Bindings
+pub mod Checks
+pub mod Files

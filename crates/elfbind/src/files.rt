@@ -1,0 +1,106 @@
+//! The files that the program is given, and their objects.
+
+ghost use Rattle.std.specs.Prelude.{◌≡◌, ◌||◌, ◌↔◌, IfOk, IsOk, MatchResult, OnOk, length};
+ghost use Rattle.elf_base.specs.FileHeader.{header_of};
+ghost use Rattle.elf_linking.specs.AnyTable.{IsGoodBy};
+ghost use Rattle.elf_linking.specs.DynamicObject.{object_dynamic_symbols};
+ghost use Rattle.elf_linking.specs.Find.{AreReadable};
+ghost use Rattle.elf_linking.specs.Scope.{AreGood};
+ghost use Rattle.elfbind.specs.Checks.{AreChecked};
+ghost use Rattle.elfbind.specs.Files.{AreObjectsOf, IsObjectOfBytes};
+
+use elf_linking::view::LinkedSymbol;
+use elf_linking::{DynamicObject, LinkError};
+use program_ends::Stop;
+use std::alloc::Global;
+use xmas_elf::ElfFile;
+
+/// A file that the program is given.
+#[derive(Drop)]
+pub struct Input<'a> {
+    /// The path by which it is given, and named in lines.
+    pub path: &'a str,
+    /// All of its bytes.
+    pub bytes: Vec<u8>,
+}
+
+// Why a file is refused.
+#[derive(Clone, Copy, Debug, Drop)]
+pub(crate) struct Refused<'a> {
+    pub(crate) path: &'a str,
+    pub(crate) error: LinkError,
+}
+
+// The objects of the files, all of one class.
+pub(crate) fn read_objects<'a, E: LinkedSymbol>(
+    alloc: Global,
+    inputs: &'a [Input<'_>],
+) -> Result<Vec<DynamicObject<'a, E>>, Stop<Refused<'a>>>
+    ensures objects { IfOk result (λ objects. AreObjectsOf E.CLASS E.SIZE inputs.now objects.items) }
+    ensures count { IfOk result (λ objects. length objects.items ≡ length inputs.now) }
+{
+    let mut objects = Vec::new(alloc);
+    for input in inputs {
+        match read_object(&input.bytes) {
+            Ok(object) => {
+                if objects.push(object).is_err() {
+                    return Err(Stop::Write);
+                }
+            }
+            Err(error) => return Err(refusal(input.path, error)),
+        }
+    }
+    Ok(objects)
+}
+
+// That a file is refused, and why.
+pub(crate) fn refusal<'a>(path: &'a str, error: LinkError) -> Stop<Refused<'a>> {
+    Stop::Refused(Refused { path, error })
+}
+
+// The object of a file.
+fn read_object<'a, E: LinkedSymbol>(bytes: &'a [u8]) -> Result<DynamicObject<'a, E>, LinkError>
+    ensures { IfOk result (IsObjectOfBytes E.CLASS E.SIZE bytes.now) }
+{
+    match ElfFile::new(bytes) {
+        Ok(file) => DynamicObject::read(&file),
+        Err(error) => Err(LinkError::Elf(error)),
+    }
+}
+
+// Checks that look-ups in the objects find what they must, and that their versions can be read.
+pub(crate) fn check_objects<'a, E: LinkedSymbol>(
+    inputs: &'a [Input<'_>],
+    objects: &[DynamicObject<'_, E>],
+) -> Result<(), Stop<Refused<'a>>>
+    requires { length objects.now ≡ length inputs.now }
+    ensures { OnOk result (AreGood E.fields E.text_in objects.now) }
+{
+    for index in 0..objects.len() {
+        match check_object(&objects[index]) {
+            Ok(()) => {}
+            Err(error) => return Err(refusal(inputs[index].path, error)),
+        }
+    }
+    Ok(())
+}
+
+// The result of the checks of an object: that of its hash table and, if that passes, of its
+// versions.
+pub(crate) fn check_object<E: LinkedSymbol>(object: &DynamicObject<'_, E>) -> Result<(), LinkError>
+    ensures accepts { let file = object_dynamic_symbols E.fields E.text_in object.now in
+        IsOk result ↔ (IsGoodBy file.table file.symbols × AreReadable file) }
+    ensures exact { AreChecked (object_dynamic_symbols E.fields E.text_in object.now) result }
+{
+    match object.check() {
+        Ok(()) => object.check_versions(),
+        Err(error) => Err(error),
+    }
+}
+
+// Whether one of two things is wrong.
+pub(crate) fn either(one: bool, other: bool) -> bool
+    ensures { result ≡ (one || other) }
+{
+    one || other
+}

@@ -1,0 +1,242 @@
+//! Binds the references of ELF files to symbols, as a dynamic linker does when it starts a program.
+//!
+//! `elfbind FILE..` takes a program and its libraries, in the order in which names are looked up. It
+//! writes a line for each reference that is looked up, `FILE NAME@VERSION -> FILE 0xVALUE`, or `FILE
+//! NAME@VERSION -> unresolved`; a name without a version stands alone. `elfbind --check FILE..`
+//! writes a line for each file, whether its hash table and its versions pass their checks.
+#![tactic(auto)]
+
+ghost use Rattle.std.specs.Prelude.{◌≡◌, ◌≤◌, [], IfOk, length};
+ghost use Rattle.std.specs.Io.Buffered.{writer_buffer, writer_inner};
+ghost use Rattle.elfbind.specs.Answers.{IsAnswer};
+ghost use Rattle.program_ends.specs.Appended.{AppendsSome};
+
+use crate::bindings::write_bindings;
+use crate::checks::write_checks;
+use crate::files::{Input, Refused, check_objects, read_objects};
+use elf_base::header::Class;
+use elf_linking::view::{LinkedEntry32, LinkedEntry64, LinkedSymbol};
+use elf_linking::{DynamicObject, LinkError};
+use program_ends::{Stop, read_whole, say};
+use std::alloc::Global;
+use std::convert::AsStr;
+use std::fs::File;
+use std::io::{BufWriter, Write};
+use std::process::ExitCode;
+use std::{env, io};
+use thiserror::Error;
+use xmas_elf::ElfFile;
+
+mod bindings;
+mod checks;
+mod files;
+
+/// Why the program ends with status 1, and what it says then.
+#[derive(Debug, Drop, Error)]
+enum Fault<'a> {
+    #[error("elfbind: cannot read the arguments")]
+    Arguments,
+    #[error("usage: elfbind <binary_path>.. | elfbind --check <binary_path>..")]
+    Usage,
+    #[error("elfbind: cannot read {path}")]
+    Read { path: &'a str },
+    #[error("elfbind: {path}: {error}")]
+    Refused { path: &'a str, error: LinkError },
+    #[error("elfbind: cannot write")]
+    Write,
+}
+
+/// What is asked of the files.
+#[derive(Clone, Copy, Drop)]
+pub enum Question {
+    /// What each reference gets.
+    Bindings,
+    /// Whether the checks of each file pass.
+    Checks,
+}
+
+/// Writes what is asked of the files to `out`, or says on `err` why it can't, and answers the exit
+/// status.
+///
+/// The status is 0 once all is written and flushed, no reference is missing its symbol and no check
+/// fails, and 1 otherwise. The contract says only that it is one of these.
+pub fn run<W: Write, E: Write>(
+    alloc: Global,
+    question: Question,
+    inputs: &[Input<'_>],
+    out: &mut W,
+    err: &mut E,
+) -> u8
+    ensures bound { result ≤ 1 }
+{
+    match answer(alloc, question, inputs, out) {
+        Ok(false) => 0,
+        Ok(true) => 1,
+        Err(fault) => say(&fault, err),
+    }
+}
+
+// Writes what is asked of the files, by the class of the first; whether something is wrong.
+fn answer<'a, W: Write>(
+    alloc: Global,
+    question: Question,
+    inputs: &'a [Input<'_>],
+    out: &mut W,
+) -> Result<bool, Fault<'a>> {
+    let written = match class_of_first(inputs) {
+        Class::ThirtyTwo => print::<LinkedEntry32, _>(alloc, question, inputs, &mut *out),
+        // Other classes are refused there.
+        _ => print::<LinkedEntry64, _>(alloc, question, inputs, &mut *out),
+    };
+    match written {
+        Ok(wrong) => Ok(wrong),
+        Err(Stop::Refused(refused)) => Err(Fault::Refused {
+            path: refused.path,
+            error: refused.error,
+        }),
+        Err(Stop::Write) => Err(Fault::Write),
+    }
+}
+
+// The class of the first file.
+fn class_of_first(inputs: &[Input<'_>]) -> Class {
+    let Some(input) = inputs.first() else {
+        return Class::SixtyFour;
+    };
+    match ElfFile::new(&input.bytes) {
+        Ok(file) => file.header.pt1.class(),
+        Err(_) => Class::SixtyFour,
+    }
+}
+
+// Writes what is asked of files of a class; whether something is wrong.
+fn print<'a, E: LinkedSymbol, W: Write + Drop>(
+    alloc: Global,
+    question: Question,
+    inputs: &'a [Input<'_>],
+    out: W,
+) -> Result<bool, Stop<Refused<'a>>> {
+    let objects = read_objects::<E>(alloc, inputs)?;
+    print_objects(alloc, question, inputs, &objects, out).map(|(_, wrong)| wrong)
+}
+
+// Writes what is asked of the files, of which these are the objects, and gives the writer back;
+// whether something is wrong.
+fn print_objects<'a, E: LinkedSymbol, W: Write + Drop>(
+    alloc: Global,
+    question: Question,
+    inputs: &'a [Input<'_>],
+    objects: &[DynamicObject<'_, E>],
+    out: W,
+) -> Result<(W, bool), Stop<Refused<'a>>>
+    requires same { length objects.now ≡ length inputs.now }
+    ensures { IfOk result (λ back. AppendsSome
+        (IsAnswer E.fields E.text_in inputs.now objects.now question back.1)
+        (W.contents out) (W.contents back.0)) }
+{
+    let mut buffered = match BufWriter::new(alloc, out) {
+        Ok(buffered) => buffered,
+        Err(_) => return Err(Stop::Write),
+    };
+    let written = write_flushed(question, inputs, objects, &mut buffered);
+    // Unlike a drop, this writes nothing more after a fault.
+    let (out, _) = buffered.into_parts();
+    match written {
+        Ok(wrong) => Ok((out, wrong)),
+        Err(stop) => Err(stop),
+    }
+}
+
+// Writes what is asked of the files, and flushes it; whether something is wrong.
+fn write_flushed<'s, E: LinkedSymbol, W: Write + Drop>(
+    question: Question,
+    inputs: &'s [Input<'_>],
+    objects: &[DynamicObject<'_, E>],
+    buffered: &mut BufWriter<W>,
+) -> Result<bool, Stop<Refused<'s>>>
+    requires same { length objects.now ≡ length inputs.now }
+    requires empty { writer_buffer buffered.old ≡ [] }
+    ensures { IfOk result (λ wrong. AppendsSome
+        (IsAnswer E.fields E.text_in inputs.now objects.now question wrong)
+        (W.contents (writer_inner buffered.old)) (W.contents (writer_inner buffered.new))) }
+{
+    let wrong = write_answer(question, inputs, objects, buffered)?;
+    buffered.flush()?;
+    Ok(wrong)
+}
+
+// Writes what is asked of the files; whether something is wrong.
+fn write_answer<'s, E: LinkedSymbol, W: Write>(
+    question: Question,
+    inputs: &'s [Input<'_>],
+    objects: &[DynamicObject<'_, E>],
+    out: &mut W,
+) -> Result<bool, Stop<Refused<'s>>>
+    requires same { length objects.now ≡ length inputs.now }
+    ensures { IfOk result (λ wrong. AppendsSome
+        (IsAnswer E.fields E.text_in inputs.now objects.now question wrong)
+        (W.contents out.old) (W.contents out.new)) }
+{
+    match question {
+        Question::Bindings => {
+            check_objects(inputs, objects)?;
+            write_bindings(inputs, objects, out)
+        }
+        Question::Checks => write_checks(inputs, objects, out),
+    }
+}
+
+fn main(rt: HostRuntime) -> ExitCode {
+    let status = match run_on_arguments(&rt) {
+        Ok(status) => status,
+        Err(_) => say(&Fault::Arguments, &mut rt.stderr()),
+    };
+    ExitCode::from(status)
+}
+
+// The status, or why the arguments can't be read: for want of memory, or since one is not UTF-8.
+fn run_on_arguments(rt: &HostRuntime) -> io::Result<u8> {
+    let mut arguments = env::args(rt)?;
+    let _program = arguments.next();
+    let mut words = Vec::new(rt.alloc());
+    for argument in arguments {
+        words.push(argument)?;
+    }
+    let (mut out, mut err) = (rt.stdout(), rt.stderr());
+    let Some((question, paths)) = asked(&words) else {
+        return Ok(say(&Fault::Usage, &mut out));
+    };
+    match read_inputs(rt, paths) {
+        Ok(inputs) => Ok(run(rt.alloc(), question, &inputs, &mut out, &mut err)),
+        Err(fault) => Ok(say(&fault, &mut err)),
+    }
+}
+
+// The files at these paths.
+fn read_inputs<'a, S: AsStr>(
+    rt: &HostRuntime,
+    paths: &'a [S],
+) -> Result<Vec<Input<'a>>, Fault<'a>> {
+    let mut inputs = Vec::new(rt.alloc());
+    for path in paths {
+        let path = path.as_str();
+        let file = File::open(rt, path).ok();
+        let bytes = read_whole(rt.alloc(), file).ok_or(Fault::Read { path })?;
+        if inputs.push(Input { path, bytes }).is_err() {
+            return Err(Fault::Read { path });
+        }
+    }
+    Ok(inputs)
+}
+
+// What the arguments ask, and of which files, if they are as they should be.
+fn asked<S: AsStr>(arguments: &[S]) -> Option<(Question, &[S])> {
+    let (first, others) = arguments.split_first()?;
+    if first.as_str() != "--check" {
+        return Some((Question::Bindings, arguments));
+    }
+    if others.is_empty() {
+        return None;
+    }
+    Some((Question::Checks, others))
+}

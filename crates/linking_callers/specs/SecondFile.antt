@@ -1,0 +1,83 @@
+-- Whether a name of a program is bound to a symbol of its second file, by the bytes of the files (this project's
+-- own).
+use Rattle.std.specs.Prelude.{◌≡◌, ℕ, ◌==◌, Bool, false, List, [], ◌∷◌, Option, Some, None, Result, Ok, Err, IsOkAnd, MatchResult, length}
+use Rattle.std.specs.Borrow.{Bor}
+use Rattle.elf_base.specs.FileHeader.{header_of}
+use Rattle.elf_linking.specs.AnyTable.{IsCheckBy, IsGoodBy}
+use Rattle.elf_linking.specs.DynamicObject.{IsObject, IsObjectRefused, object_dynamic_symbols, object_file, object_name, object_symbols, object_table, object_versions, object_view}
+use Rattle.elf_linking.specs.DynamicView.{view_entries}
+use Rattle.elf_linking.specs.Find.{AreReadable}
+use Rattle.elf_linking.specs.References.{references_of}
+use Rattle.elf_linking.specs.Scope.{BindsReference}
+use Rattle.elf_linking.specs.VersionTables.{version_tables}
+use Rattle.elf_linking.specs.Versions.{versions_error}
+use Rattle.elf_linking.specs.declared.error.LinkError.{LinkError}
+use Rattle.elf_linking.specs.declared.error.LinkError.TheVariants.{Elf}
+use Rattle.elf_linking.specs.declared.object.DynamicObject.{DynamicObject}
+use Rattle.elf_linking.specs.declared.references.Reference.{Reference}
+use Rattle.elf_linking.specs.declared.scope.Bound.{Bound}
+use Rattle.xmas_elf.specs.First.{FindsFirst}
+use Rattle.xmas_elf.specs.Symbol.{SymbolFields}
+use Rattle.xmas_elf.specs.Types.{ElfFile}
+
+-- the dynamic symbols of the file that these bytes are, of a class whose symbols have this size; or why they can't
+-- be read
+abbrev pub IsRead : {E : Type 0} → {r : _} → ℕ → ℕ → Bor (List ℕ) → Result (DynamicObject E r) LinkError → Type 0
+IsRead class size bytes answer = MatchResult (header_of bytes.now) (λ header.
+    let file : ElfFile = record { input = bytes; header = header } in
+    MatchResult answer (IsObject class size file) (IsObjectRefused class size file))
+    (λ error. answer ≡ Err (Elf error))
+
+-- they are checked: look-ups in them find what they must, and their versions can be read; or the first error
+pub data IsChecked {E : Type 0} {r : _} (fields : E → SymbolFields) (text_in : E → ElfFile → Option (List ℕ)) : Result (DynamicObject E r) LinkError → Result (DynamicObject E r) LinkError → Type 0 where
+  unread : (error : LinkError) → IsChecked fields text_in (Err error) (Err error)
+  faulty : (object : DynamicObject E r) (error : LinkError)
+      → IsCheckBy (object_table object) (object_symbols fields text_in object) (Err error)
+      → IsChecked fields text_in (Ok object) (Err error)
+  unversioned : (object : DynamicObject E r) (error : LinkError)
+      → IsGoodBy (object_table object) (object_symbols fields text_in object)
+      → versions_error (version_tables (object_versions object)) (length (object_symbols fields text_in object).items) ≡ Err error
+      → IsChecked fields text_in (Ok object) (Err error)
+  passed : (object : DynamicObject E r) → IsGoodBy (object_table object) (object_symbols fields text_in object)
+      → AreReadable (object_dynamic_symbols fields text_in object) → IsChecked fields text_in (Ok object) (Ok object)
+
+-- the checked symbols of a file, by its bytes, or the first error
+abbrev pub IsLoaded : {E : Type 0} → {r : _} → (E → SymbolFields) → (E → ElfFile → Option (List ℕ)) → ℕ → ℕ → Bor (List ℕ) → Result (DynamicObject E r) LinkError → Type 0
+IsLoaded {E} {r} fields text_in class size bytes answer = (read : Result (DynamicObject E r) LinkError)
+    × IsRead class size bytes read × IsChecked fields text_in read answer
+
+-- a reference is to a symbol with this name
+abbrev pub IsTo : {E : Type 0} → {r : _} → (E → SymbolFields) → DynamicObject E r → List ℕ → Reference → Type 0
+IsTo fields object name reference = object_name fields object reference.symbol ≡ Ok name
+
+-- the first reference of an object that is to a symbol with this name, or why its references can't be read
+abbrev pub FindsReference : {E : Type 0} → {r : _} → (E → SymbolFields) → DynamicObject E r → List ℕ → Result (Option Reference) LinkError → Type 0
+FindsReference fields object name answer =
+    MatchResult (references_of (object_file object) (view_entries (object_view object)))
+    (λ references. IsOkAnd answer (FindsFirst (IsTo fields object name) references)) (λ error. answer ≡ Err error)
+
+-- a symbol of the second object, at index 1
+abbrev pub is_of_second : {E : Type 0} → Option (Bound E) → Bool
+is_of_second None = false
+is_of_second (Some bound) = bound.object == 1
+
+-- the answer for the reference that was found in the program: whether the symbol that it gets, by the lists of
+-- symbols of all objects, is one of the second
+abbrev pub IsAnswerTo : {E : Type 0} → {r : _} → (E → SymbolFields) → (E → ElfFile → Option (List ℕ)) → List (DynamicObject E r) → Result (Option Reference) LinkError → Result Bool LinkError → Type 0
+IsAnswerTo fields text_in objects (Err error) answer = answer ≡ Err error
+IsAnswerTo fields text_in objects (Ok None) answer = answer ≡ Ok false
+IsAnswerTo {E} fields text_in objects (Ok (Some reference)) answer = (bound : Option (Bound E))
+    × BindsReference fields text_in objects 0 reference (Ok bound) × (answer ≡ Ok (is_of_second bound))
+
+-- the answer for the program among its objects, and a name
+abbrev pub IsSecond : {E : Type 0} → {r : _} → (E → SymbolFields) → (E → ElfFile → Option (List ℕ)) → List (DynamicObject E r) → DynamicObject E r → List ℕ → Result Bool LinkError → Type 0
+IsSecond fields text_in objects program name answer = (found : Result (Option Reference) LinkError)
+    × FindsReference fields program name found × IsAnswerTo fields text_in objects found answer
+
+-- the answer for three files, or the first error
+abbrev pub IsSecondOf : {E : Type 0} → {r : _} → (E → SymbolFields) → (E → ElfFile → Option (List ℕ)) → Result (DynamicObject E r) LinkError → Result (DynamicObject E r) LinkError → Result (DynamicObject E r) LinkError → List ℕ → Result Bool LinkError → Type 0
+IsSecondOf fields text_in (Err error) second third name answer = answer ≡ Err error
+IsSecondOf fields text_in (Ok program) (Err error) third name answer = answer ≡ Err error
+IsSecondOf fields text_in (Ok program) (Ok second) (Err error) name answer = answer ≡ Err error
+IsSecondOf fields text_in (Ok program) (Ok second) (Ok third) name answer =
+    IsSecond fields text_in (program ∷ second ∷ third ∷ []) program name answer
