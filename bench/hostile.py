@@ -110,4 +110,5 @@ def main() -> None:
         file.write(ident + rest + b"".join(headers) + b"".join(parts))
 
 
-main()
+if __name__ == "__main__":
+    main()

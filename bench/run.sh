@@ -26,30 +26,8 @@ done
 mkdir -p "$room"
 room="$(cd "$room" && pwd)"
 
-# The library, as a static one, in a copy of the repository with a crate more.
+"$here/library.sh" "$room" $bindings
 copy="$room/repository"
-mkdir -p "$copy/crates"
-for crate in elf_base elf_records xmas_elf elf_linking elfinfo $bindings; do
-    mkdir -p "$copy/crates/$crate"
-    find "$copy/crates/$crate" -mindepth 1 -maxdepth 1 ! -name out -exec rm -rf {} +
-    find "$top/crates/$crate" -mindepth 1 -maxdepth 1 ! -name out ! -name must-fail ! -name wrong-bodies \
-        -exec cp -r {} "$copy/crates/$crate/" \;
-    # What the repository has proved isn't proved again.
-    if [ -d "$top/crates/$crate/out" ] && [ ! -d "$copy/crates/$crate/out" ]; then
-        cp -r "$top/crates/$crate/out" "$copy/crates/$crate/"
-    fi
-done
-rm -rf "$copy/crates/here/src"
-mkdir -p "$copy/crates/here/src"
-# `rt ci` wants each .rt file to be one of a crate of the repository, so these have another name there.
-for file in "$here"/here/src/*.rt.in; do
-    cp "$file" "$copy/crates/here/src/$(basename "$file" .in)"
-done
-grep -E "^(elf_base|elf_records|xmas_elf|elf_linking|elfinfo|${bindings:-here})( staticlib)?:" "$top/crates.txt" > "$copy/crates.txt"
-echo 'here staticlib: elf_base elf_linking xmas_elf' >> "$copy/crates.txt"
-cp "$top/HANDLES" "$copy/"
-[ -d "$copy/.git" ] || git init -q "$copy"
-(cd "$copy/crates/here" && rt lib) > "$room/library.log" 2>&1 || { tail -30 "$room/library.log" >&2; exit 1; }
 
 # The peers, from Cargo's registry or from a folder with their sources.
 rm -rf "$room/peers"
@@ -96,9 +74,15 @@ for run in $(seq "$runs"); do
 done
 "$here/table.py" passes "$top" "$room" > "$room/table.md"
 if [ -n "$programs" ]; then
-    # The crate has a program of its own.
-    if [ -n "$sources" ]; then from=(--path "$sources/xmas-elf"); else from=(--version 0.10.0 xmas-elf); fi
-    cargo install --quiet --root "$room/crate" "${from[@]}" > "$room/crate.log" 2>&1 || true
+    # The crate has a program of its own. A copy of its sources is built where the configuration names the others' folders.
+    if [ -n "$sources" ]; then
+        rm -rf "$room/original"
+        cp -r "$sources/xmas-elf" "$room/original"
+        (cd "$room/peers" && cargo build --quiet --release --manifest-path "$room/original/Cargo.toml") > "$room/crate.log" 2>&1 &&
+            install -D "$room/target/release/main" "$room/crate/bin/main" || echo "the crate's program isn't built: $room/crate.log" >&2
+    else
+        cargo install --quiet --root "$room/crate" --version 0.10.0 xmas-elf > "$room/crate.log" 2>&1 || true
+    fi
     "$here/programs.py" "$room" "$programs" >> "$room/table.md"
 fi
 # The library by its exports for C, beside what the runs above took.

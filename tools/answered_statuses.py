@@ -51,6 +51,17 @@ class Caller:
         start = self.random.randrange(size + 2)
         return self.types["range"](start, self.random.choice((0, 1, 20, size - start if start <= size else 5, (1 << 64) - 1)))
 
+    def table(self, size):
+        """A table of symbols anywhere; a refused string table is answered as its status says."""
+        class_, encoding = self.random.choice(((1, 1), (2, 1), (2, 2), (0, 3)))
+        return self.types["symbol_table"](self.part(size), self.part(size), 1, 0, class_, encoding)
+
+    def record(self, kind, size, header):
+        """A record that is read."""
+        if kind == "gnu_table":
+            return self.types["gnu_table"](self.part(size), self.table(size))
+        return header if kind == "header" else self.table(size) if kind == "symbol_table" else self.part(size)
+
     def arguments(self, function, data, header):
         """The arguments, and the records that the call fills."""
         passed, filled, name = [], [], self.random.choice(NAMES)
@@ -61,7 +72,7 @@ class Caller:
             if one.kind == VALUE:
                 passed.append(self.number(one.type))
             elif one.kind == IN:
-                passed.append(ctypes.byref(header if one.type == "header" else self.part(len(data))))
+                passed.append(ctypes.byref(self.record(one.type, len(data), header)))
             elif one.kind == SLICE:
                 values, count = {"input": (data, len(data)), "ranges": (ranges, 2), "version": (version, len(version))}.get(one.name, (name, len(name)))
                 passed += [values, ctypes.c_size_t(count)]

@@ -21,6 +21,8 @@ pub(crate) struct Asked<'a> {
     pub(crate) input: &'a [u8],
     pub(crate) header: Header,
     pub(crate) part: Range,
+    pub(crate) table: SymbolTable,
+    pub(crate) hash: GnuTable,
     pub(crate) name: &'a [u8],
     pub(crate) section: u64,
     pub(crate) index: u64,
@@ -28,7 +30,8 @@ pub(crate) struct Asked<'a> {
 
 // Hands on the name of each call, its answer, and the refusals that it may answer.
 pub(crate) fn every(asked: &Asked<'_>, mut heard: impl FnMut(&str, Result<(), Error>, &[Error])) {
-    let (input, header, part, name, ranges) = (asked.input, &asked.header, &asked.part, asked.name, &[asked.part]);
+    let (input, header, part, table) = (asked.input, &asked.header, &asked.part, &asked.table);
+    let (hash, name, ranges) = (&asked.hash, asked.name, &[asked.part]);
 """
 
 
@@ -37,11 +40,16 @@ def value(parameter):
     return "section" if parameter.name == "section" else "index"
 
 
+def place_of(parameter):
+    """The record that is handed to a parameter."""
+    return {"header": "header", "symbol_table": "table", "gnu_table": "hash"}.get(parameter.type, "part")
+
+
 def c_argument(parameter, place, c_type):
     if parameter.kind == VALUE:
         return f"({c_type(parameter.type)})a->{value(parameter)}"
     if parameter.kind == IN:
-        return "&a->header" if parameter.type == "header" else "&a->part"
+        return f"&a->{place_of(parameter)}"
     if parameter.kind == SLICE:
         return {"input": "a->bytes, a->size", "ranges": "&a->part, 1"}.get(parameter.name, "a->name, a->name_size")
     written = f"out[{place}].of_{parameter.type}"
@@ -79,7 +87,7 @@ def rust_argument(parameter, rust_type):
     kind = rust_type(parameter.type)
     return {
         VALUE: f"asked.{value(parameter)}" if parameter.type == "u64" else f"asked.{value(parameter)} as {kind}",
-        IN: "header" if parameter.type == "header" else "part",
+        IN: place_of(parameter),
         SLICE: {"input": "input", "ranges": "ranges"}.get(parameter.name, "name"),
         FILLED: f"&mut [{kind}::default(); {ROOM}]",
     }[parameter.kind]

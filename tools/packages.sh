@@ -82,7 +82,7 @@ want cargo "cargo|cargo-web rustc-web" needed "tools/bindings.sh, the Rust crate
 want readelf binutils needed "tools/bindings.sh"
 want setpriv util-linux needed "rt ci, which runs programs as nobody"
 want clang clang optional "C by a second compiler, objects for WebAssembly"
-want valgrind valgrind optional "tools/bindings.sh --valgrind"
+want valgrind valgrind optional "tools/instructions.py, tools/bindings.sh --valgrind"
 want node nodejs optional "checks of the page outside of a browser"
 want chromium chromium optional "checks of the page in a browser"
 want pkg-config pkg-config optional "tools/try_package.sh, the commands with pkg-config"

@@ -11,6 +11,7 @@ union output {
     xmas_elf_name_t of_name[3];
     xmas_elf_segment_t of_segment[3];
     xmas_elf_symbol_t of_symbol[3];
+    xmas_elf_symbol_table_t of_symbol_table[3];
     xmas_elf_relocation_t of_relocation[3];
     xmas_elf_dynamic_t of_dynamic[3];
     xmas_elf_note_t of_note[3];
@@ -18,6 +19,7 @@ union output {
     xmas_elf_found_symbol_t of_found_symbol[3];
     xmas_elf_look_up_t of_look_up[3];
     xmas_elf_answer_t of_answer[3];
+    xmas_elf_gnu_table_t of_gnu_table[3];
     uint8_t of_u8[3];
 };
 
@@ -112,6 +114,18 @@ static uint32_t any_symbol_names(const struct asked *a, union output *out)
 {
     return xmas_elf_symbol_names(a->bytes, a->size, &a->header, (uint64_t)a->section, (uint64_t)a->index, out[0].of_name, 3, &out[1].of_u64[0]);
 }
+static uint32_t any_symbols_open(const struct asked *a, union output *out)
+{
+    return xmas_elf_symbols_open(a->bytes, a->size, &a->header, (uint64_t)a->section, &out[0].of_symbol_table[0]);
+}
+static uint32_t any_symbol_of(const struct asked *a, union output *out)
+{
+    return xmas_elf_symbol_of(a->bytes, a->size, &a->table, (uint64_t)a->index, &out[0].of_symbol[0]);
+}
+static uint32_t any_symbol_name_of(const struct asked *a, union output *out)
+{
+    return xmas_elf_symbol_name_of(a->bytes, a->size, &a->table, (uint64_t)a->index, &out[0].of_range[0]);
+}
 static uint32_t any_relocation(const struct asked *a, union output *out)
 {
     return xmas_elf_relocation(a->bytes, a->size, &a->header, (uint64_t)a->section, (uint64_t)a->index, &out[0].of_relocation[0]);
@@ -203,6 +217,14 @@ static uint32_t any_gnu_look_ups(const struct asked *a, union output *out)
     (void)xmas_elf_gnu_look_ups(a->bytes, a->size, &a->header, (uint64_t)a->section, a->name, a->name_size, &a->part, 1, out[0].of_answer, 3);
     return XMAS_ELF_OK;
 }
+static uint32_t any_gnu_open(const struct asked *a, union output *out)
+{
+    return xmas_elf_gnu_open(a->bytes, a->size, &a->header, (uint64_t)a->section, &out[0].of_gnu_table[0]);
+}
+static uint32_t any_gnu_look_up_of(const struct asked *a, union output *out)
+{
+    return xmas_elf_gnu_look_up_of(a->bytes, a->size, &a->hash, a->name, a->name_size, &out[0].of_look_up[0]);
+}
 static uint32_t any_check_gnu_hash(const struct asked *a, union output *out)
 {
     (void)out;
@@ -242,6 +264,9 @@ static const struct any {
     {"symbol", any_symbol, {XMAS_ELF_OK, XMAS_ELF_SHORT_SECTION_HEADER, XMAS_ELF_UNKNOWN_CLASS, XMAS_ELF_SMALL_ENTRY, XMAS_ELF_INVALID_SH_TYPE, XMAS_ELF_DATA_RANGE, XMAS_ELF_NOT_MULTIPLE, XMAS_ELF_NOTE_32, XMAS_ELF_SHORT_DATA, XMAS_ELF_OTHER_DATA, XMAS_ELF_NO_RECORD}, 11},
     {"symbols", any_symbols, {XMAS_ELF_OK, XMAS_ELF_SHORT_SECTION_HEADER, XMAS_ELF_UNKNOWN_CLASS, XMAS_ELF_SMALL_ENTRY, XMAS_ELF_INVALID_SH_TYPE, XMAS_ELF_DATA_RANGE, XMAS_ELF_NOT_MULTIPLE, XMAS_ELF_NOTE_32, XMAS_ELF_SHORT_DATA, XMAS_ELF_OTHER_DATA, XMAS_ELF_NO_RECORD}, 11},
     {"symbol_names", any_symbol_names, {XMAS_ELF_OK, XMAS_ELF_SHORT_SECTION_HEADER, XMAS_ELF_UNKNOWN_CLASS, XMAS_ELF_SMALL_ENTRY, XMAS_ELF_INVALID_SH_TYPE, XMAS_ELF_DATA_RANGE, XMAS_ELF_NOT_MULTIPLE, XMAS_ELF_NOTE_32, XMAS_ELF_SHORT_DATA, XMAS_ELF_OTHER_DATA, XMAS_ELF_NO_RECORD}, 11},
+    {"symbols_open", any_symbols_open, {XMAS_ELF_OK, XMAS_ELF_SHORT_SECTION_HEADER, XMAS_ELF_UNKNOWN_CLASS, XMAS_ELF_SMALL_ENTRY, XMAS_ELF_INVALID_SH_TYPE, XMAS_ELF_DATA_RANGE, XMAS_ELF_NOT_MULTIPLE, XMAS_ELF_NOTE_32, XMAS_ELF_SHORT_DATA, XMAS_ELF_OTHER_DATA}, 10},
+    {"symbol_of", any_symbol_of, {XMAS_ELF_OK, XMAS_ELF_DATA_RANGE, XMAS_ELF_NO_RECORD}, 3},
+    {"symbol_name_of", any_symbol_name_of, {XMAS_ELF_OK, XMAS_ELF_DATA_RANGE, XMAS_ELF_NO_RECORD, XMAS_ELF_TEXT_START, XMAS_ELF_TEXT_END, XMAS_ELF_TEXT_UTF_8}, 6},
     {"relocation", any_relocation, {XMAS_ELF_OK, XMAS_ELF_SHORT_SECTION_HEADER, XMAS_ELF_UNKNOWN_CLASS, XMAS_ELF_SMALL_ENTRY, XMAS_ELF_INVALID_SH_TYPE, XMAS_ELF_DATA_RANGE, XMAS_ELF_NOT_MULTIPLE, XMAS_ELF_NOTE_32, XMAS_ELF_SHORT_DATA, XMAS_ELF_OTHER_DATA, XMAS_ELF_NO_RECORD}, 11},
     {"relocations", any_relocations, {XMAS_ELF_OK, XMAS_ELF_SHORT_SECTION_HEADER, XMAS_ELF_UNKNOWN_CLASS, XMAS_ELF_SMALL_ENTRY, XMAS_ELF_INVALID_SH_TYPE, XMAS_ELF_DATA_RANGE, XMAS_ELF_NOT_MULTIPLE, XMAS_ELF_NOTE_32, XMAS_ELF_SHORT_DATA, XMAS_ELF_OTHER_DATA, XMAS_ELF_NO_RECORD}, 11},
     {"packed_relocations", any_packed_relocations, {XMAS_ELF_OK, XMAS_ELF_SHORT_SECTION_HEADER, XMAS_ELF_UNKNOWN_CLASS, XMAS_ELF_SMALL_ENTRY, XMAS_ELF_OTHER_DATA, XMAS_ELF_DATA_RANGE, XMAS_ELF_LINK_NOT_MULTIPLE, XMAS_ELF_NO_RECORD}, 8},
@@ -264,6 +289,8 @@ static const struct any {
     {"check_hash", any_check_hash, {XMAS_ELF_OK, XMAS_ELF_SHORT_SECTION_HEADER, XMAS_ELF_UNKNOWN_CLASS, XMAS_ELF_SMALL_ENTRY, XMAS_ELF_INVALID_SH_TYPE, XMAS_ELF_DATA_RANGE, XMAS_ELF_NOT_MULTIPLE, XMAS_ELF_NOTE_32, XMAS_ELF_SHORT_DATA, XMAS_ELF_OTHER_DATA, XMAS_ELF_HASH_DATA, XMAS_ELF_CHAIN_INDEX, XMAS_ELF_SYMBOL_INDEX, XMAS_ELF_CHAIN_SUM, XMAS_ELF_HASH_CYCLE, XMAS_ELF_HASH_MISSING}, 16},
     {"gnu_look_up", any_gnu_look_up, {XMAS_ELF_OK, XMAS_ELF_TEXT_UTF_8, XMAS_ELF_SHORT_SECTION_HEADER, XMAS_ELF_UNKNOWN_CLASS, XMAS_ELF_SMALL_ENTRY, XMAS_ELF_OTHER_DATA, XMAS_ELF_DATA_RANGE, XMAS_ELF_LINK_SHORT_TABLE, XMAS_ELF_LINK_BLOOM_COUNT, XMAS_ELF_INVALID_SH_TYPE, XMAS_ELF_NOT_MULTIPLE, XMAS_ELF_NOTE_32, XMAS_ELF_SHORT_DATA, XMAS_ELF_LINK_CHAIN_INDEX, XMAS_ELF_LINK_SYMBOL_INDEX, XMAS_ELF_LINK_CHAIN_DATA}, 16},
     {"gnu_look_ups", any_gnu_look_ups, {XMAS_ELF_OK}, 1},
+    {"gnu_open", any_gnu_open, {XMAS_ELF_OK, XMAS_ELF_SHORT_SECTION_HEADER, XMAS_ELF_UNKNOWN_CLASS, XMAS_ELF_SMALL_ENTRY, XMAS_ELF_OTHER_DATA, XMAS_ELF_DATA_RANGE, XMAS_ELF_LINK_SHORT_TABLE, XMAS_ELF_LINK_BLOOM_COUNT, XMAS_ELF_INVALID_SH_TYPE, XMAS_ELF_NOT_MULTIPLE, XMAS_ELF_NOTE_32, XMAS_ELF_SHORT_DATA}, 12},
+    {"gnu_look_up_of", any_gnu_look_up_of, {XMAS_ELF_OK, XMAS_ELF_TEXT_UTF_8, XMAS_ELF_DATA_RANGE, XMAS_ELF_LINK_SHORT_TABLE, XMAS_ELF_LINK_BLOOM_COUNT, XMAS_ELF_NOT_MULTIPLE, XMAS_ELF_LINK_CHAIN_INDEX, XMAS_ELF_LINK_SYMBOL_INDEX, XMAS_ELF_LINK_CHAIN_DATA}, 9},
     {"check_gnu_hash", any_check_gnu_hash, {XMAS_ELF_OK, XMAS_ELF_SHORT_SECTION_HEADER, XMAS_ELF_UNKNOWN_CLASS, XMAS_ELF_SMALL_ENTRY, XMAS_ELF_OTHER_DATA, XMAS_ELF_DATA_RANGE, XMAS_ELF_LINK_SHORT_TABLE, XMAS_ELF_LINK_BLOOM_COUNT, XMAS_ELF_INVALID_SH_TYPE, XMAS_ELF_NOT_MULTIPLE, XMAS_ELF_NOTE_32, XMAS_ELF_SHORT_DATA, XMAS_ELF_LINK_CHAIN_INDEX, XMAS_ELF_LINK_SYMBOL_INDEX, XMAS_ELF_LINK_CHAIN_DATA, XMAS_ELF_LINK_MISSING}, 16},
     {"message", any_message, {XMAS_ELF_OK}, 1},
 };

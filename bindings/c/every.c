@@ -14,6 +14,8 @@ struct asked {
     uint64_t section; /* the section that the row is about */
     uint64_t index;
     xmas_elf_range_t part;
+    xmas_elf_symbol_table_t table; /* of the symbols for dynamic linking */
+    xmas_elf_gnu_table_t hash;
 };
 
 /* A row of calls.h for each export of the list. */
@@ -30,6 +32,8 @@ struct outputs {
         xmas_elf_name_t names[3];
         xmas_elf_segment_t segments[3];
         xmas_elf_symbol_t symbols[3];
+        xmas_elf_symbol_table_t table;
+        xmas_elf_gnu_table_t hash;
         xmas_elf_relocation_t relocations[3];
         xmas_elf_dynamic_t dynamics[3];
         uint64_t addresses[3];
@@ -82,6 +86,24 @@ CALL(segment_data) { return xmas_elf_segment_data(FILE_OF(a), (uint32_t)a->index
 CALL(symbol) { return xmas_elf_symbol(FILE_OF(a), a->section, a->index, &out->of.symbols[0]); }
 CALL_MANY(symbols, symbols, a->section, a->index)
 CALL_MANY(symbol_names, names, a->section, a->index)
+CALL(symbols_open) { return xmas_elf_symbols_open(FILE_OF(a), a->index == 0 ? a->section : a->index, &out->of.table); }
+CALL(symbol_of) /* the symbol of the section */
+{
+    xmas_elf_symbol_t symbol;
+    uint32_t status = xmas_elf_symbol_of(a->bytes, a->size, &a->table, a->index, &out->of.symbols[0]);
+    if (status != XMAS_ELF_OK) return status;
+    if (xmas_elf_symbol(FILE_OF(a), a->section, a->index, &symbol) != XMAS_ELF_OK || a->index >= a->table.count) return 999;
+    return memcmp(&symbol, &out->of.symbols[0], sizeof symbol) == 0 ? status : 998;
+}
+CALL(symbol_name_of) /* the name of the symbol of the section */
+{
+    xmas_elf_name_t name;
+    uint64_t count;
+    uint32_t status = xmas_elf_symbol_name_of(a->bytes, a->size, &a->table, a->index, &out->of.range);
+    if (status != XMAS_ELF_OK) return status;
+    if (xmas_elf_symbol_names(FILE_OF(a), a->section, a->index, &name, 1, &count) != XMAS_ELF_OK || count != 1) return 999;
+    return name.status == XMAS_ELF_OK && memcmp(&name.range, &out->of.range, sizeof name.range) == 0 ? status : 998;
+}
 CALL(relocation) { return xmas_elf_relocation(FILE_OF(a), a->section, a->index, &out->of.relocations[0]); }
 CALL_MANY(relocations, relocations, a->section, a->index)
 CALL_MANY(packed_relocations, addresses, a->section, a->index)
@@ -115,6 +137,15 @@ CALL(find_symbol) /* by the version of the name it is the same symbol as without
 }
 CALL(look_up) { return xmas_elf_look_up(FILE_OF(a), a->section, a->name, a->name_size, &out->of.look_up); }
 CALL(gnu_look_up) { return xmas_elf_gnu_look_up(FILE_OF(a), a->section, a->name, a->name_size, &out->of.look_up); }
+CALL(gnu_open) { return xmas_elf_gnu_open(FILE_OF(a), a->index == 0 ? a->section : a->index, &out->of.hash); }
+CALL(gnu_look_up_of) /* what is found in the section */
+{
+    xmas_elf_look_up_t said;
+    uint32_t status = xmas_elf_gnu_look_up_of(a->bytes, a->size, &a->hash, a->name, a->name_size, &out->of.look_up);
+    if (status != XMAS_ELF_OK) return status;
+    if (xmas_elf_gnu_look_up(FILE_OF(a), a->section, a->name, a->name_size, &said) != XMAS_ELF_OK || !said.found) return 999;
+    return memcmp(&said, &out->of.look_up, sizeof said) == 0 ? status : 998;
+}
 CALL(check_hash) { (void)out; return xmas_elf_check_hash(FILE_OF(a), a->section); }
 CALL(check_gnu_hash) { (void)out; return xmas_elf_check_gnu_hash(FILE_OF(a), a->section); }
 
@@ -179,6 +210,9 @@ static const struct row {
     {"symbol", symbol_call, SYMBOLS, 1, FAR, XMAS_ELF_NO_RECORD, SHORT},
     {"symbols", symbols_call, SYMBOLS, 1, FAR, XMAS_ELF_NO_RECORD, SHORT},
     {"symbol_names", symbol_names_call, SYMBOLS, 1, FAR, XMAS_ELF_NO_RECORD, SHORT},
+    {"symbols_open", symbols_open_call, SYMBOLS, 0, FAR, SHORT, SHORT},
+    {"symbol_of", symbol_of_call, SYMBOLS, 1, FAR, XMAS_ELF_NO_RECORD, XMAS_ELF_DATA_RANGE},
+    {"symbol_name_of", symbol_name_of_call, SYMBOLS, 1, FAR, XMAS_ELF_NO_RECORD, XMAS_ELF_DATA_RANGE},
     {"relocation", relocation_call, RELOCATIONS, 0, FAR, XMAS_ELF_NO_RECORD, SHORT},
     {"relocations", relocations_call, RELOCATIONS, 0, FAR, XMAS_ELF_NO_RECORD, SHORT},
     {"packed_relocations", packed_relocations_call, PACKED, 0, FAR, XMAS_ELF_NO_RECORD, SHORT},
@@ -201,6 +235,8 @@ static const struct row {
     {"check_hash", check_hash_call, HASH, 0, 0, XMAS_ELF_OK, SHORT},
     {"gnu_look_up", gnu_look_up_call, GNU_HASH, 0, 0, XMAS_ELF_TEXT_UTF_8, SHORT},
     {"gnu_look_ups", gnu_look_ups_call, GNU_HASH, 0, 0, XMAS_ELF_TEXT_UTF_8, SHORT},
+    {"gnu_open", gnu_open_call, GNU_HASH, 0, FAR, SHORT, SHORT},
+    {"gnu_look_up_of", gnu_look_up_of_call, GNU_HASH, 0, 0, XMAS_ELF_TEXT_UTF_8, XMAS_ELF_DATA_RANGE},
     {"check_gnu_hash", check_gnu_hash_call, GNU_HASH, 0, 0, XMAS_ELF_OK, SHORT},
     {"message", message_call, NONE, XMAS_ELF_NOT_FOUND, 0, XMAS_ELF_NOT_FOUND, XMAS_ELF_OK},
 };
@@ -318,6 +354,8 @@ int main(int argc, char **argv)
     uint8_t *unaligned = bytes + file.size + 1 + file.size % 2;
     memcpy(unaligned, bytes, file.size);
     if (xmas_elf_open(file.bytes, file.size, &file.header) != XMAS_ELF_OK) return 2;
+    if (xmas_elf_symbols_open(FILE_OF(&file), section_of_type(&file, SYMBOLS), &file.table) != XMAS_ELF_OK) return 2;
+    if (xmas_elf_gnu_open(FILE_OF(&file), section_of_type(&file, GNU_HASH), &file.hash) != XMAS_ELF_OK) return 2;
     for (size_t i = 0; i < sizeof rows / sizeof *rows; i++) visit(&rows[i], file, unaligned);
     for (size_t i = 0; i < sizeof every / sizeof *every; i++) visit_any(&every[i], &file, unaligned);
     free(bytes);

@@ -1,8 +1,11 @@
-/* speed FILE: nanoseconds for an item of each pass through the exports, the least of many rounds. */
+/* speed FILE: nanoseconds for an item of each pass through the exports, the least of many rounds.
+ * speed --once FILE: makes each pass once, for tools/instructions.py, and says how many items it saw. */
 #define _POSIX_C_SOURCE 199309L
 #include "xmas_elf.h"
+#include <stdbool.h>
 #include <stdio.h>
 #include <stdlib.h>
+#include <string.h>
 #include <time.h>
 
 struct input {
@@ -12,6 +15,8 @@ struct input {
     uint64_t sections, symbols_at, table_at, names;
     xmas_elf_range_t *name;
     xmas_elf_range_t last;
+    xmas_elf_symbol_table_t table;
+    xmas_elf_gnu_table_t hash;
 };
 
 /* Each pass adds numbers up, and says how many items it saw. */
@@ -63,11 +68,43 @@ static uint64_t names_many_pass(const struct input *input, uint64_t *sum)
     return first;
 }
 
+/* Where the bytes of each section stand. */
+static uint64_t data_pass(const struct input *input, uint64_t *sum)
+{
+    xmas_elf_range_t data;
+    for (uint64_t i = 0; i < input->sections; i++)
+        if (xmas_elf_section_data(input->bytes, input->size, &input->header, i, &data) == XMAS_ELF_OK) *sum += data.size;
+    return input->sections;
+}
+
+static uint64_t segments_many_pass(const struct input *input, uint64_t *sum)
+{
+    xmas_elf_segment_t segments[64];
+    uint64_t first = 0, count;
+    while (xmas_elf_segments(input->bytes, input->size, &input->header, first, segments, 64, &count) == XMAS_ELF_OK) {
+        for (uint64_t i = 0; i < count; i++) *sum += segments[i].file_size;
+        first += count;
+    }
+    return first;
+}
+
 static uint64_t symbols_pass(const struct input *input, uint64_t *sum)
 {
     xmas_elf_symbol_t symbol;
     uint64_t i = 0;
     while (xmas_elf_symbol(input->bytes, input->size, &input->header, input->symbols_at, i, &symbol) == XMAS_ELF_OK) {
+        *sum += symbol.value;
+        i++;
+    }
+    return i;
+}
+
+/* The same of a table that was found once. */
+static uint64_t symbols_of_pass(const struct input *input, uint64_t *sum)
+{
+    xmas_elf_symbol_t symbol;
+    uint64_t i = 0;
+    while (xmas_elf_symbol_of(input->bytes, input->size, &input->table, i, &symbol) == XMAS_ELF_OK) {
         *sum += symbol.value;
         i++;
     }
@@ -96,6 +133,15 @@ static uint64_t symbol_names_pass(const struct input *input, uint64_t *sum)
     return first;
 }
 
+/* The names one by one, of a table that was found once. */
+static uint64_t symbol_names_of_pass(const struct input *input, uint64_t *sum)
+{
+    xmas_elf_range_t name;
+    for (uint64_t i = 0; i < input->table.count; i++)
+        if (xmas_elf_symbol_name_of(input->bytes, input->size, &input->table, i, &name) == XMAS_ELF_OK) *sum += name.size;
+    return input->table.count;
+}
+
 /* The last section that has a name, by it. */
 static uint64_t find_pass(const struct input *input, uint64_t *sum)
 {
@@ -113,6 +159,17 @@ static uint64_t look_ups_pass(const struct input *input, uint64_t *sum)
     for (uint64_t i = 0; i < input->names; i++)
         if (xmas_elf_gnu_look_up(input->bytes, input->size, &input->header, input->table_at, input->bytes + input->name[i].offset,
                                  (size_t)input->name[i].size, &said) == XMAS_ELF_OK)
+            *sum += said.index;
+    return input->names;
+}
+
+/* The same in a table that was found once. */
+static uint64_t look_ups_of_pass(const struct input *input, uint64_t *sum)
+{
+    xmas_elf_look_up_t said;
+    for (uint64_t i = 0; i < input->names; i++)
+        if (xmas_elf_gnu_look_up_of(input->bytes, input->size, &input->hash, input->bytes + input->name[i].offset,
+                                    (size_t)input->name[i].size, &said) == XMAS_ELF_OK)
             *sum += said.index;
     return input->names;
 }
@@ -157,9 +214,15 @@ static double now(void)
     return (double)time.tv_sec * 1e9 + (double)time.tv_nsec;
 }
 
+static bool once;
+
 static void measure(const char *name, pass *run, const struct input *input)
 {
-    uint64_t sum = 0, rounds = 1000 / (run(input, &sum) + 1) + 1;
+    uint64_t sum = 0, seen = run(input, &sum), rounds = 1000 / (seen + 1) + 1;
+    if (once) {
+        printf("%s\t%llu\n", name, (unsigned long long)seen);
+        return;
+    }
     double least = 1e300, until = now() + 5e8;
     while (now() < until) {
         uint64_t items = 0;
@@ -175,7 +238,8 @@ int main(int argc, char **argv)
 {
     struct input input = {0};
     xmas_elf_counts_t counts;
-    FILE *file = argc == 2 ? fopen(argv[1], "rb") : NULL;
+    once = argc == 3 && strcmp(argv[1], "--once") == 0;
+    FILE *file = argc == 2 || once ? fopen(argv[argc - 1], "rb") : NULL;
     if (file == NULL || fseek(file, 0, SEEK_END) != 0) return 2;
     size_t size = (size_t)ftell(file);
     uint8_t *bytes = malloc(size + 1);
@@ -194,17 +258,24 @@ int main(int argc, char **argv)
         if (section.type == 2 || (section.type == 11 && !input.symbols_at)) input.symbols_at = i;
         if (section.type == 0x6ffffff6) find_names(&input, i, section.link);
     }
+    if (xmas_elf_symbols_open(bytes, size, &input.header, input.symbols_at, &input.table) != XMAS_ELF_OK) input.table.count = 0;
     measure("header", open_pass, &input);
     measure("section headers one by one", sections_pass, &input);
     measure("section headers, 64 at a time", sections_many_pass, &input);
     measure("names of sections one by one", names_pass, &input);
     measure("names of sections, 64 at a time", names_many_pass, &input);
     measure("the last section by its name", find_pass, &input);
+    measure("data of sections one by one", data_pass, &input);
+    measure("program headers, 64 at a time", segments_many_pass, &input);
     measure("symbols one by one", symbols_pass, &input);
+    measure("symbols of a table one by one", symbols_of_pass, &input);
     measure("symbols, 64 at a time", symbols_many_pass, &input);
     measure("names of symbols, 64 at a time", symbol_names_pass, &input);
+    measure("names of symbols of a table one by one", symbol_names_of_pass, &input);
     if (input.names) {
         measure("look-ups by GNU's hash table", look_ups_pass, &input);
+        if (xmas_elf_gnu_open(bytes, size, &input.header, input.table_at, &input.hash) == XMAS_ELF_OK)
+            measure("the same in a table that was found", look_ups_of_pass, &input);
         measure("the same, 64 names by one call", look_ups_many_pass, &input);
         measure("the check of that table, for a symbol", check_pass, &input);
     }

@@ -339,6 +339,23 @@ typedef struct xmas_elf_symbol_t {
     uint8_t other;
 } xmas_elf_symbol_t;
 
+/* The symbols of a section, found once: the numbers that `xmas_elf_symbols_open` fills, and that other calls take
+ * back. */
+typedef struct xmas_elf_symbol_table_t {
+    /* The bytes of the symbols. */
+    xmas_elf_range_t symbols;
+    /* The bytes of the string table of their names; offset and size are 0 where it is refused. */
+    xmas_elf_range_t strings;
+    /* The number of symbols. */
+    uint64_t count;
+    /* The status of the string table. */
+    uint32_t strings_status;
+    /* 1: symbols of class 32, any other number: of class 64 (EI_CLASS). */
+    uint16_t file_class;
+    /* 2: big-endian; any other number is read as little-endian (EI_DATA). */
+    uint16_t encoding;
+} xmas_elf_symbol_table_t;
+
 /* A relocation (gABI, "Relocation"). */
 typedef struct xmas_elf_relocation_t {
     /* The place that is changed: an offset in its section, or an address (r_offset). */
@@ -394,6 +411,15 @@ typedef struct xmas_elf_answer_t {
     /* The number of chain entries that the look-up read. */
     uint32_t looked_at;
 } xmas_elf_answer_t;
+
+/* GNU's hash table of a section with its symbols, found once: the numbers that `xmas_elf_gnu_open` fills, and that
+ * `xmas_elf_gnu_look_up_of` takes back. */
+typedef struct xmas_elf_gnu_table_t {
+    /* The bytes of the hash table. */
+    xmas_elf_range_t table;
+    /* Its symbols, with the string table in which look-ups compare their names. */
+    xmas_elf_symbol_table_t symbols;
+} xmas_elf_gnu_table_t;
 
 /* The version of a symbol, or one that a file defines or needs (LSB, "Symbol Versioning"). */
 typedef struct xmas_elf_version_t {
@@ -580,6 +606,29 @@ XMAS_ELF_NODISCARD uint32_t xmas_elf_symbols(const uint8_t *input, size_t input_
 XMAS_ELF_NODISCARD uint32_t xmas_elf_symbol_names(const uint8_t *input, size_t input_size,
     const xmas_elf_header_t *header, uint64_t section, uint64_t first, xmas_elf_name_t *out, size_t out_count,
     uint64_t *count) XMAS_ELF_NOEXCEPT;
+
+/* Finds the symbols of a section of type SHT_SYMTAB or SHT_DYNSYM, and the string table that it is linked to, once
+ * for many calls of `xmas_elf_symbol_of` and `xmas_elf_symbol_name_of`. Where the string table is refused, the call
+ * is OK, and `strings_status` says why. The call is refused with (in the order of the tests)
+ * XMAS_ELF_SHORT_SECTION_HEADER, XMAS_ELF_UNKNOWN_CLASS, XMAS_ELF_SMALL_ENTRY, XMAS_ELF_INVALID_SH_TYPE,
+ * XMAS_ELF_DATA_RANGE, XMAS_ELF_NOT_MULTIPLE, XMAS_ELF_NOTE_32, XMAS_ELF_SHORT_DATA, XMAS_ELF_OTHER_DATA. */
+XMAS_ELF_NODISCARD uint32_t xmas_elf_symbols_open(const uint8_t *input, size_t input_size,
+    const xmas_elf_header_t *header, uint64_t section, xmas_elf_symbol_table_t *out) XMAS_ELF_NOEXCEPT;
+
+/* The symbol at an index of a table that was found, as `xmas_elf_symbol` answers it for the section. Any table may be
+ * given: each call compares its range with the input, and `count` is not read. XMAS_ELF_DATA_RANGE is for symbols
+ * that do not lie in the input. The call is refused with (in the order of the tests) XMAS_ELF_DATA_RANGE,
+ * XMAS_ELF_NO_RECORD. */
+XMAS_ELF_NODISCARD uint32_t xmas_elf_symbol_of(const uint8_t *input, size_t input_size,
+    const xmas_elf_symbol_table_t *table, uint64_t index, xmas_elf_symbol_t *out) XMAS_ELF_NOEXCEPT;
+
+/* The range of the name of the symbol at an index of a table that was found, as `xmas_elf_symbol_names` answers it
+ * for the section. Any table may be given. After `xmas_elf_symbol_of` the call is refused with `strings_status`,
+ * where that is not 0, and then with XMAS_ELF_DATA_RANGE for a string table that does not lie in the input. The call
+ * is refused with (in the order of the tests) XMAS_ELF_DATA_RANGE, XMAS_ELF_NO_RECORD, XMAS_ELF_TEXT_START,
+ * XMAS_ELF_TEXT_END, XMAS_ELF_TEXT_UTF_8. */
+XMAS_ELF_NODISCARD uint32_t xmas_elf_symbol_name_of(const uint8_t *input, size_t input_size,
+    const xmas_elf_symbol_table_t *table, uint64_t index, xmas_elf_range_t *out) XMAS_ELF_NOEXCEPT;
 
 /* The relocation at an index of a section of type SHT_REL or SHT_RELA. A section of another type is refused, mostly
  * with XMAS_ELF_OTHER_DATA. The call is refused with (in the order of the tests) XMAS_ELF_SHORT_SECTION_HEADER,
@@ -792,6 +841,24 @@ XMAS_ELF_NODISCARD uint32_t xmas_elf_gnu_look_up(const uint8_t *input, size_t in
 void xmas_elf_gnu_look_ups(const uint8_t *input, size_t input_size, const xmas_elf_header_t *header, uint64_t section,
     const uint8_t *names, size_t names_size, const xmas_elf_range_t *ranges, size_t ranges_count,
     xmas_elf_answer_t *out, size_t out_count) XMAS_ELF_NOEXCEPT;
+
+/* Finds GNU's hash table of a section of type 0x6ffffff6 (SHT_GNU_HASH), and the symbols of the section of type
+ * SHT_DYNSYM that it is linked to, once for many calls of `xmas_elf_gnu_look_up_of`. Where the string table `.dynstr`
+ * is refused, the call is OK, no symbol has a name, and `strings_status` says why. The call is refused with (in the
+ * order of the tests) XMAS_ELF_SHORT_SECTION_HEADER, XMAS_ELF_UNKNOWN_CLASS, XMAS_ELF_SMALL_ENTRY,
+ * XMAS_ELF_OTHER_DATA, XMAS_ELF_DATA_RANGE, XMAS_ELF_LINK_SHORT_TABLE, XMAS_ELF_LINK_BLOOM_COUNT,
+ * XMAS_ELF_INVALID_SH_TYPE, XMAS_ELF_NOT_MULTIPLE, XMAS_ELF_NOTE_32, XMAS_ELF_SHORT_DATA. */
+XMAS_ELF_NODISCARD uint32_t xmas_elf_gnu_open(const uint8_t *input, size_t input_size,
+    const xmas_elf_header_t *header, uint64_t section, xmas_elf_gnu_table_t *out) XMAS_ELF_NOEXCEPT;
+
+/* Looks a name up in a table that was found, as `xmas_elf_gnu_look_up` does in its section. Any table may be given:
+ * each call compares its ranges with the input, and does not read the count of its symbols. `xmas_elf_symbol_of`
+ * gives the symbol, by the `symbols` of the table. The call is refused with (in the order of the tests)
+ * XMAS_ELF_TEXT_UTF_8, XMAS_ELF_DATA_RANGE, XMAS_ELF_LINK_SHORT_TABLE, XMAS_ELF_LINK_BLOOM_COUNT,
+ * XMAS_ELF_NOT_MULTIPLE, XMAS_ELF_LINK_CHAIN_INDEX, XMAS_ELF_LINK_SYMBOL_INDEX, XMAS_ELF_LINK_CHAIN_DATA. */
+XMAS_ELF_NODISCARD uint32_t xmas_elf_gnu_look_up_of(const uint8_t *input, size_t input_size,
+    const xmas_elf_gnu_table_t *table, const uint8_t *name, size_t name_size, xmas_elf_look_up_t *out)
+    XMAS_ELF_NOEXCEPT;
 
 /* Checks GNU's hash table, in one pass over the table and one over the symbols and their names: where it is OK, no
  * look-up is refused for the table, and each finds a symbol where one from the table's first on that is defined and

@@ -67,7 +67,7 @@ impl Facts {
             let version = versions.version(number).ok().flatten();
             if let (true, false, Some(version)) = (symbol.is_definition(endian), number.is_hidden(), version) {
                 let name = symbol.name(endian, exports.strings()).unwrap_or(b"");
-                facts.versioned.extend(record_of(name, version.name()));
+                facts.versioned.extend(record_of(name, version.name(), version.hash()));
             }
         }
         facts.versioned = mixed(facts.versioned.chunks_exact(RECORD).map(<[u8]>::to_vec).collect());
@@ -92,15 +92,16 @@ fn look_ups<'a>(names: impl Iterator<Item = &'a [u8]>) -> Vec<u8> {
     mixed(names)
 }
 
-/// The record of a name and its version, if it has room for both.
-fn record_of(name: &[u8], version: &[u8]) -> Vec<u8> {
-    if name.len() + version.len() > RECORD - 2 {
+/// The record of a name and its version with the hash number that the file has for it, if it has room for both.
+fn record_of(name: &[u8], version: &[u8], hash: u32) -> Vec<u8> {
+    if name.len() + version.len() > RECORD - 6 {
         return Vec::new();
     }
     let mut record = vec![name.len() as u8, version.len() as u8];
     record.extend(name);
     record.extend(version);
-    record.resize(RECORD, 0);
+    record.resize(RECORD - 4, 0);
+    record.extend(hash.to_le_bytes());
     record
 }
 

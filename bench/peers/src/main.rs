@@ -21,7 +21,8 @@ pub const NONE: u64 = u64::MAX;
 /// How many bytes each name of the look-ups has.
 pub const NAME: usize = 28;
 
-/// How many bytes the record of a name and its version has: the size of each in a byte, and both.
+/// How many bytes the record of a name and its version has: the size of each in a byte, both, and at the end the hash
+/// number of the version in four bytes of little order.
 pub const RECORD: usize = 64;
 
 /// A pass by a contender: of a file and a text, which answers a sum.

@@ -46,11 +46,15 @@ pub const PASSES: &[Pass] = passes![
         ["crate" original::section_fields, "object" object::section_fields, "goblin" goblin::section_fields, "C" loops::section_fields,
          "here" here::section_fields, "here, by a table" here::section_table_fields];
     "types of sections", "large", |f| f.sections, NOTHING,
-        ["crate" original::section_types, "object" object::section_types, "C" loops::section_types, "here" here::section_types];
+        ["crate" original::section_types, "object" object::section_types, "C" loops::section_types, "here" here::section_types,
+         "here, by a table" here::section_table_types];
     "names of sections", "large sections exports", |f| f.sections, NOTHING,
         ["crate" original::section_names, "object" object::section_names, "object, UTF-8" object::section_texts,
          "goblin" goblin::section_names,
          "libelf" libelf::section_names, "C" loops::section_names, "here" here::section_names, "here, by a table" here::section_table_names];
+    "names of sections as bytes", "large sections exports", |f| f.sections, NOTHING,
+        ["object" object::section_names, "C" loops::section_names, "here" here::section_name_bytes,
+         "here, by a table" here::section_table_name_bytes];
     "find the last section by its name (a call)", "large sections exports", ONE, |f| &f.last_section,
         ["crate" original::find, "object" object::find, "C" loops::find, "here" here::find];
     "find a section that isn't there (a call)", "large sections", ONE, |f| &f.missing,
@@ -74,11 +78,15 @@ pub const PASSES: &[Pass] = passes![
         ["crate" original::symbol_names, "object" object::symbol_names, "object, UTF-8" object::symbol_texts, "C" loops::symbol_names, "here" here::symbol_names];
     "names of symbols, string table once", "large exports", |f| f.symbols, NOTHING,
         ["crate" original::symbol_texts, "object" object::symbol_names, "object, UTF-8" object::symbol_texts, "goblin" goblin::symbol_texts, "C" loops::symbol_names, "here" here::symbol_texts];
+    "names of symbols as bytes", "large exports", |f| f.symbols, NOTHING,
+        ["object" object::symbol_names, "C" loops::symbol_names, "here" here::symbol_name_bytes];
     "find the last symbol by a search", "large exports", |f| f.symbols, |f| &f.last_symbol,
         ["crate" original::symbol_search, "object" object::symbol_search, "goblin" goblin::symbol_search, "C" loops::symbol_search, "here" here::symbol_search];
     "dynamic entries with their tags", "large dynamic", |f| f.dynamic, NOTHING,
         ["crate" original::dynamic, "object" object::dynamic, "goblin" goblin::dynamic, "C" loops::dynamic, "here" here::dynamic,
          "here, by a table" here::table_dynamic];
+    "dynamic entries as numbers", "large dynamic", |f| f.dynamic, NOTHING,
+        ["object" object::dynamic, "goblin" goblin::dynamic, "C" loops::dynamic, "here, by a table" here::table_dynamic_numbers];
     "relocations", "large", |f| f.relocations, NOTHING,
         ["crate" original::relocations, "object" object::relocations, "goblin" goblin::relocations, "C" loops::relocations, "here" here::relocations];
     "first notes", "notes", |f| f.notes, NOTHING,
@@ -100,6 +108,8 @@ pub const PASSES: &[Pass] = passes![
         ["here" here::found_newest];
     "symbols by names and versions", "versions", |f| f.versioned.len() / crate::RECORD, |f| &f.versioned,
         ["here" here::found_by_version];
+    "symbols by versions with their hash numbers", "versions", |f| f.versioned.len() / crate::RECORD, |f| &f.versioned,
+        ["here" here::found_by_reference];
     "check of the gABI's hash table (a symbol)", "exports hostile", |f| f.exports, NOTHING, ["here" here::hash_check];
     "check of GNU's hash table (a symbol)", "exports hostile", |f| f.exports, NOTHING, ["here" here::gnu_check];
 ];

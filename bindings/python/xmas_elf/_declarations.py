@@ -184,6 +184,33 @@ class SymbolRecord(NamedTuple):
 SYMBOL = Struct("@QQIHBB0Q")
 
 
+class SymbolTableRecord(NamedTuple):
+    """The symbols of a section, found once: the numbers that `xmas_elf_symbols_open` fills, and that other calls take
+    back."""
+
+    symbols_offset: int
+    """The bytes of the symbols. The offset of the first byte, in bytes from the start of the input."""
+    symbols_size: int
+    """The bytes of the symbols. The number of bytes."""
+    strings_offset: int
+    """The bytes of the string table of their names; offset and size are 0 where it is refused. The offset of the
+    first byte, in bytes from the start of the input."""
+    strings_size: int
+    """The bytes of the string table of their names; offset and size are 0 where it is refused. The number of
+    bytes."""
+    count: int  # type: ignore[assignment]
+    """The number of symbols."""
+    strings_status: int
+    """The status of the string table."""
+    file_class: int
+    """1: symbols of class 32, any other number: of class 64 (EI_CLASS)."""
+    encoding: int
+    """2: big-endian; any other number is read as little-endian (EI_DATA)."""
+
+
+SYMBOL_TABLE = Struct("@QQQQQIHH0Q")
+
+
 class RelocationRecord(NamedTuple):
     """A relocation (gABI, "Relocation")."""
 
@@ -266,6 +293,42 @@ class AnswerRecord(NamedTuple):
 
 
 ANSWER = Struct("@IIII0I")
+
+
+class GnuTableRecord(NamedTuple):
+    """GNU's hash table of a section with its symbols, found once: the numbers that `xmas_elf_gnu_open` fills, and
+    that `xmas_elf_gnu_look_up_of` takes back."""
+
+    table_offset: int
+    """The bytes of the hash table. The offset of the first byte, in bytes from the start of the input."""
+    table_size: int
+    """The bytes of the hash table. The number of bytes."""
+    symbols_symbols_offset: int
+    """Its symbols, with the string table in which look-ups compare their names. The bytes of the symbols. The offset
+    of the first byte, in bytes from the start of the input."""
+    symbols_symbols_size: int
+    """Its symbols, with the string table in which look-ups compare their names. The bytes of the symbols. The number
+    of bytes."""
+    symbols_strings_offset: int
+    """Its symbols, with the string table in which look-ups compare their names. The bytes of the string table of
+    their names; offset and size are 0 where it is refused. The offset of the first byte, in bytes from the start of
+    the input."""
+    symbols_strings_size: int
+    """Its symbols, with the string table in which look-ups compare their names. The bytes of the string table of
+    their names; offset and size are 0 where it is refused. The number of bytes."""
+    symbols_count: int
+    """Its symbols, with the string table in which look-ups compare their names. The number of symbols."""
+    symbols_strings_status: int
+    """Its symbols, with the string table in which look-ups compare their names. The status of the string table."""
+    symbols_file_class: int
+    """Its symbols, with the string table in which look-ups compare their names. 1: symbols of class 32, any other
+    number: of class 64 (EI_CLASS)."""
+    symbols_encoding: int
+    """Its symbols, with the string table in which look-ups compare their names. 2: big-endian; any other number is
+    read as little-endian (EI_DATA)."""
+
+
+GNU_TABLE = Struct("@QQQQQQQIHH0Q")
 
 
 class VersionRecord(NamedTuple):
@@ -359,6 +422,9 @@ EXPORTS: Dict[str, Tuple[Any, Tuple[Any, ...]]] = {
     "xmas_elf_symbol": (c_uint32, (c_void_p, c_size_t, c_void_p, c_uint64, c_uint64, c_void_p,)),
     "xmas_elf_symbols": (c_uint32, (c_void_p, c_size_t, c_void_p, c_uint64, c_uint64, c_void_p, c_size_t, c_void_p,)),
     "xmas_elf_symbol_names": (c_uint32, (c_void_p, c_size_t, c_void_p, c_uint64, c_uint64, c_void_p, c_size_t, c_void_p,)),
+    "xmas_elf_symbols_open": (c_uint32, (c_void_p, c_size_t, c_void_p, c_uint64, c_void_p,)),
+    "xmas_elf_symbol_of": (c_uint32, (c_void_p, c_size_t, c_void_p, c_uint64, c_void_p,)),
+    "xmas_elf_symbol_name_of": (c_uint32, (c_void_p, c_size_t, c_void_p, c_uint64, c_void_p,)),
     "xmas_elf_relocation": (c_uint32, (c_void_p, c_size_t, c_void_p, c_uint64, c_uint64, c_void_p,)),
     "xmas_elf_relocations": (c_uint32, (c_void_p, c_size_t, c_void_p, c_uint64, c_uint64, c_void_p, c_size_t, c_void_p,)),
     "xmas_elf_packed_relocations": (c_uint32, (c_void_p, c_size_t, c_void_p, c_uint64, c_uint64, c_void_p, c_size_t, c_void_p,)),
@@ -381,6 +447,8 @@ EXPORTS: Dict[str, Tuple[Any, Tuple[Any, ...]]] = {
     "xmas_elf_check_hash": (c_uint32, (c_void_p, c_size_t, c_void_p, c_uint64,)),
     "xmas_elf_gnu_look_up": (c_uint32, (c_void_p, c_size_t, c_void_p, c_uint64, c_void_p, c_size_t, c_void_p,)),
     "xmas_elf_gnu_look_ups": (None, (c_void_p, c_size_t, c_void_p, c_uint64, c_void_p, c_size_t, c_void_p, c_size_t, c_void_p, c_size_t,)),
+    "xmas_elf_gnu_open": (c_uint32, (c_void_p, c_size_t, c_void_p, c_uint64, c_void_p,)),
+    "xmas_elf_gnu_look_up_of": (c_uint32, (c_void_p, c_size_t, c_void_p, c_void_p, c_size_t, c_void_p,)),
     "xmas_elf_check_gnu_hash": (c_uint32, (c_void_p, c_size_t, c_void_p, c_uint64,)),
     "xmas_elf_message": (c_size_t, (c_uint32, c_void_p, c_size_t,)),
 }

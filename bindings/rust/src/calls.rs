@@ -8,6 +8,8 @@ pub(crate) struct Asked<'a> {
     pub(crate) input: &'a [u8],
     pub(crate) header: Header,
     pub(crate) part: Range,
+    pub(crate) table: SymbolTable,
+    pub(crate) hash: GnuTable,
     pub(crate) name: &'a [u8],
     pub(crate) section: u64,
     pub(crate) index: u64,
@@ -15,7 +17,8 @@ pub(crate) struct Asked<'a> {
 
 // Hands on the name of each call, its answer, and the refusals that it may answer.
 pub(crate) fn every(asked: &Asked<'_>, mut heard: impl FnMut(&str, Result<(), Error>, &[Error])) {
-    let (input, header, part, name, ranges) = (asked.input, &asked.header, &asked.part, asked.name, &[asked.part]);
+    let (input, header, part, table) = (asked.input, &asked.header, &asked.part, &asked.table);
+    let (hash, name, ranges) = (&asked.hash, asked.name, &[asked.part]);
     let answer = ffi::open(input).map(|_| ());
     heard("open", answer, &[Error::ShortPart1, Error::NoMagic, Error::InvalidClass, Error::ShortHeaders]);
     let answer = ffi::check_header(input, header).map(|_| ());
@@ -60,6 +63,12 @@ pub(crate) fn every(asked: &Asked<'_>, mut heard: impl FnMut(&str, Result<(), Er
     heard("symbols", answer, &[Error::ShortSectionHeader, Error::UnknownClass, Error::SmallEntry, Error::InvalidShType, Error::DataRange, Error::NotMultiple, Error::Note32, Error::ShortData, Error::OtherData, Error::NoRecord]);
     let answer = ffi::symbol_names(input, header, asked.section, asked.index, &mut [Name::default(); 3]).map(|_| ());
     heard("symbol_names", answer, &[Error::ShortSectionHeader, Error::UnknownClass, Error::SmallEntry, Error::InvalidShType, Error::DataRange, Error::NotMultiple, Error::Note32, Error::ShortData, Error::OtherData, Error::NoRecord]);
+    let answer = ffi::symbols_open(input, header, asked.section).map(|_| ());
+    heard("symbols_open", answer, &[Error::ShortSectionHeader, Error::UnknownClass, Error::SmallEntry, Error::InvalidShType, Error::DataRange, Error::NotMultiple, Error::Note32, Error::ShortData, Error::OtherData]);
+    let answer = ffi::symbol_of(input, table, asked.index).map(|_| ());
+    heard("symbol_of", answer, &[Error::DataRange, Error::NoRecord]);
+    let answer = ffi::symbol_name_of(input, table, asked.index).map(|_| ());
+    heard("symbol_name_of", answer, &[Error::DataRange, Error::NoRecord, Error::TextStart, Error::TextEnd, Error::TextUtf8]);
     let answer = ffi::relocation(input, header, asked.section, asked.index).map(|_| ());
     heard("relocation", answer, &[Error::ShortSectionHeader, Error::UnknownClass, Error::SmallEntry, Error::InvalidShType, Error::DataRange, Error::NotMultiple, Error::Note32, Error::ShortData, Error::OtherData, Error::NoRecord]);
     let answer = ffi::relocations(input, header, asked.section, asked.index, &mut [Relocation::default(); 3]).map(|_| ());
@@ -106,6 +115,10 @@ pub(crate) fn every(asked: &Asked<'_>, mut heard: impl FnMut(&str, Result<(), Er
     ffi::gnu_look_ups(input, header, asked.section, name, ranges, &mut [Answer::default(); 3]);
     let answer = Ok(());
     heard("gnu_look_ups", answer, &[]);
+    let answer = ffi::gnu_open(input, header, asked.section).map(|_| ());
+    heard("gnu_open", answer, &[Error::ShortSectionHeader, Error::UnknownClass, Error::SmallEntry, Error::OtherData, Error::DataRange, Error::LinkShortTable, Error::LinkBloomCount, Error::InvalidShType, Error::NotMultiple, Error::Note32, Error::ShortData]);
+    let answer = ffi::gnu_look_up_of(input, hash, name).map(|_| ());
+    heard("gnu_look_up_of", answer, &[Error::TextUtf8, Error::DataRange, Error::LinkShortTable, Error::LinkBloomCount, Error::NotMultiple, Error::LinkChainIndex, Error::LinkSymbolIndex, Error::LinkChainData]);
     let answer = ffi::check_gnu_hash(input, header, asked.section).map(|_| ());
     heard("check_gnu_hash", answer, &[Error::ShortSectionHeader, Error::UnknownClass, Error::SmallEntry, Error::OtherData, Error::DataRange, Error::LinkShortTable, Error::LinkBloomCount, Error::InvalidShType, Error::NotMultiple, Error::Note32, Error::ShortData, Error::LinkChainIndex, Error::LinkSymbolIndex, Error::LinkChainData, Error::LinkMissing]);
     let _size = ffi::message(asked.index as u32, &mut [u8::default(); 3]);

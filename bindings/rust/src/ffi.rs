@@ -4,7 +4,7 @@
 //! the records that it is lent to write, of a slice at most as many as it has, and is defined whatever they hold. All of
 //! these are references of the call, of the types that the archive declares.
 
-use crate::records::{Answer, Counts, Dynamic, Entry, FoundSymbol, Header, LookUp, Name, NoteRange, ProgramHeader, Range, Relocation, SectionHeader, Version};
+use crate::records::{Answer, Counts, Dynamic, Entry, FoundSymbol, GnuTable, Header, LookUp, Name, NoteRange, ProgramHeader, Range, Relocation, SectionHeader, SymbolTable, Version};
 use crate::Error;
 
 fn answered<T>(status: u32, value: T) -> Result<T, Error> {
@@ -51,6 +51,12 @@ extern "C" {
         out: *mut Entry, out_len: usize, count: *mut u64) -> u32;
     fn xmas_elf_symbol_names(input: *const u8, input_len: usize, header: *const Header, section: u64, first: u64,
         out: *mut Name, out_len: usize, count: *mut u64) -> u32;
+    fn xmas_elf_symbols_open(input: *const u8, input_len: usize, header: *const Header, section: u64,
+        out: *mut SymbolTable) -> u32;
+    fn xmas_elf_symbol_of(input: *const u8, input_len: usize, table: *const SymbolTable, index: u64,
+        out: *mut Entry) -> u32;
+    fn xmas_elf_symbol_name_of(input: *const u8, input_len: usize, table: *const SymbolTable, index: u64,
+        out: *mut Range) -> u32;
     fn xmas_elf_relocation(input: *const u8, input_len: usize, header: *const Header, section: u64, index: u64,
         out: *mut Relocation) -> u32;
     fn xmas_elf_relocations(input: *const u8, input_len: usize, header: *const Header, section: u64, first: u64,
@@ -93,6 +99,10 @@ extern "C" {
     fn xmas_elf_gnu_look_ups(input: *const u8, input_len: usize, header: *const Header, section: u64,
         names: *const u8, names_len: usize, ranges: *const Range, ranges_len: usize, out: *mut Answer,
         out_len: usize);
+    fn xmas_elf_gnu_open(input: *const u8, input_len: usize, header: *const Header, section: u64,
+        out: *mut GnuTable) -> u32;
+    fn xmas_elf_gnu_look_up_of(input: *const u8, input_len: usize, table: *const GnuTable, name: *const u8,
+        name_len: usize, out: *mut LookUp) -> u32;
     fn xmas_elf_check_gnu_hash(input: *const u8, input_len: usize, header: *const Header, section: u64) -> u32;
     fn xmas_elf_message(status: u32, out: *mut u8, out_len: usize) -> usize;
 }
@@ -324,6 +334,38 @@ pub(crate) fn symbol_names(input: &[u8], header: &Header, section: u64, first: u
     let status = unsafe { xmas_elf_symbol_names(input.as_ptr(), input.len(), header, section, first, out.as_mut_ptr(),
         out.len(), &mut count) };
     answered(status, count)
+}
+
+/// Finds the symbols of a section of type SHT_SYMTAB or SHT_DYNSYM, and the string table that it is linked to, once
+/// for many calls of `symbol_of` and `symbol_name_of`. Where the string table is refused, the call is OK, and
+/// `strings_status` says why. The call is refused with (in the order of the tests) `ShortSectionHeader`,
+/// `UnknownClass`, `SmallEntry`, `InvalidShType`, `DataRange`, `NotMultiple`, `Note32`, `ShortData`, `OtherData`.
+pub(crate) fn symbols_open(input: &[u8], header: &Header, section: u64) -> Result<SymbolTable, Error> {
+    let mut out = SymbolTable::default();
+    // SAFETY: see the head of this file.
+    let status = unsafe { xmas_elf_symbols_open(input.as_ptr(), input.len(), header, section, &mut out) };
+    answered(status, out)
+}
+
+/// The symbol at an index of a table that was found, as `symbol` answers it for the section. Any table may be given:
+/// each call compares its range with the input, and `count` is not read. `DataRange` is for symbols that do not lie
+/// in the input. The call is refused with (in the order of the tests) `DataRange`, `NoRecord`.
+pub(crate) fn symbol_of(input: &[u8], table: &SymbolTable, index: u64) -> Result<Entry, Error> {
+    let mut out = Entry::default();
+    // SAFETY: see the head of this file.
+    let status = unsafe { xmas_elf_symbol_of(input.as_ptr(), input.len(), table, index, &mut out) };
+    answered(status, out)
+}
+
+/// The range of the name of the symbol at an index of a table that was found, as `symbol_names` answers it for the
+/// section. Any table may be given. After `symbol_of` the call is refused with `strings_status`, where that is not 0,
+/// and then with `DataRange` for a string table that does not lie in the input. The call is refused with (in the
+/// order of the tests) `DataRange`, `NoRecord`, `TextStart`, `TextEnd`, `TextUtf8`.
+pub(crate) fn symbol_name_of(input: &[u8], table: &SymbolTable, index: u64) -> Result<Range, Error> {
+    let mut out = Range::default();
+    // SAFETY: see the head of this file.
+    let status = unsafe { xmas_elf_symbol_name_of(input.as_ptr(), input.len(), table, index, &mut out) };
+    answered(status, out)
 }
 
 /// The relocation at an index of a section of type SHT_REL or SHT_RELA. A section of another type is refused, mostly
@@ -606,6 +648,30 @@ pub(crate) fn gnu_look_ups(input: &[u8], header: &Header, section: u64, names: &
     // SAFETY: see the head of this file.
     unsafe { xmas_elf_gnu_look_ups(input.as_ptr(), input.len(), header, section, names.as_ptr(), names.len(),
         ranges.as_ptr(), ranges.len(), out.as_mut_ptr(), out.len()) }
+}
+
+/// Finds GNU's hash table of a section of type 0x6ffffff6 (SHT_GNU_HASH), and the symbols of the section of type
+/// SHT_DYNSYM that it is linked to, once for many calls of `gnu_look_up_of`. Where the string table `.dynstr` is
+/// refused, the call is OK, no symbol has a name, and `strings_status` says why. The call is refused with (in the
+/// order of the tests) `ShortSectionHeader`, `UnknownClass`, `SmallEntry`, `OtherData`, `DataRange`,
+/// `LinkShortTable`, `LinkBloomCount`, `InvalidShType`, `NotMultiple`, `Note32`, `ShortData`.
+pub(crate) fn gnu_open(input: &[u8], header: &Header, section: u64) -> Result<GnuTable, Error> {
+    let mut out = GnuTable::default();
+    // SAFETY: see the head of this file.
+    let status = unsafe { xmas_elf_gnu_open(input.as_ptr(), input.len(), header, section, &mut out) };
+    answered(status, out)
+}
+
+/// Looks a name up in a table that was found, as `gnu_look_up` does in its section. Any table may be given: each call
+/// compares its ranges with the input, and does not read the count of its symbols. `symbol_of` gives the symbol, by
+/// the `symbols` of the table. The call is refused with (in the order of the tests) `TextUtf8`, `DataRange`,
+/// `LinkShortTable`, `LinkBloomCount`, `NotMultiple`, `LinkChainIndex`, `LinkSymbolIndex`, `LinkChainData`.
+pub(crate) fn gnu_look_up_of(input: &[u8], table: &GnuTable, name: &[u8]) -> Result<LookUp, Error> {
+    let mut out = LookUp::default();
+    // SAFETY: see the head of this file.
+    let status = unsafe { xmas_elf_gnu_look_up_of(input.as_ptr(), input.len(), table, name.as_ptr(), name.len(), &mut
+        out) };
+    answered(status, out)
 }
 
 /// Checks GNU's hash table, in one pass over the table and one over the symbols and their names: where it is OK, no

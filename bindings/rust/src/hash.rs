@@ -1,7 +1,7 @@
 //! Look-ups of symbols by their names.
 
 use crate::constants::{SHT_GNU_HASH, SHT_HASH};
-use crate::{ffi, Answer, ByteRange, ElfFile, Error, LookUp, SectionHeader, Symbol};
+use crate::{ffi, Answer, ByteRange, ElfFile, Error, GnuTable, LookUp, SectionHeader, Symbol};
 
 /// A section that is a hash table of symbols: the gABI's, or GNU's.
 ///
@@ -45,6 +45,11 @@ impl<'f, 'a> HashTable<'f, 'a> {
         } else {
             ffi::look_up(input, header, self.section, name.as_bytes())
         }
+    }
+
+    /// GNU's table with its symbols, found once for many calls of [`ElfFile::gnu_look_up_of`]. Refused for the gABI's.
+    pub fn gnu_table(&self) -> Result<GnuTable, Error> {
+        ffi::gnu_open(self.file.input, &self.file.header, self.section)
     }
 
     /// Many look-ups by one call, each for the name that is a range of `names`: as many as there are ranges and as

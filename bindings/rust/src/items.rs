@@ -2,7 +2,7 @@
 
 use crate::batch::Batch;
 use crate::ffi;
-use crate::{ByteRange, Dynamic, ElfFile, Entry, Error, HashTable, Name, ProgramHeader, Relocation, SectionHeader, Symbol, Symbols};
+use crate::{ByteRange, Dynamic, ElfFile, Entry, Error, HashTable, Name, ProgramHeader, Relocation, SectionHeader, Symbol, SymbolTable, Symbols};
 use core::ops::Deref;
 
 /// A section; the fields of its header are its own.
@@ -74,6 +74,11 @@ impl<'f, 'a> Section<'f, 'a> {
     /// and says how many. It costs less than a call of `name` for each.
     pub fn symbol_names_from(&self, first: u64, out: &mut [Name]) -> Result<usize, Error> {
         ffi::symbol_names(self.file.input, &self.file.header, self.index, first, out).map(|count| count as usize)
+    }
+
+    /// The symbols of the section, found once for many calls of [`ElfFile::symbol_of`] and [`ElfFile::symbol_name_of`].
+    pub fn symbol_table(&self) -> Result<SymbolTable, Error> {
+        ffi::symbols_open(self.file.input, &self.file.header, self.index)
     }
 
     /// The hash table that the section is by its type.

@@ -58,7 +58,7 @@ pub use hash::HashTable;
 pub use items::{Note, Notes, Section, Sections, Segment};
 pub use message::Message;
 pub use records::Range as ByteRange;
-pub use records::{Answer, Dynamic, Entry, Header, LookUp, Name, ProgramHeader, Relocation, SectionHeader, Version};
+pub use records::{Answer, Dynamic, Entry, GnuTable, Header, LookUp, Name, ProgramHeader, Relocation, SectionHeader, SymbolTable, Version};
 #[cfg(feature = "alloc")]
 pub use symbol_map::SymbolMap;
 pub use symbols::{DynamicSymbol, DynamicSymbols, Symbol, Symbols};
@@ -216,6 +216,23 @@ impl<'a> ElfFile<'a> {
     /// as `dynamic_symbols_from` gives, and says how many.
     pub fn dynamic_symbol_names_from(&self, first: u64, out: &mut [Name]) -> Result<usize, Error> {
         ffi::dynamic_symbol_names(self.input, &self.header, first, out).map(|count| count as usize)
+    }
+
+    /// The symbol at an index of a table that [`Section::symbol_table`] found in this file. It costs less than
+    /// [`Section::symbol`], which finds the table in each call.
+    pub fn symbol_of(&self, table: &SymbolTable, index: u64) -> Result<Entry, Error> {
+        ffi::symbol_of(self.input, table, index)
+    }
+
+    /// The name of the symbol at an index of such a table.
+    pub fn symbol_name_of(&self, table: &SymbolTable, index: u64) -> Result<&'a str, Error> {
+        Ok(self.text(ffi::symbol_name_of(self.input, table, index)?))
+    }
+
+    /// What a look-up for a name says, in a table that [`HashTable::gnu_table`] found in this file. It costs less than
+    /// [`HashTable::look_up_counted`], which finds the table in each call.
+    pub fn gnu_look_up_of(&self, table: &GnuTable, name: &str) -> Result<LookUp, Error> {
+        ffi::gnu_look_up_of(self.input, table, name.as_bytes())
     }
 
     /// The symbol of the dynamic segment that a reference gets by a name and a version, with its index, if there is one:

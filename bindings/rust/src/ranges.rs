@@ -1,6 +1,6 @@
 //! What the structs of the archive answer: ranges, and the names and look-ups that have a status of their own.
 
-use crate::{Answer, ByteRange, Error, LookUp, Name};
+use crate::{Answer, ByteRange, Error, LookUp, Name, SymbolTable};
 
 impl From<core::ops::Range<usize>> for ByteRange {
     fn from(range: core::ops::Range<usize>) -> ByteRange {
@@ -32,6 +32,18 @@ impl Name {
     /// The range of the name in the file, without the zero byte that ends it, or why it is refused.
     pub fn range(&self) -> Result<ByteRange, Error> {
         checked(self.status).map(|()| self.range)
+    }
+}
+
+impl SymbolTable {
+    /// The number of symbols.
+    pub fn len(&self) -> u64 {
+        self.count
+    }
+
+    /// Whether there are none.
+    pub fn is_empty(&self) -> bool {
+        self.count == 0
     }
 }
 

@@ -140,6 +140,24 @@ pub struct Entry {
     pub other: u8,
 }
 
+/// The symbols of a section, found once: the numbers that `symbols_open` fills, and that other calls take back.
+#[repr(C)]
+#[derive(Clone, Copy, Debug, Default, PartialEq, Eq)]
+pub struct SymbolTable {
+    /// The bytes of the symbols.
+    pub(crate) symbols: Range,
+    /// The bytes of the string table of their names; offset and size are 0 where it is refused.
+    pub(crate) strings: Range,
+    /// The number of symbols.
+    pub(crate) count: u64,
+    /// The status of the string table.
+    pub(crate) strings_status: u32,
+    /// 1: symbols of class 32, any other number: of class 64 (EI_CLASS).
+    pub(crate) class: u16,
+    /// 2: big-endian; any other number is read as little-endian (EI_DATA).
+    pub(crate) encoding: u16,
+}
+
 /// A relocation (gABI, "Relocation").
 #[repr(C)]
 #[derive(Clone, Copy, Debug, Default, PartialEq, Eq)]
@@ -204,6 +222,17 @@ pub struct Answer {
     pub(crate) index: u32,
     /// The number of chain entries that the look-up read.
     pub(crate) looked_at: u32,
+}
+
+/// GNU's hash table of a section with its symbols, found once: the numbers that `gnu_open` fills, and that
+/// `gnu_look_up_of` takes back.
+#[repr(C)]
+#[derive(Clone, Copy, Debug, Default, PartialEq, Eq)]
+pub struct GnuTable {
+    /// The bytes of the hash table.
+    pub(crate) table: Range,
+    /// Its symbols, with the string table in which look-ups compare their names.
+    pub(crate) symbols: SymbolTable,
 }
 
 /// The version of a symbol, or one that a file defines or needs (LSB, "Symbol Versioning").

@@ -2,7 +2,7 @@
 
 use crate::calls::{every, Asked};
 use crate::constants::*;
-use crate::records::{Answer, Dynamic, Entry, FoundSymbol, Header, Name, ProgramHeader, Range, Relocation, SectionHeader, Version};
+use crate::records::{Answer, Dynamic, Entry, FoundSymbol, GnuTable, Header, Name, ProgramHeader, Range, Relocation, SectionHeader, SymbolTable, Version};
 use crate::{ffi, Error};
 extern crate std;
 use std::vec::Vec;
@@ -109,6 +109,28 @@ fn records_of_sections() {
     let note = ffi::note(&input, &header, &part, notes.align).expect("a note");
     assert_eq!((note.type_, note.rest.size), (NT_GNU_BUILD_ID, 0));
     assert_eq!(ffi::build_id(&input, &header), Ok(note.desc));
+}
+
+#[test]
+fn symbols_of_a_table() {
+    let input = whole();
+    let file = crate::ElfFile::new(&input).expect("an ELF file");
+    let section = file.section(section_of_type(&input, file.header(), SHT_DYNSYM).0).expect("a section");
+    let table = section.symbol_table().expect("symbols");
+    assert!(!table.is_empty() && table.strings_status == 0);
+    for (index, symbol) in section.symbols().enumerate() {
+        assert_eq!(file.symbol_of(&table, index as u64), ffi::symbol(&input, file.header(), section.index(), index as u64));
+        assert_eq!(file.symbol_name_of(&table, index as u64), symbol.name());
+    }
+    assert_eq!(file.symbol_of(&table, table.len()), Err(Error::NoRecord));
+    assert_eq!(file.symbol_name_of(&table, u64::MAX), Err(Error::NoRecord));
+    assert_eq!(ffi::symbols_open(&input, file.header(), 0), Err(Error::OtherData));
+    // Tables that no call found.
+    let far = Range { offset: u64::MAX, size: 24 };
+    assert_eq!(file.symbol_of(&SymbolTable { symbols: far, ..table }, 0), Err(Error::DataRange));
+    assert_eq!(file.symbol_name_of(&SymbolTable { strings: far, ..table }, 1), Err(Error::DataRange));
+    assert_eq!(file.symbol_name_of(&SymbolTable { strings_status: 203, ..table }, 1), Err(Error::NotFound));
+    assert_eq!(file.symbol_of(&SymbolTable { count: 0, ..table }, 1), file.symbol_of(&table, 1));
 }
 
 #[test]
@@ -250,6 +272,29 @@ fn look_ups() {
 }
 
 #[test]
+fn look_ups_of_a_table() {
+    let input = whole();
+    let header = ffi::open(&input).expect("an ELF file");
+    let section = section_of_type(&input, &header, SHT_GNU_HASH).0;
+    let table = ffi::gnu_open(&input, &header, section).expect("a hash table");
+    let symbols = section_of_type(&input, &header, SHT_DYNSYM).0;
+    assert_eq!(table.symbols, ffi::symbols_open(&input, &header, symbols).expect("symbols"));
+    for name in (0..table.symbols.count).filter_map(|index| ffi::symbol_name_of(&input, &table.symbols, index).ok()) {
+        let name = name.bytes_in(&input);
+        assert_eq!(ffi::gnu_look_up_of(&input, &table, name), ffi::gnu_look_up(&input, &header, section, name));
+    }
+    assert_eq!(ffi::gnu_look_up_of(&input, &table, b"\xff"), Err(Error::TextUtf8));
+    assert_eq!(ffi::gnu_open(&input, &header, symbols), Err(Error::OtherData));
+    // Tables that no call found.
+    let far = Range { offset: u64::MAX, size: 24 };
+    assert_eq!(ffi::gnu_look_up_of(&input, &GnuTable { table: far, ..table }, b"main"), Err(Error::DataRange));
+    let short = Range { size: 15, ..table.table };
+    assert_eq!(ffi::gnu_look_up_of(&input, &GnuTable { table: short, ..table }, b"main"), Err(Error::LinkShortTable));
+    let apart = SymbolTable { symbols: Range { size: 25, ..table.symbols.symbols }, ..table.symbols };
+    assert_eq!(ffi::gnu_look_up_of(&input, &GnuTable { symbols: apart, ..table }, b"main"), Err(Error::NotMultiple));
+}
+
+#[test]
 fn empty_slices() {
     let header = ffi::open(&whole()).expect("an ELF file");
     assert_eq!(ffi::open(&[]), Err(Error::ShortPart1));
@@ -263,10 +308,12 @@ fn empty_slices() {
 fn each_call_answers_what_is_listed() {
     let whole = whole();
     let header = ffi::open(&whole).expect("an ELF file");
+    let table = ffi::symbols_open(&whole, &header, section_of_type(&whole, &header, SHT_DYNSYM).0).expect("symbols");
+    let hash = ffi::gnu_open(&whole, &header, section_of_type(&whole, &header, SHT_GNU_HASH).0).expect("a hash table");
     let (mut calls, mut read) = (0, 0);
     for (input, name) in [(&*whole, &b"main"[..]), (&[], &[])] {
         for (section, index) in (0..40).flat_map(|section| [0, 1, 7, 1 << 40, u64::MAX].map(|index| (section, index))) {
-            let asked = Asked { input, header, part: Range { offset: index, size: 64 }, name, section, index };
+            let asked = Asked { input, header, part: Range { offset: index, size: 64 }, table, hash, name, section, index };
             every(&asked, |call, answer, listed| {
                 calls += 1;
                 match answer {

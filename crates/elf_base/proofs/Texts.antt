@@ -1,5 +1,5 @@
 -- Texts ended by a zero byte.
-use Rattle.std.proofs.Common.{◌≡◌, ◌≢◌, ℕ, suc, ◌+◌, ◌-◌, ◌≤◌, ◌<◌, Bool, true, false, ltb, eqb, None, Some, Ok, Err, List, [], ◌∷◌, ◌++◌, length, length-drop, length-append, take, drop, get_or, slice_index, refl, sym, ap, ◌∙◌, subst, arith}
+use Rattle.std.proofs.Common.{◌≡◌, ◌≢◌, ◌↔◌, ℕ, suc, ◌+◌, ◌-◌, ◌≤◌, ◌<◌, Bool, true, false, ltb, eqb, None, Some, Ok, Err, List, [], ◌∷◌, ◌++◌, length, length-drop, length-append, take, drop, get_or, slice_index, refl, sym, ap, ◌∙◌, subst, arith}
 use Rattle.std.proofs.Math.Seq.{drop-cons, get_or-append_seam}
 use Rattle.std.proofs.lemmas.List.{get_or-drop, get_or-take, length-take-le, take-append-drop}
 use Rattle.std.proofs.lemmas.Bool.{eqb-true, eq-eqb, ne_eqb, lt-ltb, le-ltb}
@@ -8,7 +8,7 @@ use Rattle.std.proofs.lemmas.Str.{IsUtf8-from_is_utf8, is_utf8-from_IsUtf8}
 use Rattle.memchr.specs.Find.{Nowhere, NoneBefore, Passes, is_byte}
 use Rattle.elf_base.specs.declared.error.ElfError.{ElfError}
 use Rattle.elf_base.specs.declared.error.ElfError.TheVariants.{TextStart, TextEnd, TextUtf8}
-use Rattle.elf_base.specs.Text.{EndsInZero, IsText, NoZeroFrom, TextRefused, before_zero, text_of}
+use Rattle.elf_base.specs.Text.{BytesRefused, EndsInZero, IsText, NoZeroFrom, TextRefused, as_text, before_zero, bytes_up_to_zero_of, text_of}
 use Rattle.elf_base.proofs.Numbers.{rest}
 
 -- a search of `&bytes[start..]` that found no zero byte
@@ -70,13 +70,19 @@ zero_stands bytes start t a =
     let all = length-drop start bytes in
     (omega arith, sym (get_or-drop start bytes (length t) 0) ∙ ap (λ l. slice_index l (length t)) a.begins ∙ get_or-append_seam t 0 a.after 0)
 
+-- if the bytes are refused, no zero byte ends them
+pub not_ended : (bytes : List ℕ) (start : ℕ) (e : ElfError) (t : List ℕ) → BytesRefused bytes start e → EndsInZero bytes start t → ⊥
+not_ended bytes start TextStart t refused is =
+    let z = (zero_stands bytes start t is).0 in omega arith
+not_ended bytes start TextEnd t refused is =
+    let z = zero_stands bytes start t is in
+    refused.1 (start + length t) (omega arith) z.0 z.1
+not_ended bytes start _ t refused is = refused
+
 -- if a text is refused, there is none
 refused_none : (bytes : List ℕ) (start : ℕ) (e : ElfError) (t : List ℕ) → TextRefused bytes start e → IsText bytes start t → ⊥
-refused_none bytes start TextStart t refused is =
-    let z = (zero_stands bytes start t is.ended).0 in omega arith
-refused_none bytes start TextEnd t refused is =
-    let z = zero_stands bytes start t is.ended in
-    refused.1 (start + length t) (omega arith) z.0 z.1
+refused_none bytes start TextStart t refused is = not_ended bytes start TextStart t refused is.ended
+refused_none bytes start TextEnd t refused is = not_ended bytes start TextEnd t refused is.ended
 refused_none bytes start TextUtf8 t refused is =
     let same : t ≡ refused.0 = one_ending bytes start t refused.0 is.ended refused.1 in
     refused.2 (subst IsUtf8 same is.utf8)
@@ -101,40 +107,102 @@ before_zero-none (x ∷ xs) no_zero =
 before_zero-ended : (bytes : List ℕ) (start : ℕ) (t : List ℕ) → EndsInZero bytes start t → before_zero (drop start bytes) ≡ Some t
 before_zero-ended bytes start t ended = ap before_zero ended.begins ∙ before_zero-append t ended.after ended.no_zero
 
-not_utf8 : (t : List ℕ) (b : Bool) → is_utf8 t ≡ b → (IsUtf8 t → ⊥) → is_utf8 t ≡ false
+pub not_utf8 : (t : List ℕ) (b : Bool) → is_utf8 t ≡ b → (IsUtf8 t → ⊥) → is_utf8 t ≡ false
 not_utf8 t true e never = absurd (never (IsUtf8-from_is_utf8 t e))
 not_utf8 t false e never = e
 
--- if there is a text at `start`, `text_of` is that text
-pub text_of-text : (bytes : List ℕ) (start : ℕ) (t : List ℕ) → IsText bytes start t → text_of bytes start ≡ Ok t
-unfolding text_of
-text_of-text bytes start t is =
-    let within = (zero_stands bytes start t is.ended).0 in
+-- if a zero byte ends the bytes at `start`, `bytes_up_to_zero_of` is these bytes
+pub bytes-ended : (bytes : List ℕ) (start : ℕ) (t : List ℕ) → EndsInZero bytes start t → bytes_up_to_zero_of bytes start ≡ Ok t
+unfolding bytes_up_to_zero_of
+bytes-ended bytes start t ended =
+    let within = (zero_stands bytes start t ended).0 in
     let low : ltb (length bytes) start ≡ false = le-ltb (length bytes) start (omega arith) in
-    let before : before_zero (drop start bytes) ≡ Some t = before_zero-ended bytes start t is.ended in
-    let utf8 : is_utf8 t ≡ true = is_utf8-from_IsUtf8 t is.utf8 in
-    rw (low, before, utf8) refl
+    let before : before_zero (drop start bytes) ≡ Some t = before_zero-ended bytes start t ended in
+    rw (low, before) refl
 
--- if the text at `start` is refused, `text_of` is that error
-pub text_of-refused : (bytes : List ℕ) (start : ℕ) (e : ElfError) → TextRefused bytes start e → text_of bytes start ≡ Err e
-unfolding text_of
-text_of-refused bytes start TextStart refused =
+-- if the bytes at `start` are refused, `bytes_up_to_zero_of` is that error
+pub bytes-refused : (bytes : List ℕ) (start : ℕ) (e : ElfError) → BytesRefused bytes start e → bytes_up_to_zero_of bytes start ≡ Err e
+unfolding bytes_up_to_zero_of
+bytes-refused bytes start TextStart refused =
     let low : ltb (length bytes) start ≡ true = lt-ltb (length bytes) start refused in
     rw low refl
-text_of-refused bytes start TextEnd refused =
+bytes-refused bytes start TextEnd refused =
     let within = refused.0 in
     let low : ltb (length bytes) start ≡ false = le-ltb (length bytes) start (omega arith) in
     let all = length-drop start bytes in
     let before : before_zero (drop start bytes) ≡ None = before_zero-none (drop start bytes) (λ k h is. refused.1 (start + k) (omega arith) (omega arith) (sym (get_or-drop start bytes k 0) ∙ is)) in
     rw (low, before) refl
+bytes-refused bytes start _ refused = absurd refused
+
+-- if there is a text at `start`, `text_of` is that text
+pub text_of-text : (bytes : List ℕ) (start : ℕ) (t : List ℕ) → IsText bytes start t → text_of bytes start ≡ Ok t
+unfolding text_of
+text_of-text bytes start t is =
+    let ended = bytes-ended bytes start t is.ended in
+    let utf8 : is_utf8 t ≡ true = is_utf8-from_IsUtf8 t is.utf8 in
+    rw (ended, utf8) refl
+
+-- if the text at `start` is refused, `text_of` is that error
+pub text_of-refused : (bytes : List ℕ) (start : ℕ) (e : ElfError) → TextRefused bytes start e → text_of bytes start ≡ Err e
+unfolding text_of
+text_of-refused bytes start TextStart refused = rw (bytes-refused bytes start TextStart refused) refl
+text_of-refused bytes start TextEnd refused = rw (bytes-refused bytes start TextEnd refused) refl
 text_of-refused bytes start TextUtf8 refused =
     let (t, ended, never) = refused in
-    let within = (zero_stands bytes start t ended).0 in
-    let low : ltb (length bytes) start ≡ false = le-ltb (length bytes) start (omega arith) in
-    let before : before_zero (drop start bytes) ≡ Some t = before_zero-ended bytes start t ended in
+    let found = bytes-ended bytes start t ended in
     let utf8 : is_utf8 t ≡ false = not_utf8 t (is_utf8 t) refl never in
-    rw (low, before, utf8) refl
+    rw (found, utf8) refl
 text_of-refused bytes start _ refused = absurd refused
+
+-- `text_of` is the bytes as a text, or the error for the bytes
+pub text_of-bytes : (bytes : List ℕ) (start : ℕ) (t : List ℕ) → bytes_up_to_zero_of bytes start ≡ Ok t → text_of bytes start ≡ as_text t
+unfolding text_of
+text_of-bytes bytes start t found = rw found refl
+
+pub text_of-error : (bytes : List ℕ) (start : ℕ) (e : ElfError) → bytes_up_to_zero_of bytes start ≡ Err e → text_of bytes start ≡ Err e
+unfolding text_of
+text_of-error bytes start e found = rw found refl
+
+-- what follows from a result that is bytes ended by a zero byte
+pub record BytesAnswers (bytes : List ℕ) (start : ℕ) (s : List ℕ) : Type 0 where
+  pub only : (t : List ℕ) → EndsInZero bytes start t → s ≡ t
+  pub refuses : (e : ElfError) → BytesRefused bytes start e → ⊥
+  pub texts : (t : List ℕ) → IsText bytes start t ↔ ((s ≡ t) × IsUtf8 t)
+  pub whole : text_of bytes start ≡ as_text s
+  pub ok : bytes_up_to_zero_of bytes start ≡ Ok s
+
+pub bytes_answers : (bytes : List ℕ) (start : ℕ) (s : List ℕ) → EndsInZero bytes start s → BytesAnswers bytes start s
+bytes_answers bytes start s is =
+    let found = bytes-ended bytes start s is in
+    record {
+      only = λ t is'. one_ending bytes start s t is is';
+      refuses = λ e refused. not_ended bytes start e s refused is;
+      texts = λ t. (
+        (λ text. (one_ending bytes start s t is text.ended, text.utf8)),
+        λ same. record { utf8 = same.1; ended = subst (EndsInZero bytes start) same.0 is },
+      );
+      whole = text_of-bytes bytes start s found;
+      ok = found;
+    }
+
+-- what follows from a result that is an error for bytes
+pub record BytesRefusal (bytes : List ℕ) (start : ℕ) (e : ElfError) : Type 0 where
+  pub only : (t : List ℕ) → EndsInZero bytes start t → ⊥
+  pub refuses : (why : ElfError) → BytesRefused bytes start why → e ≡ why
+  pub texts : (t : List ℕ) → IsText bytes start t → ⊥
+  pub whole : text_of bytes start ≡ Err e
+  pub err : bytes_up_to_zero_of bytes start ≡ Err e
+
+pub bytes_refusal : (bytes : List ℕ) (start : ℕ) (e : ElfError) → BytesRefused bytes start e → BytesRefusal bytes start e
+bytes_refusal bytes start e r =
+    let err = bytes-refused bytes start e r in
+    record {
+      only = λ t is. not_ended bytes start e t r is;
+      refuses = λ why refused. let other = bytes-refused bytes start why refused in cc;
+      texts = λ t is. not_ended bytes start e t r is.ended;
+      whole = text_of-error bytes start e err;
+      err = err;
+    }
 
 -- what follows from a result that is a text
 pub record TextAnswers (bytes : List ℕ) (start : ℕ) (s : List ℕ) : Type 0 where

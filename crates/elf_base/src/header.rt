@@ -122,6 +122,30 @@ impl HeaderPt1 {
     }
 }
 
+impl HeaderPt2_<P32> {
+    // The part with the types of class 64.
+    #[inline(always)]
+    fn to_64(&self) -> HeaderPt2_<P64>
+        ensures { result ≡ self.now }
+    {
+        HeaderPt2_ {
+            type_: self.type_,
+            machine: self.machine,
+            version: self.version,
+            entry_point: u64::from(self.entry_point),
+            ph_offset: u64::from(self.ph_offset),
+            sh_offset: u64::from(self.sh_offset),
+            flags: self.flags,
+            header_size: self.header_size,
+            ph_entry_size: self.ph_entry_size,
+            ph_count: self.ph_count,
+            sh_entry_size: self.sh_entry_size,
+            sh_count: self.sh_count,
+            sh_str_index: self.sh_str_index,
+        }
+    }
+}
+
 impl HeaderPt2 {
     /// The size of this part in bytes: 36 or 48.
     pub fn size(&self) -> usize
@@ -252,6 +276,18 @@ impl HeaderPt2 {
         match self {
             Self::Header32(part) => part.sh_str_index,
             Self::Header64(part) => part.sh_str_index,
+        }
+    }
+
+    /// All fields of this part, in the types of class 64: what the other calls return one by one,
+    /// and the flags. The class is asked for once.
+    #[inline(always)]
+    pub fn numbers(&self) -> HeaderPt2_<P64>
+        ensures { result ≡ header_fields self.now }
+    {
+        match self {
+            Self::Header32(part) => part.to_64(),
+            Self::Header64(part) => *part,
         }
     }
 }

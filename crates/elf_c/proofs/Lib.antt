@@ -12,3 +12,6 @@ pub mod StoredNames
 pub mod GivenRanges
 pub mod VersionRecords
 pub mod FoundSymbols
+pub mod OpenedSymbols
+pub mod RenamedLooks
+pub mod OpenedGnu

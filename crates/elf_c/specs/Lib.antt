@@ -2,6 +2,7 @@ pub mod Status
 pub mod Parsed
 pub mod Records
 pub mod Symbols
+pub mod SymbolTables
 pub mod Relocations
 pub mod PackedRelocations
 pub mod Dynamics
@@ -15,5 +16,6 @@ pub mod Batch
 pub mod HashTables
 pub mod Lookup
 pub mod LookUps
+pub mod GnuTables
 pub mod Versions
 pub mod FoundSymbols

@@ -94,7 +94,7 @@ fn look_up<E: Entry + Record>(
 }
 
 // Looks a name up among the symbols of a table of this file.
-fn look_up_of<E: Entry + Record>(
+pub(crate) fn look_up_of<E: Entry + Record>(
     table: &AnyTable<'_>,
     name: &str,
     symbols: &Table<'_, E>,

@@ -86,6 +86,15 @@ impl Numbered for LinkError {
     }
 }
 
+// The number of an error that was met before.
+impl Numbered for u32 {
+    ghost number_of = { λ number. number };
+
+    fn number(self) -> u32 {
+        self
+    }
+}
+
 impl Numbered for Refusal {
     ghost number_of = { refusal_number };
 

@@ -32,3 +32,10 @@ pub fn value_and_pointer(tag: u64, value: u64)
 {
     let _numbers = (tag, value);
 }
+
+/// No two numbers are those of one tag: a search by `raw_tag` finds what one by `get_tag` does.
+pub fn one_tag_number(one: u64, other: u64)
+    ensures { (kind : Tag ℕ) → tag_of one ≡ Ok kind → tag_of other ≡ Ok kind → one ≡ other }
+{
+    let _numbers = (one, other);
+}

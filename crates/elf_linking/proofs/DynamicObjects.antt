@@ -1,8 +1,9 @@
 -- What is read of a file for one value with its dynamic symbols.
-use Rattle.std.proofs.Common.{◌≡◌, ◌<◌, ◌+◌, ◌*◌, ◌/◌, ℕ, Bor, List, length, Option, Some, Result, Ok, Err, MatchResult, arith, refl, ap, subst, sym, ◌∙◌}
+use Rattle.std.proofs.Common.{◌≡◌, ◌↔◌, ◌<◌, ◌+◌, ◌*◌, ◌/◌, ℕ, Bor, List, length, Option, Some, Result, Ok, Err, MatchOption, MatchResult, arith, refl, ap, subst, sym, ◌∙◌}
 use Rattle.std.proofs.lemmas.Nat.{div-mul-add}
 use Rattle.std.specs.Result.{result_ok}
-use Rattle.elf_base.specs.Text.{text_of}
+use Rattle.std.specs.Str.{IsUtf8}
+use Rattle.elf_base.specs.Text.{TextIfUtf8, text_of}
 use Rattle.elf_base.specs.declared.error.ElfError.{ElfError}
 use Rattle.elf_base.specs.FileHeader.{file_class, file_order}
 use Rattle.elf_base.specs.Table.{table_data, table_order}
@@ -12,7 +13,9 @@ use Rattle.elf_linking.specs.DynamicView.{AreSymbols, as_link_error, linked_tabl
 use Rattle.elf_linking.specs.Loaded.{lent}
 use Rattle.elf_linking.specs.VersionTables.{VersionTables, version_tables_of}
 use Rattle.elf_linking.specs.declared.error.LinkError.{LinkError}
+use Rattle.elf_linking.specs.declared.error.LinkError.TheVariants.{SymbolIndex}
 use Rattle.elf_linking.specs.declared.view.entry.DynamicEntry.{DynamicEntry}
+use Rattle.xmas_elf.specs.Symbol.{Symbols}
 use Rattle.xmas_elf.specs.declared.ElfFile.{ElfFile}
 
 -- the symbols that were read are those of the class of the file
@@ -50,3 +53,21 @@ module _ {E : Type 0} (text : E → Option (List ℕ)) (symbol : E) where
 
   pub name_at : (at : Option E) (strings : List ℕ) (place : ℕ) (answer : Result (Bor (List ℕ)) LinkError) → Some symbol ≡ at → text symbol ≡ result_ok (text_of strings place) → lent answer ≡ text_in_strings (Ok strings) place → IsNameAt text at answer
   name_at at strings place answer found same is = subst (λ symbol. IsNameAt text symbol answer) found (name_read (text_of strings place) answer same is)
+
+-- the texts that are a symbol's name are the bytes that were read, if they are UTF-8
+abbrev pub AreTexts : {E : Type 0} → (E → Option (List ℕ)) → Result (Bor (List ℕ)) LinkError → Option E → Type 0
+AreTexts text r at = MatchOption at (r ≡ Err SymbolIndex) (λ symbol. TextIfUtf8 (λ name. text symbol ≡ Some name) r)
+
+abbrev text_in_table : {E : Type 0} → E → Symbols E → Option (List ℕ)
+text_in_table symbol symbols = symbols.text symbol
+
+pub same_text : {E : Type 0} (one other : Symbols E) (symbol : E) → one ≡ other → one.text symbol ≡ other.text symbol
+same_text one other symbol same = ap (text_in_table symbol) same
+
+pub texts_ok : {E : Type 0} (text : E → Option (List ℕ)) (symbol : E) (at : Option E) (own : Option (List ℕ)) (part : Bor (List ℕ)) → Some symbol ≡ at → own ≡ text symbol → ((name : List ℕ) → (own ≡ Some name) ↔ ((part.now ≡ name) × IsUtf8 name)) → AreTexts text (Ok part) at
+texts_ok text symbol at own part found same texts =
+    subst (AreTexts text (Ok part)) found (subst (λ t. (name : List ℕ) → (t ≡ Some name) ↔ ((part.now ≡ name) × IsUtf8 name)) same texts)
+
+pub texts_err : {E : Type 0} (text : E → Option (List ℕ)) (symbol : E) (at : Option E) (own : Option (List ℕ)) (error : LinkError) → Some symbol ≡ at → own ≡ text symbol → ((name : List ℕ) → (own ≡ Some name) ↔ ⊥) → AreTexts text (Err error) at
+texts_err text symbol at own error found same texts =
+    subst (AreTexts text (Err error)) found (subst (λ t. (name : List ℕ) → (t ≡ Some name) ↔ ⊥) same texts)

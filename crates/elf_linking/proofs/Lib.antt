@@ -12,6 +12,7 @@ pub mod Firsts
 pub mod LoadedBytes
 pub mod EntryItems
 pub mod NeededItems
+pub mod NeededTexts
 pub mod ReferenceItems
 pub mod LinkedNames
 pub mod ViewTables
@@ -25,6 +26,8 @@ pub mod VersionSearch
 mod Finds
 mod Early
 mod FoundOnce
+pub mod TextsInPlace
+pub mod Marking
 mod Accepted
 mod VersionsRead
 mod Scopes

@@ -23,12 +23,18 @@ last_suc records offset start count whole ends =
     let is : is_cut records offset start ≡ false = le-ltb _ _ whole in
     let done : (field records 4 start offset == 0) ≡ true = eq-eqb _ _ ends in rw (is, done) refl
 
-more_suc : (records : VersionRecords) (offset start count : ℕ) → start + offset + 4 ≤ length records.bytes → field records 4 start offset ≢ 0
+pub more_suc : (records : VersionRecords) (offset start count : ℕ) → start + offset + 4 ≤ length records.bytes → field records 4 start offset ≢ 0
     → places_of records offset start (suc count) ≡ Ok start ∷ places_of records offset (start + field records 4 start offset) count
 unfolding places_of
 more_suc records offset start count whole goes =
     let is : is_cut records offset start ≡ false = le-ltb _ _ whole in
     let on : (field records 4 start offset == 0) ≡ false = ne_eqb _ _ goes in rw (is, on) refl
+
+pub place_first : (records : VersionRecords) (offset start count : ℕ) → start + offset + 4 ≤ length records.bytes → (rest : List (Result ℕ LinkError)) × (places_of records offset start (suc count) ≡ Ok start ∷ rest)
+unfolding places_of
+place_first records offset start count whole =
+    let is : is_cut records offset start ≡ false = le-ltb _ _ whole in
+    ((if field records 4 start offset == 0 then [] else places_of records offset (start + field records 4 start offset) count), rw is refl)
 
 some_left : (count : ℕ) → count ≢ 0 → count ≡ suc (count - 1)
 some_left count some = omega (arith, some)

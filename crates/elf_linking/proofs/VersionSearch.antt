@@ -14,7 +14,7 @@ both_of true false is = (refl, refl)
 both_of true true is = cc
 both_of false base is = cc
 
-bears_hits : (n : ℕ) (d : DefinitionParts) → bears_defined n d ≡ true → BearsDefined n d
+pub bears_hits : (n : ℕ) (d : DefinitionParts) → bears_defined n d ≡ true → BearsDefined n d
 bears_hits n d is =
     let both = both_of (d.number == n) (d.flags % 2 == 1) is in
     (eqb-true d.number n both.0, λ base. let no : (d.flags % 2 == 1) ≡ true = eq-eqb (d.flags % 2) 1 base in let other = both.1 in cc)

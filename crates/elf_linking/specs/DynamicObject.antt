@@ -1,12 +1,12 @@
 -- One value with the dynamic symbols of a file: the entries of its dynamic segment, its hash table, its
 -- symbols, the string table of their names, and its version tables.
-use Rattle.std.specs.Prelude.{◌≡◌, ◌≢◌, ◌/◌, ℕ, List, Option, Some, None, Result, Ok, Err, MatchResult, length, slice_get}
+use Rattle.std.specs.Prelude.{◌≡◌, ◌≢◌, ◌/◌, ℕ, List, Option, Some, None, Result, Ok, Err, IfOk, MatchResult, length, slice_get}
 use Rattle.std.specs.Borrow.{Bor}
 use Rattle.elf_base.specs.FileHeader.{file_class, file_order, header_fields, machine_number}
 use Rattle.elf_base.specs.Table.{table_bytes, table_data, table_items, table_order}
 use Rattle.elf_base.specs.declared.bytes.table.Table.{Table}
 use Rattle.elf_linking.specs.AnyTable.{IsLinkedTable, IsTableRefused}
-use Rattle.elf_linking.specs.DynamicView.{AreSymbols, LieAsSymbols, LiesAsFileStrings, dynamic_entries_of, strings_by, strings_of, text_in_strings, view_entries, view_strings}
+use Rattle.elf_linking.specs.DynamicView.{AreSymbols, LieAsSymbols, LiesAsFileStrings, LiesAsStrings, bytes_in_strings, dynamic_entries_of, strings_by, strings_of, text_in_strings, view_entries, view_strings, view_table}
 use Rattle.elf_linking.specs.Find.{DynamicSymbols, dynamic_symbols}
 use Rattle.elf_linking.specs.VersionTables.{version_tables, version_tables_of}
 use Rattle.elf_linking.specs.declared.any_table.AnyTable.{AnyTable}
@@ -75,6 +75,7 @@ pub record IsObject {E : Type 0} {r : _} (class size : ℕ) (file : ElfFile) (ob
   pub strings_are : strings_of file ≡ Ok (object_strings object).now
   pub strings_lie : LiesAsFileStrings file (object_strings object)
   pub view_strings_are : view_strings (object_view object) ≡ Ok (object_strings object).now
+  pub view_strings_lie : IfOk (view_table (object_view object)) (LiesAsStrings file (view_entries (object_view object)))
   pub versions_are : version_tables_of file (view_entries (object_view object)) (Ok (object_strings object).now)
       (length (table_items (object_records object))) ≡ Ok (version_tables (object_versions object))
 
@@ -106,6 +107,15 @@ name_of_symbol fields strings (Some symbol) = text_in_strings (Ok strings) (fiel
 abbrev pub object_name : {E : Type 0} → {r : _} → (E → SymbolFields) → DynamicObject E r → ℕ → Result (List ℕ) LinkError
 object_name fields object index =
     name_of_symbol fields (object_strings object).now (slice_get (table_items (object_records object)) index)
+
+-- the bytes of the name, or why there are none
+abbrev pub bytes_of_symbol : {E : Type 0} → (E → SymbolFields) → List ℕ → Option E → Result (List ℕ) LinkError
+bytes_of_symbol fields strings None = Err SymbolIndex
+bytes_of_symbol fields strings (Some symbol) = bytes_in_strings (Ok strings) (fields symbol).name
+
+abbrev pub object_name_bytes : {E : Type 0} → {r : _} → (E → SymbolFields) → DynamicObject E r → ℕ → Result (List ℕ) LinkError
+object_name_bytes fields object index =
+    bytes_of_symbol fields (object_strings object).now (slice_get (table_items (object_records object)) index)
 
 -- the result of a call is the name of the symbol, if it has one, or an error that is `SymbolIndex` if there is
 -- no symbol

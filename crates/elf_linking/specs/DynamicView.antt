@@ -7,7 +7,7 @@ use Rattle.elf_base.specs.Table.{records, table_items, table_rest}
 use Rattle.elf_base.specs.declared.bytes.Order.{Order}
 use Rattle.elf_base.specs.Refusal.{unless, and_then}
 use Rattle.elf_base.specs.FileHeader.{class_of, file_class, file_order}
-use Rattle.elf_base.specs.Text.{text_of}
+use Rattle.elf_base.specs.Text.{as_text, bytes_up_to_zero_of, text_of}
 use Rattle.elf_base.specs.declared.error.ElfError.{ElfError}
 use Rattle.elf_records.specs.ProgramNumbers.{has_ph_type}
 use Rattle.elf_records.specs.declared.program.Type.TheVariants.{Dynamic}
@@ -25,6 +25,7 @@ use Rattle.elf_linking.specs.declared.view.entries.Rest.{Rest}
 use Rattle.elf_linking.specs.Loaded.{LiesAsLoaded, bytes_at_of, lent, bytes_from_of}
 use Rattle.elf_linking.specs.declared.view.dynamic.DynamicView.{DynamicView}
 use Rattle.elf_linking.specs.declared.view.needed.Needed.{Needed}
+use Rattle.elf_linking.specs.declared.view.needed_bytes.NeededBytes.{NeededBytes}
 use Rattle.elf_base.specs.declared.error.ElfError.TheVariants.{ShortData, NoDynstr}
 use Rattle.elf_base.specs.Number.{number}
 use Rattle.elf_linking.specs.GnuHash.{EndsRun, HasChain, bucket_count_of, bucket_word, chain_of, first_symbol_of, gnu_class, gnu_data, gnu_order}
@@ -162,6 +163,16 @@ abbrev pub text_in_strings : Result (List ℕ) LinkError → ℕ → Result (Lis
 text_in_strings (Ok table) place = as_link_error (text_of table place)
 text_in_strings (Err error) place = Err error
 
+-- the bytes at an offset in a string table up to a zero byte, or the error for them
+abbrev pub bytes_in_strings : Result (List ℕ) LinkError → ℕ → Result (List ℕ) LinkError
+bytes_in_strings (Ok table) place = as_link_error (bytes_up_to_zero_of table place)
+bytes_in_strings (Err error) place = Err error
+
+-- such bytes as a text
+abbrev pub as_linked_text : Result (List ℕ) LinkError → Result (List ℕ) LinkError
+as_linked_text (Ok bytes) = as_link_error (as_text bytes)
+as_linked_text (Err error) = Err error
+
 -- the text at the offset in the first entry with a tag
 abbrev pub text_with : ℕ → DynamicView → Option (Result (List ℕ) LinkError)
 text_with tag view = option_map (text_in_strings (view_strings view)) (number_with tag (view_entries view))
@@ -170,18 +181,31 @@ text_with tag view = option_map (text_in_strings (view_strings view)) (number_wi
 abbrev pub IsTextWith : DynamicView → ℕ → Option (Result (Bor (List ℕ)) LinkError) → Type 0
 IsTextWith view tag found = option_map lent found ≡ text_with tag view
 
--- the texts at the offsets in the entries with tag Needed (DT_NEEDED)
+-- what is at the offsets in the entries with tag Needed (DT_NEEDED)
+abbrev pub needed_by : (ℕ → Result (List ℕ) LinkError) → List (DynamicEntry ℕ) → List (Result (List ℕ) LinkError)
+needed_by name_at [] = []
+needed_by name_at (entry ∷ entries) =
+    if entry.tag == DT_NEEDED then name_at entry.number ∷ needed_by name_at entries else needed_by name_at entries
+
+-- the texts there, and the bytes
 abbrev pub needed_in : Result (List ℕ) LinkError → List (DynamicEntry ℕ) → List (Result (List ℕ) LinkError)
-needed_in strings [] = []
-needed_in strings (entry ∷ entries) =
-    if entry.tag == DT_NEEDED then text_in_strings strings entry.number ∷ needed_in strings entries else needed_in strings entries
+needed_in strings entries = needed_by (text_in_strings strings) entries
+
+abbrev pub needed_bytes_in : Result (List ℕ) LinkError → List (DynamicEntry ℕ) → List (Result (List ℕ) LinkError)
+needed_bytes_in strings entries = needed_by (bytes_in_strings strings) entries
 
 -- the needed libraries of a view, and those that an iterator has not yet returned
 abbrev pub needed_of : DynamicView → List (Result (List ℕ) LinkError)
 needed_of view = needed_in (view_strings view) (view_entries view)
 
+abbrev pub needed_bytes_of : DynamicView → List (Result (List ℕ) LinkError)
+needed_bytes_of view = needed_bytes_in (view_strings view) (view_entries view)
+
 abbrev pub needed_left : Needed → List (Result (List ℕ) LinkError)
 needed_left iter = needed_in (lent iter.strings) (entries_left iter.entries)
+
+abbrev pub needed_bytes_left : NeededBytes → List (Result (List ℕ) LinkError)
+needed_bytes_left iter = needed_bytes_in (lent iter.strings) (entries_left iter.entries)
 
 -- The hash tables of a dynamic segment (DT_HASH; DT_GNU_HASH of GNU binutils and glibc).
 

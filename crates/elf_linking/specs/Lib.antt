@@ -9,6 +9,7 @@ pub mod AnyTable
 pub mod BuildIds
 pub mod LinkedSections
 pub mod VersionTables
+pub mod MarkedVersions
 pub mod Versions
 pub mod Find
 pub mod DynamicObject

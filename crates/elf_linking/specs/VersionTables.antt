@@ -259,7 +259,7 @@ records_data records = record {
 abbrev pub version_tables : Versions → VersionTables
 version_tables versions = record {
   numbers = option_map (λ numbers. numbers.now) versions.numbers;
-  definitions = records_data versions.definitions;
+  definitions = records_data versions.definitions.records;
   needs = records_data versions.needs;
 }
 

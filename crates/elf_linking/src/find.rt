@@ -91,6 +91,7 @@ fn is_accepted(wanted: &Wanted<'_>, versions: &Versions<'_>, index: u32) -> Resu
 }
 
 // Whether a symbol serves a use: by its type, its value and its section.
+#[inline(always)]
 pub(crate) fn serves<E: Entry>(symbol: &E, use_: Use) -> bool
     ensures { result ≡ serves use_ (E.fields symbol.now) }
 {
@@ -132,10 +133,7 @@ fn is_version(name: &str, hash: u32, named: Option<NamedVersion<'_>>) -> Result<
     if named.hash() != hash {
         return Ok(false);
     }
-    match named.name() {
-        Ok(other) => Ok(other == name),
-        Err(error) => Err(error),
-    }
+    named.has_name(name)
 }
 
 // Whether a version without a hash number is accepted in place of another.
@@ -150,6 +148,7 @@ fn is_open(hidden: bool, version: &SymbolVersion<'_>) -> bool
 }
 
 // Whether the number of a symbol's version is below the least that needs a name.
+#[inline(always)]
 fn number_below(versions: &Versions<'_>, index: u32, least: u16) -> Result<bool, LinkError>
     ensures { result ≡ item_by (is_below least) (number_of (version_tables versions.now) index) }
 {
@@ -168,6 +167,7 @@ pub(crate) fn is_default(versions: &Versions<'_>, index: u32) -> bool
 }
 
 // Whether a reference may get the symbol at an index.
+#[inline(always)]
 pub(crate) fn is_likely(versions: &Versions<'_>, wanted: &Wanted<'_>, index: u32) -> bool
     ensures { result ≡ is_likely (version_tables versions.now) wanted.now index }
 {
@@ -180,6 +180,7 @@ pub(crate) fn is_likely(versions: &Versions<'_>, wanted: &Wanted<'_>, index: u32
 
 // Whether the number of a symbol's version is below the least that needs a name, or isn't hidden,
 // or can't be read.
+#[inline(always)]
 fn is_near(versions: &Versions<'_>, index: u32, least: u16) -> bool
     ensures { result ≡ is_near least (number_of (version_tables versions.now) index) }
 {

@@ -124,6 +124,7 @@ impl<'a> GnuHashTable<'a> {
     }
 
     /// The number of buckets.
+    #[inline(always)]
     pub fn bucket_count(&self) -> u32
         ensures { result ≡ bucket_count_of self.now }
     {
@@ -131,6 +132,7 @@ impl<'a> GnuHashTable<'a> {
     }
 
     /// The index of the first symbol of the table.
+    #[inline(always)]
     pub fn first_symbol(&self) -> u32
         ensures { result ≡ first_symbol_of self.now }
     {
@@ -138,6 +140,7 @@ impl<'a> GnuHashTable<'a> {
     }
 
     /// The number of Bloom words. `read` refuses one that is not a power of two.
+    #[inline(always)]
     pub fn bloom_count(&self) -> u32
         ensures value { result ≡ bloom_count_of self.now }
         ensures power { IsTrue (is_power_of_two result) }
@@ -147,6 +150,7 @@ impl<'a> GnuHashTable<'a> {
 
     /// The number of bits by which a hash number is shifted to the right for the second bit of a
     /// Bloom word.
+    #[inline(always)]
     pub fn bloom_shift(&self) -> u32
         ensures { result ≡ bloom_shift_of self.now }
     {

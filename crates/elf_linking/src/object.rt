@@ -2,11 +2,14 @@
 //! Table"; LSB, "Symbol Versioning").
 
 ghost use Rattle.std.specs.Borrow.{Bor};
-ghost use Rattle.std.specs.Prelude.{◌≡◌, ◌↔◌, ℕ, Contains, Err, IfOk, IsOk, MatchResult, Ok};
-ghost use Rattle.std.specs.Prelude.{Option, Result, Some, length, slice_get, ◌<◌, ◌^◌};
+ghost use Rattle.std.specs.Prelude.{◌≡◌, ◌↔◌, ℕ, Contains, Err, IfOk, IfSome, IsOk, MatchOption};
+ghost use Rattle.std.specs.Prelude.{MatchResult, Ok, Option, Result, Some, length, slice_get};
+ghost use Rattle.std.specs.Prelude.{◌<◌, ◌^◌};
 ghost use Rattle.elf_base.specs.FileHeader.{file_order};
+ghost use Rattle.elf_base.specs.Lent.{LiesAt};
 ghost use Rattle.elf_base.specs.Table.{table_bytes, table_data, table_order};
-ghost use Rattle.elf_linking.specs.DynamicView.{LieAsSymbols, is_symbolic, strings_of};
+ghost use Rattle.elf_base.specs.Text.{TextIfUtf8};
+ghost use Rattle.elf_linking.specs.DynamicView.{LieAsSymbols, as_linked_text, is_symbolic, strings_of};
 ghost use Rattle.elf_linking.specs.DynamicView.{view_entries};
 ghost use Rattle.elf_linking.specs.Loaded.{lent};
 ghost use Rattle.elf_linking.specs.declared.error.LinkError.{LinkError};
@@ -44,7 +47,8 @@ impl<'a, E: LinkedSymbol> DynamicObject<'a, E> {
     ghost use Rattle.elf_linking.specs.DynamicObject.{AreOfClass, AreRefused, IsNameAt, IsObject};
     ghost use Rattle.elf_linking.specs.DynamicObject.{IsObjectRefused, object_dynamic_symbols};
     ghost use Rattle.elf_linking.specs.DynamicObject.{object_file, object_machine, object_name};
-    ghost use Rattle.elf_linking.specs.DynamicObject.{object_records, object_strings};
+    ghost use Rattle.elf_linking.specs.DynamicObject.{object_name_bytes, object_records};
+    ghost use Rattle.elf_linking.specs.DynamicObject.{object_strings};
     ghost use Rattle.elf_linking.specs.DynamicObject.{object_symbols, object_table};
     ghost use Rattle.elf_linking.specs.DynamicObject.{object_versions, object_view};
     ghost use Rattle.elf_linking.specs.Find.{AreReadable, FindsRight, IsFound};
@@ -173,6 +177,30 @@ impl<'a, E: LinkedSymbol> DynamicObject<'a, E> {
         }
     }
 
+    /// The bytes of the name of the symbol at an index, whether or not they are UTF-8: the text of
+    /// `name`, where that is Ok.
+    ///
+    /// Errors: those of `name` except `TextUtf8`.
+    #[tactic(auto, using(crate::proofs::NeededTexts::text_as_bytes))]
+    pub fn name_bytes(&self, index: u32) -> Result<&'a [u8], LinkError>
+        ensures texts { let all = object_symbols E.fields E.text_in self.now in
+            MatchOption (slice_get all.items index) (result ≡ Err LinkError.SymbolIndex)
+            (λ symbol. TextIfUtf8 (λ name. all.text symbol ≡ Some name) result) }
+        ensures place { let all = object_symbols E.fields E.text_in self.now in
+            IfSome (slice_get all.items index) (λ symbol.
+            IfOk result (LiesAt (object_strings self.now) (E.fields symbol).name)) }
+        ensures as_text { object_name E.fields self.now index ≡ as_linked_text (lent result) }
+        ensures exact { lent result ≡ object_name_bytes E.fields self.now index }
+    {
+        let Some(symbol) = self.symbol(index) else {
+            return Err(LinkError::SymbolIndex);
+        };
+        match self.symbols().name_bytes_of(&symbol) {
+            Ok(name) => Ok(name),
+            Err(error) => Err(LinkError::Elf(error)),
+        }
+    }
+
     /// The version of the symbol at an index: the result of `Versions::version_of`.
     pub fn version(&self, index: u32) -> Result<Option<SymbolVersion<'a>>, LinkError>
         ensures answer { IsVersion (version_tables (object_versions self.now)) index
@@ -261,8 +289,8 @@ impl<'a, E: LinkedSymbol> DynamicObject<'a, E> {
     /// the first that is accepted. If `check` and `check_versions` are Ok, there is no error, and
     /// no symbol is missed. With GNU's table a call goes through the chain of the name once if one
     /// of the first two candidates decides it, and otherwise four times at most; with the standard's
-    /// table, three times at most. For `Wanted::Version` it goes through the definitions and needs
-    /// for each candidate that it comes to.
+    /// table, three times at most. For `Wanted::Version` it asks for the version of each candidate
+    /// that it comes to, as `Versions::version_of` does.
     pub fn find(
         &self,
         name: &str,

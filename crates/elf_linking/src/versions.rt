@@ -9,12 +9,14 @@ ghost use Rattle.elf_linking.specs.declared.view.tags.TheConstants.{DT_VERSYM};
 
 mod check;
 mod definitions;
+mod marks;
 mod needs;
 mod records;
 mod symbol;
 
 use crate::LinkError;
 pub use crate::versions::definitions::{Definition, Definitions};
+use crate::versions::marks::Marked;
 pub use crate::versions::needs::{Need, Needs};
 use crate::versions::records::Records;
 pub use crate::versions::symbol::{NamedVersion, SymbolVersion};
@@ -28,7 +30,7 @@ use xmas_elf::ElfFile;
 #[derive(Clone, Copy, Debug)]
 pub struct Versions<'a> {
     numbers: Option<&'a [u8]>,
-    definitions: Records<'a>,
+    definitions: Marked<'a>,
     needs: Records<'a>,
 }
 
@@ -65,7 +67,7 @@ impl<'a> Versions<'a> {
         match records_by(view, file, DT_VERNEED, DT_VERNEEDNUM) {
             Ok(needs) => Ok(Versions {
                 numbers,
-                definitions,
+                definitions: Marked::new(definitions),
                 needs,
             }),
             Err(error) => Err(error),
@@ -85,7 +87,7 @@ impl<'a> Versions<'a> {
             ≡ definitions_in (version_tables self.now).definitions }
         ensures fits { length (definitions_left result) < 2 ^ 64 }
     {
-        Definitions::new(self.definitions)
+        Definitions::new(self.definitions.records)
     }
 
     /// An iterator over the versions that the file needs of libraries, in order: the parts of each

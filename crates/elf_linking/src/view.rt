@@ -8,6 +8,7 @@ mod linked_entry;
 mod linked_symbol;
 mod loaded;
 mod needed;
+mod needed_bytes;
 mod symbols;
 mod tables;
 mod tags;
@@ -19,7 +20,8 @@ pub use crate::view::linked_entry::{Linked, LinkedEntry32, LinkedEntry64};
 pub use crate::view::linked_symbol::LinkedSymbol;
 pub use crate::view::loaded::{bytes_at, bytes_from, segment_at};
 pub use crate::view::needed::Needed;
-pub(crate) use crate::view::needed::text_by;
+pub(crate) use crate::view::needed::{is_text_by, text_by};
+pub use crate::view::needed_bytes::NeededBytes;
 pub use crate::view::tags::{
     DT_FLAGS, DT_GNU_HASH, DT_HASH, DT_JMPREL, DT_NEEDED, DT_NULL, DT_PLTREL, DT_PLTRELSZ, DT_REL,
     DT_RELA, DT_RELASZ, DT_RELSZ, DT_RPATH, DT_RUNPATH, DT_SONAME, DT_STRSZ, DT_STRTAB,

@@ -1,13 +1,17 @@
 -- Objects by their indices: that they are good, and those of the inputs in order.
 use Rattle.std.proofs.Common.{◌≡◌, ◌<◌, ◌++◌, ◌∷◌, [], ℕ, List, get_or, length, Option, Some, None, option_map, refl, sym, ap, ◌∙◌, subst}
-use Rattle.std.specs.Prelude.{IsSomeAnd, slice_get}
+use Rattle.std.specs.Prelude.{IfSome, IsOk, IsSomeAnd, MatchOption, slice_get}
 use Rattle.std.specs.List.{AllZip}
+use Rattle.std.proofs.lemmas.Slice.Zip.{AllZip-left}
 use Rattle.std.proofs.lemmas.Option.{same_Some, slice_get_read, slice_get_within}
+use Rattle.elf_base.specs.FileHeader.{header_of}
 use Rattle.elf_linking.specs.AnyTable.{IsGoodBy}
 use Rattle.elf_linking.specs.DynamicObject.{object_dynamic_symbols}
 use Rattle.elf_linking.specs.Find.{AreReadable, DynamicSymbols}
 use Rattle.elf_linking.specs.Scope.{symbols_at}
 use Rattle.elf_linking.specs.declared.object.DynamicObject.{DynamicObject}
+use Rattle.elfbind.specs.Files.{AreAccepted, AreObjectsOf, IsObjectOfBytes}
+use Rattle.elfbind.specs.declared.files.Input.{Input}
 use Rattle.xmas_elf.specs.Symbol.{SymbolFields}
 use Rattle.xmas_elf.specs.declared.ElfFile.{ElfFile}
 
@@ -41,3 +45,15 @@ zip_one_more R [] [] x y all one = (one, tt)
 zip_one_more R [] (b ∷ ys) x y all one = absurd all
 zip_one_more R (a ∷ xs) [] x y all one = absurd all
 zip_one_more R (a ∷ xs) (b ∷ ys) x y all one = (all.0, zip_one_more R xs ys x y all.1 one)
+
+-- inputs with objects are accepted
+pub accepted_by : {E : Type 0} {r : _} (class size : ℕ) (inputs : List Input) (objects : List (DynamicObject E r)) → AreObjectsOf class size inputs objects → AreAccepted inputs
+accepted_by {E} {r} class size inputs objects all i = go (slice_get inputs i) (AllZip-left (λ (input : Input) object. IsObjectOfBytes class size input.bytes.items object) inputs objects all i)
+  where
+    with_object : (input : Input) (found : Option (DynamicObject E r)) → IsSomeAnd found (IsObjectOfBytes class size input.bytes.items) → IsOk (header_of input.bytes.items)
+    with_object input None never = absurd never
+    with_object input (Some object) is = subst IsOk (sym is.header_is) refl
+
+    go : (found : Option Input) → MatchOption found (Unit {0}) (λ input. IsSomeAnd (slice_get objects i) (IsObjectOfBytes class size input.bytes.items)) → IfSome found (λ input. IsOk (header_of input.bytes.items))
+    go None none = tt
+    go (Some input) is = with_object input (slice_get objects i) is

@@ -1,5 +1,5 @@
 -- The files that the program is given, their objects, and what is written of them in order (this project's own).
-use Rattle.std.specs.Prelude.{◌≡◌, ℕ, ◌++◌, ◌||◌, Bool, false, List, [], ◌∷◌, Ok, length}
+use Rattle.std.specs.Prelude.{◌≡◌, ℕ, ◌++◌, ◌||◌, Bool, false, List, [], ◌∷◌, IfSome, IsOk, Ok, length, slice_get}
 use Rattle.std.specs.List.{AllZip}
 use Rattle.elf_base.specs.FileHeader.{header_of}
 use Rattle.elf_linking.specs.DynamicObject.{IsObject}
@@ -18,6 +18,10 @@ pub record IsObjectOfBytes {E : Type 0} {r : _} (class size : ℕ) (bytes : List
 abbrev pub AreObjectsOf : {E : Type 0} → {r : _} → ℕ → ℕ → List Input → List (DynamicObject E r) → Type 0
 AreObjectsOf class size inputs objects =
     AllZip (λ input object. IsObjectOfBytes class size input.bytes.items object) inputs objects
+
+-- each input begins with the magic number and a whole header of class 32 or 64
+abbrev pub AreAccepted : List Input → Type 0
+AreAccepted inputs = (i : ℕ) → IfSome (slice_get inputs i) (λ input. IsOk (header_of input.bytes.items))
 
 -- what is written of some items in order: for each, by its index, a text, and whether something is wrong with it
 pub data AreWritten {A : Type 0} (Is : ℕ → A → Bool → List ℕ → Type 0) : List A → Bool → List ℕ → Type 0 where

@@ -6,9 +6,11 @@
 //! writes a line for each file, whether its hash table and its versions pass their checks.
 #![tactic(auto)]
 
-ghost use Rattle.std.specs.Prelude.{◌≡◌, ◌≤◌, [], IfOk, length};
+ghost use Rattle.std.specs.Prelude.{◌≡◌, ◌≤◌, [], IfOk, List, OnOk, length};
 ghost use Rattle.std.specs.Io.Buffered.{writer_buffer, writer_inner};
+ghost use Rattle.elf_linking.specs.declared.object.DynamicObject.{DynamicObject};
 ghost use Rattle.elfbind.specs.Answers.{IsAnswer};
+ghost use Rattle.elfbind.specs.Files.{AreAccepted, AreObjectsOf};
 ghost use Rattle.program_ends.specs.Appended.{AppendsSome};
 
 use crate::bindings::write_bindings;
@@ -59,7 +61,8 @@ pub enum Question {
 /// status.
 ///
 /// The status is 0 once all is written and flushed, no reference is missing its symbol and no check
-/// fails, and 1 otherwise. The contract says only that it is one of these.
+/// fails, and 1 otherwise. The contract says that it is 0 only if each file is accepted, and nothing
+/// of what `out` and `err` hold.
 pub fn run<W: Write, E: Write>(
     alloc: Global,
     question: Question,
@@ -68,6 +71,7 @@ pub fn run<W: Write, E: Write>(
     err: &mut E,
 ) -> u8
     ensures bound { result ≤ 1 }
+    ensures accepted { result ≡ 0 → AreAccepted inputs.now }
 {
     match answer(alloc, question, inputs, out) {
         Ok(false) => 0,
@@ -82,14 +86,16 @@ fn answer<'a, W: Write>(
     question: Question,
     inputs: &'a [Input<'_>],
     out: &mut W,
-) -> Result<bool, Fault<'a>> {
+) -> Result<bool, Fault<'a>>
+    ensures { OnOk result (AreAccepted inputs.now) }
+{
     let written = match class_of_first(inputs) {
         Class::ThirtyTwo => print::<LinkedEntry32, _>(alloc, question, inputs, &mut *out),
         // Other classes are refused there.
         _ => print::<LinkedEntry64, _>(alloc, question, inputs, &mut *out),
     };
     match written {
-        Ok(wrong) => Ok(wrong),
+        Ok((_, wrong)) => Ok(wrong),
         Err(Stop::Refused(refused)) => Err(Fault::Refused {
             path: refused.path,
             error: refused.error,
@@ -109,15 +115,22 @@ fn class_of_first(inputs: &[Input<'_>]) -> Class {
     }
 }
 
-// Writes what is asked of files of a class; whether something is wrong.
+// Writes what is asked of files of a class, and gives the writer back; whether something is wrong.
+#[tactic(auto, using(crate::proofs::Objects::accepted_by))]
 fn print<'a, E: LinkedSymbol, W: Write + Drop>(
     alloc: Global,
     question: Question,
     inputs: &'a [Input<'_>],
     out: W,
-) -> Result<bool, Stop<Refused<'a>>> {
+) -> Result<(W, bool), Stop<Refused<'a>>>
+    ensures accepted { OnOk result (AreAccepted inputs.now) }
+    ensures written { IfOk result (λ back. (objects : List (DynamicObject E E.Record))
+        × AreObjectsOf E.CLASS E.SIZE inputs.now objects
+        × AppendsSome (IsAnswer E.fields E.text_in inputs.now objects question back.1)
+        (W.contents out) (W.contents back.0)) }
+{
     let objects = read_objects::<E>(alloc, inputs)?;
-    print_objects(alloc, question, inputs, &objects, out).map(|(_, wrong)| wrong)
+    print_objects(alloc, question, inputs, &objects, out)
 }
 
 // Writes what is asked of the files, of which these are the objects, and gives the writer back;

@@ -7,6 +7,7 @@ pub mod FirstNamed
 pub mod NamedSections
 pub mod StringTables
 pub mod SymbolNames
+pub mod NameBytes
 pub mod SymbolSections
 pub mod StringItems
 pub mod SymbolCounts

@@ -9,7 +9,7 @@ use Rattle.xmas_elf.specs.StringTables.{dyn_string_of, string_of}
 use Rattle.xmas_elf.specs.Symbol.{SymbolFields}
 use Rattle.xmas_elf.specs.SymbolName.{HoldsNames, name_in_table, symbol_string_of, symbol_strings_of}
 
-ok_of_some : (answer : Result (List ℕ) ElfError) (text : List ℕ) → result_ok answer ≡ Some text → answer ≡ Ok text
+pub ok_of_some : (answer : Result (List ℕ) ElfError) (text : List ℕ) → result_ok answer ≡ Some text → answer ≡ Ok text
 ok_of_some (Ok one) text same = cc
 ok_of_some (Err error) text same = cc
 

@@ -1,10 +1,12 @@
 -- The names of sections, and a section by its name (gABI, "String Table" and "ELF Header", e_shstrndx; that
 -- the table extends past its section, of any type, is this project's own).
-use Rattle.std.specs.Prelude.{◌≡◌, ◌≢◌, ℕ, ◌<◌, ◌≤◌, nat_lt, Bool, false, List, [], ◌∷◌, length, drop, Option, Result, Ok, Err, if◌then◌else◌}
+use Rattle.std.specs.Prelude.{◌≡◌, ◌≢◌, ℕ, ◌<◌, ◌≤◌, ◌+◌, nat_lt, Bool, false, List, [], ◌∷◌, length, drop, Option, Result, Ok, Err, IsOkAnd, if◌then◌else◌}
+use Rattle.std.specs.Borrow.{Bor}
 use Rattle.std.specs.List.{find}
 use Rattle.std.specs.Str.{bytes_eq}
+use Rattle.elf_base.specs.Lent.{LiesAt}
 use Rattle.elf_base.specs.Refusal.{and_then, unless}
-use Rattle.elf_base.specs.Text.{IsText, text_of}
+use Rattle.elf_base.specs.Text.{EndsInZero, IsText, bytes_up_to_zero_of, text_of}
 use Rattle.elf_base.specs.TextCompared.{TextCompared}
 use Rattle.elf_records.specs.SectionNumbers.{is_sh_type}
 use Rattle.elf_records.specs.declared.sections.ShType.TheVariants.{Null}
@@ -32,6 +34,25 @@ name_table_of file = and_then (names_section_of file) (λ section. unless (
     (nat_lt (length file.input.now) (section_fields section).offset, ShortSectionOffset)
     ∷ []) (drop (section_fields section).offset file.input.now))
 
+-- the place of the name table in the input, and that of the name at an index of it
+abbrev pub LiesAsNameTable : ElfFile → Bor (List ℕ) → Type 0
+LiesAsNameTable file table =
+    IsOkAnd (names_section_of file) (λ section. LiesAt file.input (section_fields section).offset table)
+
+abbrev pub LiesAsName : ElfFile → ℕ → Bor (List ℕ) → Type 0
+LiesAsName file index name = IsOkAnd (names_section_of file)
+    (λ section. LiesAt file.input ((section_fields section).offset + index) name)
+
+-- `name` are the bytes at an index of the name table, up to a zero byte
+pub record IsNameBytesAt (file : ElfFile) (index : ℕ) (name : List ℕ) : Type 0 where
+  pub table : List ℕ
+  pub in_table : IsNameTable file table
+  pub ended : EndsInZero table index name
+
+-- the bytes at an index of the name table, or why there are none, as a function
+unfoldable pub shstr_bytes_of : ElfFile → ℕ → Result (List ℕ) ElfError
+shstr_bytes_of file index = and_then (name_table_of file) (λ table. bytes_up_to_zero_of table index)
+
 -- `name` is the text at an index of the name table
 pub record IsNameAt (file : ElfFile) (index : ℕ) (name : List ℕ) : Type 0 where
   pub table : List ℕ
@@ -55,10 +76,24 @@ pub record HasName (file : ElfFile) (section : SectionHeader) (name : List ℕ) 
   pub not_null : kind ≢ Null
   pub named : IsNameAt file (section_fields section).name name
 
--- the name of a section, or why it has none, as a function
+-- a section has a name of these bytes, which need not be UTF-8
+pub record HasNameBytes (file : ElfFile) (section : SectionHeader) (name : List ℕ) : Type 0 where
+  pub kind : ShType
+  pub typed : section_type section ≡ Ok kind
+  pub not_null : kind ≢ Null
+  pub named : IsNameBytesAt file (section_fields section).name name
+
+-- the name of a section by what is at an index of the name table
+abbrev pub named_by : (ℕ → Result (List ℕ) ElfError) → SectionHeader → Result (List ℕ) ElfError
+named_by name_at section = and_then (section_type section)
+    (λ kind. if is_sh_type Null kind then Err NullName else name_at (section_fields section).name)
+
+-- the name of a section and its bytes, or why it has none, as functions
 unfoldable pub name_of : ElfFile → SectionHeader → Result (List ℕ) ElfError
-name_of file section = and_then (section_type section)
-    (λ kind. if is_sh_type Null kind then Err NullName else shstr_of file (section_fields section).name)
+name_of file section = named_by (shstr_of file) section
+
+unfoldable pub name_bytes_of : ElfFile → SectionHeader → Result (List ℕ) ElfError
+name_bytes_of file section = named_by (shstr_bytes_of file) section
 
 -- section header `index` has the name, and none before it does
 pub record IsFirstNamed (file : ElfFile) (name : List ℕ) (index : ℕ) (section : SectionHeader) : Type 0 where

@@ -3,7 +3,7 @@
 use Rattle.std.specs.Prelude.{◌≡◌, ℕ, List, Option, Some, None, Result, Ok, Err, Bool, true, false}
 use Rattle.std.specs.Borrow.{Bor}
 use Rattle.std.specs.Result.{result_ok}
-use Rattle.elf_base.specs.Text.{text_of}
+use Rattle.elf_base.specs.Text.{bytes_up_to_zero_of, text_of}
 use Rattle.xmas_elf.specs.Prelude.{ElfError, ElfFile}
 use Rattle.xmas_elf.specs.StringTables.{IsDynString, IsString, dyn_string_of, dynstr_of, string_of, strtab_of}
 use Rattle.xmas_elf.specs.Symbol.{SymbolFields}
@@ -26,6 +26,11 @@ IsSymbolString false = IsString
 abbrev pub name_in_table : Result (Bor (List ℕ)) ElfError → ℕ → Result (List ℕ) ElfError
 name_in_table (Ok table) index = text_of table.now index
 name_in_table (Err error) index = Err error
+
+-- the bytes at an index of the table that was found, or why there are none
+abbrev pub name_bytes_in_table : Result (Bor (List ℕ)) ElfError → ℕ → Result (List ℕ) ElfError
+name_bytes_in_table (Ok table) index = bytes_up_to_zero_of table.now index
+name_bytes_in_table (Err error) index = Err error
 
 -- the text at an index of the table that was handed in, or else of the string table of the symbols
 abbrev pub name_by : Bool → ElfFile → Option (Result (Bor (List ℕ)) ElfError) → ℕ → Result (List ℕ) ElfError

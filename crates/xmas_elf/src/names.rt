@@ -1,18 +1,20 @@
 //! The names of sections, and a section by its name
 //! (gABI, "String Table" and "Sections", sh_name).
 
-ghost use Rattle.std.specs.Prelude.{◌≡◌, ◌↔◌, ◌+◌, ◌≤◌, Err, IfNone, IfOk, IfSome, IsOkAnd, IsTrue};
+ghost use Rattle.std.specs.Prelude.{◌≡◌, ◌↔◌, ◌+◌, ◌≤◌, Err, IfNone, IfOk, IfSome, IsTrue};
 ghost use Rattle.std.specs.Prelude.{List, Ok, Some, length, ℕ};
-ghost use Rattle.elf_base.specs.Lent.{Answers, Lends, LendsOnly, LiesAt};
+ghost use Rattle.elf_base.specs.Lent.{Answers, Lends, LendsOnly};
+ghost use Rattle.elf_base.specs.Text.{TextIfUtf8, lent_text};
 ghost use Rattle.elf_base.specs.TextCompared.{TextCompared};
 ghost use Rattle.xmas_elf.specs.HeaderTable.{EachBelow};
-ghost use Rattle.xmas_elf.specs.NameTable.{HasName, FindsNamed, IsFirstNamed, IsNameAt, IsNameTable};
-ghost use Rattle.xmas_elf.specs.NameTable.{NameCompared, name_table_of, names_section_of};
-ghost use Rattle.xmas_elf.specs.NameTable.{section_named, shstr_of};
-ghost use Rattle.xmas_elf.specs.SectionHeader.{section_fields, section_list, section_of};
+ghost use Rattle.xmas_elf.specs.NameTable.{HasName, FindsNamed, IsFirstNamed, IsNameAt};
+ghost use Rattle.xmas_elf.specs.NameTable.{IsNameBytesAt, IsNameTable, LiesAsName};
+ghost use Rattle.xmas_elf.specs.NameTable.{LiesAsNameTable, NameCompared, name_table_of};
+ghost use Rattle.xmas_elf.specs.NameTable.{names_section_of, section_named, shstr_bytes_of, shstr_of};
+ghost use Rattle.xmas_elf.specs.SectionHeader.{section_list, section_of};
 ghost use Rattle.xmas_elf.specs.declared.sections.section_header.SectionHeader.{SectionHeader};
 
-use crate::bytes::{text_at, text_is};
+use crate::bytes::{bytes_up_to_zero, text_at, text_is};
 use crate::sections::{SectionHeader, section_entry};
 use crate::{ElfError, ElfFile};
 
@@ -31,6 +33,26 @@ impl<'a> ElfFile<'a> {
         ensures exact { Answers (shstr_of self.now index) result }
     {
         text_at(self.name_table()?, index as usize)
+    }
+
+    /// The bytes at byte `index` of the name table, up to the next zero byte of the input, whether
+    /// or not they are UTF-8: the text of `get_shstr`, where that is Ok.
+    ///
+    /// Errors: those of `get_shstr` except `TextUtf8`.
+    #[tactic(auto, unfolding(crate::specs::NameTable::shstr_bytes_of, crate::specs::NameTable::shstr_of))]
+    #[inline(always)]
+    pub fn get_shstr_bytes(&self, index: u32) -> Result<&'a [u8], ElfError>
+        ensures bytes { Lends (IsNameBytesAt self.now index) result }
+        ensures only { LendsOnly (IsNameBytesAt self.now index) result }
+        ensures place { IfOk result (LiesAsName self.now index) }
+        ensures texts { TextIfUtf8 (IsNameAt self.now index) result }
+        ensures as_text { shstr_of self.now index ≡ lent_text result }
+        ensures exact { Answers (shstr_bytes_of self.now index) result }
+    {
+        match self.name_table() {
+            Ok(names) => bytes_up_to_zero(names, index as usize),
+            Err(error) => Err(error),
+        }
     }
 
     /// Whether the text at byte `index` of the name table equals `name`, and the number of bytes
@@ -65,8 +87,7 @@ impl<'a> ElfFile<'a> {
     #[inline(always)]
     pub(crate) fn name_table(&self) -> Result<&'a [u8], ElfError>
         ensures table { Lends (IsNameTable self.now) result }
-        ensures place { IfOk result (λ table. IsOkAnd (names_section_of self.now)
-            (λ section. LiesAt self.now.input (section_fields section).offset table)) }
+        ensures place { IfOk result (LiesAsNameTable self.now) }
         ensures only { LendsOnly (IsNameTable self.now) result }
         ensures exact { Answers (name_table_of self.now) result }
     {

@@ -65,12 +65,16 @@ pub(crate) fn entries_within(input: &[u8], offset: u64, entry_size: u16, limit: 
     ensures each { (i : ℕ) → i < result → entry_place offset entry_size (i + 1) ≤ length input.now }
     ensures most { result < limit → length input.now < entry_place offset entry_size (result + 1) }
 {
+    // Most tables lie within the input whole, and a division takes longer than the rest.
+    if table_is_within(input, offset, entry_size, limit) {
+        return limit as usize;
+    }
     let len = input.len() as u64;
     if offset > len {
         return 0;
     }
     let room = (len - offset) / u64::from(entry_size);
-    room.min(limit) as usize
+    room as usize
 }
 
 // Whether `input` contains a table with `count` entries.

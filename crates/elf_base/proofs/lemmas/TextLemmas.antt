@@ -1,10 +1,11 @@
 -- `text_of` and `IsText` agree.
-use Rattle.std.proofs.Common.{◌≡◌, ◌≢◌, ℕ, zero, suc, ◌<◌, ◌==◌, Bool, true, false, ltb, not, is_none, unwrap_or, option_map, Option, None, Some, Ok, List, [], ◌∷◌, length, drop, slice_index, if◌then◌else◌, refl, subst, ap, arith}
+use Rattle.std.proofs.Common.{◌≡◌, ◌≢◌, ℕ, zero, suc, ◌<◌, ◌==◌, Bool, true, false, ltb, not, is_none, unwrap_or, option_map, Option, None, Some, Result, Ok, Err, List, [], ◌∷◌, length, drop, slice_index, if◌then◌else◌, refl, subst, ap, arith}
 use Rattle.std.proofs.lemmas.Bool.{eqb-true, eqb-false}
-use Rattle.std.specs.Str.{is_utf8}
-use Rattle.std.proofs.lemmas.Str.{IsUtf8-from_is_utf8}
-use Rattle.elf_base.specs.Refusal.{unless}
-use Rattle.elf_base.specs.Text.{EndsInZero, IsText, before_zero, text_of}
+use Rattle.std.specs.Str.{IsUtf8, is_utf8}
+use Rattle.std.proofs.lemmas.Str.{IsUtf8-from_is_utf8, is_utf8-from_IsUtf8}
+use Rattle.elf_base.specs.Refusal.{and_then, unless}
+use Rattle.elf_base.specs.Text.{EndsInZero, IsText, as_text, before_zero, bytes_up_to_zero_of, text_of}
+use Rattle.elf_base.specs.declared.error.ElfError.{ElfError}
 use Rattle.elf_base.specs.declared.error.ElfError.TheVariants.{TextStart, TextEnd, TextUtf8}
 use Rattle.elf_base.proofs.Texts
 
@@ -44,22 +45,41 @@ before_zero-ends (byte ∷ bytes) text is =
 from_start : (bytes : List ℕ) (start : ℕ) (text : List ℕ) → EndsInZero (drop start bytes) 0 text → EndsInZero bytes start text
 from_start bytes start text ended = record { after = ended.after; begins = ended.begins; no_zero = ended.no_zero }
 
-text_by : (bytes : List ℕ) (start : ℕ) (text : List ℕ) (low utf8 : Bool) (found : Option (List ℕ)) → before_zero (drop start bytes) ≡ found → is_utf8 (unwrap_or found []) ≡ utf8 → unless ((low, TextStart) ∷ (is_none found, TextEnd) ∷ (not utf8, TextUtf8) ∷ []) (unwrap_or found []) ≡ Ok text → IsText bytes start text
-text_by bytes start text true utf8 found before valid is = cc
-text_by bytes start text false utf8 None before valid is = cc
-text_by bytes start text false false (Some later) before valid is = cc
-text_by bytes start text false true (Some later) before valid is =
-    let same : later ≡ text = cc in
-    subst (IsText bytes start) same (record {
-      utf8 = IsUtf8-from_is_utf8 later valid;
-      ended = from_start bytes start later (before_zero-ends (drop start bytes) later before);
-    })
+ended_by : (bytes : List ℕ) (start : ℕ) (part : List ℕ) (low : Bool) (found : Option (List ℕ)) → before_zero (drop start bytes) ≡ found → unless ((low, TextStart) ∷ (is_none found, TextEnd) ∷ []) (unwrap_or found []) ≡ Ok part → EndsInZero bytes start part
+ended_by bytes start part true found before is = cc
+ended_by bytes start part false None before is = cc
+ended_by bytes start part false (Some later) before is =
+    let same : later ≡ part = cc in
+    subst (EndsInZero bytes start) same (from_start bytes start later (before_zero-ends (drop start bytes) later before))
+
+-- `bytes_up_to_zero_of` is bytes only if a zero byte ends them
+pub ended-bytes : (bytes : List ℕ) (start : ℕ) (part : List ℕ) → bytes_up_to_zero_of bytes start ≡ Ok part → EndsInZero bytes start part
+unfolding bytes_up_to_zero_of
+ended-bytes bytes start part is =
+    ended_by bytes start part (ltb (length bytes) start) (before_zero (drop start bytes)) refl is
+
+text_if : (bytes : List ℕ) (start : ℕ) (part text : List ℕ) (utf8 : Bool) → is_utf8 part ≡ utf8 → EndsInZero bytes start part → unless ((not utf8, TextUtf8) ∷ []) part ≡ Ok text → IsText bytes start text
+text_if bytes start part text false valid ended is = cc
+text_if bytes start part text true valid ended is =
+    let same : part ≡ text = cc in
+    subst (IsText bytes start) same (record { utf8 = IsUtf8-from_is_utf8 part valid; ended = ended })
+
+text_by : (bytes : List ℕ) (start : ℕ) (text : List ℕ) (found : Result (List ℕ) ElfError) → bytes_up_to_zero_of bytes start ≡ found → and_then found as_text ≡ Ok text → IsText bytes start text
+text_by bytes start text (Err error) before is = cc
+text_by bytes start text (Ok part) before is =
+    text_if bytes start part text (is_utf8 part) refl (ended-bytes bytes start part before) is
 
 -- `text_of` is a text exactly if it is the text at `start`
 pub text_of-is : (bytes : List ℕ) (start : ℕ) (text : List ℕ) → text_of bytes start ≡ Ok text → IsText bytes start text
 unfolding text_of
-text_of-is bytes start text is =
-    text_by bytes start text (ltb (length bytes) start) (is_utf8 (unwrap_or (before_zero (drop start bytes)) [])) (before_zero (drop start bytes)) refl refl is
+text_of-is bytes start text is = text_by bytes start text (bytes_up_to_zero_of bytes start) refl is
 
 pub is-text_of : (bytes : List ℕ) (start : ℕ) (text : List ℕ) → IsText bytes start text → text_of bytes start ≡ Ok text
 is-text_of = Texts.text_of-text
+
+-- bytes as a text are themselves, if they are UTF-8, and otherwise an error
+pub utf8-text : (bytes : List ℕ) → IsUtf8 bytes → as_text bytes ≡ Ok bytes
+utf8-text bytes utf8 = rw (is_utf8-from_IsUtf8 bytes utf8) refl
+
+pub not_utf8-text : (bytes : List ℕ) → (IsUtf8 bytes → ⊥) → as_text bytes ≡ Err TextUtf8
+not_utf8-text bytes never = rw (Texts.not_utf8 bytes (is_utf8 bytes) refl never) refl

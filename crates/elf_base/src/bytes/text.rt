@@ -1,9 +1,10 @@
-//! Texts ended by a zero byte (gABI, "String Table").
+//! Texts and bytes ended by a zero byte (gABI, "String Table").
 
 ghost use Rattle.std.specs.Prelude.{◌≡◌, ◌↔◌, ◌+◌, ◌<◌, ◌≤◌, ℕ, Err, IfErr, IfOk, IsErrOf, IsTrue};
 ghost use Rattle.std.specs.Prelude.{List, MatchResult, Ok, drop, length, take};
-ghost use Rattle.elf_base.specs.Lent.{Answers, Lends, LendsOnly};
-ghost use Rattle.elf_base.specs.Text.{EndsInZero, IsText, NoZeroFrom, TextRefused, text_of};
+ghost use Rattle.elf_base.specs.Lent.{Answers, Lends, LendsOnly, LiesAt};
+ghost use Rattle.elf_base.specs.Text.{BytesRefused, EndsInZero, IsText, NoZeroFrom, TextIfUtf8};
+ghost use Rattle.elf_base.specs.Text.{TextRefused, bytes_up_to_zero_of, lent_text, text_of};
 ghost use Rattle.std.specs.Str.{IsUtf8};
 ghost use Rattle.elf_base.specs.TextCompared.{FrontCompared, TextCompared};
 ghost use Rattle.elf_base.specs.declared.error.ElfError.{ElfError};
@@ -11,6 +12,30 @@ ghost use Rattle.elf_base.specs.declared.error.ElfError.{ElfError};
 use crate::ElfError;
 use memchr::arch::all::is_equal;
 use memchr::memchr;
+
+/// The bytes from byte `start` of `data` up to the first zero byte, whether or not they are UTF-8.
+///
+/// Errors: `TextStart` if `start` is past the end of `data`, `TextEnd` if no zero byte follows.
+#[inline(always)]
+pub fn bytes_up_to_zero(data: &[u8], start: usize) -> Result<&[u8], ElfError>
+    ensures bytes { Lends (EndsInZero «data».now start) result }
+    ensures only { LendsOnly (EndsInZero «data».now start) result }
+    ensures place { IfOk result (LiesAt «data».entry start) }
+    ensures refused { IfErr result (BytesRefused «data».now start) }
+    ensures refuses { (why : ElfError) → BytesRefused «data».now start why → IsErrOf result why }
+    ensures texts { TextIfUtf8 (IsText «data».now start) result }
+    ensures as_text { text_of «data».now start ≡ lent_text result }
+    ensures exact { Answers (bytes_up_to_zero_of «data».now start) result }
+{
+    if start > data.len() {
+        return Err(ElfError::TextStart);
+    }
+    let rest = &data[start..];
+    match memchr(0, rest) {
+        Some(end) => Ok(&rest[..end]),
+        None => Err(ElfError::TextEnd),
+    }
+}
 
 /// The text from byte `start` of `data` up to the first zero byte.
 ///

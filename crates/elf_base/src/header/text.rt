@@ -130,29 +130,6 @@ impl Display for FirstPart<'_> {
     }
 }
 
-impl HeaderPt2_<P32> {
-    // The part with fields as wide as in class 64, so that one printed form serves both classes.
-    fn to_64(&self) -> HeaderPt2_<P64>
-        ensures { result ≡ self.now }
-    {
-        HeaderPt2_ {
-            type_: self.type_,
-            machine: self.machine,
-            version: self.version,
-            entry_point: u64::from(self.entry_point),
-            ph_offset: u64::from(self.ph_offset),
-            sh_offset: u64::from(self.sh_offset),
-            flags: self.flags,
-            header_size: self.header_size,
-            ph_entry_size: self.ph_entry_size,
-            ph_count: self.ph_count,
-            sh_entry_size: self.sh_entry_size,
-            sh_count: self.sh_count,
-            sh_str_index: self.sh_str_index,
-        }
-    }
-}
-
 impl Display for HeaderPt2_<P32> {
     ghost output = { λ part. Some (second_part_text part) };
 

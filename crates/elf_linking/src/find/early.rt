@@ -16,6 +16,7 @@ use elf_base::bytes::Record;
 use xmas_elf::symbol_table::{Entry, SymbolTable};
 
 // What is found, by the index of its symbol.
+#[inline(always)]
 pub(crate) fn found_symbol<E: Entry + Record>(
     found: Result<Option<u32>, LinkError>,
     symbols: &SymbolTable<'_, E>,
@@ -38,6 +39,7 @@ impl<'a> GnuHashTable<'a> {
     ghost use Rattle.elf_linking.specs.declared.any_table.AnyTable.TheVariants.{Gnu};
 
     // The symbol that a reference gets, if the first two likely candidates decide it.
+    #[inline(always)]
     pub(crate) fn find_early<E: Entry + Record>(
         &self,
         name: &str,
@@ -63,6 +65,7 @@ impl<'a> GnuHashTable<'a> {
     }
 
     // The same, after the first likely candidate, which isn't accepted at once.
+    #[inline(always)]
     fn find_behind<E: Entry + Record>(
         &self,
         first: u32,
@@ -83,8 +86,7 @@ impl<'a> GnuHashTable<'a> {
         match self.next_likely(first, name, symbols, versions, wanted, use_) {
             Ok(None) => match wanted {
                 Wanted::Version { .. } => Some(Ok(None)),
-                Wanted::Unversioned => Some(Ok(Some(first))),
-                Wanted::Newest => Some(Ok(Some(first))),
+                Wanted::Unversioned | Wanted::Newest => Some(Ok(Some(first))),
             },
             Ok(Some(next)) => match wanted.accepts(versions, next.0) {
                 Ok(true) => Some(Ok(Some(next.0))),
@@ -96,6 +98,7 @@ impl<'a> GnuHashTable<'a> {
     }
 
     // The first likely candidate.
+    #[inline(always)]
     fn first_likely<E: Entry + Record>(
         &self,
         name: &str,
@@ -119,6 +122,7 @@ impl<'a> GnuHashTable<'a> {
     }
 
     // The first likely candidate behind an index that a look-up found.
+    #[inline(always)]
     fn next_likely<E: Entry + Record>(
         &self,
         index: u32,

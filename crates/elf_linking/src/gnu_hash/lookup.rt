@@ -186,6 +186,7 @@ impl<'a> GnuHashTable<'a> {
     /// Errors: those of `lookup`.
     ///
     /// The contract holds for a test with only one result for each symbol and its index.
+    #[inline(always)]
     pub fn lookup_where<E: Entry + Record, F: Fn(u32, &E) -> bool>(
         &self,
         name: &str,
@@ -209,6 +210,7 @@ impl<'a> GnuHashTable<'a> {
     }
 
     // The look-up with a borrowed test: the walk from the bucket of the name.
+    #[inline(always)]
     fn search<E: Entry + Record, F: Fn(u32, &E) -> bool>(
         &self,
         name: &str,
@@ -234,6 +236,7 @@ impl<'a> GnuHashTable<'a> {
     }
 
     // The rest of a look-up behind an index that it found: the walk by the hash number there.
+    #[inline(always)]
     pub(crate) fn lookup_behind<E: Entry + Record, F: Fn(u32, &E) -> bool>(
         &self,
         index: u32,
@@ -261,6 +264,7 @@ impl<'a> GnuHashTable<'a> {
     }
 
     // The walk from an index on, by the hash number of the name.
+    #[inline(always)]
     fn walk<E: Entry + Record, F: Fn(u32, &E) -> bool>(
         &self,
         from: u32,

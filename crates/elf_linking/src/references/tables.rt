@@ -161,7 +161,8 @@ impl<'a> Relocations<'a> {
             length (relocations_left relocations) < 2 ^ 61) }
     {
         let order = file.byte_order();
-        let _size = bytes.len();
+        // This tells the proof of `few` that the length is a number of 64 bits.
+        prove!(bytes.len() <= usize::MAX);
         match (file.header.pt1.class(), addends) {
             (Class::ThirtyTwo, true) => Ok(Relocations::Rela32(records_in(bytes, order)?)),
             (Class::ThirtyTwo, false) => Ok(Relocations::Rel32(records_in(bytes, order)?)),

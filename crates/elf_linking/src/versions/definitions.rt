@@ -1,15 +1,17 @@
 //! The versions that a file defines (LSB, "Symbol Versioning": Verdef and Verdaux).
 
 ghost use Rattle.std.specs.Prelude.{◌≡◌, ◌+◌, ◌<◌, ◌≤◌, ◌^◌, length};
+ghost use Rattle.std.specs.Str.{bytes_eq};
 ghost use Rattle.elf_linking.specs.Loaded.{lent};
 ghost use Rattle.elf_linking.specs.VersionTables.{AreDefinitions, definition_at, definition_item};
 ghost use Rattle.elf_linking.specs.VersionTables.{definition_parts, definitions_in};
-ghost use Rattle.elf_linking.specs.VersionTables.{definitions_left, name_offset, records_data};
+ghost use Rattle.elf_linking.specs.VersionTables.{definitions_left, item_by, name_offset};
+ghost use Rattle.elf_linking.specs.VersionTables.{records_data};
 ghost use Rattle.elf_linking.specs.Versions.{bears_defined, is_base};
 
 use crate::LinkError;
 use crate::versions::records::{Chain, Records};
-use crate::view::text_by;
+use crate::view::{is_text_by, text_by};
 
 /// A version that a file defines.
 #[derive(Clone, Copy, Debug)]
@@ -61,6 +63,18 @@ impl<'a> Definition<'a> {
             Err(error) => Err(error),
         }
     }
+
+    // Whether this is the name; the errors are those of `name`.
+    #[inline(always)]
+    pub(crate) fn has_name(&self, name: &str) -> Result<bool, LinkError>
+        ensures { result
+            ≡ item_by (λ other. bytes_eq other name.now) (definition_parts self.now).name }
+    {
+        match self.name {
+            Ok(offset) => is_text_by(self.strings, u64::from(offset), name),
+            Err(error) => Err(error),
+        }
+    }
 }
 
 // The offset of a name in the string table, by the record of names at `place`.
@@ -76,7 +90,7 @@ fn name_offset(records: &Records<'_>, place: usize) -> Result<u32, LinkError>
 
 // The definition at `place`.
 #[inline(always)]
-fn definition_at<'a>(records: &Records<'a>, place: usize) -> Definition<'a>
+pub(crate) fn definition_at<'a>(records: &Records<'a>, place: usize) -> Definition<'a>
     requires { place + 20 ≤ length (records_data records.now).bytes }
     ensures { definition_parts result ≡ definition_at (records_data records.now) place }
 {

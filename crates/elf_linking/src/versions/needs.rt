@@ -1,14 +1,15 @@
 //! The versions that a file needs of libraries (LSB, "Symbol Versioning": Verneed and Vernaux).
 
 ghost use Rattle.std.specs.Prelude.{◌≡◌, ◌+◌, ◌<◌, ◌≤◌, ◌^◌, length};
+ghost use Rattle.std.specs.Str.{bytes_eq};
 ghost use Rattle.elf_linking.specs.Loaded.{lent};
 ghost use Rattle.elf_linking.specs.VersionTables.{AreNeeds, need_at, need_item, need_parts};
-ghost use Rattle.elf_linking.specs.VersionTables.{needs_in, needs_left, records_data};
+ghost use Rattle.elf_linking.specs.VersionTables.{item_by, needs_in, needs_left, records_data};
 ghost use Rattle.elf_linking.specs.Versions.{bears_needed};
 
 use crate::LinkError;
 use crate::versions::records::{Chain, Records};
-use crate::view::text_by;
+use crate::view::{is_text_by, text_by};
 
 /// A version that a file needs of a library.
 #[derive(Clone, Copy, Debug)]
@@ -53,6 +54,14 @@ impl<'a> Need<'a> {
         ensures { lent result ≡ (need_parts self.now).name }
     {
         text_by(self.strings, u64::from(self.name))
+    }
+
+    // Whether this is the name; the errors are those of `name`.
+    #[inline(always)]
+    pub(crate) fn has_name(&self, name: &str) -> Result<bool, LinkError>
+        ensures { result ≡ item_by (λ other. bytes_eq other name.now) (need_parts self.now).name }
+    {
+        is_text_by(self.strings, u64::from(self.name), name)
     }
 
     /// The name of the library; the errors are those of `name`.

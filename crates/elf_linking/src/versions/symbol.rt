@@ -1,14 +1,16 @@
 //! The version of a symbol (LSB, "Symbol Versioning").
 
 ghost use Rattle.std.specs.Prelude.{◌≡◌, Err, Ok, Option, option_map};
+ghost use Rattle.std.specs.Str.{bytes_eq};
 ghost use Rattle.elf_linking.specs.Loaded.{lent};
-ghost use Rattle.elf_linking.specs.VersionTables.{definition_parts, definitions_in, item_by};
-ghost use Rattle.elf_linking.specs.VersionTables.{need_parts, needs_in, version_tables};
+ghost use Rattle.elf_linking.specs.VersionTables.{definition_parts, definitions_in};
+ghost use Rattle.elf_linking.specs.VersionTables.{item_by, need_parts, needs_in, version_tables};
 ghost use Rattle.elf_linking.specs.Versions.{IsVersion, bears_defined, bears_needed};
 ghost use Rattle.elf_linking.specs.Versions.{first_item, named_hash, named_name, named_of};
 ghost use Rattle.elf_linking.specs.Versions.{named_parts, number_of, version_at, version_item};
 
 use crate::LinkError;
+use crate::versions::definitions::definition_at;
 use crate::versions::{Definition, Need, Versions};
 use elf_base::bytes::read_u16;
 
@@ -23,6 +25,7 @@ pub enum NamedVersion<'a> {
 
 impl<'a> NamedVersion<'a> {
     /// The hash number of the name, that of the ELF standard's hash tables.
+    #[inline(always)]
     pub fn hash(&self) -> u32
         ensures { result ≡ named_hash (named_parts self.now) }
     {
@@ -33,12 +36,25 @@ impl<'a> NamedVersion<'a> {
     }
 
     /// The name; the errors are those of `Definition::name` and `Need::name`.
+    #[inline(always)]
     pub fn name(&self) -> Result<&'a str, LinkError>
         ensures { lent result ≡ named_name (named_parts self.now) }
     {
         match self {
             NamedVersion::Defined(definition) => definition.name(),
             NamedVersion::Needed(need) => need.name(),
+        }
+    }
+
+    // Whether this is the name; the errors are those of `name`.
+    #[inline(always)]
+    pub(crate) fn has_name(&self, name: &str) -> Result<bool, LinkError>
+        ensures { result
+            ≡ item_by (λ other. bytes_eq other name.now) (named_name (named_parts self.now)) }
+    {
+        match self {
+            NamedVersion::Defined(definition) => definition.has_name(name),
+            NamedVersion::Needed(need) => need.has_name(name),
         }
     }
 }
@@ -70,7 +86,7 @@ impl<'a> Versions<'a> {
         if place + 2 > numbers.len() {
             return Err(LinkError::SymbolIndex);
         }
-        Ok(Some(read_u16(numbers, place, self.definitions.order)))
+        Ok(Some(read_u16(numbers, place, self.definitions.records.order)))
     }
 
     /// The version of the symbol at `index`, with what bears its number: the first definition with
@@ -78,7 +94,9 @@ impl<'a> Versions<'a> {
     /// of symbols.
     ///
     /// Errors: that of `number`; the error with which `definitions` or `needs` end before what
-    /// bears the number is found. A call goes through both lists once at most, and reads no name.
+    /// bears the number is found. A call goes through both lists once at most, and reads no name. A
+    /// definition with a number below 64 is found at once, if it is one of the first 64 and lies in
+    /// the first 64 KiB of the table.
     #[tactic(auto, using(crate::proofs::VersionSearch::version_means))]
     pub fn version_of(&self, index: u32) -> Result<Option<SymbolVersion<'a>>, LinkError>
         ensures answer { IsVersion (version_tables self.now) index (version_item result) }
@@ -121,8 +139,19 @@ impl<'a> Versions<'a> {
     }
 
     // The first definition with a number that isn't the base.
-    #[tactic(auto, using(crate::proofs::lemmas::FirstItems::search_end, crate::proofs::lemmas::FirstItems::search_fault, crate::proofs::lemmas::FirstItems::search_found, crate::proofs::lemmas::FirstItems::search_other))]
     fn definition_with(&self, number: u16) -> Result<Option<Definition<'a>>, LinkError>
+        ensures { item_by (option_map definition_parts) result ≡ first_item (bears_defined number)
+            (definitions_in (version_tables self.now).definitions) }
+    {
+        match self.definitions.place_of(number) {
+            Some(place) => Ok(Some(definition_at(&self.definitions.records, place))),
+            None => self.definition_listed(number),
+        }
+    }
+
+    // The first definition with a number that isn't the base, by a search of the list.
+    #[tactic(auto, using(crate::proofs::lemmas::FirstItems::search_end, crate::proofs::lemmas::FirstItems::search_fault, crate::proofs::lemmas::FirstItems::search_found, crate::proofs::lemmas::FirstItems::search_other))]
+    fn definition_listed(&self, number: u16) -> Result<Option<Definition<'a>>, LinkError>
         ensures { item_by (option_map definition_parts) result ≡ first_item (bears_defined number)
             (definitions_in (version_tables self.now).definitions) }
     {

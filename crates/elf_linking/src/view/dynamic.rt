@@ -1,6 +1,6 @@
 //! The dynamic segment of a file, and its entries (gABI, "Dynamic Section").
 
-ghost use Rattle.std.specs.Prelude.{◌≡◌, ◌<◌, ◌^◌, Ok, Err, IfOk, MatchResult, length};
+ghost use Rattle.std.specs.Prelude.{◌≡◌, ◌<◌, ◌^◌, Ok, Err, IfOk, MatchResult, length, map};
 ghost use Rattle.elf_linking.specs.DynamicView.{LiesAsFileStrings, LiesByEntries};
 ghost use Rattle.elf_linking.specs.DynamicView.{dynamic_segment_of, entries_left, is_dynamic};
 ghost use Rattle.elf_linking.specs.DynamicView.{number_with, pairs_of, strings_of, table_at};
@@ -13,6 +13,7 @@ use crate::LinkError;
 use crate::view::entries::{DynamicEntries, Pairs};
 use crate::view::loaded::bytes_at;
 use crate::view::needed::{Needed, text_by};
+use crate::view::needed_bytes::NeededBytes;
 use crate::view::tags::{
     DT_FLAGS, DT_RPATH, DT_RUNPATH, DT_SONAME, DT_STRSZ, DT_STRTAB, DT_SYMBOLIC,
 };
@@ -47,8 +48,10 @@ fn dynamic_segment(file: &ElfFile<'_>) -> Option<ProgramHeader>
 }
 
 impl<'a> DynamicView<'a> {
-    ghost use Rattle.elf_linking.specs.DynamicView.{IsTextWith, LiesAsStrings, dynamic_entries_of};
-    ghost use Rattle.elf_linking.specs.DynamicView.{is_symbolic, needed_left, needed_of, strings_by};
+    ghost use Rattle.elf_linking.specs.DynamicView.{IsTextWith, LiesAsStrings, as_linked_text};
+    ghost use Rattle.elf_linking.specs.DynamicView.{dynamic_entries_of, is_symbolic};
+    ghost use Rattle.elf_linking.specs.DynamicView.{needed_bytes_left, needed_bytes_of, needed_left};
+    ghost use Rattle.elf_linking.specs.DynamicView.{needed_of, strings_by};
     ghost use Rattle.elf_linking.specs.DynamicView.{view_entries, view_strings, view_table};
 
     /// Reads the first segment of type Dynamic. Its entries end before the first with tag Null, or
@@ -98,6 +101,17 @@ impl<'a> DynamicView<'a> {
         ensures fits { length (needed_left result) < 2 ^ 64 }
     {
         Needed::new(self.entries(), self.strings)
+    }
+
+    /// An iterator over the names of the needed libraries as bytes, in order: the texts of `needed`,
+    /// where these are Ok.
+    #[tactic(auto, using(crate::proofs::NeededTexts::needed_texts))]
+    pub fn needed_bytes(&self) -> NeededBytes<'a>
+        ensures items { needed_bytes_left result ≡ needed_bytes_of self.now }
+        ensures texts { needed_of self.now ≡ map as_linked_text (needed_bytes_left result) }
+        ensures fits { length (needed_bytes_left result) < 2 ^ 64 }
+    {
+        NeededBytes::new(self.entries(), self.strings)
     }
 
     /// Whether references of the file are bound within it first: it has the entry Symbolic, or the

@@ -2,14 +2,16 @@
 //! (gABI, "Dynamic Section": DT_NEEDED and others).
 
 ghost use Rattle.std.specs.Prelude.{◌≡◌, ◌<◌, ◌^◌, length};
+ghost use Rattle.std.specs.Str.{bytes_eq};
 ghost use Rattle.elf_linking.specs.DynamicView.{entries_left, needed_in, needed_left};
 ghost use Rattle.elf_linking.specs.DynamicView.{text_in_strings};
 ghost use Rattle.elf_linking.specs.Loaded.{lent};
+ghost use Rattle.elf_linking.specs.VersionTables.{item_by};
 
 use crate::LinkError;
 use crate::view::entries::DynamicEntries;
 use crate::view::tags::DT_NEEDED;
-use elf_base::bytes::text_at;
+use elf_base::bytes::{stands_at, text_at};
 
 // The text at an offset in a string table, which may be an error.
 pub(crate) fn text_by<'a>(
@@ -23,6 +25,28 @@ pub(crate) fn text_by<'a>(
             Ok(text) => Ok(text),
             Err(error) => Err(LinkError::Elf(error)),
         },
+        Err(error) => Err(error),
+    }
+}
+
+// Whether the text at an offset in a string table is `wanted`; the errors are those of `text_by`. A
+// text that is the same is compared in place, and not read.
+#[inline(always)]
+pub(crate) fn is_text_by(
+    strings: Result<&[u8], LinkError>,
+    place: u64,
+    wanted: &str,
+) -> Result<bool, LinkError>
+    ensures { result
+        ≡ item_by (λ text. bytes_eq text wanted.now) (text_in_strings (lent strings.entry) place) }
+{
+    if let Ok(table) = strings {
+        if stands_at(table, place as usize, wanted) {
+            return Ok(true);
+        }
+    }
+    match text_by(strings, place) {
+        Ok(text) => Ok(text == wanted),
         Err(error) => Err(error),
     }
 }

@@ -248,3 +248,22 @@ fn tells_why_a_symbol_has_no_name(rt: HostRuntime) -> Result<(), LinkError> {
     want(&rt, object.name(3), past);
     Ok(())
 }
+
+// The names of symbol 1 and of the needed library each with a byte that is not UTF-8.
+#[test]
+fn names_need_not_be_utf8(rt: HostRuntime) -> Result<(), LinkError> {
+    let mut bytes = *SMALL;
+    put(&mut bytes, 450, b"\xff");
+    put(&mut bytes, 464, b"\xff");
+    let file = open(&rt, &bytes);
+    let object = DynamicObject::<LinkedEntry64>::read(&file)?;
+    let refused = Err(LinkError::Elf(ElfError::TextUtf8));
+    want(&rt, object.name(1), refused);
+    want(&rt, object.view().needed().next(), Some(refused));
+    want(&rt, object.name_bytes(1), Ok(b"a\xff".as_slice()));
+    want(&rt, object.name_bytes(5), Err(LinkError::SymbolIndex));
+    let mut needed = object.view().needed_bytes();
+    want(&rt, needed.next(), Some(Ok(b"\xffibneed.so".as_slice())));
+    want(&rt, needed.next(), None);
+    Ok(())
+}

@@ -1,10 +1,10 @@
 //! The fields of the ELF header, and what its numbers mean.
 
-use crate::tests::want::want;
+use crate::tests::want::{want, want_at};
 use elf_base::bytes::{Order, Record};
 use elf_base::header::{
-    Class, Class_, Data, Data_, HeaderPt1, HeaderPt2_, Machine, Machine_, OsAbi, OsAbi_, Type,
-    Type_, Version, Version_,
+    Class, Class_, Data, Data_, HeaderPt1, HeaderPt2, HeaderPt2_, Machine, Machine_, OsAbi, OsAbi_,
+    Type, Type_, Version, Version_,
 };
 use elf_base::{ElfError, P32, P64};
 use std::alloc::{AllocError, Global};
@@ -82,6 +82,113 @@ fn decodes_each_field_at_its_place(rt: HostRuntime) {
     let part = HeaderPt2_::<P64>::decode(&ASCENDING[..48], Order::Big);
     let by_class = [part.entry_point, part.ph_offset, part.sh_offset];
     want(&rt, fields(&part, by_class), WIDE);
+}
+
+// Bytes that each say how far they are from 255: the highest bit of each number is set.
+const DESCENDING: [u8; 48] = [
+    255, 254, 253, 252, 251, 250, 249, 248, 247, 246, 245, 244, 243, 242, 241, 240, 239, 238, 237,
+    236, 235, 234, 233, 232, 231, 230, 229, 228, 227, 226, 225, 224, 223, 222, 221, 220, 219, 218,
+    217, 216, 215, 214, 213, 212, 211, 210, 209, 208,
+];
+
+// Whether the class is 64, the byte order, the bytes, and the numbers that they are.
+const NUMBERS: &[(bool, Order, [u8; 48], [u64; 13])] = &[
+    (false, Order::Little, ASCENDING, NARROW),
+    (
+        false,
+        Order::Big,
+        ASCENDING,
+        [
+            0x0001,
+            0x0203,
+            0x0405_0607,
+            0x0809_0a0b,
+            0x0c0d_0e0f,
+            0x1011_1213,
+            0x1415_1617,
+            0x1819,
+            0x1a1b,
+            0x1c1d,
+            0x1e1f,
+            0x2021,
+            0x2223,
+        ],
+    ),
+    (
+        false,
+        Order::Big,
+        DESCENDING,
+        [
+            0xfffe,
+            0xfdfc,
+            0xfbfa_f9f8,
+            0xf7f6_f5f4,
+            0xf3f2_f1f0,
+            0xefee_edec,
+            0xebea_e9e8,
+            0xe7e6,
+            0xe5e4,
+            0xe3e2,
+            0xe1e0,
+            0xdfde,
+            0xdddc,
+        ],
+    ),
+    (true, Order::Big, ASCENDING, WIDE),
+    (
+        true,
+        Order::Little,
+        ASCENDING,
+        [
+            0x0100,
+            0x0302,
+            0x0706_0504,
+            0x0f0e_0d0c_0b0a_0908,
+            0x1716_1514_1312_1110,
+            0x1f1e_1d1c_1b1a_1918,
+            0x2322_2120,
+            0x2524,
+            0x2726,
+            0x2928,
+            0x2b2a,
+            0x2d2c,
+            0x2f2e,
+        ],
+    ),
+    (
+        true,
+        Order::Little,
+        DESCENDING,
+        [
+            0xfeff,
+            0xfcfd,
+            0xf8f9_fafb,
+            0xf0f1_f2f3_f4f5_f6f7,
+            0xe8e9_eaeb_eced_eeef,
+            0xe0e1_e2e3_e4e5_e6e7,
+            0xdcdd_dedf,
+            0xdadb,
+            0xd8d9,
+            0xd6d7,
+            0xd4d5,
+            0xd2d3,
+            0xd0d1,
+        ],
+    ),
+];
+
+#[test]
+fn returns_all_numbers_of_part_2(rt: HostRuntime) {
+    for (wide, order, bytes, numbers) in NUMBERS {
+        let part = if *wide {
+            HeaderPt2::Header64(HeaderPt2_::<P64>::decode(bytes, *order))
+        } else {
+            HeaderPt2::Header32(HeaderPt2_::<P32>::decode(&bytes[..36], *order))
+        };
+        let found = part.numbers();
+        let by_class = [found.entry_point, found.ph_offset, found.sh_offset];
+        want_at(&rt, (*wide, *order), fields(&found, by_class), *numbers);
+    }
 }
 
 #[test]

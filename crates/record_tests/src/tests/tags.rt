@@ -183,3 +183,74 @@ fn refuses_other_tags(rt: HostRuntime) {
         want_at(&rt, number, wide_entry(number).get_tag().err(), refused);
     }
 }
+
+// The bytes of an entry of class 32, their order, and its two numbers: a tag that is known, one of
+// the processor, one that is unknown, and two with the highest bit set.
+const NARROW_NUMBERS: &[([u8; 8], Order, [u32; 2])] = &[
+    ([5, 0, 0, 0, 8, 7, 6, 5], Order::Little, [5, 0x0506_0708]),
+    (
+        [0x70, 0, 0, 1, 8, 7, 6, 5],
+        Order::Big,
+        [0x7000_0001, 0x0807_0605],
+    ),
+    ([0, 0, 0, 31, 0, 0, 0, 1], Order::Big, [31, 1]),
+    (
+        [1, 0, 0, 0x80, 2, 0, 0, 0x90],
+        Order::Little,
+        [0x8000_0001, 0x9000_0002],
+    ),
+    (
+        [0xff, 0xff, 0xff, 0xfe, 0xff, 0xff, 0xff, 0xfd],
+        Order::Big,
+        [0xffff_fffe, 0xffff_fffd],
+    ),
+];
+
+// The same of class 64, with tags that are known only without their high half.
+const WIDE_NUMBERS: &[([u8; 16], Order, [u64; 2])] = &[
+    (
+        [5, 0, 0, 0, 0, 0, 0, 0, 8, 7, 6, 5, 4, 3, 2, 1],
+        Order::Little,
+        [5, 0x0102_0304_0506_0708],
+    ),
+    (
+        [0, 0, 0, 0, 0x70, 0, 0, 1, 8, 7, 6, 5, 4, 3, 2, 1],
+        Order::Big,
+        [0x7000_0001, 0x0807_0605_0403_0201],
+    ),
+    (
+        [0, 0, 0, 0, 0x80, 0, 0, 1, 0, 0, 0, 0, 0x90, 0, 0, 2],
+        Order::Big,
+        [0x8000_0001, 0x9000_0002],
+    ),
+    (
+        [5, 0, 0, 0, 1, 0, 0, 0, 7, 0, 0, 0, 2, 0, 0, 0],
+        Order::Little,
+        [0x1_0000_0005, 0x2_0000_0007],
+    ),
+    (
+        [0x80, 0, 0, 0, 0, 0, 0, 5, 0xff, 0, 0, 0, 0, 0, 0, 7],
+        Order::Big,
+        [0x8000_0000_0000_0005, 0xff00_0000_0000_0007],
+    ),
+];
+
+// The tag that the entry names is that of its number.
+#[test]
+fn returns_the_numbers_of_entries(rt: HostRuntime) {
+    for (bytes, order, numbers) in NARROW_NUMBERS {
+        let entry = Dynamic::<P32>::decode(bytes, *order);
+        let [tag, value] = *numbers;
+        let wanted = [u64::from(tag), u64::from(value)];
+        want_at(&rt, tag, [entry.raw_tag(), entry.raw_val()], wanted);
+        let named = Tag_::<P32>::from_raw(tag).as_tag();
+        want_at(&rt, tag, entry.get_tag() == named, true);
+    }
+    for (bytes, order, numbers) in WIDE_NUMBERS {
+        let entry = Dynamic::<P64>::decode(bytes, *order);
+        let [tag, value] = *numbers;
+        want_at(&rt, tag, [entry.raw_tag(), entry.raw_val()], [tag, value]);
+        let named = Tag_::<P64>::from_raw(tag).as_tag();
+        want_at(&rt, tag, entry.get_tag() == named, true);
+    }
+}

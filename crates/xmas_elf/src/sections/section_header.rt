@@ -7,9 +7,11 @@ ghost use Rattle.std.proofs.Common.{lit<};
 ghost use Rattle.elf_base.specs.FileHeader.{file_class, header_fields};
 ghost use Rattle.elf_base.specs.Lent.{Answers, Lends, LendsOnly};
 ghost use Rattle.elf_base.specs.Refusal.{unless};
+ghost use Rattle.elf_base.specs.Text.{TextIfUtf8, lent_text};
 ghost use Rattle.elf_records.specs.SectionNumbers.{sh_type_raw};
 ghost use Rattle.xmas_elf.specs.HeaderTable.{is_known_class};
-ghost use Rattle.xmas_elf.specs.NameTable.{HasName, name_of, name_table_of};
+ghost use Rattle.xmas_elf.specs.NameTable.{HasName, HasNameBytes, LiesAsName, name_bytes_of};
+ghost use Rattle.xmas_elf.specs.NameTable.{name_of, name_table_of};
 ghost use Rattle.xmas_elf.specs.Place.{LiesAsSection};
 ghost use Rattle.xmas_elf.specs.SectionData.{HasSectionData, IsSectionData, section_data_of};
 ghost use Rattle.xmas_elf.specs.SectionHeader.{HasSectionEntry, HasSectionHeader, record_fields};
@@ -269,6 +271,27 @@ impl SectionHeader {
         match self.get_type()? {
             ShType::Null => Err(ElfError::NullName),
             _ => file.get_shstr(self.name()),
+        }
+    }
+
+    /// The bytes of the section's name, whether or not they are UTF-8: the text of `get_name`, where
+    /// that is Ok.
+    ///
+    /// Errors: those of `get_name` except `TextUtf8`.
+    #[tactic(auto, unfolding(crate::specs::NameTable::name_bytes_of, crate::specs::NameTable::name_of))]
+    #[inline(always)]
+    pub fn name_bytes<'a>(&self, file: &ElfFile<'a>) -> Result<&'a [u8], ElfError>
+        ensures bytes { Lends (HasNameBytes file.now self.now) result }
+        ensures only { LendsOnly (HasNameBytes file.now self.now) result }
+        ensures place { IfOk result (LiesAsName file.now (section_fields self.now).name) }
+        ensures texts { TextIfUtf8 (HasName file.now self.now) result }
+        ensures as_text { name_of file.now self.now ≡ lent_text result }
+        ensures exact { Answers (name_bytes_of file.now self.now) result }
+    {
+        match self.get_type() {
+            Ok(ShType::Null) => Err(ElfError::NullName),
+            Ok(_) => file.get_shstr_bytes(self.name()),
+            Err(error) => Err(error),
         }
     }
 

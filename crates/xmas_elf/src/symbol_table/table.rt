@@ -2,11 +2,13 @@
 
 ghost use Rattle.std.specs.Option.{ForSome};
 ghost use Rattle.std.specs.Prelude.{◌≡◌, ◌↔◌, ◌<◌, ◌^◌, IfSome, IsNone, IsSomeAnd, IsTrue};
-ghost use Rattle.std.specs.Prelude.{MatchOption, MatchResult, None, Ok, Some, length, slice_get};
+ghost use Rattle.std.specs.Prelude.{Err, IsOkAnd, MatchOption, MatchResult, None, Ok, Some};
+ghost use Rattle.std.specs.Prelude.{length, slice_get};
+ghost use Rattle.std.specs.Str.{IsUtf8};
 ghost use Rattle.xmas_elf.specs.SymbolName.{HoldsNames};
 ghost use Rattle.xmas_elf.specs.Symbols.{symbols_of};
 
-use crate::bytes::{Record, Table, TableIter};
+use crate::bytes::{Record, Table, TableIter, bytes_up_to_zero};
 use crate::symbol_table::Entry;
 use crate::{ElfError, ElfFile};
 use elf_base::bytes::stands_at;
@@ -24,8 +26,10 @@ pub struct SymbolTable<'a, E: Entry + Record> {
 impl<'a, E: Entry + Record> SymbolTable<'a, E> {
     ghost use Rattle.elf_base.specs.Lent.{Answers};
     ghost use Rattle.elf_base.specs.Table.{table_items, table_rest};
+    ghost use Rattle.elf_base.specs.Text.{TextIfUtf8, lent_text};
     ghost use Rattle.xmas_elf.specs.SymbolName.{name_in_table};
-    ghost use Rattle.xmas_elf.specs.SymbolTable.{carried_strings, carried_table, table_symbols};
+    ghost use Rattle.xmas_elf.specs.SymbolTable.{AreNameBytes, LieAsNameBytes, carried_strings};
+    ghost use Rattle.xmas_elf.specs.SymbolTable.{carried_table, table_symbols};
 
     /// The symbols of a table of this file; their string table is found by `Entry::string_table`.
     #[inline(always)]
@@ -124,6 +128,47 @@ impl<'a, E: Entry + Record> SymbolTable<'a, E> {
         symbol.name_in(self.strings, &self.file)
     }
 
+    /// The bytes of the name of the symbol at an index, or `None` past the end of the table. The
+    /// errors are those of `name_bytes_of`.
+    #[inline(always)]
+    pub fn name_bytes(&self, index: usize) -> Option<Result<&'a [u8], ElfError>>
+        ensures texts { MatchOption (slice_get (table_symbols self.now).items index)
+            (IsNone result)
+            (λ symbol. IsSomeAnd result
+            (TextIfUtf8 (λ name. (table_symbols self.now).text symbol ≡ Some name))) }
+        ensures place { IfSome (slice_get (table_symbols self.now).items index)
+            (λ symbol. IfSome result (LieAsNameBytes self.now symbol)) }
+        ensures exact { MatchOption (slice_get (table_symbols self.now).items index)
+            (IsNone result)
+            (λ symbol. IsSomeAnd result (AreNameBytes self.now symbol)) }
+    {
+        let symbol = self.get(index)?;
+        Some(self.name_bytes_of(&symbol))
+    }
+
+    /// The bytes of the name of a symbol of such a table, whether or not they are UTF-8: the text of
+    /// `name_of`, where that is Ok.
+    ///
+    /// Errors: that of the string table; those of `bytes::bytes_up_to_zero` in it at `name`; those
+    /// of `Entry::get_name`, where the names are not texts of one table.
+    #[inline(always)]
+    pub fn name_bytes_of(&self, symbol: &E) -> Result<&'a [u8], ElfError>
+        ensures texts { TextIfUtf8
+            (λ name. (table_symbols self.now).text symbol.now ≡ Some name) result }
+        ensures place { LieAsNameBytes self.now symbol.now result }
+        ensures as_text { IfSome (carried_strings self.now) (λ found.
+            name_in_table found (E.fields symbol.now).name ≡ lent_text result) }
+        ensures exact { AreNameBytes self.now symbol.now result }
+    {
+        match self.strings {
+            Some(found) => match found {
+                Ok(strings) => bytes_up_to_zero(strings, symbol.name() as usize),
+                Err(error) => Err(error),
+            },
+            None => bytes_of(symbol.get_name(&self.file)),
+        }
+    }
+
     /// Whether a symbol has this name, which is compared in place.
     #[inline(always)]
     pub fn has_name(&self, symbol: &E, name: &str) -> bool
@@ -136,5 +181,18 @@ impl<'a, E: Entry + Record> SymbolTable<'a, E> {
             },
             None => matches!(symbol.get_name(&self.file), Ok(text) if text == name),
         }
+    }
+}
+
+// The bytes of a text, or the error for it.
+#[inline(always)]
+fn bytes_of<'a>(text: Result<&'a str, ElfError>) -> Result<&'a [u8], ElfError>
+    ensures { MatchResult text.entry
+        (λ name. IsOkAnd result (λ bytes. (bytes.now ≡ name.now) × IsUtf8 bytes.now))
+        (λ error. result ≡ Err error) }
+{
+    match text {
+        Ok(name) => Ok(name.as_bytes()),
+        Err(error) => Err(error),
     }
 }

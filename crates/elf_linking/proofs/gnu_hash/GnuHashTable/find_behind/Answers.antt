@@ -1,4 +1,5 @@
-use Rattle.std.proofs.Common.{◌≡◌, Err, Ok, Some, ap, sym, true, ◌∙◌}
+use Rattle.std.proofs.Common.{◌≡◌, Err, Ok, Some, ap, false, sym, true, ◌∙◌}
+use Rattle.std.proofs.Math.Logic.{⊎_elim}
 use Rattle.elf_linking.specs.Find.{IsLikely, accepted, dynamic_symbols}
 use Rattle.elf_linking.specs.VersionTables.{item_by, version_tables}
 use Rattle.elf_linking.specs.declared.any_table.AnyTable.TheVariants.{Gnu}
@@ -23,15 +24,15 @@ returns-in-Unversioned g c =
     let file = dynamic_symbols (Gnu c.args.self.now) (table_symbols c.args.symbols.now) (version_tables c.args.versions.now) in
     of_index file c.args.name.now c.args.wanted.now c.args.use_ (c.args.first, c.requires.seeks.0) (looks_symbol c.args.self.now file.symbols.items (IsLikely file c.args.name.now c.args.wanted.now c.args.use_) c.args.name.now _ c.args.first c.requires.seeks.0 c.requires.seeks.1.1)
     (alone_likely c.args.self.now (table_symbols c.args.symbols.now) (version_tables c.args.versions.now) c.args.name.now c.args.use_ c.args.wanted.now (c.args.first, c.requires.seeks.0) c.requires.seeks.1 c.requires.refused
-    (ap is_by_version c.in-Unversioned.is)
+    (⊎_elim {C = is_by_version c.args.wanted.now ≡ false} (λ is. ap is_by_version is) (λ is. ap is_by_version is) c.in-Unversioned.is)
     (of_behind (IsLikely file c.args.name.now c.args.wanted.now c.args.use_) c.args.self.now file.symbols.items c.args.first _ _ (c.in-Ok-None.is ∙ ap (λ x. Ok x) c.in-Ok-None.field-0-is) c.next_likely.ensures))
 
-pub returns-in-Newest : goal.returns-in-Newest
-returns-in-Newest g c =
+pub returns-in-Unversioned-2 : goal.returns-in-Unversioned-2
+returns-in-Unversioned-2 g c =
     let file = dynamic_symbols (Gnu c.args.self.now) (table_symbols c.args.symbols.now) (version_tables c.args.versions.now) in
     of_index file c.args.name.now c.args.wanted.now c.args.use_ (c.args.first, c.requires.seeks.0) (looks_symbol c.args.self.now file.symbols.items (IsLikely file c.args.name.now c.args.wanted.now c.args.use_) c.args.name.now _ c.args.first c.requires.seeks.0 c.requires.seeks.1.1)
     (alone_likely c.args.self.now (table_symbols c.args.symbols.now) (version_tables c.args.versions.now) c.args.name.now c.args.use_ c.args.wanted.now (c.args.first, c.requires.seeks.0) c.requires.seeks.1 c.requires.refused
-    (ap is_by_version c.in-Newest.is)
+    (⊎_elim {C = is_by_version c.args.wanted.now ≡ false} (λ is. ap is_by_version is) (λ is. ap is_by_version is) c.in-Unversioned.is)
     (of_behind (IsLikely file c.args.name.now c.args.wanted.now c.args.use_) c.args.self.now file.symbols.items c.args.first _ _ (c.in-Ok-None.is ∙ ap (λ x. Ok x) c.in-Ok-None.field-0-is) c.next_likely.ensures))
 
 pub returns-in-Ok-true : goal.returns-in-Ok-true

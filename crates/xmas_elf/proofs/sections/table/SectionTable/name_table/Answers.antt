@@ -1,3 +1,4 @@
+use Rattle.std.proofs.Common.{refl}
 use Rattle.xmas_elf.specs.NameTable.{IsNameTable, name_table_of}
 use Rattle.xmas_elf.proofs.FirstNamed.{is-name_table, kept, name_table-is}
 use Rattle.xmas_elf.proofs.sections.table.SectionTable.name_table.Goals as goal
@@ -7,4 +8,4 @@ returns c =
     let table = c.args.self.now in
     let file = table.file.now in
     let (has, alone, is) = kept (IsNameTable file) (name_table_of file) table.names (λ t. (name_table-is file t, is-name_table file t)) table.named table.nameless in
-    record { table = has; only = alone; exact = is }
+    record { table = has; same = refl; only = alone; exact = is }

@@ -1,0 +1,72 @@
+-- The symbols of a section, found once: the record of a first call, and what later calls read by it (gABI,
+-- "Symbol Table").
+use Rattle.std.specs.Prelude.{ℕ, ◌==◌, List, length, Result, Ok, Err, if◌then◌else◌}
+use Rattle.elf_base.specs.FileHeader.{encoding_number, file_class, order_of}
+use Rattle.elf_base.specs.Table.{records}
+use Rattle.elf_base.specs.declared.bytes.Order.{Order}
+use Rattle.xmas_elf.specs.Content.{Content, dyn_symbols_32, dyn_symbols_64, symbols_32, symbols_64, table_of}
+use Rattle.xmas_elf.specs.Ranges.{range_of}
+use Rattle.xmas_elf.specs.SectionContent.{section_content_of}
+use Rattle.xmas_elf.specs.SectionHeader.{section_fields, section_of}
+use Rattle.xmas_elf.specs.Symbol.{SymbolFields, dyn_entry_32, dyn_entry_64, entry_32, entry_32_fields, entry_64, entry_64_fields}
+use Rattle.xmas_elf.specs.declared.ElfFile.{ElfFile}
+use Rattle.xmas_elf.specs.declared.sections.section_header.SectionHeader.{SectionHeader}
+use Rattle.elf_c.specs.Records.{found_in, name_answer, range_at, text_range}
+use Rattle.elf_c.specs.Status.{and_so, refusal_number}
+use Rattle.elf_c.specs.Symbols.{linked_range}
+use Rattle.elf_c.specs.declared.names.Name.{Name}
+use Rattle.elf_c.specs.declared.names.Range.{Range}
+use Rattle.elf_c.specs.declared.status.Refusal.{Refusal}
+use Rattle.elf_c.specs.declared.status.Refusal.TheVariants.{OtherData}
+use Rattle.elf_c.specs.declared.symbol_tables.SymbolTable.{SymbolTable}
+
+-- the number of symbols in the contents of a section, or that they are none
+abbrev pub count_in : Content → Result ℕ Refusal
+count_in (table_of symbols_32 order bytes) = Ok (length (records 16 (entry_32 order) bytes))
+count_in (table_of symbols_64 order bytes) = Ok (length (records 24 (entry_64 order) bytes))
+count_in (table_of dyn_symbols_32 order bytes) = Ok (length (records 16 (dyn_entry_32 order) bytes))
+count_in (table_of dyn_symbols_64 order bytes) = Ok (length (records 24 (dyn_entry_64 order) bytes))
+count_in _ = Err OtherData
+
+-- the record of a section with this number of symbols: their range, and that of the names (sh_link)
+abbrev pub table_with : ElfFile → SectionHeader → ℕ → SymbolTable
+table_with file header count = let strings = name_answer (linked_range file header) in record {
+  symbols = range_at (section_fields header).offset (section_fields header).size;
+  strings = strings.range;
+  count = count;
+  strings_status = strings.status;
+  class = file_class file.header;
+  encoding = encoding_number file.header.pt1.encoding;
+}
+
+-- the record of a section, if it has symbols
+abbrev pub table_if : ElfFile → SectionHeader → Result ℕ Refusal → Result SymbolTable Refusal
+table_if file header (Ok count) = Ok (table_with file header count)
+table_if file header (Err why) = Err why
+
+abbrev pub table_of_section : ElfFile → ℕ → Result SymbolTable Refusal
+table_of_section file section = and_so (section_of file section) (λ header.
+    and_so (section_content_of file header) (λ content. table_if file header (count_in content)))
+
+-- the value of the symbol at an index of bytes, in the layout of a class, or that there is none
+abbrev pub symbol_among : {T : Type 0} → (SymbolFields → T) → ℕ → Order → List ℕ → ℕ → Result T Refusal
+symbol_among value class order bytes index = if class == 1
+    then found_in (λ e. value (entry_32_fields e)) (records 16 (entry_32 order) bytes) index
+    else found_in (λ e. value (entry_64_fields e)) (records 24 (entry_64 order) bytes) index
+
+-- the value of the symbol at an index of the range in a record, or why there is none
+abbrev pub symbol_by : {T : Type 0} → (SymbolFields → T) → List ℕ → SymbolTable → ℕ → Result T Refusal
+symbol_by value input table index = and_so (range_of input table.symbols.offset table.symbols.size)
+    (λ bytes. symbol_among value table.class (order_of table.encoding) bytes index)
+
+-- the range of a symbol's name in the string table of a record, with its status: that of the string table, if it
+-- is not 0
+abbrev pub name_by : List ℕ → SymbolTable → SymbolFields → Name
+name_by input table fields = if table.strings_status == 0
+    then name_answer (text_range input table.strings fields.name)
+    else record { range = range_at 0 0; status = table.strings_status }
+
+-- the range of a name, or the number of the error for the name or for the symbol
+abbrev pub range_or_status : Result Name Refusal → Result Range ℕ
+range_or_status (Ok name) = if name.status == 0 then Ok name.range else Err name.status
+range_or_status (Err why) = Err (refusal_number why)
