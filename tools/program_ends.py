@@ -76,7 +76,7 @@ ENDS_ON_A_FULL_DISK = {
     "no argument": ([], 1, b""),
 }
 
-# A shared object that needs a library, without section headers: that of `linking_tests::linked`, where its source and
+# A shared object that needs a library, without section headers: that of `linked_files::small`, where its source and
 # its command stand. The values and sizes are those that `readelf --dyn-syms -W` shows.
 NEEDS = (CRATES / "elfsym" / "data" / "needs.so").read_bytes()
 NEEDS_NAMES = ["ab", "cd", "outer", "ef"]
@@ -93,7 +93,7 @@ def damaged(place: int, byte: int) -> bytes:
     return NEEDS[:place] + bytes([byte]) + NEEDS[place + 1 :]
 
 
-# A shared object without versions and section headers, and that of `linking_tests::versions` with them, of class 64,
+# A shared object without versions and section headers, and that of `linked_files::versions` with them, of class 64,
 # with a record of its definitions that leads out of its segment.
 PLAIN_NAMES = ["first", "fifth@V1", "absent", "outer"]
 PLAIN_LINES = b"first 0x2b0 0x6\nfifth@V1 0x2ba 0x6\nabsent: none\nouter: none\n"

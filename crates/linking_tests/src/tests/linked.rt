@@ -11,6 +11,7 @@ use elf_linking::LinkError;
 use elf_linking::gnu_hash::GnuHashTable;
 use elf_linking::values::value_by_name;
 use elf_linking::view::{DynamicView, LinkedEntry32, LinkedEntry64, bytes_at, bytes_from};
+use linked_files::small::SMALL;
 use linking_callers::callers::backtrace::function_name;
 use std::process::Abort;
 use std::test::Fail;
@@ -19,42 +20,6 @@ use xmas_elf::ElfFile;
 use xmas_elf::symbol_table::Entry;
 
 const LITTLE: Order = Order::Little;
-
-// A shared object with a hash table of the ELF standard. gcc 12.2 and GNU ld 2.40 made it from
-//
-//     extern int outer(int);
-//     int ab(int x) { return outer(x) + 1; }
-//     const char cd[3] = "cd";
-//     __attribute__((weak)) int ef(void) { return 5; }
-//
-// by `gcc -Os -fPIC -fcf-protection=none -fno-asynchronous-unwind-tables -fno-ident -shared
-// -nostdlib -s -Wl,--hash-style=sysv,--build-id=none,-z,norelro,-z,noseparate-code
-// -Wl,-z,max-page-size=16,-z,common-page-size=16 -Wl,-soname=libsmall.so,-rpath=/opt/lib` beside a
-// library that calls itself libneed.so and has `outer`. What lies behind the segments is cut off,
-// and e_shoff, e_shnum and e_shstrndx are 0.
-pub const SMALL: &[u8; 912] = b"\
-    \x7fELF\x02\x01\x01\0\0\0\0\0\0\0\0\0\x03\0>\0\x01\0\0\0\0\0\0\0\0\0\0\0@\0\0\0\0\0\0\0\0\0\0\
-    \0\0\0\0\0\0\0\0\0@\0\x38\0\x04\0@\0\0\0\0\0\x01\0\0\0\x05\0\0\0\0\0\0\0\0\0\0\0\0\0\0\0\0\0\0\
-    \0\0\0\0\0\0\0\0\0H\x02\0\0\0\0\0\0H\x02\0\0\0\0\0\0\x10\0\0\0\0\0\0\0\x01\0\0\0\x06\0\0\0P\
-    \x02\0\0\0\0\0\0P\x02\0\0\0\0\0\0P\x02\0\0\0\0\0\0@\x01\0\0\0\0\0\0@\x01\0\0\0\0\0\0\x10\0\0\0\
-    \0\0\0\0\x02\0\0\0\x06\0\0\0P\x02\0\0\0\0\0\0P\x02\0\0\0\0\0\0P\x02\0\0\0\0\0\0\x20\x01\0\0\0\
-    \0\0\0\x20\x01\0\0\0\0\0\0\x08\0\0\0\0\0\0\0Q\xe5td\x06\0\0\0\0\0\0\0\0\0\0\0\0\0\0\0\0\0\0\0\
-    \0\0\0\0\0\0\0\0\0\0\0\0\0\0\0\0\0\0\0\0\0\0\0\0\x10\0\0\0\0\0\0\0\x03\0\0\0\x05\0\0\0\x01\0\0\
-    \0\x04\0\0\0\x02\0\0\0\0\0\0\0\0\0\0\0\0\0\0\0\0\0\0\0\x03\0\0\0\0\0\0\0\0\0\0\0\0\0\0\0\0\0\0\
-    \0\0\0\0\0\0\0\0\0\x01\0\0\0\x12\0\x06\0\x30\x02\0\0\0\0\0\0\x0a\0\0\0\0\0\0\0\x0a\0\0\0\"\0\
-    \x06\0:\x02\0\0\0\0\0\0\x06\0\0\0\0\0\0\0\x04\0\0\0\x12\0\0\0\0\0\0\0\0\0\0\0\0\0\0\0\0\0\0\0\
-    \x0d\0\0\0\x11\0\x07\0@\x02\0\0\0\0\0\0\x03\0\0\0\0\0\0\0\0ab\0outer\0ef\0cd\0libneed.so\0libs\
-    mall.so\0/opt/lib\0\x88\x03\0\0\0\0\0\0\x07\0\0\0\x03\0\0\0\0\0\0\0\0\0\0\0\0\0\0\0\0\0\0\0\
-    \xff\x35b\x01\0\0\xff%d\x01\0\0\x0f\x1f@\0\xff%b\x01\0\0h\0\0\0\0\xe9\xe0\xff\xff\xffP\xe8\xea\
-    \xff\xff\xffZ\xff\xc0\xc3\xb8\x05\0\0\0\xc3cd\0\0\0\0\0\0\0\0\0\0\0\0\0\0\x01\0\0\0\0\0\0\0\
-    \x10\0\0\0\0\0\0\0\x0e\0\0\0\0\0\0\0\x1b\0\0\0\0\0\0\0\x1d\0\0\0\0\0\0\0'\0\0\0\0\0\0\0\x04\0\
-    \0\0\0\0\0\0\x20\x01\0\0\0\0\0\0\x05\0\0\0\0\0\0\0\xc0\x01\0\0\0\0\0\0\x06\0\0\0\0\0\0\0H\x01\
-    \0\0\0\0\0\0\x0a\0\0\0\0\0\0\0\x30\0\0\0\0\0\0\0\x0b\0\0\0\0\0\0\0\x18\0\0\0\0\0\0\0\x03\0\0\0\
-    \0\0\0\0p\x03\0\0\0\0\0\0\x02\0\0\0\0\0\0\0\x18\0\0\0\0\0\0\0\x14\0\0\0\0\0\0\0\x07\0\0\0\0\0\
-    \0\0\x17\0\0\0\0\0\0\0\xf0\x01\0\0\0\0\0\0\0\0\0\0\0\0\0\0\0\0\0\0\0\0\0\0\0\0\0\0\0\0\0\0\0\0\
-    \0\0\0\0\0\0\0\0\0\0\0\0\0\0\0\0\0\0\0\0\0\0\0\0\0\0\0\0\0\0\0\0\0\0\0\0\0\0\0\0\0\0\0\0\0\0\0\
-    \0\0\0\0\0\0\0\0\0\0\0\0\0\0\0\0\0\0\0\0\0\0\0P\x02\0\0\0\0\0\0\0\0\0\0\0\0\0\0\0\0\0\0\0\0\0\
-    \0&\x02\0\0\0\0\0\0";
 
 // The same files without section headers: e_shoff, and e_shnum with e_shstrndx, are 0.
 fn narrow_stripped() -> [u8; 1332] {

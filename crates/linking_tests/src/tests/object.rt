@@ -1,15 +1,14 @@
 //! The dynamic symbols of a file in one value: what `readelf -W -D -s` and `readelf -d` show of
 //! small shared objects, and the refusals of damaged ones in their order.
 
-use crate::tests::linked::SMALL;
 use crate::tests::shared_object;
-use crate::tests::versions::parts;
-use crate::tests::versions::shared_object::{NARROW, WIDE};
 use crate::tests::want::{open, want, want_at};
 use elf_base::ElfError;
 use elf_linking::versions::Versions;
 use elf_linking::view::{DynamicView, LinkedEntry32, LinkedEntry64, LinkedSymbol};
 use elf_linking::{AnyTable, DynamicObject, LinkError};
+use linked_files::small::SMALL;
+use linked_files::versions::{NARROW, WIDE, parts};
 use linking_callers::callers::objects::{
     defined_value, name_and_version, narrow_refusal, symbol_name,
 };

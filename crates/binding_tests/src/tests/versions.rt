@@ -2,18 +2,17 @@
 //! of the records.
 
 pub mod file;
-pub mod shared_object;
 
 use crate::tests::versions::file::{
     ALL, DEFINITIONS, Field, KINDS, NEEDS, NUMBERS_ENTRY, set_fields, set_segment_end, version_file,
 };
-use crate::tests::versions::shared_object::{NARROW, NARROW_TABLES, WIDE, WIDE_TABLES};
 use crate::tests::want::{open, want, want_at};
 use elf_base::ElfError;
 use elf_base::bytes::text_at;
 use elf_linking::LinkError;
-use elf_linking::versions::{Definition, NamedVersion, Need, SymbolVersion, Versions};
+use elf_linking::versions::{Definition, NamedVersion, Need, Versions};
 use elf_linking::view::{DynamicView, strings};
+use linked_files::versions::{NARROW, NARROW_TABLES, WIDE, WIDE_TABLES, parts};
 use linking_callers::callers::versions::{
     definition_count, definition_of, first_need_of, library_of, need_count,
 };
@@ -279,20 +278,6 @@ fn tells_names_that_are_cut_off(rt: HostRuntime) -> Result<(), LinkError> {
         }
     }
     Ok(())
-}
-
-// The number of a version, whether it is hidden, and the name of what bears it.
-pub fn parts(
-    version: Result<Option<SymbolVersion<'_>>, LinkError>,
-) -> Result<Option<(u16, bool, Option<&str>)>, LinkError> {
-    let Some(version) = version? else {
-        return Ok(None);
-    };
-    let name = match version.named {
-        Some(named) => Some(named.name()?),
-        None => None,
-    };
-    Ok(Some((version.number, version.hidden, name)))
 }
 
 const VERSIONS: &[(u32, u16, bool, Option<&str>, Option<&str>)] = &[

@@ -1,7 +1,6 @@
 //! The relocations that name a symbol, in files of both classes and orders that are written field by
 //! field, and in a small shared object as `readelf -W -r` shows it.
 
-use crate::tests::linked::SMALL;
 use crate::tests::versions::file::{
     KINDS, PROGRAMS, set_entry, set_header, set_program, set_segment_end, sizes,
 };
@@ -12,6 +11,7 @@ use elf_linking::find::Use;
 use elf_linking::references::{Reference, use_of};
 use elf_linking::view::{DynamicView, LinkedEntry64};
 use elf_linking::{DynamicObject, LinkError};
+use linked_files::small::SMALL;
 use std::process::Abort;
 use worked_files::files::with_class;
 use worked_files::places::{Place, set};

@@ -3,11 +3,11 @@
 
 use crate::tests::find::Asked::By;
 use crate::tests::find::{Answer, Asked, HIDDEN_V1, LATEST, PLAIN, V1, V2, V3, found_in};
-use crate::tests::versions::shared_object::{NARROW, WIDE};
 use crate::tests::want::{open, want, want_at};
 use elf_linking::find::{Use, Wanted};
 use elf_linking::view::{LinkedEntry32, LinkedEntry64, LinkedSymbol};
 use elf_linking::{DynamicObject, LinkError};
+use linked_files::versions::{NARROW, WIDE};
 use linking_callers::callers::find::{default_value, versioned_value};
 use std::process::Abort;
 

@@ -34,6 +34,9 @@
 //! and `-Wl,--version-script=outer.map,-soname=libw.so outer.c -o libw.so`, and then
 //! `-Wl,--version-script=ab.map,-soname=libv.so ab.c libw.so`.
 
+use elf_linking::LinkError;
+use elf_linking::versions::SymbolVersion;
+
 /// Of class 32.
 pub const NARROW: &[u8; 816] = b"\
     \x7fELF\x01\x01\x01\0\0\0\0\0\0\0\0\0\x03\0\x03\0\x01\0\0\0\0\0\0\0\x34\0\0\0\xac\x03\0\0\0\0\
@@ -95,3 +98,19 @@ pub const WIDE: &[u8; 1168] = b"\
 pub const NARROW_TABLES: (usize, usize) = (0x180, 0x20c);
 
 pub const WIDE_TABLES: (usize, usize) = (0x228, 0x2b8);
+
+/// The number of a version of a symbol, whether it is hidden, and the name of what bears it; None
+/// where the file has no numbers of symbols, and the error where the version or its name can't be
+/// read.
+pub fn parts(
+    version: Result<Option<SymbolVersion<'_>>, LinkError>,
+) -> Result<Option<(u16, bool, Option<&str>)>, LinkError> {
+    let Some(version) = version? else {
+        return Ok(None);
+    };
+    let name = match version.named {
+        Some(named) => Some(named.name()?),
+        None => None,
+    };
+    Ok(Some((version.number, version.hidden, name)))
+}

@@ -3,11 +3,11 @@
 
 use crate::tests::find::Asked::By;
 use crate::tests::find::{Answer, Asked, LATEST, PLAIN, V1, V2};
-use crate::tests::versions::shared_object::{NARROW, NARROW_TABLES, WIDE, WIDE_TABLES};
 use crate::tests::want::{open, want_at};
 use elf_linking::find::Use;
 use elf_linking::view::{LinkedEntry32, LinkedEntry64, LinkedSymbol};
 use elf_linking::{DynamicObject, LinkError};
+use linked_files::versions::{NARROW, NARROW_TABLES, WIDE, WIDE_TABLES};
 use std::process::Abort;
 use worked_files::places::put;
 
