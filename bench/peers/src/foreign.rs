@@ -16,7 +16,7 @@ macro_rules! contender {
     };
 }
 
-contender!(here, "here_", nothing header header_fields header_check sections sections_table sections_index
+contender!(here, "here_", nothing header header_fields header_numbers header_check sections sections_table sections_index
     sections_table_index section_fields section_table_fields section_types section_table_types section_names section_table_names
     section_name_bytes section_table_name_bytes find
     raw_data table_raw_data data table_data segments segments_table section_checks segment_checks symbol_values

@@ -33,7 +33,7 @@ pub const PASSES: &[Pass] = passes![
     "parse the header", "large", ONE, NOTHING,
         ["crate" original::header, "object" object::header, "goblin" goblin::header, "libelf" libelf::header, "C" loops::header, "here" here::header];
     "the header's nine numbers", "large", ONE, NOTHING,
-        ["crate" original::header_fields, "object" object::header_fields, "goblin" goblin::header_fields, "C" loops::header_fields, "here" here::header_fields];
+        ["crate" original::header_fields, "object" object::header_fields, "goblin" goblin::header_fields, "C" loops::header_fields, "here" here::header_fields, "here, by a table" here::header_numbers];
     "check of the ELF header", "large", ONE, NOTHING,
         ["crate" original::header_check, "here" here::header_check];
     "section headers by iterator", "large sections", |f| f.sections, NOTHING,
