@@ -50,7 +50,7 @@ CASES = [
     Case("elfsections", "elfsections/data/symbols.so", ["names.elf"], "-SW --dyn-syms",
         {b"outer": b"o\xff\x01\x7fr", b"third": b"t\x7f\x02rd", b"fifth": b"f\xc3fth"},
         stored_part("elfsections", b"symbols.so\n", b"").replace(b"symbols.so\n", b"names.elf\n"),
-        {b"\nok\n": b"\n! Symbol is not in the table\n", b"2 2 third": b"2 - third", b"3 3 fifth": b"3 - fifth"}),
+        {b"\nok\n": b"\n! Symbol is missing from the GNU hash table\n", b"2 2 third": b"2 - third", b"3 3 fifth": b"3 - fifth"}),
     Case("elfsym", "elfsym/data/needs.so", ["--needed", "names.elf"], "-dW",
         {b"libneed.so": b"l\x01\x1f\x7f\x80\xff\xc3\t\n."}, b"libneed.so\n"),
 ]
