@@ -97,7 +97,7 @@ grep -vE '^ ' "$room/edits"
 took "wrong bodies" "$part"
 
 left+=("wrong bodies of functions that did not change, and those in must-fail" "rt ci: both builds of each program and of each test"
-    "tools/does_not_compile.py, program_ends.py, little_memory.py, bindings.sh, fuzz.py")
+    "tools/does_not_compile.py, program_ends.py, names.py, little_memory.py, bindings.sh, fuzz.py")
 printf 'left out: %s\n' "${left[@]}"
 echo "quick gate: $failed failed, $((SECONDS - began)) s"
 exit $((failed > 0))

@@ -1,13 +1,15 @@
-//! Prints the sections of an ELF file, and the symbols of a 64-bit one: `elfnm PATH`.
+//! Prints the sections of an ELF file, and the symbols of a 64-bit one: `elfnm PATH`. A name that
+//! can't be read is `?`.
 #![tactic(auto)]
 
 use anyhow::Context;
+use program_ends::write_name;
 use std::env;
 use std::fs::File;
 use std::io::{BufWriter, Read, Write};
 use xmas_elf::ElfFile;
 use xmas_elf::sections::SectionData;
-use xmas_elf::symbol_table::Entry;
+use xmas_elf::symbol_table::{Entry, SymbolTable};
 
 fn main(rt: HostRuntime) -> anyhow::Result<()> {
     let path = env::args(&rt)?.nth(1).context("usage: elfnm PATH")?;
@@ -17,12 +19,17 @@ fn main(rt: HostRuntime) -> anyhow::Result<()> {
     let mut out = BufWriter::new(rt.alloc(), rt.stdout())?;
     writeln!(out, "{} sections", file.section_count())?;
     for section in file.section_iter() {
-        let name = file.get_shstr(section.name()).unwrap_or("?");
-        writeln!(out, "{:6} {}", section.size(), name)?;
+        let name = file.get_shstr_bytes(section.name()).unwrap_or(b"?");
+        write!(out, "{:6} ", section.size())?;
+        write_name(name, &mut out)?;
+        writeln!(out)?;
         if let Ok(SectionData::SymbolTable64(symbols)) = section.get_data(&file) {
+            let names = SymbolTable::new(symbols, &file);
             for symbol in symbols {
-                let name = symbol.get_name(&file).unwrap_or("?");
-                writeln!(out, "    {:016x} {}", symbol.value(), name)?;
+                let name = names.name_bytes_of(&symbol).unwrap_or(b"?");
+                write!(out, "    {:016x} ", symbol.value())?;
+                write_name(name, &mut out)?;
+                writeln!(out)?;
             }
         }
     }

@@ -4,21 +4,23 @@
 //! For each file there is a line with its path; for each such section a line with what it holds and
 //! its name; and behind that a line for each note or address, or for a hash table a line with what
 //! its check says and one for each symbol that has a name: its index, the index that a look-up of
-//! the name finds, or `-`, and the name. What is refused is a line `! ` with the reason.
+//! the name finds, or `-`, and the name. A name that isn't UTF-8 can't be looked up, so it has `-`
+//! too. Of names the bytes are written, as `readelf` does. What is refused is a line `! ` with the
+//! reason.
 #![tactic(auto)]
 
-use elf_base::bytes::{Record, Table};
+use elf_base::bytes::{Record, Table, bytes_up_to_zero};
 use elf_linking::LinkError;
 use elf_linking::gnu_hash::GnuHashTable;
 use elf_linking::notes::{Note, section_notes};
 use elf_linking::relr::Relr;
 use elf_linking::sections::{section_gnu_hash, section_relr};
-use program_ends::{Stop, read_whole};
+use program_ends::{Stop, read_whole, write_name};
 use std::alloc::Global;
 use std::fs::File;
 use std::io::{BufWriter, Read, Write};
 use std::process::ExitCode;
-use std::{env, io};
+use std::{env, io, str};
 use thiserror::Error;
 use xmas_elf::sections::{SectionData, SectionHeader, ShType};
 use xmas_elf::symbol_table::{Entry, SymbolTable};
@@ -35,18 +37,18 @@ enum Fault {
     Write,
 }
 
+// A name, and the end of its line.
+fn write_line<W: Write>(name: &[u8], out: &mut W) -> io::Result<()> {
+    write_name(name, out)?;
+    out.write_all(b"\n")
+}
+
 fn print_note<W: Write>(note: &Note<'_>, out: &mut W) -> io::Result<()> {
-    let sizes = (note.name_bytes().len(), note.desc().len());
-    match note.name() {
-        Ok(name) => writeln!(out, "{:x} {} {} {}", note.type_(), sizes.0, sizes.1, name),
-        Err(error) => writeln!(
-            out,
-            "{:x} {} {} ! {}",
-            note.type_(),
-            sizes.0,
-            sizes.1,
-            error
-        ),
+    let (name, size) = (note.name_bytes(), note.desc().len());
+    write!(out, "{:x} {} {} ", note.type_(), name.len(), size)?;
+    match bytes_up_to_zero(name, 0) {
+        Ok(name) => write_line(name, out),
+        Err(error) => writeln!(out, "! {}", error),
     }
 }
 
@@ -94,16 +96,33 @@ fn print_symbols<E: Entry + Record, W: Write>(
         Err(error) => writeln!(out, "! {}", error)?,
     }
     for (index, symbol) in symbols.iter().enumerate().skip(1) {
-        let Ok(name) = named.name_of(&symbol) else {
+        let Ok(name) = named.name_bytes_of(&symbol) else {
             continue;
         };
-        match table.lookup_in(name, &named, |_| true) {
-            Ok(Some((found, _))) => writeln!(out, "{} {} {}", index, found, name)?,
-            Ok(None) => writeln!(out, "{} - {}", index, name)?,
+        match found_index(table, &named, name) {
+            Ok(Some(found)) => write!(out, "{} {} ", index, found)?,
+            Ok(None) => write!(out, "{} - ", index)?,
             Err(error) => return writeln!(out, "! {}", error),
         }
+        write_line(name, out)?;
     }
     Ok(())
+}
+
+// The index that a look-up of a name finds; none by a name that isn't UTF-8.
+fn found_index<E: Entry + Record>(
+    table: &GnuHashTable<'_>,
+    named: &SymbolTable<'_, E>,
+    name: &[u8],
+) -> Result<Option<u32>, LinkError> {
+    let Ok(text) = str::from_utf8(name) else {
+        return Ok(None);
+    };
+    match table.lookup_in(text, named, |_| true) {
+        Ok(Some((index, _))) => Ok(Some(index)),
+        Ok(None) => Ok(None),
+        Err(error) => Err(error),
+    }
 }
 
 // The data of the section that a GNU hash table is linked to.
@@ -133,22 +152,28 @@ fn print_table<W: Write>(
     }
 }
 
+// What a section holds, and its name.
+fn print_heading<W: Write>(what: &str, name: &[u8], out: &mut W) -> io::Result<()> {
+    write!(out, "{} ", what)?;
+    write_line(name, out)
+}
+
 fn print_section<W: Write>(
     file: &ElfFile<'_>,
     section: &SectionHeader,
     out: &mut W,
 ) -> io::Result<()> {
-    let name = file.get_shstr(section.name()).unwrap_or("?");
+    let name = file.get_shstr_bytes(section.name()).unwrap_or(b"?");
     if section.get_type() == Ok(ShType::Note) {
-        writeln!(out, "notes {}", name)?;
+        print_heading("notes", name, out)?;
         print_notes(file, section, out)?;
     }
     if let Some(addresses) = section_relr(file, section) {
-        writeln!(out, "relr {}", name)?;
+        print_heading("relr", name, out)?;
         print_addresses(addresses, out)?;
     }
     if let Some(table) = section_gnu_hash(file, section) {
-        writeln!(out, "hash {}", name)?;
+        print_heading("hash", name, out)?;
         print_table(table, file, section, out)?;
     }
     Ok(())

@@ -1,7 +1,7 @@
 //! A line for each library that a file needs: its name.
 
 ghost use Rattle.std.specs.Prelude.{OnOk};
-ghost use Rattle.elf_linking.specs.DynamicView.{needed_of};
+ghost use Rattle.elf_linking.specs.DynamicView.{needed_bytes_of};
 ghost use Rattle.elf_linking.specs.Loaded.{lent};
 ghost use Rattle.elfsym.specs.Libraries.{AreFileLibraries, AreInputLibraries, AreLibraryLines};
 ghost use Rattle.elfsym.specs.Libraries.{IsLibraryLine};
@@ -10,7 +10,7 @@ ghost use Rattle.program_ends.specs.Appended.{AppendsSome};
 
 use elf_linking::LinkError;
 use elf_linking::view::DynamicView;
-use program_ends::{Output, Stop};
+use program_ends::{Output, Stop, write_name};
 use std::io::Write;
 use xmas_elf::ElfFile;
 
@@ -46,10 +46,10 @@ fn write_libraries<W: Write>(file: &ElfFile<'_>, out: &mut W) -> Result<(), Stop
 
 // The lines by a view of the dynamic segment.
 fn write_needed<W: Write>(view: &DynamicView<'_>, out: &mut W) -> Result<(), Stop<LinkError>>
-    ensures { OnOk result (AppendsSome (AreLibraryLines (needed_of view.now))
+    ensures { OnOk result (AppendsSome (AreLibraryLines (needed_bytes_of view.now))
         (W.contents out.old) (W.contents out.new)) }
 {
-    for name in view.needed() {
+    for name in view.needed_bytes() {
         write_library(name, out)?;
     }
     Ok(())
@@ -57,15 +57,16 @@ fn write_needed<W: Write>(view: &DynamicView<'_>, out: &mut W) -> Result<(), Sto
 
 // The line of a library, by its name.
 fn write_library<W: Write>(
-    name: Result<&str, LinkError>,
+    name: Result<&[u8], LinkError>,
     out: &mut W,
 ) -> Result<(), Stop<LinkError>>
     ensures { OnOk result (AppendsSome (IsLibraryLine (lent name.entry))
         (W.contents out.old) (W.contents out.new)) }
 {
     match name {
-        Ok(text) => {
-            writeln!(out, "{text}")?;
+        Ok(name) => {
+            write_name(name, out)?;
+            out.write_all(b"\n")?;
             Ok(())
         }
         Err(error) => Err(Stop::Refused(error)),

@@ -4,7 +4,7 @@
 //! `elfsym PATH NAME..` writes a line for each name, with the value and the size of the symbol that
 //! `dlsym` finds by it: `ab 0x1016 0xb`, or `ab: none`. `NAME@VERSION` asks for the symbol with that
 //! version: `ab@V1 0x1016 0xb`. `elfsym --needed PATH` writes the names of the libraries that the
-//! file needs, a line for each.
+//! file needs, a line for each: their bytes, with control characters escaped.
 #![tactic(auto)]
 
 ghost use Rattle.std.specs.Borrow.{Bor};

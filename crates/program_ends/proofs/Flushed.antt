@@ -1,5 +1,5 @@
 -- A flush behind an output, which keeps the bytes that are known, removes nothing from it.
-use Rattle.std.proofs.Common.{◌≡◌, ℕ, List, Option, None, Some, ◌∙◌}
+use Rattle.std.proofs.Common.{ℕ, List, Option, None, Some, ◌∙◌}
 use Rattle.std.specs.Io.KnownBytes.{Appends, Keeps}
 use Rattle.program_ends.specs.Appended.{AppendsSome}
 

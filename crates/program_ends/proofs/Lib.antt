@@ -1,2 +1,3 @@
 pub mod Flushed
+mod Names
 mod Unbuffered

@@ -1,5 +1,5 @@
 -- Known bytes behind which nothing is buffered.
-use Rattle.std.proofs.Common.{◌≡◌, List, [], ◌++◌, Option, None, Some, ℕ, refl, ap, subst}
+use Rattle.std.proofs.Common.{◌≡◌, List, [], Option, None, Some, ℕ, refl, ap}
 use Rattle.std.proofs.lemmas.List.{append-nil}
 use Rattle.std.specs.Io.KnownBytes.{append_known}
 

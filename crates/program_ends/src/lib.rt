@@ -1,9 +1,13 @@
-//! How the programs read a file, write to its end, and say why they stop.
+//! How the programs read a file, write names, write to their end, and say why they stop.
 #![tactic(auto)]
 
-ghost use Rattle.std.specs.Prelude.{◌≡◌, [], IfOk, IfSome, IsSomeAnd, List, OnOk, Option, ℕ};
+ghost use Rattle.std.specs.Prelude.{◌≡◌, ◌+◌, ◌^◌, ◌<◌, [], IfOk, IfSome, IsSomeAnd, List};
+ghost use Rattle.std.specs.Prelude.{OnOk, Option, length, ℕ};
 ghost use Rattle.std.specs.Io.Buffered.{writer_buffer, writer_inner};
-ghost use Rattle.std.specs.Io.KnownBytes.{Keeps};
+ghost use Rattle.std.specs.Io.KnownBytes.{Appends, Keeps};
+ghost use Rattle.std.specs.Char.{is_ascii_control};
+ghost use Rattle.std.specs.List.{position_from};
+ghost use Rattle.program_ends.specs.Names.{escaped};
 
 use std::alloc::Global;
 use std::fmt::Display;
@@ -94,4 +98,27 @@ pub fn say<F: Display, W: Write>(fault: &F, to: &mut W) -> u8
 {
     let _ = writeln!(to, "{fault}");
     1
+}
+
+/// Writes the bytes of a name as GNU `readelf` does in the C locale: a control character (below
+/// 0x20, or 0x7f) as `^` and the byte 0x40 above it, and any other byte as it is, UTF-8 or not.
+pub fn write_name<W: Write>(name: &[u8], out: &mut W) -> io::Result<()>
+    ensures { OnOk result (Appends (W.contents out.old) (W.contents out.new) (escaped name.now)) }
+{
+    let mut rest = name;
+    'runs: while let Some(place) = first_control(rest) {
+        out.write_all(&rest[..place])?;
+        out.write_all(&[b'^', rest[place] + 0x40])?;
+        rest = &rest[place + 1..];
+    }
+    out.write_all(rest)
+}
+
+// The index of the first control character.
+fn first_control(name: &[u8]) -> Option<usize>
+    ensures value { result ≡ position_from is_ascii_control 0 name.now }
+    ensures bound { IfSome result (λ place. place < length name.now) }
+    ensures room { IfSome result (λ place. place + 1 < 2 ^ 64) }
+{
+    name.iter().position(|byte| byte.is_ascii_control())
 }

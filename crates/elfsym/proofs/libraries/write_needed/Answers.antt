@@ -1,7 +1,6 @@
 use Rattle.std.proofs.Common.{[], ◌++◌, rules}
 use Rattle.std.proofs.KnownBytes.{Appends-nil, Appends-trans}
 use Rattle.elfsym.proofs.LibraryLines.{all_lines, no_line_so_far, one_more_line}
-use Rattle.elfsym.proofs.LineLists.{appends_so}
 use Rattle.elfsym.proofs.libraries.write_needed.Goals as goal
 
 pub loop-name-init : goal.loop-name-init
