@@ -15,7 +15,8 @@ struct asked {
     uint64_t index;
     xmas_elf_range_t part;
     xmas_elf_symbol_table_t table; /* of the symbols for dynamic linking */
-    xmas_elf_gnu_table_t hash;
+    xmas_elf_gnu_table_t hash; /* GNU's table */
+    xmas_elf_gnu_table_t sysv; /* the standard's */
 };
 
 /* A row of calls.h for each export of the list. */
@@ -137,15 +138,22 @@ CALL(find_symbol) /* by the version of the name it is the same symbol as without
 }
 CALL(look_up) { return xmas_elf_look_up(FILE_OF(a), a->section, a->name, a->name_size, &out->of.look_up); }
 CALL(gnu_look_up) { return xmas_elf_gnu_look_up(FILE_OF(a), a->section, a->name, a->name_size, &out->of.look_up); }
+CALL(hash_open) { return xmas_elf_hash_open(FILE_OF(a), a->index == 0 ? a->section : a->index, &out->of.hash); }
 CALL(gnu_open) { return xmas_elf_gnu_open(FILE_OF(a), a->index == 0 ? a->section : a->index, &out->of.hash); }
-CALL(gnu_look_up_of) /* what is found in the section */
-{
-    xmas_elf_look_up_t said;
-    uint32_t status = xmas_elf_gnu_look_up_of(a->bytes, a->size, &a->hash, a->name, a->name_size, &out->of.look_up);
-    if (status != XMAS_ELF_OK) return status;
-    if (xmas_elf_gnu_look_up(FILE_OF(a), a->section, a->name, a->name_size, &said) != XMAS_ELF_OK || !said.found) return 999;
-    return memcmp(&said, &out->of.look_up, sizeof said) == 0 ? status : 998;
-}
+
+/* By a table that was found a look-up finds what it finds in the section. */
+#define CALL_OF(call, record, in_section) \
+    CALL(call) \
+    { \
+        xmas_elf_look_up_t said; \
+        uint32_t status = xmas_elf_##call(a->bytes, a->size, &a->record, a->name, a->name_size, &out->of.look_up); \
+        if (status != XMAS_ELF_OK) return status; \
+        if (in_section(FILE_OF(a), a->section, a->name, a->name_size, &said) != XMAS_ELF_OK || !said.found) return 999; \
+        return memcmp(&said, &out->of.look_up, sizeof said) == 0 ? status : 998; \
+    }
+
+CALL_OF(hash_look_up_of, sysv, xmas_elf_look_up)
+CALL_OF(gnu_look_up_of, hash, xmas_elf_gnu_look_up)
 CALL(check_hash) { (void)out; return xmas_elf_check_hash(FILE_OF(a), a->section); }
 CALL(check_gnu_hash) { (void)out; return xmas_elf_check_gnu_hash(FILE_OF(a), a->section); }
 
@@ -232,6 +240,8 @@ static const struct row {
     {"find_symbol", find_symbol_call, HASH, 0, 0, XMAS_ELF_TEXT_UTF_8, XMAS_ELF_LINK_NO_DYNAMIC},
     {"look_up", look_up_call, HASH, 0, 0, XMAS_ELF_TEXT_UTF_8, SHORT},
     {"look_ups", look_ups_call, HASH, 0, 0, XMAS_ELF_TEXT_UTF_8, SHORT},
+    {"hash_open", hash_open_call, HASH, 0, FAR, SHORT, SHORT},
+    {"hash_look_up_of", hash_look_up_of_call, HASH, 0, 0, XMAS_ELF_TEXT_UTF_8, XMAS_ELF_DATA_RANGE},
     {"check_hash", check_hash_call, HASH, 0, 0, XMAS_ELF_OK, SHORT},
     {"gnu_look_up", gnu_look_up_call, GNU_HASH, 0, 0, XMAS_ELF_TEXT_UTF_8, SHORT},
     {"gnu_look_ups", gnu_look_ups_call, GNU_HASH, 0, 0, XMAS_ELF_TEXT_UTF_8, SHORT},
@@ -356,6 +366,7 @@ int main(int argc, char **argv)
     if (xmas_elf_open(file.bytes, file.size, &file.header) != XMAS_ELF_OK) return 2;
     if (xmas_elf_symbols_open(FILE_OF(&file), section_of_type(&file, SYMBOLS), &file.table) != XMAS_ELF_OK) return 2;
     if (xmas_elf_gnu_open(FILE_OF(&file), section_of_type(&file, GNU_HASH), &file.hash) != XMAS_ELF_OK) return 2;
+    if (xmas_elf_hash_open(FILE_OF(&file), section_of_type(&file, HASH), &file.sysv) != XMAS_ELF_OK) return 2;
     for (size_t i = 0; i < sizeof rows / sizeof *rows; i++) visit(&rows[i], file, unaligned);
     for (size_t i = 0; i < sizeof every / sizeof *every; i++) visit_any(&every[i], &file, unaligned);
     free(bytes);

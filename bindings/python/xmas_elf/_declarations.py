@@ -296,8 +296,8 @@ ANSWER = Struct("@IIII0I")
 
 
 class GnuTableRecord(NamedTuple):
-    """GNU's hash table of a section with its symbols, found once: the numbers that `xmas_elf_gnu_open` fills, and
-    that `xmas_elf_gnu_look_up_of` takes back."""
+    """A hash table of a section with its symbols, found once: the numbers that `xmas_elf_gnu_open` fills, and that
+    `xmas_elf_gnu_look_up_of` takes back; and those of `xmas_elf_hash_open` for `xmas_elf_hash_look_up_of`."""
 
     table_offset: int
     """The bytes of the hash table. The offset of the first byte, in bytes from the start of the input."""
@@ -444,6 +444,8 @@ EXPORTS: Dict[str, Tuple[Any, Tuple[Any, ...]]] = {
     "xmas_elf_find_symbol": (c_uint32, (c_void_p, c_size_t, c_void_p, c_void_p, c_size_t, c_void_p, c_size_t, c_void_p,)),
     "xmas_elf_look_up": (c_uint32, (c_void_p, c_size_t, c_void_p, c_uint64, c_void_p, c_size_t, c_void_p,)),
     "xmas_elf_look_ups": (None, (c_void_p, c_size_t, c_void_p, c_uint64, c_void_p, c_size_t, c_void_p, c_size_t, c_void_p, c_size_t,)),
+    "xmas_elf_hash_open": (c_uint32, (c_void_p, c_size_t, c_void_p, c_uint64, c_void_p,)),
+    "xmas_elf_hash_look_up_of": (c_uint32, (c_void_p, c_size_t, c_void_p, c_void_p, c_size_t, c_void_p,)),
     "xmas_elf_check_hash": (c_uint32, (c_void_p, c_size_t, c_void_p, c_uint64,)),
     "xmas_elf_gnu_look_up": (c_uint32, (c_void_p, c_size_t, c_void_p, c_uint64, c_void_p, c_size_t, c_void_p,)),
     "xmas_elf_gnu_look_ups": (None, (c_void_p, c_size_t, c_void_p, c_uint64, c_void_p, c_size_t, c_void_p, c_size_t, c_void_p, c_size_t,)),

@@ -54,7 +54,7 @@ mod versions;
 use batch::Batch;
 use constants::{DT_RPATH, DT_RUNPATH, DT_SONAME};
 pub use error::Error;
-pub use hash::HashTable;
+pub use hash::{HashTable, SysvTable};
 pub use items::{Note, Notes, Section, Sections, Segment};
 pub use message::Message;
 pub use records::Range as ByteRange;
@@ -229,8 +229,13 @@ impl<'a> ElfFile<'a> {
         Ok(self.text(ffi::symbol_name_of(self.input, table, index)?))
     }
 
-    /// What a look-up for a name says, in a table that [`HashTable::gnu_table`] found in this file. It costs less than
+    /// What a look-up for a name says, in a table that [`HashTable::sysv_table`] found in this file. It costs less than
     /// [`HashTable::look_up_counted`], which finds the table in each call.
+    pub fn hash_look_up_of(&self, table: &SysvTable, name: &str) -> Result<LookUp, Error> {
+        ffi::hash_look_up_of(self.input, &table.0, name.as_bytes())
+    }
+
+    /// The same in a table that [`HashTable::gnu_table`] found in this file.
     pub fn gnu_look_up_of(&self, table: &GnuTable, name: &str) -> Result<LookUp, Error> {
         ffi::gnu_look_up_of(self.input, table, name.as_bytes())
     }

@@ -295,6 +295,33 @@ fn look_ups_of_a_table() {
 }
 
 #[test]
+fn look_ups_of_a_table_of_the_standard() {
+    let input = whole();
+    let header = ffi::open(&input).expect("an ELF file");
+    let section = section_of_type(&input, &header, SHT_GNU_HASH).0;
+    // The linker makes no table of this kind.
+    assert_eq!(ffi::hash_open(&input, &header, section), Err(Error::OtherData));
+    // So here is one behind the file, with the symbols in a single chain.
+    let found = ffi::gnu_open(&input, &header, section).expect("a hash table");
+    let count = found.symbols.count as u32;
+    let words = [1, count, 1, 0].into_iter().chain((1..count).map(|index| (index + 1) % count));
+    let longer: Vec<u8> = input.iter().copied().chain(words.flat_map(u32::to_le_bytes)).collect();
+    let table = GnuTable { table: Range { offset: input.len() as u64, size: (longer.len() - input.len()) as u64 }, ..found };
+    let name_of = |index: u32| ffi::symbol_name_of(&longer, &table.symbols, index.into()).map(|name| name.bytes_in(&longer));
+    for name in (1..count).filter_map(|index| name_of(index).ok()) {
+        let said = ffi::hash_look_up_of(&longer, &table, name).expect("not refused");
+        assert_eq!((said.found, name_of(said.index)), (1, Ok(name)));
+    }
+    assert_eq!(ffi::hash_look_up_of(&longer, &table, b"no_such_name").map(|said| (said.found, said.looked_at)), Ok((0, count - 1)));
+    assert_eq!(ffi::hash_look_up_of(&longer, &table, b"\xff"), Err(Error::TextUtf8));
+    assert_eq!(ffi::hash_look_up_of(&input, &table, b"main"), Err(Error::DataRange));
+    let short = Range { size: 11, ..table.table };
+    assert_eq!(ffi::hash_look_up_of(&longer, &GnuTable { table: short, ..table }, b"main"), Err(Error::ShortData));
+    let cut = Range { size: table.table.size - 4, ..table.table };
+    assert_eq!(ffi::hash_look_up_of(&longer, &GnuTable { table: cut, ..table }, b"no_such_name"), Err(Error::HashData));
+}
+
+#[test]
 fn empty_slices() {
     let header = ffi::open(&whole()).expect("an ELF file");
     assert_eq!(ffi::open(&[]), Err(Error::ShortPart1));
