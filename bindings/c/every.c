@@ -124,6 +124,26 @@ CALL_MANY(needed, names, a->index)
 CALL(dynamic_symbol_count) { return xmas_elf_dynamic_symbol_count(FILE_OF(a), &out->of.addresses[0]); }
 CALL_MANY(dynamic_symbols, symbols, a->index)
 CALL_MANY(dynamic_symbol_names, names, a->index)
+CALL(dynamic_symbols_open) /* the symbols of the dynamic segment, with their names */
+{
+    xmas_elf_symbol_t symbols[2];
+    xmas_elf_name_t name;
+    uint64_t count, one;
+    xmas_elf_symbol_table_t *table = &out->of.table;
+    uint32_t status = xmas_elf_dynamic_symbols_open(FILE_OF(a), table);
+    if (status != XMAS_ELF_OK) return status;
+    if (xmas_elf_dynamic_symbol_count(FILE_OF(a), &count) != XMAS_ELF_OK || count != table->count) return 999;
+    for (uint64_t i = 0; i < count; i++) {
+        xmas_elf_range_t range = {0, 0};
+        if (xmas_elf_dynamic_symbols(FILE_OF(a), i, &symbols[0], 1, &one) != XMAS_ELF_OK) return 998;
+        if (xmas_elf_symbol_of(a->bytes, a->size, table, i, &symbols[1]) != XMAS_ELF_OK) return 997;
+        if (memcmp(&symbols[0], &symbols[1], sizeof *symbols) != 0) return 996;
+        if (xmas_elf_dynamic_symbol_names(FILE_OF(a), i, &name, 1, &one) != XMAS_ELF_OK) return 995;
+        if (xmas_elf_symbol_name_of(a->bytes, a->size, table, i, &range) != name.status) return 994;
+        if (memcmp(&name.range, &range, sizeof range) != 0) return 993;
+    }
+    return xmas_elf_symbol_of(a->bytes, a->size, table, count, &symbols[1]) == XMAS_ELF_NO_RECORD ? status : 992;
+}
 CALL_MANY(dynamic_symbol_versions, versions, a->index)
 CALL_MANY(version_definitions, versions, a->index)
 CALL_MANY(version_needs, versions, a->index)
@@ -234,6 +254,7 @@ static const struct row {
     {"dynamic_symbol_count", dynamic_symbol_count_call, NONE, 0, 0, XMAS_ELF_OK, XMAS_ELF_LINK_NO_DYNAMIC},
     {"dynamic_symbols", dynamic_symbols_call, NONE, 1, FAR, XMAS_ELF_NO_RECORD, XMAS_ELF_LINK_NO_DYNAMIC},
     {"dynamic_symbol_names", dynamic_symbol_names_call, NONE, 1, FAR, XMAS_ELF_NO_RECORD, XMAS_ELF_LINK_NO_DYNAMIC},
+    {"dynamic_symbols_open", dynamic_symbols_open_call, NONE, 0, 0, XMAS_ELF_OK, XMAS_ELF_LINK_NO_DYNAMIC},
     {"dynamic_symbol_versions", dynamic_symbol_versions_call, NONE, 1, FAR, XMAS_ELF_NO_RECORD, XMAS_ELF_LINK_NO_DYNAMIC},
     {"version_definitions", version_definitions_call, NONE, 1, FAR, XMAS_ELF_NO_RECORD, XMAS_ELF_LINK_NO_DYNAMIC},
     {"version_needs", version_needs_call, NONE, 0, FAR, XMAS_ELF_NO_RECORD, XMAS_ELF_LINK_NO_DYNAMIC},

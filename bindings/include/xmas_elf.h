@@ -339,8 +339,8 @@ typedef struct xmas_elf_symbol_t {
     uint8_t other;
 } xmas_elf_symbol_t;
 
-/* The symbols of a section, found once: the numbers that `xmas_elf_symbols_open` fills, and that other calls take
- * back. */
+/* Symbols found once: the numbers that `xmas_elf_symbols_open` or `xmas_elf_dynamic_symbols_open` fills, and that
+ * other calls take back. */
 typedef struct xmas_elf_symbol_table_t {
     /* The bytes of the symbols. */
     xmas_elf_range_t symbols;
@@ -615,18 +615,18 @@ XMAS_ELF_NODISCARD uint32_t xmas_elf_symbol_names(const uint8_t *input, size_t i
 XMAS_ELF_NODISCARD uint32_t xmas_elf_symbols_open(const uint8_t *input, size_t input_size,
     const xmas_elf_header_t *header, uint64_t section, xmas_elf_symbol_table_t *out) XMAS_ELF_NOEXCEPT;
 
-/* The symbol at an index of a table that was found, as `xmas_elf_symbol` answers it for the section. Any table may be
- * given: each call compares its range with the input, and `count` is not read. XMAS_ELF_DATA_RANGE is for symbols
- * that do not lie in the input. The call is refused with (in the order of the tests) XMAS_ELF_DATA_RANGE,
- * XMAS_ELF_NO_RECORD. */
+/* The symbol at an index of a table that was found, as `xmas_elf_symbol` or `xmas_elf_dynamic_symbols` answers it.
+ * Any table may be given: each call compares its range with the input, and `count` is not read. XMAS_ELF_DATA_RANGE
+ * is for symbols that do not lie in the input. The call is refused with (in the order of the tests)
+ * XMAS_ELF_DATA_RANGE, XMAS_ELF_NO_RECORD. */
 XMAS_ELF_NODISCARD uint32_t xmas_elf_symbol_of(const uint8_t *input, size_t input_size,
     const xmas_elf_symbol_table_t *table, uint64_t index, xmas_elf_symbol_t *out) XMAS_ELF_NOEXCEPT;
 
-/* The range of the name of the symbol at an index of a table that was found, as `xmas_elf_symbol_names` answers it
- * for the section. Any table may be given. After `xmas_elf_symbol_of` the call is refused with `strings_status`,
- * where that is not 0, and then with XMAS_ELF_DATA_RANGE for a string table that does not lie in the input. The call
- * is refused with (in the order of the tests) XMAS_ELF_DATA_RANGE, XMAS_ELF_NO_RECORD, XMAS_ELF_TEXT_START,
- * XMAS_ELF_TEXT_END, XMAS_ELF_TEXT_UTF_8. */
+/* The range of the name of the symbol at an index of a table that was found, as `xmas_elf_symbol_names` or
+ * `xmas_elf_dynamic_symbol_names` answers it. Any table may be given. After `xmas_elf_symbol_of` the call is refused
+ * with `strings_status`, where that is not 0, and then with XMAS_ELF_DATA_RANGE for a string table that does not lie
+ * in the input. The call is refused with (in the order of the tests) XMAS_ELF_DATA_RANGE, XMAS_ELF_NO_RECORD,
+ * XMAS_ELF_TEXT_START, XMAS_ELF_TEXT_END, XMAS_ELF_TEXT_UTF_8. */
 XMAS_ELF_NODISCARD uint32_t xmas_elf_symbol_name_of(const uint8_t *input, size_t input_size,
     const xmas_elf_symbol_table_t *table, uint64_t index, xmas_elf_range_t *out) XMAS_ELF_NOEXCEPT;
 
@@ -738,6 +738,16 @@ XMAS_ELF_NODISCARD uint32_t xmas_elf_dynamic_symbols(const uint8_t *input, size_
 XMAS_ELF_NODISCARD uint32_t xmas_elf_dynamic_symbol_names(const uint8_t *input, size_t input_size,
     const xmas_elf_header_t *header, uint64_t first, xmas_elf_name_t *out, size_t out_count, uint64_t *count)
     XMAS_ELF_NOEXCEPT;
+
+/* Finds the symbols of the dynamic segment and the string table of their names, as `xmas_elf_dynamic_symbols` and
+ * `xmas_elf_dynamic_symbol_names` do, once for many calls of `xmas_elf_symbol_of` and `xmas_elf_symbol_name_of`. It
+ * needs no section headers. Where the string table is refused, the call is OK, and `strings_status` says why. The
+ * call is refused with (in the order of the tests) XMAS_ELF_LINK_NO_DYNAMIC, XMAS_ELF_DATA_RANGE,
+ * XMAS_ELF_NOT_MULTIPLE, XMAS_ELF_LINK_NO_ENTRY, XMAS_ELF_LINK_ADDRESS, XMAS_ELF_SHORT_DATA,
+ * XMAS_ELF_LINK_SHORT_TABLE, XMAS_ELF_LINK_BLOOM_COUNT, XMAS_ELF_LINK_CHAIN_INDEX, XMAS_ELF_LINK_CHAIN_DATA,
+ * XMAS_ELF_LINK_SYMBOL_INDEX. */
+XMAS_ELF_NODISCARD uint32_t xmas_elf_dynamic_symbols_open(const uint8_t *input, size_t input_size,
+    const xmas_elf_header_t *header, xmas_elf_symbol_table_t *out) XMAS_ELF_NOEXCEPT;
 
 /* The versions of the symbols of the dynamic segment (DT_VERSYM) from index `first` on, each with a status of its
  * own: the first definition with the symbol's number but for the one that names the file, and else the first need

@@ -95,6 +95,8 @@ pub(crate) fn every(asked: &Asked<'_>, mut heard: impl FnMut(&str, Result<(), Er
     heard("dynamic_symbols", answer, &[Error::LinkNoDynamic, Error::DataRange, Error::NotMultiple, Error::LinkNoEntry, Error::LinkAddress, Error::ShortData, Error::LinkShortTable, Error::LinkBloomCount, Error::LinkChainIndex, Error::LinkChainData, Error::LinkSymbolIndex, Error::NoRecord]);
     let answer = ffi::dynamic_symbol_names(input, header, asked.index, &mut [Name::default(); 3]).map(|_| ());
     heard("dynamic_symbol_names", answer, &[Error::LinkNoDynamic, Error::DataRange, Error::NotMultiple, Error::LinkNoEntry, Error::LinkAddress, Error::ShortData, Error::LinkShortTable, Error::LinkBloomCount, Error::LinkChainIndex, Error::LinkChainData, Error::LinkSymbolIndex, Error::NoRecord]);
+    let answer = ffi::dynamic_symbols_open(input, header).map(|_| ());
+    heard("dynamic_symbols_open", answer, &[Error::LinkNoDynamic, Error::DataRange, Error::NotMultiple, Error::LinkNoEntry, Error::LinkAddress, Error::ShortData, Error::LinkShortTable, Error::LinkBloomCount, Error::LinkChainIndex, Error::LinkChainData, Error::LinkSymbolIndex]);
     let answer = ffi::dynamic_symbol_versions(input, header, asked.index, &mut [Version::default(); 3]).map(|_| ());
     heard("dynamic_symbol_versions", answer, &[Error::LinkNoDynamic, Error::DataRange, Error::NotMultiple, Error::LinkNoEntry, Error::LinkAddress, Error::ShortData, Error::LinkShortTable, Error::LinkBloomCount, Error::LinkChainIndex, Error::LinkChainData, Error::LinkSymbolIndex, Error::NotFound, Error::NoRecord]);
     let answer = ffi::version_definitions(input, header, asked.index, &mut [Version::default(); 3]).map(|_| ());

@@ -81,6 +81,8 @@ extern "C" {
         out: *mut Entry, out_len: usize, count: *mut u64) -> u32;
     fn xmas_elf_dynamic_symbol_names(input: *const u8, input_len: usize, header: *const Header, first: u64,
         out: *mut Name, out_len: usize, count: *mut u64) -> u32;
+    fn xmas_elf_dynamic_symbols_open(input: *const u8, input_len: usize, header: *const Header,
+        out: *mut SymbolTable) -> u32;
     fn xmas_elf_dynamic_symbol_versions(input: *const u8, input_len: usize, header: *const Header, first: u64,
         out: *mut Version, out_len: usize, count: *mut u64) -> u32;
     fn xmas_elf_version_definitions(input: *const u8, input_len: usize, header: *const Header, first: u64,
@@ -351,9 +353,9 @@ pub(crate) fn symbols_open(input: &[u8], header: &Header, section: u64) -> Resul
     answered(status, out)
 }
 
-/// The symbol at an index of a table that was found, as `symbol` answers it for the section. Any table may be given:
-/// each call compares its range with the input, and `count` is not read. `DataRange` is for symbols that do not lie
-/// in the input. The call is refused with (in the order of the tests) `DataRange`, `NoRecord`.
+/// The symbol at an index of a table that was found, as `symbol` or `dynamic_symbols` answers it. Any table may be
+/// given: each call compares its range with the input, and `count` is not read. `DataRange` is for symbols that do
+/// not lie in the input. The call is refused with (in the order of the tests) `DataRange`, `NoRecord`.
 pub(crate) fn symbol_of(input: &[u8], table: &SymbolTable, index: u64) -> Result<Entry, Error> {
     let mut out = Entry::default();
     // SAFETY: see the head of this file.
@@ -361,10 +363,11 @@ pub(crate) fn symbol_of(input: &[u8], table: &SymbolTable, index: u64) -> Result
     answered(status, out)
 }
 
-/// The range of the name of the symbol at an index of a table that was found, as `symbol_names` answers it for the
-/// section. Any table may be given. After `symbol_of` the call is refused with `strings_status`, where that is not 0,
-/// and then with `DataRange` for a string table that does not lie in the input. The call is refused with (in the
-/// order of the tests) `DataRange`, `NoRecord`, `TextStart`, `TextEnd`, `TextUtf8`.
+/// The range of the name of the symbol at an index of a table that was found, as `symbol_names` or
+/// `dynamic_symbol_names` answers it. Any table may be given. After `symbol_of` the call is refused with
+/// `strings_status`, where that is not 0, and then with `DataRange` for a string table that does not lie in the
+/// input. The call is refused with (in the order of the tests) `DataRange`, `NoRecord`, `TextStart`, `TextEnd`,
+/// `TextUtf8`.
 pub(crate) fn symbol_name_of(input: &[u8], table: &SymbolTable, index: u64) -> Result<Range, Error> {
     let mut out = Range::default();
     // SAFETY: see the head of this file.
@@ -525,6 +528,18 @@ pub(crate) fn dynamic_symbol_names(input: &[u8], header: &Header, first: u64,
     let status = unsafe { xmas_elf_dynamic_symbol_names(input.as_ptr(), input.len(), header, first, out.as_mut_ptr(),
         out.len(), &mut count) };
     answered(status, count)
+}
+
+/// Finds the symbols of the dynamic segment and the string table of their names, as `dynamic_symbols` and
+/// `dynamic_symbol_names` do, once for many calls of `symbol_of` and `symbol_name_of`. It needs no section headers.
+/// Where the string table is refused, the call is OK, and `strings_status` says why. The call is refused with (in the
+/// order of the tests) `LinkNoDynamic`, `DataRange`, `NotMultiple`, `LinkNoEntry`, `LinkAddress`, `ShortData`,
+/// `LinkShortTable`, `LinkBloomCount`, `LinkChainIndex`, `LinkChainData`, `LinkSymbolIndex`.
+pub(crate) fn dynamic_symbols_open(input: &[u8], header: &Header) -> Result<SymbolTable, Error> {
+    let mut out = SymbolTable::default();
+    // SAFETY: see the head of this file.
+    let status = unsafe { xmas_elf_dynamic_symbols_open(input.as_ptr(), input.len(), header, &mut out) };
+    answered(status, out)
 }
 
 /// The versions of the symbols of the dynamic segment (DT_VERSYM) from index `first` on, each with a status of its

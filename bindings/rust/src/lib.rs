@@ -218,8 +218,14 @@ impl<'a> ElfFile<'a> {
         ffi::dynamic_symbol_names(self.input, &self.header, first, out).map(|count| count as usize)
     }
 
-    /// The symbol at an index of a table that [`Section::symbol_table`] found in this file. It costs less than
-    /// [`Section::symbol`], which finds the table in each call.
+    /// The symbols of the dynamic segment, found once for many calls of [`ElfFile::symbol_of`]. It needs no section
+    /// header.
+    pub fn dynamic_symbol_table(&self) -> Result<SymbolTable, Error> {
+        ffi::dynamic_symbols_open(self.input, &self.header)
+    }
+
+    /// The symbol at an index of a table that [`Section::symbol_table`] or [`ElfFile::dynamic_symbol_table`] found in this
+    /// file. It costs less than [`Section::symbol`], which finds the table in each call.
     pub fn symbol_of(&self, table: &SymbolTable, index: u64) -> Result<Entry, Error> {
         ffi::symbol_of(self.input, table, index)
     }

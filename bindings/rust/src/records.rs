@@ -140,7 +140,8 @@ pub struct Entry {
     pub other: u8,
 }
 
-/// The symbols of a section, found once: the numbers that `symbols_open` fills, and that other calls take back.
+/// Symbols found once: the numbers that `symbols_open` or `dynamic_symbols_open` fills, and that other calls take
+/// back.
 #[repr(C)]
 #[derive(Clone, Copy, Debug, Default, PartialEq, Eq)]
 pub struct SymbolTable {

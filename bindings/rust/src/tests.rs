@@ -179,6 +179,15 @@ fn symbols_of_the_dynamic_segment() {
     assert_eq!((last, last_name), ([wanted[count - 1], Entry::default()], [wanted_names[count - 1], Name::default()]));
     assert_eq!(ffi::dynamic_symbols(&input, &cut, count as u64, &mut last), Err(Error::NoRecord));
     assert_eq!(ffi::dynamic_symbol_names(&input, &cut, count as u64, &mut last_name), Err(Error::NoRecord));
+    let table = ffi::dynamic_symbols_open(&input, &cut).expect("symbols");
+    assert_eq!((table.count, table.strings_status), (count as u64, 0));
+    for (index, (symbol, name)) in (0..).zip(wanted.iter().zip(&wanted_names)).take(count) {
+        assert_eq!(ffi::symbol_of(&input, &table, index), Ok(*symbol));
+        assert_eq!(ffi::symbol_name_of(&input, &table, index), name.range());
+    }
+    assert_eq!(ffi::symbol_of(&input, &table, count as u64), Err(Error::NoRecord));
+    assert_eq!(ffi::dynamic_symbols_open(&[], &cut), Err(Error::LinkNoDynamic));
+    assert_eq!(crate::ElfFile::new(&input).and_then(|file| file.dynamic_symbol_table()), Ok(table));
 }
 
 #[test]

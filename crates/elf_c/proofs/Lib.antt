@@ -18,3 +18,5 @@ pub mod RenamedRuns
 pub mod RenamedChains
 pub mod RenamedLooks
 pub mod OpenedTables
+pub mod OpenedDynamics
+pub mod OpenedFound

@@ -44,7 +44,7 @@ module _ {A B T : Type 0} (size : ℕ) (f : List ℕ → A) (h : List ℕ → B)
   found_as bytes index = first_as (length bytes / size) bytes index
 
 -- there is a record at each index below their number
-found_below : {A T : Type 0} (value : A → T) (items : List A) (index : ℕ) → IsOk (found_in value items index) ↔ (index < length items)
+pub found_below : {A T : Type 0} (value : A → T) (items : List A) (index : ℕ) → IsOk (found_in value items index) ↔ (index < length items)
 found_below value [] index = (λ ok. absurd (let no : false ≡ true = ok in cc), λ below. absurd (omega (arith, below)))
 found_below value (item ∷ items) zero = (λ ok. omega arith, λ below. refl)
 found_below value (item ∷ items) (suc i) =
