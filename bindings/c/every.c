@@ -15,7 +15,8 @@ struct asked {
     uint64_t index;
     xmas_elf_range_t part;
     xmas_elf_symbol_table_t table; /* of the symbols for dynamic linking */
-    xmas_elf_gnu_table_t hash;
+    xmas_elf_gnu_table_t hash; /* GNU's table */
+    xmas_elf_gnu_table_t sysv; /* the standard's */
 };
 
 /* A row of calls.h for each export of the list. */
@@ -123,6 +124,26 @@ CALL_MANY(needed, names, a->index)
 CALL(dynamic_symbol_count) { return xmas_elf_dynamic_symbol_count(FILE_OF(a), &out->of.addresses[0]); }
 CALL_MANY(dynamic_symbols, symbols, a->index)
 CALL_MANY(dynamic_symbol_names, names, a->index)
+CALL(dynamic_symbols_open) /* the symbols of the dynamic segment, with their names */
+{
+    xmas_elf_symbol_t symbols[2];
+    xmas_elf_name_t name;
+    uint64_t count, one;
+    xmas_elf_symbol_table_t *table = &out->of.table;
+    uint32_t status = xmas_elf_dynamic_symbols_open(FILE_OF(a), table);
+    if (status != XMAS_ELF_OK) return status;
+    if (xmas_elf_dynamic_symbol_count(FILE_OF(a), &count) != XMAS_ELF_OK || count != table->count) return 999;
+    for (uint64_t i = 0; i < count; i++) {
+        xmas_elf_range_t range = {0, 0};
+        if (xmas_elf_dynamic_symbols(FILE_OF(a), i, &symbols[0], 1, &one) != XMAS_ELF_OK) return 998;
+        if (xmas_elf_symbol_of(a->bytes, a->size, table, i, &symbols[1]) != XMAS_ELF_OK) return 997;
+        if (memcmp(&symbols[0], &symbols[1], sizeof *symbols) != 0) return 996;
+        if (xmas_elf_dynamic_symbol_names(FILE_OF(a), i, &name, 1, &one) != XMAS_ELF_OK) return 995;
+        if (xmas_elf_symbol_name_of(a->bytes, a->size, table, i, &range) != name.status) return 994;
+        if (memcmp(&name.range, &range, sizeof range) != 0) return 993;
+    }
+    return xmas_elf_symbol_of(a->bytes, a->size, table, count, &symbols[1]) == XMAS_ELF_NO_RECORD ? status : 992;
+}
 CALL_MANY(dynamic_symbol_versions, versions, a->index)
 CALL_MANY(version_definitions, versions, a->index)
 CALL_MANY(version_needs, versions, a->index)
@@ -137,15 +158,22 @@ CALL(find_symbol) /* by the version of the name it is the same symbol as without
 }
 CALL(look_up) { return xmas_elf_look_up(FILE_OF(a), a->section, a->name, a->name_size, &out->of.look_up); }
 CALL(gnu_look_up) { return xmas_elf_gnu_look_up(FILE_OF(a), a->section, a->name, a->name_size, &out->of.look_up); }
+CALL(hash_open) { return xmas_elf_hash_open(FILE_OF(a), a->index == 0 ? a->section : a->index, &out->of.hash); }
 CALL(gnu_open) { return xmas_elf_gnu_open(FILE_OF(a), a->index == 0 ? a->section : a->index, &out->of.hash); }
-CALL(gnu_look_up_of) /* what is found in the section */
-{
-    xmas_elf_look_up_t said;
-    uint32_t status = xmas_elf_gnu_look_up_of(a->bytes, a->size, &a->hash, a->name, a->name_size, &out->of.look_up);
-    if (status != XMAS_ELF_OK) return status;
-    if (xmas_elf_gnu_look_up(FILE_OF(a), a->section, a->name, a->name_size, &said) != XMAS_ELF_OK || !said.found) return 999;
-    return memcmp(&said, &out->of.look_up, sizeof said) == 0 ? status : 998;
-}
+
+/* By a table that was found a look-up finds what it finds in the section. */
+#define CALL_OF(call, record, in_section) \
+    CALL(call) \
+    { \
+        xmas_elf_look_up_t said; \
+        uint32_t status = xmas_elf_##call(a->bytes, a->size, &a->record, a->name, a->name_size, &out->of.look_up); \
+        if (status != XMAS_ELF_OK) return status; \
+        if (in_section(FILE_OF(a), a->section, a->name, a->name_size, &said) != XMAS_ELF_OK || !said.found) return 999; \
+        return memcmp(&said, &out->of.look_up, sizeof said) == 0 ? status : 998; \
+    }
+
+CALL_OF(hash_look_up_of, sysv, xmas_elf_look_up)
+CALL_OF(gnu_look_up_of, hash, xmas_elf_gnu_look_up)
 CALL(check_hash) { (void)out; return xmas_elf_check_hash(FILE_OF(a), a->section); }
 CALL(check_gnu_hash) { (void)out; return xmas_elf_check_gnu_hash(FILE_OF(a), a->section); }
 
@@ -226,12 +254,15 @@ static const struct row {
     {"dynamic_symbol_count", dynamic_symbol_count_call, NONE, 0, 0, XMAS_ELF_OK, XMAS_ELF_LINK_NO_DYNAMIC},
     {"dynamic_symbols", dynamic_symbols_call, NONE, 1, FAR, XMAS_ELF_NO_RECORD, XMAS_ELF_LINK_NO_DYNAMIC},
     {"dynamic_symbol_names", dynamic_symbol_names_call, NONE, 1, FAR, XMAS_ELF_NO_RECORD, XMAS_ELF_LINK_NO_DYNAMIC},
+    {"dynamic_symbols_open", dynamic_symbols_open_call, NONE, 0, 0, XMAS_ELF_OK, XMAS_ELF_LINK_NO_DYNAMIC},
     {"dynamic_symbol_versions", dynamic_symbol_versions_call, NONE, 1, FAR, XMAS_ELF_NO_RECORD, XMAS_ELF_LINK_NO_DYNAMIC},
     {"version_definitions", version_definitions_call, NONE, 1, FAR, XMAS_ELF_NO_RECORD, XMAS_ELF_LINK_NO_DYNAMIC},
     {"version_needs", version_needs_call, NONE, 0, FAR, XMAS_ELF_NO_RECORD, XMAS_ELF_LINK_NO_DYNAMIC},
     {"find_symbol", find_symbol_call, HASH, 0, 0, XMAS_ELF_TEXT_UTF_8, XMAS_ELF_LINK_NO_DYNAMIC},
     {"look_up", look_up_call, HASH, 0, 0, XMAS_ELF_TEXT_UTF_8, SHORT},
     {"look_ups", look_ups_call, HASH, 0, 0, XMAS_ELF_TEXT_UTF_8, SHORT},
+    {"hash_open", hash_open_call, HASH, 0, FAR, SHORT, SHORT},
+    {"hash_look_up_of", hash_look_up_of_call, HASH, 0, 0, XMAS_ELF_TEXT_UTF_8, XMAS_ELF_DATA_RANGE},
     {"check_hash", check_hash_call, HASH, 0, 0, XMAS_ELF_OK, SHORT},
     {"gnu_look_up", gnu_look_up_call, GNU_HASH, 0, 0, XMAS_ELF_TEXT_UTF_8, SHORT},
     {"gnu_look_ups", gnu_look_ups_call, GNU_HASH, 0, 0, XMAS_ELF_TEXT_UTF_8, SHORT},
@@ -356,6 +387,7 @@ int main(int argc, char **argv)
     if (xmas_elf_open(file.bytes, file.size, &file.header) != XMAS_ELF_OK) return 2;
     if (xmas_elf_symbols_open(FILE_OF(&file), section_of_type(&file, SYMBOLS), &file.table) != XMAS_ELF_OK) return 2;
     if (xmas_elf_gnu_open(FILE_OF(&file), section_of_type(&file, GNU_HASH), &file.hash) != XMAS_ELF_OK) return 2;
+    if (xmas_elf_hash_open(FILE_OF(&file), section_of_type(&file, HASH), &file.sysv) != XMAS_ELF_OK) return 2;
     for (size_t i = 0; i < sizeof rows / sizeof *rows; i++) visit(&rows[i], file, unaligned);
     for (size_t i = 0; i < sizeof every / sizeof *every; i++) visit_any(&every[i], &file, unaligned);
     free(bytes);

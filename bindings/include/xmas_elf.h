@@ -339,8 +339,8 @@ typedef struct xmas_elf_symbol_t {
     uint8_t other;
 } xmas_elf_symbol_t;
 
-/* The symbols of a section, found once: the numbers that `xmas_elf_symbols_open` fills, and that other calls take
- * back. */
+/* Symbols found once: the numbers that `xmas_elf_symbols_open` or `xmas_elf_dynamic_symbols_open` fills, and that
+ * other calls take back. */
 typedef struct xmas_elf_symbol_table_t {
     /* The bytes of the symbols. */
     xmas_elf_range_t symbols;
@@ -412,8 +412,8 @@ typedef struct xmas_elf_answer_t {
     uint32_t looked_at;
 } xmas_elf_answer_t;
 
-/* GNU's hash table of a section with its symbols, found once: the numbers that `xmas_elf_gnu_open` fills, and that
- * `xmas_elf_gnu_look_up_of` takes back. */
+/* A hash table of a section with its symbols, found once: the numbers that `xmas_elf_gnu_open` fills, and that
+ * `xmas_elf_gnu_look_up_of` takes back; and those of `xmas_elf_hash_open` for `xmas_elf_hash_look_up_of`. */
 typedef struct xmas_elf_gnu_table_t {
     /* The bytes of the hash table. */
     xmas_elf_range_t table;
@@ -615,18 +615,18 @@ XMAS_ELF_NODISCARD uint32_t xmas_elf_symbol_names(const uint8_t *input, size_t i
 XMAS_ELF_NODISCARD uint32_t xmas_elf_symbols_open(const uint8_t *input, size_t input_size,
     const xmas_elf_header_t *header, uint64_t section, xmas_elf_symbol_table_t *out) XMAS_ELF_NOEXCEPT;
 
-/* The symbol at an index of a table that was found, as `xmas_elf_symbol` answers it for the section. Any table may be
- * given: each call compares its range with the input, and `count` is not read. XMAS_ELF_DATA_RANGE is for symbols
- * that do not lie in the input. The call is refused with (in the order of the tests) XMAS_ELF_DATA_RANGE,
- * XMAS_ELF_NO_RECORD. */
+/* The symbol at an index of a table that was found, as `xmas_elf_symbol` or `xmas_elf_dynamic_symbols` answers it.
+ * Any table may be given: each call compares its range with the input, and `count` is not read. XMAS_ELF_DATA_RANGE
+ * is for symbols that do not lie in the input. The call is refused with (in the order of the tests)
+ * XMAS_ELF_DATA_RANGE, XMAS_ELF_NO_RECORD. */
 XMAS_ELF_NODISCARD uint32_t xmas_elf_symbol_of(const uint8_t *input, size_t input_size,
     const xmas_elf_symbol_table_t *table, uint64_t index, xmas_elf_symbol_t *out) XMAS_ELF_NOEXCEPT;
 
-/* The range of the name of the symbol at an index of a table that was found, as `xmas_elf_symbol_names` answers it
- * for the section. Any table may be given. After `xmas_elf_symbol_of` the call is refused with `strings_status`,
- * where that is not 0, and then with XMAS_ELF_DATA_RANGE for a string table that does not lie in the input. The call
- * is refused with (in the order of the tests) XMAS_ELF_DATA_RANGE, XMAS_ELF_NO_RECORD, XMAS_ELF_TEXT_START,
- * XMAS_ELF_TEXT_END, XMAS_ELF_TEXT_UTF_8. */
+/* The range of the name of the symbol at an index of a table that was found, as `xmas_elf_symbol_names` or
+ * `xmas_elf_dynamic_symbol_names` answers it. Any table may be given. After `xmas_elf_symbol_of` the call is refused
+ * with `strings_status`, where that is not 0, and then with XMAS_ELF_DATA_RANGE for a string table that does not lie
+ * in the input. The call is refused with (in the order of the tests) XMAS_ELF_DATA_RANGE, XMAS_ELF_NO_RECORD,
+ * XMAS_ELF_TEXT_START, XMAS_ELF_TEXT_END, XMAS_ELF_TEXT_UTF_8. */
 XMAS_ELF_NODISCARD uint32_t xmas_elf_symbol_name_of(const uint8_t *input, size_t input_size,
     const xmas_elf_symbol_table_t *table, uint64_t index, xmas_elf_range_t *out) XMAS_ELF_NOEXCEPT;
 
@@ -739,6 +739,16 @@ XMAS_ELF_NODISCARD uint32_t xmas_elf_dynamic_symbol_names(const uint8_t *input, 
     const xmas_elf_header_t *header, uint64_t first, xmas_elf_name_t *out, size_t out_count, uint64_t *count)
     XMAS_ELF_NOEXCEPT;
 
+/* Finds the symbols of the dynamic segment and the string table of their names, as `xmas_elf_dynamic_symbols` and
+ * `xmas_elf_dynamic_symbol_names` do, once for many calls of `xmas_elf_symbol_of` and `xmas_elf_symbol_name_of`. It
+ * needs no section headers. Where the string table is refused, the call is OK, and `strings_status` says why. The
+ * call is refused with (in the order of the tests) XMAS_ELF_LINK_NO_DYNAMIC, XMAS_ELF_DATA_RANGE,
+ * XMAS_ELF_NOT_MULTIPLE, XMAS_ELF_LINK_NO_ENTRY, XMAS_ELF_LINK_ADDRESS, XMAS_ELF_SHORT_DATA,
+ * XMAS_ELF_LINK_SHORT_TABLE, XMAS_ELF_LINK_BLOOM_COUNT, XMAS_ELF_LINK_CHAIN_INDEX, XMAS_ELF_LINK_CHAIN_DATA,
+ * XMAS_ELF_LINK_SYMBOL_INDEX. */
+XMAS_ELF_NODISCARD uint32_t xmas_elf_dynamic_symbols_open(const uint8_t *input, size_t input_size,
+    const xmas_elf_header_t *header, xmas_elf_symbol_table_t *out) XMAS_ELF_NOEXCEPT;
+
 /* The versions of the symbols of the dynamic segment (DT_VERSYM) from index `first` on, each with a status of its
  * own: the first definition with the symbol's number but for the one that names the file, and else the first need
  * with it. The call gives as many versions as `xmas_elf_dynamic_symbols` gives symbols. XMAS_ELF_NOT_FOUND is for a
@@ -813,6 +823,23 @@ void xmas_elf_look_ups(const uint8_t *input, size_t input_size, const xmas_elf_h
     const uint8_t *names, size_t names_size, const xmas_elf_range_t *ranges, size_t ranges_count,
     xmas_elf_answer_t *out, size_t out_count) XMAS_ELF_NOEXCEPT;
 
+/* Finds the hash table that is a section of type SHT_HASH, and the symbols of the section of type SHT_DYNSYM that it
+ * is linked to, once for many calls of `xmas_elf_hash_look_up_of`. Where the string table `.dynstr` is refused, the
+ * call is OK, no symbol has a name, and `strings_status` says why. The call is refused with (in the order of the
+ * tests) XMAS_ELF_SHORT_SECTION_HEADER, XMAS_ELF_UNKNOWN_CLASS, XMAS_ELF_SMALL_ENTRY, XMAS_ELF_INVALID_SH_TYPE,
+ * XMAS_ELF_DATA_RANGE, XMAS_ELF_NOT_MULTIPLE, XMAS_ELF_NOTE_32, XMAS_ELF_SHORT_DATA, XMAS_ELF_OTHER_DATA. */
+XMAS_ELF_NODISCARD uint32_t xmas_elf_hash_open(const uint8_t *input, size_t input_size,
+    const xmas_elf_header_t *header, uint64_t section, xmas_elf_gnu_table_t *out) XMAS_ELF_NOEXCEPT;
+
+/* Looks a name up in a table that `xmas_elf_hash_open` found, as `xmas_elf_look_up` does in its section. Any table
+ * may be given: each call compares its ranges with the input, and does not read the count of its symbols.
+ * `xmas_elf_symbol_of` gives the symbol, by the `symbols` of the table. The call is refused with (in the order of the
+ * tests) XMAS_ELF_TEXT_UTF_8, XMAS_ELF_DATA_RANGE, XMAS_ELF_SHORT_DATA, XMAS_ELF_NOT_MULTIPLE, XMAS_ELF_HASH_DATA,
+ * XMAS_ELF_CHAIN_INDEX, XMAS_ELF_SYMBOL_INDEX, XMAS_ELF_CHAIN_SUM, XMAS_ELF_HASH_CYCLE. */
+XMAS_ELF_NODISCARD uint32_t xmas_elf_hash_look_up_of(const uint8_t *input, size_t input_size,
+    const xmas_elf_gnu_table_t *table, const uint8_t *name, size_t name_size, xmas_elf_look_up_t *out)
+    XMAS_ELF_NOEXCEPT;
+
 /* Checks a hash table of type SHT_HASH: where it is OK, no look-up is refused for the table, and each finds a symbol
  * where one that is not local has the name. Call it once before many look-ups. A table that was made to be slow takes
  * a few nanoseconds times the product of its buckets and chains. The call is refused with (in the order of the tests)
@@ -842,20 +869,18 @@ void xmas_elf_gnu_look_ups(const uint8_t *input, size_t input_size, const xmas_e
     const uint8_t *names, size_t names_size, const xmas_elf_range_t *ranges, size_t ranges_count,
     xmas_elf_answer_t *out, size_t out_count) XMAS_ELF_NOEXCEPT;
 
-/* Finds GNU's hash table of a section of type 0x6ffffff6 (SHT_GNU_HASH), and the symbols of the section of type
- * SHT_DYNSYM that it is linked to, once for many calls of `xmas_elf_gnu_look_up_of`. Where the string table `.dynstr`
- * is refused, the call is OK, no symbol has a name, and `strings_status` says why. The call is refused with (in the
- * order of the tests) XMAS_ELF_SHORT_SECTION_HEADER, XMAS_ELF_UNKNOWN_CLASS, XMAS_ELF_SMALL_ENTRY,
- * XMAS_ELF_OTHER_DATA, XMAS_ELF_DATA_RANGE, XMAS_ELF_LINK_SHORT_TABLE, XMAS_ELF_LINK_BLOOM_COUNT,
- * XMAS_ELF_INVALID_SH_TYPE, XMAS_ELF_NOT_MULTIPLE, XMAS_ELF_NOTE_32, XMAS_ELF_SHORT_DATA. */
+/* Finds GNU's hash table of a section of type 0x6ffffff6 (SHT_GNU_HASH), once for many calls of
+ * `xmas_elf_gnu_look_up_of`; else as `xmas_elf_hash_open`. The call is refused with (in the order of the tests)
+ * XMAS_ELF_SHORT_SECTION_HEADER, XMAS_ELF_UNKNOWN_CLASS, XMAS_ELF_SMALL_ENTRY, XMAS_ELF_OTHER_DATA,
+ * XMAS_ELF_DATA_RANGE, XMAS_ELF_LINK_SHORT_TABLE, XMAS_ELF_LINK_BLOOM_COUNT, XMAS_ELF_INVALID_SH_TYPE,
+ * XMAS_ELF_NOT_MULTIPLE, XMAS_ELF_NOTE_32, XMAS_ELF_SHORT_DATA. */
 XMAS_ELF_NODISCARD uint32_t xmas_elf_gnu_open(const uint8_t *input, size_t input_size,
     const xmas_elf_header_t *header, uint64_t section, xmas_elf_gnu_table_t *out) XMAS_ELF_NOEXCEPT;
 
-/* Looks a name up in a table that was found, as `xmas_elf_gnu_look_up` does in its section. Any table may be given:
- * each call compares its ranges with the input, and does not read the count of its symbols. `xmas_elf_symbol_of`
- * gives the symbol, by the `symbols` of the table. The call is refused with (in the order of the tests)
- * XMAS_ELF_TEXT_UTF_8, XMAS_ELF_DATA_RANGE, XMAS_ELF_LINK_SHORT_TABLE, XMAS_ELF_LINK_BLOOM_COUNT,
- * XMAS_ELF_NOT_MULTIPLE, XMAS_ELF_LINK_CHAIN_INDEX, XMAS_ELF_LINK_SYMBOL_INDEX, XMAS_ELF_LINK_CHAIN_DATA. */
+/* Looks a name up in a table that `xmas_elf_gnu_open` found, as `xmas_elf_gnu_look_up` does in its section; else as
+ * `xmas_elf_hash_look_up_of`. The call is refused with (in the order of the tests) XMAS_ELF_TEXT_UTF_8,
+ * XMAS_ELF_DATA_RANGE, XMAS_ELF_LINK_SHORT_TABLE, XMAS_ELF_LINK_BLOOM_COUNT, XMAS_ELF_NOT_MULTIPLE,
+ * XMAS_ELF_LINK_CHAIN_INDEX, XMAS_ELF_LINK_SYMBOL_INDEX, XMAS_ELF_LINK_CHAIN_DATA. */
 XMAS_ELF_NODISCARD uint32_t xmas_elf_gnu_look_up_of(const uint8_t *input, size_t input_size,
     const xmas_elf_gnu_table_t *table, const uint8_t *name, size_t name_size, xmas_elf_look_up_t *out)
     XMAS_ELF_NOEXCEPT;

@@ -185,8 +185,8 @@ SYMBOL = Struct("@QQIHBB0Q")
 
 
 class SymbolTableRecord(NamedTuple):
-    """The symbols of a section, found once: the numbers that `xmas_elf_symbols_open` fills, and that other calls take
-    back."""
+    """Symbols found once: the numbers that `xmas_elf_symbols_open` or `xmas_elf_dynamic_symbols_open` fills, and that
+    other calls take back."""
 
     symbols_offset: int
     """The bytes of the symbols. The offset of the first byte, in bytes from the start of the input."""
@@ -296,8 +296,8 @@ ANSWER = Struct("@IIII0I")
 
 
 class GnuTableRecord(NamedTuple):
-    """GNU's hash table of a section with its symbols, found once: the numbers that `xmas_elf_gnu_open` fills, and
-    that `xmas_elf_gnu_look_up_of` takes back."""
+    """A hash table of a section with its symbols, found once: the numbers that `xmas_elf_gnu_open` fills, and that
+    `xmas_elf_gnu_look_up_of` takes back; and those of `xmas_elf_hash_open` for `xmas_elf_hash_look_up_of`."""
 
     table_offset: int
     """The bytes of the hash table. The offset of the first byte, in bytes from the start of the input."""
@@ -438,12 +438,15 @@ EXPORTS: Dict[str, Tuple[Any, Tuple[Any, ...]]] = {
     "xmas_elf_dynamic_symbol_count": (c_uint32, (c_void_p, c_size_t, c_void_p, c_void_p,)),
     "xmas_elf_dynamic_symbols": (c_uint32, (c_void_p, c_size_t, c_void_p, c_uint64, c_void_p, c_size_t, c_void_p,)),
     "xmas_elf_dynamic_symbol_names": (c_uint32, (c_void_p, c_size_t, c_void_p, c_uint64, c_void_p, c_size_t, c_void_p,)),
+    "xmas_elf_dynamic_symbols_open": (c_uint32, (c_void_p, c_size_t, c_void_p, c_void_p,)),
     "xmas_elf_dynamic_symbol_versions": (c_uint32, (c_void_p, c_size_t, c_void_p, c_uint64, c_void_p, c_size_t, c_void_p,)),
     "xmas_elf_version_definitions": (c_uint32, (c_void_p, c_size_t, c_void_p, c_uint64, c_void_p, c_size_t, c_void_p,)),
     "xmas_elf_version_needs": (c_uint32, (c_void_p, c_size_t, c_void_p, c_uint64, c_void_p, c_size_t, c_void_p,)),
     "xmas_elf_find_symbol": (c_uint32, (c_void_p, c_size_t, c_void_p, c_void_p, c_size_t, c_void_p, c_size_t, c_void_p,)),
     "xmas_elf_look_up": (c_uint32, (c_void_p, c_size_t, c_void_p, c_uint64, c_void_p, c_size_t, c_void_p,)),
     "xmas_elf_look_ups": (None, (c_void_p, c_size_t, c_void_p, c_uint64, c_void_p, c_size_t, c_void_p, c_size_t, c_void_p, c_size_t,)),
+    "xmas_elf_hash_open": (c_uint32, (c_void_p, c_size_t, c_void_p, c_uint64, c_void_p,)),
+    "xmas_elf_hash_look_up_of": (c_uint32, (c_void_p, c_size_t, c_void_p, c_void_p, c_size_t, c_void_p,)),
     "xmas_elf_check_hash": (c_uint32, (c_void_p, c_size_t, c_void_p, c_uint64,)),
     "xmas_elf_gnu_look_up": (c_uint32, (c_void_p, c_size_t, c_void_p, c_uint64, c_void_p, c_size_t, c_void_p,)),
     "xmas_elf_gnu_look_ups": (None, (c_void_p, c_size_t, c_void_p, c_uint64, c_void_p, c_size_t, c_void_p, c_size_t, c_void_p, c_size_t,)),

@@ -95,6 +95,8 @@ pub(crate) fn every(asked: &Asked<'_>, mut heard: impl FnMut(&str, Result<(), Er
     heard("dynamic_symbols", answer, &[Error::LinkNoDynamic, Error::DataRange, Error::NotMultiple, Error::LinkNoEntry, Error::LinkAddress, Error::ShortData, Error::LinkShortTable, Error::LinkBloomCount, Error::LinkChainIndex, Error::LinkChainData, Error::LinkSymbolIndex, Error::NoRecord]);
     let answer = ffi::dynamic_symbol_names(input, header, asked.index, &mut [Name::default(); 3]).map(|_| ());
     heard("dynamic_symbol_names", answer, &[Error::LinkNoDynamic, Error::DataRange, Error::NotMultiple, Error::LinkNoEntry, Error::LinkAddress, Error::ShortData, Error::LinkShortTable, Error::LinkBloomCount, Error::LinkChainIndex, Error::LinkChainData, Error::LinkSymbolIndex, Error::NoRecord]);
+    let answer = ffi::dynamic_symbols_open(input, header).map(|_| ());
+    heard("dynamic_symbols_open", answer, &[Error::LinkNoDynamic, Error::DataRange, Error::NotMultiple, Error::LinkNoEntry, Error::LinkAddress, Error::ShortData, Error::LinkShortTable, Error::LinkBloomCount, Error::LinkChainIndex, Error::LinkChainData, Error::LinkSymbolIndex]);
     let answer = ffi::dynamic_symbol_versions(input, header, asked.index, &mut [Version::default(); 3]).map(|_| ());
     heard("dynamic_symbol_versions", answer, &[Error::LinkNoDynamic, Error::DataRange, Error::NotMultiple, Error::LinkNoEntry, Error::LinkAddress, Error::ShortData, Error::LinkShortTable, Error::LinkBloomCount, Error::LinkChainIndex, Error::LinkChainData, Error::LinkSymbolIndex, Error::NotFound, Error::NoRecord]);
     let answer = ffi::version_definitions(input, header, asked.index, &mut [Version::default(); 3]).map(|_| ());
@@ -108,6 +110,10 @@ pub(crate) fn every(asked: &Asked<'_>, mut heard: impl FnMut(&str, Result<(), Er
     ffi::look_ups(input, header, asked.section, name, ranges, &mut [Answer::default(); 3]);
     let answer = Ok(());
     heard("look_ups", answer, &[]);
+    let answer = ffi::hash_open(input, header, asked.section).map(|_| ());
+    heard("hash_open", answer, &[Error::ShortSectionHeader, Error::UnknownClass, Error::SmallEntry, Error::InvalidShType, Error::DataRange, Error::NotMultiple, Error::Note32, Error::ShortData, Error::OtherData]);
+    let answer = ffi::hash_look_up_of(input, hash, name).map(|_| ());
+    heard("hash_look_up_of", answer, &[Error::TextUtf8, Error::DataRange, Error::ShortData, Error::NotMultiple, Error::HashData, Error::ChainIndex, Error::SymbolIndex, Error::ChainSum, Error::HashCycle]);
     let answer = ffi::check_hash(input, header, asked.section).map(|_| ());
     heard("check_hash", answer, &[Error::ShortSectionHeader, Error::UnknownClass, Error::SmallEntry, Error::InvalidShType, Error::DataRange, Error::NotMultiple, Error::Note32, Error::ShortData, Error::OtherData, Error::HashData, Error::ChainIndex, Error::SymbolIndex, Error::ChainSum, Error::HashCycle, Error::HashMissing]);
     let answer = ffi::gnu_look_up(input, header, asked.section, name).map(|_| ());

@@ -81,6 +81,8 @@ extern "C" {
         out: *mut Entry, out_len: usize, count: *mut u64) -> u32;
     fn xmas_elf_dynamic_symbol_names(input: *const u8, input_len: usize, header: *const Header, first: u64,
         out: *mut Name, out_len: usize, count: *mut u64) -> u32;
+    fn xmas_elf_dynamic_symbols_open(input: *const u8, input_len: usize, header: *const Header,
+        out: *mut SymbolTable) -> u32;
     fn xmas_elf_dynamic_symbol_versions(input: *const u8, input_len: usize, header: *const Header, first: u64,
         out: *mut Version, out_len: usize, count: *mut u64) -> u32;
     fn xmas_elf_version_definitions(input: *const u8, input_len: usize, header: *const Header, first: u64,
@@ -93,6 +95,10 @@ extern "C" {
         name_len: usize, out: *mut LookUp) -> u32;
     fn xmas_elf_look_ups(input: *const u8, input_len: usize, header: *const Header, section: u64, names: *const u8,
         names_len: usize, ranges: *const Range, ranges_len: usize, out: *mut Answer, out_len: usize);
+    fn xmas_elf_hash_open(input: *const u8, input_len: usize, header: *const Header, section: u64,
+        out: *mut GnuTable) -> u32;
+    fn xmas_elf_hash_look_up_of(input: *const u8, input_len: usize, table: *const GnuTable, name: *const u8,
+        name_len: usize, out: *mut LookUp) -> u32;
     fn xmas_elf_check_hash(input: *const u8, input_len: usize, header: *const Header, section: u64) -> u32;
     fn xmas_elf_gnu_look_up(input: *const u8, input_len: usize, header: *const Header, section: u64, name: *const u8,
         name_len: usize, out: *mut LookUp) -> u32;
@@ -347,9 +353,9 @@ pub(crate) fn symbols_open(input: &[u8], header: &Header, section: u64) -> Resul
     answered(status, out)
 }
 
-/// The symbol at an index of a table that was found, as `symbol` answers it for the section. Any table may be given:
-/// each call compares its range with the input, and `count` is not read. `DataRange` is for symbols that do not lie
-/// in the input. The call is refused with (in the order of the tests) `DataRange`, `NoRecord`.
+/// The symbol at an index of a table that was found, as `symbol` or `dynamic_symbols` answers it. Any table may be
+/// given: each call compares its range with the input, and `count` is not read. `DataRange` is for symbols that do
+/// not lie in the input. The call is refused with (in the order of the tests) `DataRange`, `NoRecord`.
 pub(crate) fn symbol_of(input: &[u8], table: &SymbolTable, index: u64) -> Result<Entry, Error> {
     let mut out = Entry::default();
     // SAFETY: see the head of this file.
@@ -357,10 +363,11 @@ pub(crate) fn symbol_of(input: &[u8], table: &SymbolTable, index: u64) -> Result
     answered(status, out)
 }
 
-/// The range of the name of the symbol at an index of a table that was found, as `symbol_names` answers it for the
-/// section. Any table may be given. After `symbol_of` the call is refused with `strings_status`, where that is not 0,
-/// and then with `DataRange` for a string table that does not lie in the input. The call is refused with (in the
-/// order of the tests) `DataRange`, `NoRecord`, `TextStart`, `TextEnd`, `TextUtf8`.
+/// The range of the name of the symbol at an index of a table that was found, as `symbol_names` or
+/// `dynamic_symbol_names` answers it. Any table may be given. After `symbol_of` the call is refused with
+/// `strings_status`, where that is not 0, and then with `DataRange` for a string table that does not lie in the
+/// input. The call is refused with (in the order of the tests) `DataRange`, `NoRecord`, `TextStart`, `TextEnd`,
+/// `TextUtf8`.
 pub(crate) fn symbol_name_of(input: &[u8], table: &SymbolTable, index: u64) -> Result<Range, Error> {
     let mut out = Range::default();
     // SAFETY: see the head of this file.
@@ -523,6 +530,18 @@ pub(crate) fn dynamic_symbol_names(input: &[u8], header: &Header, first: u64,
     answered(status, count)
 }
 
+/// Finds the symbols of the dynamic segment and the string table of their names, as `dynamic_symbols` and
+/// `dynamic_symbol_names` do, once for many calls of `symbol_of` and `symbol_name_of`. It needs no section headers.
+/// Where the string table is refused, the call is OK, and `strings_status` says why. The call is refused with (in the
+/// order of the tests) `LinkNoDynamic`, `DataRange`, `NotMultiple`, `LinkNoEntry`, `LinkAddress`, `ShortData`,
+/// `LinkShortTable`, `LinkBloomCount`, `LinkChainIndex`, `LinkChainData`, `LinkSymbolIndex`.
+pub(crate) fn dynamic_symbols_open(input: &[u8], header: &Header) -> Result<SymbolTable, Error> {
+    let mut out = SymbolTable::default();
+    // SAFETY: see the head of this file.
+    let status = unsafe { xmas_elf_dynamic_symbols_open(input.as_ptr(), input.len(), header, &mut out) };
+    answered(status, out)
+}
+
 /// The versions of the symbols of the dynamic segment (DT_VERSYM) from index `first` on, each with a status of its
 /// own: the first definition with the symbol's number but for the one that names the file, and else the first need
 /// with it. The call gives as many versions as `dynamic_symbols` gives symbols. `NotFound` is for a file whose
@@ -615,6 +634,30 @@ pub(crate) fn look_ups(input: &[u8], header: &Header, section: u64, names: &[u8]
         ranges.as_ptr(), ranges.len(), out.as_mut_ptr(), out.len()) }
 }
 
+/// Finds the hash table that is a section of type SHT_HASH, and the symbols of the section of type SHT_DYNSYM that it
+/// is linked to, once for many calls of `hash_look_up_of`. Where the string table `.dynstr` is refused, the call is
+/// OK, no symbol has a name, and `strings_status` says why. The call is refused with (in the order of the tests)
+/// `ShortSectionHeader`, `UnknownClass`, `SmallEntry`, `InvalidShType`, `DataRange`, `NotMultiple`, `Note32`,
+/// `ShortData`, `OtherData`.
+pub(crate) fn hash_open(input: &[u8], header: &Header, section: u64) -> Result<GnuTable, Error> {
+    let mut out = GnuTable::default();
+    // SAFETY: see the head of this file.
+    let status = unsafe { xmas_elf_hash_open(input.as_ptr(), input.len(), header, section, &mut out) };
+    answered(status, out)
+}
+
+/// Looks a name up in a table that `hash_open` found, as `look_up` does in its section. Any table may be given: each
+/// call compares its ranges with the input, and does not read the count of its symbols. `symbol_of` gives the symbol,
+/// by the `symbols` of the table. The call is refused with (in the order of the tests) `TextUtf8`, `DataRange`,
+/// `ShortData`, `NotMultiple`, `HashData`, `ChainIndex`, `SymbolIndex`, `ChainSum`, `HashCycle`.
+pub(crate) fn hash_look_up_of(input: &[u8], table: &GnuTable, name: &[u8]) -> Result<LookUp, Error> {
+    let mut out = LookUp::default();
+    // SAFETY: see the head of this file.
+    let status = unsafe { xmas_elf_hash_look_up_of(input.as_ptr(), input.len(), table, name.as_ptr(), name.len(), &mut
+        out) };
+    answered(status, out)
+}
+
 /// Checks a hash table of type SHT_HASH: where it is OK, no look-up is refused for the table, and each finds a symbol
 /// where one that is not local has the name. Call it once before many look-ups. A table that was made to be slow
 /// takes a few nanoseconds times the product of its buckets and chains. The call is refused with (in the order of the
@@ -650,11 +693,10 @@ pub(crate) fn gnu_look_ups(input: &[u8], header: &Header, section: u64, names: &
         ranges.as_ptr(), ranges.len(), out.as_mut_ptr(), out.len()) }
 }
 
-/// Finds GNU's hash table of a section of type 0x6ffffff6 (SHT_GNU_HASH), and the symbols of the section of type
-/// SHT_DYNSYM that it is linked to, once for many calls of `gnu_look_up_of`. Where the string table `.dynstr` is
-/// refused, the call is OK, no symbol has a name, and `strings_status` says why. The call is refused with (in the
-/// order of the tests) `ShortSectionHeader`, `UnknownClass`, `SmallEntry`, `OtherData`, `DataRange`,
-/// `LinkShortTable`, `LinkBloomCount`, `InvalidShType`, `NotMultiple`, `Note32`, `ShortData`.
+/// Finds GNU's hash table of a section of type 0x6ffffff6 (SHT_GNU_HASH), once for many calls of `gnu_look_up_of`;
+/// else as `hash_open`. The call is refused with (in the order of the tests) `ShortSectionHeader`, `UnknownClass`,
+/// `SmallEntry`, `OtherData`, `DataRange`, `LinkShortTable`, `LinkBloomCount`, `InvalidShType`, `NotMultiple`,
+/// `Note32`, `ShortData`.
 pub(crate) fn gnu_open(input: &[u8], header: &Header, section: u64) -> Result<GnuTable, Error> {
     let mut out = GnuTable::default();
     // SAFETY: see the head of this file.
@@ -662,10 +704,9 @@ pub(crate) fn gnu_open(input: &[u8], header: &Header, section: u64) -> Result<Gn
     answered(status, out)
 }
 
-/// Looks a name up in a table that was found, as `gnu_look_up` does in its section. Any table may be given: each call
-/// compares its ranges with the input, and does not read the count of its symbols. `symbol_of` gives the symbol, by
-/// the `symbols` of the table. The call is refused with (in the order of the tests) `TextUtf8`, `DataRange`,
-/// `LinkShortTable`, `LinkBloomCount`, `NotMultiple`, `LinkChainIndex`, `LinkSymbolIndex`, `LinkChainData`.
+/// Looks a name up in a table that `gnu_open` found, as `gnu_look_up` does in its section; else as `hash_look_up_of`.
+/// The call is refused with (in the order of the tests) `TextUtf8`, `DataRange`, `LinkShortTable`, `LinkBloomCount`,
+/// `NotMultiple`, `LinkChainIndex`, `LinkSymbolIndex`, `LinkChainData`.
 pub(crate) fn gnu_look_up_of(input: &[u8], table: &GnuTable, name: &[u8]) -> Result<LookUp, Error> {
     let mut out = LookUp::default();
     // SAFETY: see the head of this file.

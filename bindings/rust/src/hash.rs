@@ -15,6 +15,11 @@ pub struct HashTable<'f, 'a> {
     gnu: bool,
 }
 
+/// The gABI's hash table of a section with its symbols, found once: what [`HashTable::sysv_table`] gives, and
+/// [`ElfFile::hash_look_up_of`] takes.
+#[derive(Clone, Copy, Debug, PartialEq, Eq)]
+pub struct SysvTable(pub(crate) GnuTable);
+
 impl<'f, 'a> HashTable<'f, 'a> {
     pub(crate) fn new(file: &'f ElfFile<'a>, section: u64, header: &SectionHeader) -> Option<HashTable<'f, 'a>> {
         let gnu = header.type_ == SHT_GNU_HASH;
@@ -45,6 +50,11 @@ impl<'f, 'a> HashTable<'f, 'a> {
         } else {
             ffi::look_up(input, header, self.section, name.as_bytes())
         }
+    }
+
+    /// The gABI's table with its symbols, found once for many calls of [`ElfFile::hash_look_up_of`]. Refused for GNU's.
+    pub fn sysv_table(&self) -> Result<SysvTable, Error> {
+        ffi::hash_open(self.file.input, &self.file.header, self.section).map(SysvTable)
     }
 
     /// GNU's table with its symbols, found once for many calls of [`ElfFile::gnu_look_up_of`]. Refused for the gABI's.

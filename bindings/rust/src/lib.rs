@@ -54,7 +54,7 @@ mod versions;
 use batch::Batch;
 use constants::{DT_RPATH, DT_RUNPATH, DT_SONAME};
 pub use error::Error;
-pub use hash::HashTable;
+pub use hash::{HashTable, SysvTable};
 pub use items::{Note, Notes, Section, Sections, Segment};
 pub use message::Message;
 pub use records::Range as ByteRange;
@@ -218,8 +218,14 @@ impl<'a> ElfFile<'a> {
         ffi::dynamic_symbol_names(self.input, &self.header, first, out).map(|count| count as usize)
     }
 
-    /// The symbol at an index of a table that [`Section::symbol_table`] found in this file. It costs less than
-    /// [`Section::symbol`], which finds the table in each call.
+    /// The symbols of the dynamic segment, found once for many calls of [`ElfFile::symbol_of`]. It needs no section
+    /// header.
+    pub fn dynamic_symbol_table(&self) -> Result<SymbolTable, Error> {
+        ffi::dynamic_symbols_open(self.input, &self.header)
+    }
+
+    /// The symbol at an index of a table that [`Section::symbol_table`] or [`ElfFile::dynamic_symbol_table`] found in this
+    /// file. It costs less than [`Section::symbol`], which finds the table in each call.
     pub fn symbol_of(&self, table: &SymbolTable, index: u64) -> Result<Entry, Error> {
         ffi::symbol_of(self.input, table, index)
     }
@@ -229,8 +235,13 @@ impl<'a> ElfFile<'a> {
         Ok(self.text(ffi::symbol_name_of(self.input, table, index)?))
     }
 
-    /// What a look-up for a name says, in a table that [`HashTable::gnu_table`] found in this file. It costs less than
+    /// What a look-up for a name says, in a table that [`HashTable::sysv_table`] found in this file. It costs less than
     /// [`HashTable::look_up_counted`], which finds the table in each call.
+    pub fn hash_look_up_of(&self, table: &SysvTable, name: &str) -> Result<LookUp, Error> {
+        ffi::hash_look_up_of(self.input, &table.0, name.as_bytes())
+    }
+
+    /// The same in a table that [`HashTable::gnu_table`] found in this file.
     pub fn gnu_look_up_of(&self, table: &GnuTable, name: &str) -> Result<LookUp, Error> {
         ffi::gnu_look_up_of(self.input, table, name.as_bytes())
     }

@@ -140,7 +140,8 @@ pub struct Entry {
     pub other: u8,
 }
 
-/// The symbols of a section, found once: the numbers that `symbols_open` fills, and that other calls take back.
+/// Symbols found once: the numbers that `symbols_open` or `dynamic_symbols_open` fills, and that other calls take
+/// back.
 #[repr(C)]
 #[derive(Clone, Copy, Debug, Default, PartialEq, Eq)]
 pub struct SymbolTable {
@@ -224,8 +225,8 @@ pub struct Answer {
     pub(crate) looked_at: u32,
 }
 
-/// GNU's hash table of a section with its symbols, found once: the numbers that `gnu_open` fills, and that
-/// `gnu_look_up_of` takes back.
+/// A hash table of a section with its symbols, found once: the numbers that `gnu_open` fills, and that
+/// `gnu_look_up_of` takes back; and those of `hash_open` for `hash_look_up_of`.
 #[repr(C)]
 #[derive(Clone, Copy, Debug, Default, PartialEq, Eq)]
 pub struct GnuTable {

@@ -179,6 +179,15 @@ fn symbols_of_the_dynamic_segment() {
     assert_eq!((last, last_name), ([wanted[count - 1], Entry::default()], [wanted_names[count - 1], Name::default()]));
     assert_eq!(ffi::dynamic_symbols(&input, &cut, count as u64, &mut last), Err(Error::NoRecord));
     assert_eq!(ffi::dynamic_symbol_names(&input, &cut, count as u64, &mut last_name), Err(Error::NoRecord));
+    let table = ffi::dynamic_symbols_open(&input, &cut).expect("symbols");
+    assert_eq!((table.count, table.strings_status), (count as u64, 0));
+    for (index, (symbol, name)) in (0..).zip(wanted.iter().zip(&wanted_names)).take(count) {
+        assert_eq!(ffi::symbol_of(&input, &table, index), Ok(*symbol));
+        assert_eq!(ffi::symbol_name_of(&input, &table, index), name.range());
+    }
+    assert_eq!(ffi::symbol_of(&input, &table, count as u64), Err(Error::NoRecord));
+    assert_eq!(ffi::dynamic_symbols_open(&[], &cut), Err(Error::LinkNoDynamic));
+    assert_eq!(crate::ElfFile::new(&input).and_then(|file| file.dynamic_symbol_table()), Ok(table));
 }
 
 #[test]
@@ -292,6 +301,33 @@ fn look_ups_of_a_table() {
     assert_eq!(ffi::gnu_look_up_of(&input, &GnuTable { table: short, ..table }, b"main"), Err(Error::LinkShortTable));
     let apart = SymbolTable { symbols: Range { size: 25, ..table.symbols.symbols }, ..table.symbols };
     assert_eq!(ffi::gnu_look_up_of(&input, &GnuTable { symbols: apart, ..table }, b"main"), Err(Error::NotMultiple));
+}
+
+#[test]
+fn look_ups_of_a_table_of_the_standard() {
+    let input = whole();
+    let header = ffi::open(&input).expect("an ELF file");
+    let section = section_of_type(&input, &header, SHT_GNU_HASH).0;
+    // The linker makes no table of this kind.
+    assert_eq!(ffi::hash_open(&input, &header, section), Err(Error::OtherData));
+    // So here is one behind the file, with the symbols in a single chain.
+    let found = ffi::gnu_open(&input, &header, section).expect("a hash table");
+    let count = found.symbols.count as u32;
+    let words = [1, count, 1, 0].into_iter().chain((1..count).map(|index| (index + 1) % count));
+    let longer: Vec<u8> = input.iter().copied().chain(words.flat_map(u32::to_le_bytes)).collect();
+    let table = GnuTable { table: Range { offset: input.len() as u64, size: (longer.len() - input.len()) as u64 }, ..found };
+    let name_of = |index: u32| ffi::symbol_name_of(&longer, &table.symbols, index.into()).map(|name| name.bytes_in(&longer));
+    for name in (1..count).filter_map(|index| name_of(index).ok()) {
+        let said = ffi::hash_look_up_of(&longer, &table, name).expect("not refused");
+        assert_eq!((said.found, name_of(said.index)), (1, Ok(name)));
+    }
+    assert_eq!(ffi::hash_look_up_of(&longer, &table, b"no_such_name").map(|said| (said.found, said.looked_at)), Ok((0, count - 1)));
+    assert_eq!(ffi::hash_look_up_of(&longer, &table, b"\xff"), Err(Error::TextUtf8));
+    assert_eq!(ffi::hash_look_up_of(&input, &table, b"main"), Err(Error::DataRange));
+    let short = Range { size: 11, ..table.table };
+    assert_eq!(ffi::hash_look_up_of(&longer, &GnuTable { table: short, ..table }, b"main"), Err(Error::ShortData));
+    let cut = Range { size: table.table.size - 4, ..table.table };
+    assert_eq!(ffi::hash_look_up_of(&longer, &GnuTable { table: cut, ..table }, b"no_such_name"), Err(Error::HashData));
 }
 
 #[test]

@@ -123,8 +123,9 @@ fn visit_versions(file: &ElfFile<'_>) {
     let mut many = [Version::default(); 7];
     let count = file.dynamic_symbol_versions_from(3, &mut many).unwrap_or(0);
     assert!(file.dynamic_symbol_versions().skip(3).take(7).eq(many[..count].iter().map(|one| file.version_of(one))));
-    let symbols = file.dynamic_symbols_from(3, &mut [Entry::default(); 7]).unwrap_or(0);
-    assert!(count == 0 || count == symbols);
+    // The symbols themselves may be refused.
+    let symbols = file.dynamic_symbols_from(3, &mut [Entry::default(); 7]);
+    assert!(count == 0 || symbols.map_or(true, |symbols| symbols == count));
     let count = file.version_definitions_from(1, &mut many).unwrap_or(0);
     assert!(file.version_definitions().skip(1).take(7).eq(many[..count].iter().map(|one| file.version_of(one))));
     let count = file.version_needs_from(1, &mut many).unwrap_or(0);

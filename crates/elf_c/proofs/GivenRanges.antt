@@ -31,6 +31,15 @@ given P answer old status new has gave zero = gives error_number P answer old st
 pub given_here : {T : Type 0} (P : T → Type 0) (answer : Result T Refusal) (old : T) (status : ℕ) (new : T) → IfOk answer P → GivesHere answer old status new → status ≡ 0 → P new
 given_here P answer old status new has gave zero = gives refusal_number P answer old status new refusal_above has gave zero
 
+-- the record of a call that was not refused has each property of what its value is in the file
+pub given_in : {T : Type 0} (P : ElfFile → T → Type 0) (Is : ElfFile → Result T Refusal → Type 0) (file known : ElfFile) (answer : Result T Refusal) (old : T) (status : ℕ) (new : T) → ((value : T) → Is file (Ok value) → P file value) → file ≡ known → Is file answer → GivesHere answer old status new → status ≡ 0 → P known new
+given_in {T} P Is file known answer old status new has same is gave zero =
+    subst (λ f. P f new) same (given_here (P file) answer old status new (by_answer answer is) gave zero)
+  where
+    by_answer : (found : Result T Refusal) → Is file found → IfOk found (P file)
+    by_answer (Ok value) here = has value here
+    by_answer (Err why) here = tt
+
 pub given_range : (file known : ElfFile) (answer : Result Range ElfError) (old : Range) (status : ℕ) (new : Range) → file ≡ known → IfOk answer (LiesIn file.input.now) → Gives answer old status new → status ≡ 0 → LiesIn known.input.now new
 given_range file known answer old status new same has gave zero = subst (λ f. LiesIn f.input.now new) same (given (LiesIn file.input.now) answer old status new has gave zero)
 

@@ -13,5 +13,10 @@ pub mod GivenRanges
 pub mod VersionRecords
 pub mod FoundSymbols
 pub mod OpenedSymbols
+pub mod Alike
+pub mod RenamedRuns
+pub mod RenamedChains
 pub mod RenamedLooks
-pub mod OpenedGnu
+pub mod OpenedTables
+pub mod OpenedDynamics
+pub mod OpenedFound

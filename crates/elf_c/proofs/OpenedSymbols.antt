@@ -12,7 +12,7 @@ use Rattle.elf_base.specs.declared.error.ElfError.{ElfError}
 use Rattle.elf_base.specs.declared.error.ElfError.TheVariants.{Note32, NotMultiple, ShortData, UnknownClass}
 use Rattle.elf_records.specs.Note.{note_header}
 use Rattle.elf_records.specs.declared.sections.ShType.TheVariants as sh_type
-use Rattle.xmas_elf.specs.Content.{Content, TableKind, by_class, dyn_symbols_32, dyn_symbols_64, dynamic_32, dynamic_64, empty, functions_32, functions_64, group, hash_table, note_64, record_size, rel_32, rel_64, rela_32, rela_64, section_indices, symbols_32, symbols_64, table_of, whole_table}
+use Rattle.xmas_elf.specs.Content.{Content, TableKind, by_class, dyn_symbols_32, dyn_symbols_64, dynamic_32, dynamic_64, empty, functions_32, functions_64, group, hash_table, hash_table_content, note_64, record_size, rel_32, rel_64, rela_32, rela_64, section_indices, symbols_32, symbols_64, table_of, whole_table}
 use Rattle.xmas_elf.specs.Prelude.{ShType}
 use Rattle.xmas_elf.specs.Ranges.{range_of}
 use Rattle.xmas_elf.specs.SectionContent.{content_in, content_of_section, has_no_bytes, section_content_of}
@@ -21,7 +21,7 @@ use Rattle.xmas_elf.specs.Symbol.{SymbolFields, dyn_entry_32, dyn_entry_32_field
 use Rattle.xmas_elf.specs.declared.ElfFile.{ElfFile}
 use Rattle.xmas_elf.specs.declared.sections.section_header.SectionHeader.{SectionHeader}
 use Rattle.elf_c.specs.Records.{found_in, name_answer, range_at, taken_for, text_range}
-use Rattle.elf_c.specs.Status.{GivesBy, GivesHere, and_so, refusal_number}
+use Rattle.elf_c.specs.Status.{GivesBy, and_so, refusal_number}
 use Rattle.elf_c.specs.SymbolTables.{count_in, name_by, range_or_status, symbol_among, symbol_by, table_if, table_of_section, table_with}
 use Rattle.elf_c.specs.Symbols.{linked_range, symbol_at, symbol_in, symbol_name, symbol_name_at, symbol_record}
 use Rattle.elf_c.specs.declared.names.Name.{Name}
@@ -29,7 +29,6 @@ use Rattle.elf_c.specs.declared.names.Range.{Range}
 use Rattle.elf_c.specs.declared.status.Refusal.{Refusal}
 use Rattle.elf_c.specs.declared.symbol_tables.SymbolTable.{SymbolTable}
 use Rattle.elf_c.specs.declared.symbols.Symbol.{Symbol}
-use Rattle.elf_c.proofs.GivenRanges.{given_here}
 use Rattle.elf_c.proofs.Statuses.{error_above}
 
 -- records that are decoded to the same values
@@ -45,7 +44,7 @@ module _ {A B T : Type 0} (size : ℕ) (f : List ℕ → A) (h : List ℕ → B)
   found_as bytes index = first_as (length bytes / size) bytes index
 
 -- there is a record at each index below their number
-found_below : {A T : Type 0} (value : A → T) (items : List A) (index : ℕ) → IsOk (found_in value items index) ↔ (index < length items)
+pub found_below : {A T : Type 0} (value : A → T) (items : List A) (index : ℕ) → IsOk (found_in value items index) ↔ (index < length items)
 found_below value [] index = (λ ok. absurd (let no : false ≡ true = ok in cc), λ below. absurd (omega (arith, below)))
 found_below value (item ∷ items) zero = (λ ok. omega arith, λ below. refl)
 found_below value (item ∷ items) (suc i) =
@@ -54,7 +53,7 @@ found_below value (item ∷ items) (suc i) =
       λ below. later.1 (omega (arith, below)),
     )
 
--- contents that are symbols were read from these bytes, in the layout of the class
+-- contents that are symbols or a hash table were read from these bytes, in the layout of the class
 abbrev pub IsWhole : ℕ → Bool → ℕ → Order → List ℕ → Order → List ℕ → Type 0
 IsWhole size narrow class order bytes own all =
     ((class == 1) ≡ narrow) × (own ≡ order) × (all ≡ bytes) × ((length bytes % size == 0) ≡ true) × ((class == (if narrow then 1 else 2)) ≡ true)
@@ -64,6 +63,7 @@ AreRead class order bytes (table_of symbols_32 own all) = IsWhole 16 true class 
 AreRead class order bytes (table_of symbols_64 own all) = IsWhole 24 false class order bytes own all
 AreRead class order bytes (table_of dyn_symbols_32 own all) = IsWhole 16 true class order bytes own all
 AreRead class order bytes (table_of dyn_symbols_64 own all) = IsWhole 24 false class order bytes own all
+AreRead class order bytes (hash_table own all) = hash_table_content order bytes ≡ Ok (hash_table own all)
 AreRead class order bytes _ = Unit {0}
 
 unless_ok : (P : Content → Type 0) (rows : List (Bool × ElfError)) (content : Content) → P content → IfOk (unless rows content) P
@@ -92,6 +92,13 @@ read_by_class narrow wide class order bytes first second = by_tests (class == 1)
     by_tests false true is also = whole_read wide class order bytes (second is also)
     by_tests false false is also = tt
 
+hash_read : (class : ℕ) (order : Order) (bytes : List ℕ) → IfOk (hash_table_content order bytes) (AreRead class order bytes)
+hash_read class order bytes = by_test (nat_lt (length bytes) 12) refl
+  where
+    by_test : (short : Bool) → nat_lt (length bytes) 12 ≡ short → IfOk (if short then Err ShortData else Ok (hash_table order bytes)) (AreRead class order bytes)
+    by_test true is = tt
+    by_test false is = ap (λ (b : Bool). if b then Err ShortData else Ok (hash_table order bytes)) is
+
 read_by_type : (kind : ShType) (class : ℕ) (order : Order) (bytes : List ℕ) → IfOk (content_of_section kind class order bytes) (AreRead class order bytes)
 read_by_type sh_type.SymTab class order bytes = read_by_class symbols_32 symbols_64 class order bytes (λ is whole. (is, refl, refl, whole, is)) (λ is also whole. (is, refl, refl, whole, also))
 read_by_type sh_type.DynSym class order bytes = read_by_class dyn_symbols_32 dyn_symbols_64 class order bytes (λ is whole. (is, refl, refl, whole, is)) (λ is also whole. (is, refl, refl, whole, also))
@@ -104,18 +111,18 @@ read_by_type sh_type.Dynamic class order bytes = read_by_class dynamic_32 dynami
 read_by_type sh_type.SymTabShIndex class order bytes = unless_ok (AreRead class order bytes) ((not (length bytes % record_size section_indices == 0), NotMultiple) ∷ []) (table_of section_indices order bytes) tt
 read_by_type sh_type.Group class order bytes = unless_ok (AreRead class order bytes) ((nat_lt (length bytes) 4, ShortData) ∷ (not (length (drop 4 bytes) % 4 == 0), NotMultiple) ∷ []) (group (number order 4 0 bytes) order (drop 4 bytes)) tt
 read_by_type sh_type.Note class order bytes = unless_ok (AreRead class order bytes) ((class == 1, Note32) ∷ (not (class == 2), UnknownClass) ∷ (nat_lt (length bytes) 12, ShortData) ∷ []) (note_64 (note_header order (take 12 bytes)) (drop 12 bytes)) tt
-read_by_type sh_type.Hash class order bytes = unless_ok (AreRead class order bytes) ((nat_lt (length bytes) 12, ShortData) ∷ []) (hash_table order bytes) tt
+read_by_type sh_type.Hash class order bytes = hash_read class order bytes
 read_by_type _ class order bytes = tt
 
--- contents with symbols were read from the range of their section
+-- contents that are not empty were read from the range of their section
 pub record AreReadIn (file : ElfFile) (header : SectionHeader) (content : Content) : Type 0 where
   pub bytes : List ℕ
   pub in_range : range_of file.input.now (section_fields header).offset (section_fields header).size ≡ Ok bytes
   pub are_read : AreRead (file_class file.header) (file_order file.header) bytes content
 
-pub section_read : (file : ElfFile) (header : SectionHeader) (content : Content) (count : ℕ) → section_content_of file header ≡ Ok content → count_in content ≡ Ok count → AreReadIn file header content
+pub content_read : (file : ElfFile) (header : SectionHeader) (content : Content) → (empty ≡ content → ⊥) → section_content_of file header ≡ Ok content → AreReadIn file header content
 unfolding section_content_of
-section_read file header content count is counted = by_type (section_type header) is
+content_read file header content filled is = by_type (section_type header) is
   where
     by_content : (bytes : List ℕ) (found : Result Content ElfError) → IfOk found (AreRead (file_class file.header) (file_order file.header) bytes) → found ≡ Ok content → AreRead (file_class file.header) (file_order file.header) bytes content
     by_content bytes (Ok other) has same = let one : other ≡ content = cc in subst (AreRead (file_class file.header) (file_order file.header) bytes) one has
@@ -129,16 +136,22 @@ section_read file header content count is counted = by_type (section_type header
       are_read = by_content bytes (content_of_section kind (file_class file.header) (file_order file.header) bytes) (read_by_type kind (file_class file.header) (file_order file.header) bytes) same;
     }
 
-    no_count : count_in empty ≡ Ok count → ⊥
-    no_count same = cc
-
     by_bytes : (kind : ShType) (none : Bool) → (if none then Ok empty else and_then (range_of file.input.now (section_fields header).offset (section_fields header).size) (content_of_section kind (file_class file.header) (file_order file.header))) ≡ Ok content → AreReadIn file header content
-    by_bytes kind true same = let one : empty ≡ content = cc in absurd (no_count (subst (λ c. count_in c ≡ Ok count) (sym one) counted))
+    by_bytes kind true same = let none : empty ≡ content = cc in absurd (filled none)
     by_bytes kind false same = by_range kind (range_of file.input.now (section_fields header).offset (section_fields header).size) refl same
 
     by_type : (kind : Result ShType ElfError) → and_then kind (content_in file header) ≡ Ok content → AreReadIn file header content
     by_type (Err error) same = absurd (cc)
     by_type (Ok kind) same = by_bytes kind (has_no_bytes kind) same
+
+pub section_read : (file : ElfFile) (header : SectionHeader) (content : Content) (count : ℕ) → section_content_of file header ≡ Ok content → count_in content ≡ Ok count → AreReadIn file header content
+section_read file header content count is counted = content_read file header content filled is
+  where
+    no_count : count_in empty ≡ Ok count → ⊥
+    no_count same = cc
+
+    filled : empty ≡ content → ⊥
+    filled none = no_count (subst (λ c. count_in c ≡ Ok count) (sym none) counted)
 
 -- the symbol at an index of such contents, for values that are the same
 module _ {T : Type 0} (value wanted : SymbolFields → T) (same : (fields : SymbolFields) → value fields ≡ wanted fields) (class : ℕ) (order : Order) (bytes : List ℕ) (index : ℕ) where
@@ -327,12 +340,3 @@ given_numbered P (Err why) old status new has above gave none = absurd (omega (a
 pub ok_of : {T : Type 0} (answer known : Result T ℕ) → answer ≡ known → IfOk answer (λ value. known ≡ Ok value)
 ok_of (Ok value) known is = sym is
 ok_of (Err why) known is = tt
-
--- the record of a call with status 0 has the property of each record of the section
-pub given_table : (P : ElfFile → SymbolTable → Type 0) (file known : ElfFile) (section : ℕ) (answer : Result SymbolTable Refusal) (old new : SymbolTable) (status : ℕ) → ((table : SymbolTable) → table_of_section file section ≡ Ok table → P file table) → file ≡ known → answer ≡ table_of_section file section → GivesHere answer old status new → status ≡ 0 → P known new
-given_table P file known section answer old new status has same is gave none =
-    subst (λ f. P f new) same (given_here (P file) answer old status new (by_answer answer is) gave none)
-  where
-    by_answer : (found : Result SymbolTable Refusal) → found ≡ table_of_section file section → IfOk found (P file)
-    by_answer (Ok table) made = has table (sym made)
-    by_answer (Err why) made = tt

@@ -44,7 +44,7 @@ stored_lie input value items first old answer new fills has =
     (λ i x is. found_has (λ name. LiesIn input name.range) value (slice_get items i) x has is) fills
 
 -- a text lies in the part that it is read from
-part_within : (input : List ℕ) (start count : ℕ) (part : List ℕ) → range_of input start count ≡ Ok part → (start + count ≤ length input) × (length part ≡ count)
+pub part_within : (input : List ℕ) (start count : ℕ) (part : List ℕ) → range_of input start count ≡ Ok part → (start + count ≤ length input) × (length part ≡ count)
 part_within input start count part is = by_test (nat_lt (length input) (start + count)) refl is
   where
     by_test : (b : Bool) → nat_lt (length input) (start + count) ≡ b → (if b then Err DataRange else Ok (take count (drop start input))) ≡ Ok part → (start + count ≤ length input) × (length part ≡ count)

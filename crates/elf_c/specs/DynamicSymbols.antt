@@ -1,18 +1,21 @@
 -- The symbols of the dynamic segment, which is found without section headers (gABI, "Dynamic Section": DT_SYMTAB,
 -- and "Symbol Table"; their number is that of a hash table: "Hash Table", nchain, and the convention of GNU
 -- binutils and glibc).
-use Rattle.std.specs.Prelude.{◌≡◌, ℕ, ◌==◌, List, Result, Ok, Err, if◌then◌else◌}
-use Rattle.elf_base.specs.FileHeader.{file_class, file_order}
+use Rattle.std.specs.Prelude.{◌≡◌, ℕ, ◌*◌, ◌==◌, List, Option, None, Some, Result, Ok, Err, if◌then◌else◌}
+use Rattle.elf_base.specs.FileHeader.{encoding_number, file_class, file_order}
 use Rattle.elf_base.specs.Table.{records}
 use Rattle.elf_base.specs.declared.bytes.Order.{Order}
-use Rattle.elf_linking.specs.DynamicView.{AreSymbols, IsSymbolCount, dynamic_entries_of}
+use Rattle.elf_linking.specs.DynamicView.{AreSymbols, IsSymbolCount, dynamic_entries_of, number_with}
 use Rattle.elf_linking.specs.declared.error.LinkError.{LinkError}
+use Rattle.elf_linking.specs.declared.error.LinkError.TheVariants.{NoEntry}
 use Rattle.elf_linking.specs.declared.view.entry.DynamicEntry.{DynamicEntry}
 use Rattle.elf_linking.specs.declared.view.linked_entry.Linked.{Linked}
+use Rattle.elf_linking.specs.declared.view.tags.TheConstants.{DT_SYMTAB}
 use Rattle.xmas_elf.specs.Symbol.{SymbolFields, dyn_entry_32, dyn_entry_32_fields, dyn_entry_64, dyn_entry_64_fields}
 use Rattle.xmas_elf.specs.declared.ElfFile.{ElfFile}
 use Rattle.xmas_elf.specs.declared.symbol_table.entries.DynEntry32.{DynEntry32}
 use Rattle.xmas_elf.specs.declared.symbol_table.entries.DynEntry64.{DynEntry64}
+use Rattle.elf_c.specs.Addresses.{range_at_address}
 use Rattle.elf_c.specs.Batch.{Fills}
 use Rattle.elf_c.specs.DynamicTexts.{linked_name, range_in_strings, strings_range}
 use Rattle.elf_c.specs.Records.{found_in}
@@ -20,6 +23,7 @@ use Rattle.elf_c.specs.declared.names.Name.{Name}
 use Rattle.elf_c.specs.declared.names.Range.{Range}
 use Rattle.elf_c.specs.declared.status.Refusal.{Refusal}
 use Rattle.elf_c.specs.declared.status.Refusal.TheVariants.{Link}
+use Rattle.elf_c.specs.declared.symbol_tables.SymbolTable.{SymbolTable}
 
 -- the number of symbols by the entries, or why there is none
 abbrev pub IsCountBy : ElfFile → Result (List (DynamicEntry ℕ)) LinkError → Result ℕ LinkError → Type 0
@@ -76,3 +80,37 @@ strings_by file (Err error) = Err (Link error)
 abbrev pub dynamic_symbol_name : ElfFile → SymbolFields → Name
 dynamic_symbol_name file fields =
     linked_name (range_in_strings file.input.now (strings_by file (dynamic_entries_of file)) fields.name)
+
+-- the record of a number of symbols in a range, with the range of the string table, or the error for it
+abbrev pub segment_table : ElfFile → Result Range Refusal → ℕ → Range → SymbolTable
+segment_table file strings count range = record {
+  symbols = range;
+  strings = (linked_name strings).range;
+  count = count;
+  strings_status = (linked_name strings).status;
+  class = file_class file.header;
+  encoding = encoding_number file.header.pt1.encoding;
+}
+
+-- the record of a number of symbols in the range, if there is one
+abbrev pub table_in_range : ElfFile → Result Range Refusal → ℕ → Result Range Refusal → Result SymbolTable Refusal
+table_in_range file strings count (Ok range) = Ok (segment_table file strings count range)
+table_in_range file strings count (Err why) = Err why
+
+-- the record of a number of symbols at an address, or why there are none
+abbrev pub table_at_address : ElfFile → Result Range Refusal → Result ℕ LinkError → Option ℕ → Result SymbolTable Refusal
+table_at_address file strings (Err error) address = Err (Link error)
+table_at_address file strings (Ok count) None = Err (Link NoEntry)
+table_at_address file strings (Ok count) (Some address) =
+    table_in_range file strings count (range_at_address file address (count * symbol_size file))
+
+-- the record of the symbols of the entries, with their number
+abbrev pub table_by : ElfFile → Result (List (DynamicEntry ℕ)) LinkError → Result ℕ LinkError → Result SymbolTable Refusal
+table_by file (Ok entries) count =
+    table_at_address file (strings_range file entries) count (number_with DT_SYMTAB entries)
+table_by file (Err error) count = Err (Link error)
+
+-- the result is the record of the symbols of a file's dynamic segment, or why there are none
+abbrev pub IsSegmentTable : ElfFile → Result SymbolTable Refusal → Type 0
+IsSegmentTable file answer = (count : Result ℕ LinkError)
+    × IsDynamicCount file count × (answer ≡ table_by file (dynamic_entries_of file) count)

@@ -16,6 +16,6 @@ pub mod Batch
 pub mod HashTables
 pub mod Lookup
 pub mod LookUps
-pub mod GnuTables
+pub mod OpenedTables
 pub mod Versions
 pub mod FoundSymbols

@@ -1,28 +1,38 @@
 //! The symbols of the dynamic segment, which is found without section headers
 //! (gABI, "Dynamic Section": DT_SYMTAB).
 
-ghost use Rattle.std.specs.Prelude.{◌≡◌, ◌==◌, ℕ, IfOk, Result};
+ghost use Rattle.std.specs.Prelude.{◌≡◌, ◌==◌, ◌<◌, ◌≤◌, ◌^◌, ◌*◌, ◌↔◌, ℕ, IfOk, IsOk, List, Ok, Result};
 ghost use Rattle.elf_base.specs.FileHeader.{file_class};
 ghost use Rattle.elf_base.specs.Table.{table_items};
 ghost use Rattle.elf_c.specs.Batch.{Fills};
-ghost use Rattle.elf_c.specs.DynamicSymbols.{FillsFromDynamic, IsDynamicCount, dynamic_symbol_name};
-ghost use Rattle.elf_c.specs.DynamicTexts.{linked_name, range_in_strings};
+ghost use Rattle.elf_c.specs.DynamicSymbols.{AreDynamicSymbols, FillsFromDynamic, IsDynamicCount};
+ghost use Rattle.elf_c.specs.DynamicSymbols.{IsSegmentTable, dynamic_symbol_at};
+ghost use Rattle.elf_c.specs.DynamicSymbols.{dynamic_symbol_name, symbol_size, table_at_address};
+ghost use Rattle.elf_c.specs.DynamicTexts.{linked_name, range_in_strings, strings_range};
+ghost use Rattle.elf_c.specs.FoundSymbols.{IsFoundBy};
 ghost use Rattle.elf_c.specs.Parsed.{file_of};
 ghost use Rattle.elf_c.specs.Records.{AllLieIn, found_in};
 ghost use Rattle.elf_c.specs.Status.{GivesBy, GivesHere};
+ghost use Rattle.elf_c.specs.SymbolTables.{name_by, symbol_by};
 ghost use Rattle.elf_c.specs.Symbols.{symbol_record};
+ghost use Rattle.elf_c.specs.declared.found_symbols.FoundSymbol.{FoundSymbol};
 ghost use Rattle.elf_c.specs.declared.status.Refusal.{Refusal};
+ghost use Rattle.elf_c.specs.declared.symbol_tables.SymbolTable.{SymbolTable};
+ghost use Rattle.elf_linking.specs.DynamicView.{number_with, view_entries};
 ghost use Rattle.elf_linking.specs.Message.{link_number};
 ghost use Rattle.elf_linking.specs.declared.error.LinkError.{LinkError};
+ghost use Rattle.elf_linking.specs.declared.view.tags.TheConstants.{DT_SYMTAB};
 
+use crate::addresses::range_at;
 use crate::batch::{Records, fill};
 use crate::dynamic_texts::{name_of, strings_of, text_by};
 use crate::file::Parsed;
 use crate::names::{Name, Range};
 use crate::status::{Refusal, give};
+use crate::symbol_tables::SymbolTable;
 use crate::symbols::Symbol;
 use elf_linking::LinkError;
-use elf_linking::view::DynamicView;
+use elf_linking::view::{DT_SYMTAB, DynamicView};
 use xmas_elf::ElfFile;
 use xmas_elf::bytes::{Record, Table};
 use xmas_elf::symbol_table::Entry;
@@ -199,4 +209,88 @@ pub extern "C" fn xmas_elf_dynamic_symbol_names(
     ensures within { result ≡ 0 → AllLieIn input.now count.new out.new }
 {
     give(fill_names(&header.file(input), first, out), count)
+}
+
+// The number of bytes of a number of symbols.
+fn symbols_size(file: &ElfFile<'_>, count: u64) -> u64
+    requires { count ≤ 2 ^ 32 }
+    ensures { result ≡ count * symbol_size file.now }
+{
+    if is_narrow(file) {
+        count * 16
+    } else {
+        count * 24
+    }
+}
+
+// A number of symbols of the dynamic segment, as numbers.
+fn table_of_view(
+    file: &ElfFile<'_>,
+    view: &DynamicView<'_>,
+    count: u64,
+) -> Result<SymbolTable, Refusal>
+    requires { count ≤ 2 ^ 32 }
+    ensures { let entries = view_entries view.now in result ≡ table_at_address file.now
+        (strings_range file.now entries) (Ok count) (number_with DT_SYMTAB entries) }
+{
+    let Some(address) = view.entry(DT_SYMTAB) else {
+        return Err(Refusal::Link(LinkError::NoEntry));
+    };
+    let symbols = range_at(file, address, symbols_size(file, count))?;
+    let strings = name_of(strings_of(file, view));
+    Ok(SymbolTable {
+        symbols,
+        strings: strings.range,
+        count,
+        strings_status: strings.status,
+        class: u16::from(file.header.pt1.class.raw()),
+        encoding: u16::from(file.header.pt1.encoding.raw()),
+    })
+}
+
+// The symbols of the dynamic segment, as numbers.
+fn table_of_segment(file: &ElfFile<'_>) -> Result<SymbolTable, Refusal>
+    ensures { IsSegmentTable file.now result }
+{
+    let view = match DynamicView::read(file) {
+        Ok(view) => view,
+        Err(error) => return Err(Refusal::Link(error)),
+    };
+    match view.symbol_count(file) {
+        Ok(count) => table_of_view(file, &view, count),
+        Err(error) => Err(Refusal::Link(error)),
+    }
+}
+
+/// The symbols of the dynamic segment and the string table of their names, found once, for
+/// `xmas_elf_symbol_of` and `xmas_elf_symbol_name_of`. It needs no section headers.
+///
+/// Errors: those of `xmas_elf_dynamic_symbols` up to `NoRecord`. `strings_status` is 0, or an error
+/// of a name of `xmas_elf_dynamic_symbol_names` for the string table.
+#[unsafe(no_mangle)]
+pub extern "C" fn xmas_elf_dynamic_symbols_open(
+    input: &[u8],
+    header: &Parsed,
+    out: &mut SymbolTable,
+) -> u32
+    ensures exact { (answer : Result SymbolTable Refusal)
+        × IsSegmentTable (file_of input.entry header.now) answer
+        × GivesHere answer out.old result out.new }
+    ensures symbols { result ≡ 0 → (bytes : Result (List ℕ) LinkError)
+        → AreDynamicSymbols (file_of input.entry header.now) bytes → (index : ℕ)
+        → symbol_by symbol_record input.now out.new index
+        ≡ dynamic_symbol_at symbol_record (file_of input.entry header.now) bytes index }
+    ensures names { result ≡ 0 → (bytes : Result (List ℕ) LinkError)
+        → AreDynamicSymbols (file_of input.entry header.now) bytes → (index : ℕ)
+        → symbol_by (name_by input.now out.new) input.now out.new index
+        ≡ dynamic_symbol_at (dynamic_symbol_name (file_of input.entry header.now))
+        (file_of input.entry header.now) bytes index }
+    ensures found { result ≡ 0 → (name version : List ℕ) (said : FoundSymbol)
+        → IsFoundBy (file_of input.entry header.now) name version (Ok said) → said.found ≡ 1
+        → symbol_by symbol_record input.now out.new said.index ≡ Ok said.symbol }
+    ensures number { result ≡ 0 → IsDynamicCount (file_of input.entry header.now) (Ok out.new.count) }
+    ensures counted { result ≡ 0 → (index : ℕ)
+        → IsOk (symbol_by symbol_record input.now out.new index) ↔ (index < out.new.count) }
+{
+    give(table_of_segment(&header.file(input)), out)
 }

@@ -44,7 +44,7 @@ fn gnu_table<'a>(file: &ElfFile<'a>, section: &SectionHeader) -> Result<AnyTable
 }
 
 // The hash table of a kind that is the data of a section.
-fn table_of<'a>(
+pub(crate) fn table_of<'a>(
     kind: Kind,
     file: &ElfFile<'a>,
     section: &SectionHeader,

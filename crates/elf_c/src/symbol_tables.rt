@@ -24,7 +24,7 @@ use xmas_elf::bytes::Record;
 use xmas_elf::sections::SectionData;
 use xmas_elf::symbol_table::{Entry, Entry32, Entry64};
 
-/// The symbols of a section, found once: numbers that other calls take back.
+/// Symbols found once, of a section or of the dynamic segment: numbers that other calls take back.
 #[repr(C)]
 #[derive(Clone, Copy, Debug)]
 pub struct SymbolTable {
@@ -156,9 +156,10 @@ fn symbol_by(input: &[u8], table: &SymbolTable, index: u64) -> Result<Symbol, Re
     }
 }
 
-/// The symbol at an index, by the record of `xmas_elf_symbols_open` for the same
-/// bytes: that of `xmas_elf_symbol`. Any record may be given, as its range of symbols is compared
-/// with the input in each call; `count` is not read.
+/// The symbol at an index, by the record of `xmas_elf_symbols_open` for the same bytes: that of
+/// `xmas_elf_symbol`; by that of `xmas_elf_dynamic_symbols_open` that of `xmas_elf_dynamic_symbols`.
+/// Any record may be given, as its range of symbols is compared with the input in each call; `count`
+/// is not read.
 ///
 /// Errors: `DataRange` if the symbols extend past the end of the input; `NoRecord` if there is no
 /// symbol at that index.
@@ -198,8 +199,9 @@ fn name_by(input: &[u8], table: &SymbolTable, index: u64) -> Result<Range, u32>
 }
 
 /// The input range of the name of the symbol at an index, by the record of `xmas_elf_symbols_open`
-/// for the same bytes: the name that `xmas_elf_symbol_names` has there. Any record may be given: its
-/// ranges are compared with the input in each call.
+/// for the same bytes: the name that `xmas_elf_symbol_names` has there; by that of
+/// `xmas_elf_dynamic_symbols_open` the one of `xmas_elf_dynamic_symbol_names`. Any record may be
+/// given: its ranges are compared with the input in each call.
 ///
 /// Errors: those of `xmas_elf_symbol_of`; `strings_status` if it is not 0; `DataRange` if the string
 /// table extends past the end of the input; those of `bytes::text_at`.
