@@ -1,5 +1,5 @@
 #!/usr/bin/env python3
-"""Wants the built elfnm, elfsections and elfsym to write names of any bytes as readelf does in the C locale.
+"""Wants the built elfsections and elfsym to write names of any bytes as readelf does in the C locale, and elfnm as they stand.
 
 Names of files that the repository keeps get control characters, and bytes that aren't UTF-8. `readelf` of GNU binutils
 must show each name with the escapes that are made here; of needed libraries it shows the bytes as they stand. Each
@@ -88,11 +88,12 @@ def unlike(case: Case, built: dict, room: str) -> int:
         if wanted not in by_readelf:
             count += 1
             print(f"readelf shows {name!r} OTHERWISE than as {wanted!r}")
-    wanted = replaced(replaced(case.kept, case.changed), {old: escaped(new) for old, new in case.names.items()})
+    written = {old: new if case.program == "elfnm" else escaped(new) for old, new in case.names.items()}
+    wanted = replaced(replaced(case.kept, case.changed), written)
     for program in built[case.program]:
         ran = subprocess.run([program, *case.words], cwd=room, capture_output=True, timeout=60)
         if (ran.returncode, ran.stdout, ran.stderr) == (0, wanted, b""):
-            print(f"{program.name} writes names as readelf does: {case.file}")
+            print(f"{program.name} writes names as it must: {case.file}")
         else:
             count += 1
             print(f"{program.name} NOT AS IT MUST: {case.file}: wanted {wanted!r}, but got {ran}"[:1800])

@@ -3,7 +3,6 @@
 #![tactic(auto)]
 
 use anyhow::Context;
-use program_ends::write_name;
 use std::env;
 use std::fs::File;
 use std::io::{BufWriter, Read, Write};
@@ -21,14 +20,14 @@ fn main(rt: HostRuntime) -> anyhow::Result<()> {
     for section in file.section_iter() {
         let name = file.get_shstr_bytes(section.name()).unwrap_or(b"?");
         write!(out, "{:6} ", section.size())?;
-        write_name(name, &mut out)?;
+        out.write_all(name)?;
         writeln!(out)?;
         if let Ok(SectionData::SymbolTable64(symbols)) = section.get_data(&file) {
             let names = SymbolTable::new(symbols, &file);
             for symbol in symbols {
                 let name = names.name_bytes_of(&symbol).unwrap_or(b"?");
                 write!(out, "    {:016x} ", symbol.value())?;
-                write_name(name, &mut out)?;
+                out.write_all(name)?;
                 writeln!(out)?;
             }
         }
