@@ -94,6 +94,10 @@ fi
 part=$SECONDS
 tools/wrong_bodies.py --jobs "$jobs" --since "${1:-$(git merge-base HEAD origin/main)}" > "$room/edits" || fail "wrong bodies"
 grep -vE '^ ' "$room/edits"
+# A type that changed may leave an edit of another function that doesn't compile.
+again=("${changed[@]}")
+! grep -q '^contracts ' "$room/changed" || again+=("${above[@]}")
+tools/wrong_bodies.py --compile "${again[@]}" || fail "wrong bodies that don't compile"
 took "wrong bodies" "$part"
 
 left+=("wrong bodies of functions that did not change, and those in must-fail" "rt ci: both builds of each program and of each test"

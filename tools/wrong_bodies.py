@@ -11,6 +11,7 @@ compile, that changes nothing, or with which the crate is still proved.
     tools/wrong_bodies.py [--jobs N] [NAME..]    a NAME is that of a crate, a topic or an edit; none: all
     tools/wrong_bodies.py --since COMMIT         those of functions that changed since this commit
     tools/wrong_bodies.py --list [NAME..]        the batches, and nothing is tried
+    tools/wrong_bodies.py --compile [NAME..]     only whether each edit compiles, some ten seconds a batch
     tools/wrong_bodies.py --self-test            whether the script itself tells right from wrong
 
 Each crate must be proved as it stands, and is checked first; what that check and earlier ones kept in
@@ -291,16 +292,38 @@ class Room:
 
     def check(self, edits, functions) -> str:
         """What a check of these functions says of the crate with these edits made (none: of all); takes them back."""
-        changed = self.crate.changed(edits)
-        for file, text in changed.items():
-            (self.folder / file).write_text(text, encoding="utf-8")
+        changed = self.made(edits)
         ran = self.check_only(functions)
-        for file in changed:
-            (self.folder / file).write_text(self.crate.texts[file], encoding="utf-8")
+        self.unmade(changed)
         what = edits[0].label() if len(edits) == 1 else f"{self.crate.name}: {len(edits)} edits"
         slow = ", ".join(f"{name} {seconds:.0f}" for seconds, name in ran.stays[:4] if seconds >= 1)
         self.times.append((ran.seconds, what + (f" ({slow})" if slow else "")))
         return ran.said
+
+    def made(self, edits):
+        """Writes the edits, and gives the files that they change."""
+        changed = self.crate.changed(edits)
+        for file, text in changed.items():
+            (self.folder / file).write_text(text, encoding="utf-8")
+        return changed
+
+    def unmade(self, changed):
+        """Takes edits of these files back."""
+        for file in changed:
+            (self.folder / file).write_text(self.crate.texts[file], encoding="utf-8")
+
+    def uncompiled(self, edits) -> list:
+        """Those of the edits that don't compile, each with the error."""
+        changed = self.made(edits)
+        # A check of a function that isn't there ends once the crate is compiled.
+        said = check(self.folder, "--jobs", "1", "--only", "no_such::function").said
+        self.unmade(changed)
+        if NO_FUNCTION.search(said):
+            return []
+        if len(edits) > 1:
+            return [it for part in self.apart(edits, said) for it in self.uncompiled(part)]
+        why = [it for it in said.split("\n") if "error" in it] or said.strip().split("\n")[-1:]
+        return [(edits[0], why[0])]
 
     def check_only(self, functions) -> Checked:
         """A check of some functions, by the ends of their names, and of what they call; of none: of the whole crate."""
@@ -485,6 +508,18 @@ class Trial:
         print(f"{len(self.refused)} refused, {len(self.failed)} failed")
         return 1 if self.failed or not (self.refused or self.may_be_empty) else 0
 
+    def compile(self) -> int:
+        """Says of the edits that don't compile why."""
+        for task in self.tasks:
+            with tempfile.TemporaryDirectory(prefix="wrong-bodies-") as rooms:
+                room = Room(self.root, task.crate, task.below, pathlib.Path(rooms, task.crate.name))
+                for batch in task.batches:
+                    for edit, why in room.uncompiled(batch):
+                        self.tell(edit, "", f"it does not compile: {why}")
+            print(f"{task.crate.name}: {sum(map(len, task.batches))} edits compiled", flush=True)
+        print(f"{len(self.failed)} failed")
+        return 1 if self.failed else 0
+
     def list(self) -> int:
         """Prints the batches."""
         for task in self.tasks:
@@ -581,6 +616,7 @@ def main() -> int:
     words.add_argument("--self-test", action="store_true", help="try the script on a crate of two functions")
     words.add_argument("--since", metavar="COMMIT", help="only edits of functions that changed since this commit, and edits that are new")
     words.add_argument("--list", action="store_true", help="print the batches, and try none")
+    words.add_argument("--compile", action="store_true", help="say only which edits don't compile")
     words.add_argument("names", nargs="*", metavar="NAME", help="a crate, a topic or an edit")
     given = words.parse_args()
     if given.self_test:
@@ -589,6 +625,8 @@ def main() -> int:
         print(f"FAILED: no edit has the name {', '.join(missing)}")
         return 1
     trial = Trial(ROOT, given.names, max(given.jobs, 1), Since(given.since) if given.since else None)
+    if given.compile:
+        return trial.compile()
     return trial.list() if given.list else trial.run()
 
 
