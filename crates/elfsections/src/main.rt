@@ -5,8 +5,8 @@
 //! its name; and behind that a line for each note or address, or for a hash table a line with what
 //! its check says and one for each symbol that has a name: its index, the index that a look-up of
 //! the name finds, or `-`, and the name. A name that isn't UTF-8 can't be looked up, so it has `-`
-//! too. Of names the bytes are written, as `readelf` does. What is refused is a line `! ` with the
-//! reason.
+//! too. Names are written as bytes, with control characters as `readelf` writes them. What is
+//! refused is a line `! ` with the reason.
 #![tactic(auto)]
 
 use elf_base::bytes::{Record, Table, bytes_up_to_zero};

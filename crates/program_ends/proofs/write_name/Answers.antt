@@ -1,22 +1,16 @@
-use Rattle.std.proofs.Common.{◌≡◌, ◌+◌, ◌++◌, ◌∷◌, [], take, get_or, None, Some, refl, sym, ap, ◌∙◌, subst, arith}
-use Rattle.std.proofs.KnownBytes.{Appends-nil, Appends-trans}
+use Rattle.std.proofs.Common.{◌≡◌, ◌+◌, ◌++◌, ◌∷◌, [], take, get_or, None, Some, sym, ap, ◌∙◌, subst, arith}
+use Rattle.std.proofs.KnownBytes.{Appends-trans}
 use Rattle.std.proofs.lemmas.Result.{on_ok_weaker}
 use Rattle.std.specs.Io.KnownBytes.{Appends}
 use Rattle.program_ends.specs.Names.{escaped}
 use Rattle.program_ends.proofs.Names.{first_found, one_more}
 use Rattle.program_ends.proofs.write_name.Goals as goal
 
-pub runs-init : goal.runs-init
-runs-init g c = ([], refl, Appends-nil _)
-
 pub overflow_add-rest : goal.overflow_add-rest
 overflow_add-rest g c =
     let first = first_found c.runs.rest.now (Some c.in-Some.place) c.in-Some.ensures.value in
     let small = first.small in
     omega (arith, small)
-
-pub overflow_add-rest-in-Some : goal.overflow_add-rest-in-Some
-overflow_add-rest-in-Some g c = let room = c.in-Some.ensures.room in omega (arith, room)
 
 pub runs-preserved : goal.runs-preserved
 runs-preserved g c =
