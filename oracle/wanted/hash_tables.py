@@ -22,6 +22,12 @@ IN_THREE = ((0, 0), (9, 0x12), (3, 0x12), (10, 0x12), (9, 0x12))
 # The last symbol is local, and needs no chain.
 LAST_LOCAL = (*IN_THREE[:4], (9, 0x02))
 
+
+def tree(*buckets) -> tuple:
+    """Symbols whose names have these of three buckets; None: a local symbol."""
+    return ((0, 0), *((9, 0x02) if bucket is None else (IN_THREE[bucket + 1]) for bucket in buckets))
+
+
 RING = (1, 5, 1, 0, 2, 3, 4, 1)
 ENDS = (1, 5, 1, 0, 2, 3, 4, 0)
 OUT = (1, 5, 1, 0, 2, 3, 4, 5)
@@ -41,8 +47,14 @@ def write(rows: Rows):
         ((2, 2, 0, 1, 0, 0), TWO, MISSING),
     ):
         table(rows, table_words, symbols)
-        rows.want("check", answer)
+        check(rows, answer)
     checks_in_three(rows)
+
+
+def check(rows: Rows, answer: str):
+    """The check with no memory, and with none, too few and enough words that its caller lends."""
+    for call in ("check", "check_with 0", "check_with 2", "check_with 5", "check_with 64"):
+        rows.want(call, answer)
 
 
 def table(rows: Rows, numbers: tuple, symbols: tuple):
@@ -96,14 +108,14 @@ def of_two(rows: Rows):
         ((U32, 2, 0), SHORT), ((2, 2, 0, 1, 0), SHORT),
     ):
         table(rows, numbers_, TWO)
-        rows.want("check", answer)
+        check(rows, answer)
     table(rows, (1, 2, 1, 0, 0), TWO[:1])
-    rows.want("check", INDEX)
+    check(rows, INDEX)
     # Which symbols a chain must hold: those that aren't local, of whatever binding, and have a name.
     rows.case("hash::a_chain_must_hold_named_symbols_that_are_not_local")
     for name, info, answer in ((9, 0x37, MISSING), (9, 0x92, MISSING), (9, 0x02, GOOD), (13, 0x12, GOOD), (12, 0x12, GOOD)):
         table(rows, (1, 2, 0, 0, 0), ((0, 0), (name, info)))
-        rows.want("check", answer)
+        check(rows, answer)
 
 
 def chains(rows: Rows):
@@ -145,7 +157,27 @@ def checks_in_three(rows: Rows):
         ((3, 5, 4, 3, 4, 0, 0, 1, 1, 2), IN_THREE, MISSING),
     ):
         table(rows, numbers_, symbols)
-        rows.want("check", answer)
+        check(rows, answer)
+    rows.case("chains::checks_chains_that_join_in_trees")
+    for numbers_, symbols, answer in (
+        # 6 and 5 lead to 4, 4 and 3 to 2, 2 to 1: buckets lead to 6, 5 and 3
+        ((3, 7, 6, 5, 3, 0, 0, 1, 2, 2, 4, 4), tree(2, 1, 0, 2, 1, 0), MISSING),
+        ((3, 7, 6, 5, 3, 0, 0, 1, 2, 2, 4, 4), tree(2, 1, 2, 1, 1, 0), GOOD),
+        ((3, 7, 6, 5, 3, 0, 0, 1, 2, 2, 4, 4), tree(0, 0, 2, 0, 1, 0), GOOD),
+        ((3, 7, 6, 5, 3, 0, 0, 1, 2, 2, 4, 4), tree(0, 0, 2, 2, 1, 0), MISSING),
+        ((3, 7, 6, 5, 3, 0, 0, 1, 2, 2, 4, 4), tree(0, 0, 1, 0, 1, 0), MISSING),
+        # the same tree upwards: 1 and 2 lead to 3, 3 and 4 to 5, 5 to 6
+        ((3, 7, 1, 2, 4, 0, 3, 3, 5, 5, 6, 0), tree(0, 1, 1, 2, 2, 1), GOOD),
+        ((3, 7, 1, 2, 4, 0, 3, 3, 5, 5, 6, 0), tree(0, 1, 2, 2, 2, 1), MISSING),
+        # 3 and 4 lead to each other, and 5 to them; all buckets lead to 6, 2 and 1
+        ((3, 7, 6, 6, 6, 0, 0, 1, 4, 3, 3, 2), tree(0, 1, None, None, None, 2), GOOD),
+        ((3, 7, 6, 6, 6, 0, 0, 1, 4, 3, 3, 2), tree(0, 1, None, None, 2, 2), MISSING),
+        ((3, 7, 6, 6, 6, 0, 0, 1, 4, 3, 3, 2), tree(0, 1, 0, None, None, 2), MISSING),
+        # the last bucket leads to 3 and 4 for ever, the others to 6, 5, 2 and 1
+        ((3, 7, 6, 6, 4, 0, 0, 1, 4, 3, 2, 5), tree(0, 1, None, None, 1, 0), CYCLE),
+    ):
+        table(rows, numbers_, symbols)
+        check(rows, answer)
     rows.case("chains::checks_shared_chains_beside_others")
     apart, ends = (3, 5, 3, 3, 3, 0, 0, 1, 2, 4), (3, 5, 3, 3, 4, 0, 0, 1, 2, 0)
     for numbers_, symbols, answer in (
@@ -158,4 +190,4 @@ def checks_in_three(rows: Rows):
         (ends, IN_THREE[:4], INDEX), (ends[:9], IN_THREE, SHORT), (apart[:9], LAST_LOCAL, GOOD),
     ):
         table(rows, numbers_, symbols)
-        rows.want("check", answer)
+        check(rows, answer)

@@ -49,6 +49,7 @@ impl<'b, 'a> Linked<'b, 'a> {
                 let check = self.table.check(&self.symbols, self.file);
                 write!(out, "{}", Answer(check.map(|_| Nothing)))
             }
+            "check_with" => self.write_lent_check(number(argument), out),
             "get_bucket" => write!(out, "{}", Answer(self.table.get_bucket(number(argument)))),
             "get_chain" => write!(out, "{}", Answer(self.table.get_chain(number(argument)))),
             "lookup" => write_index(&self.look_up(argument), out),
@@ -56,6 +57,16 @@ impl<'b, 'a> Linked<'b, 'a> {
             "lookup_bound" => write!(out, "{}", self.is_bounded(&self.look_up(argument))),
             _ => Ok(()),
         }
+    }
+
+    // Writes what `check_with` answers with so many words, at most 64, which say something else before.
+    fn write_lent_check<W: Write>(&self, count: u32, out: &mut W) -> io::Result<()> {
+        let mut words = [u32::MAX; 64];
+        let Some(words) = words.get_mut(..count as usize) else {
+            return Ok(());
+        };
+        let check = self.table.check_with(&self.symbols, self.file, words);
+        write!(out, "{}", Answer(check.map(|_| Nothing)))
     }
 
     // Looks a name up, behind `all` or `none` for what the test passes.

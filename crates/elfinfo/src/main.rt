@@ -2,7 +2,7 @@
 #![tactic(auto)]
 
 ghost use Rattle.std.specs.Borrow.{Bor};
-ghost use Rattle.std.specs.Prelude.{◌≡◌, ◌≤◌, IfOk, IfSome, IsOk, IsSome, IsSomeAnd, List, ℕ};
+ghost use Rattle.std.specs.Prelude.{◌≡◌, ◌≤◌, ◌/◌, IfOk, IfSome, IsOk, IsSome, IsSomeAnd, List, length, ℕ};
 ghost use Rattle.xmas_elf.proofs.lemmas.Flushes.{report_flushed};
 ghost use Rattle.xmas_elf.specs.FileHeader.{header_of};
 ghost use Rattle.xmas_elf.specs.Report.{WritesReport};
@@ -14,8 +14,9 @@ use std::io::{Read, Write};
 use std::process::ExitCode;
 use std::{env, io};
 use thiserror::Error;
-use xmas_elf::ElfError;
-use xmas_elf::report::{ReportFault, report};
+use xmas_elf::report::{ReportFault, report_with};
+use xmas_elf::sections::{SectionData, SectionHeader, ShType};
+use xmas_elf::{ElfError, ElfFile};
 
 /// Why the program ends with status 1, and what it says then.
 #[derive(Debug, Drop, Error)]
@@ -57,19 +58,44 @@ pub fn run<R: Read + Drop, W: Write, E: Write>(
     }
 }
 
+// The number of chains that the file's hash table has in the file.
+fn chain_count(input: &[u8]) -> usize
+    ensures { result ≤ length input.now / 4 }
+{
+    let most = input.len() / 4;
+    let Ok(file) = ElfFile::new(input) else {
+        return 0;
+    };
+    let is_hash = |section: &SectionHeader| matches!(section.get_type(), Ok(ShType::Hash));
+    match file
+        .section_iter()
+        .find(is_hash)
+        .map(|section| section.get_data(&file))
+    {
+        Some(Ok(SectionData::HashTable(table))) => most.min(table.chain_count() as usize),
+        _ => 0,
+    }
+}
+
 // What the program writes of a file: the report of all its bytes.
 #[derive(Clone, Copy)]
-struct Report<'a>(&'a [u8]);
+struct Report<'a> {
+    alloc: Global,
+    input: &'a [u8],
+}
 
 impl Output for Report<'_> {
-    ghost Writes = { λ report. WritesReport report.0 };
+    ghost Writes = { λ report. WritesReport report.input };
 
-    ghost flushed = { λ report. report_flushed report.0 };
+    ghost flushed = { λ report. report_flushed report.input };
 
     type Refusal = ElfError;
 
+    // With no memory for a word for each chain the report is the same, and its check may take longer.
     fn write_to<W: Write>(&self, out: &mut W) -> Result<(), Stop<ElfError>> {
-        report(self.0, out).map_err(|fault| match fault {
+        let words = vec![in self.alloc; 0; chain_count(self.input)];
+        let mut words = words.unwrap_or(Vec::new(self.alloc));
+        report_with(self.input, out, &mut words).map_err(|fault| match fault {
             ReportFault::Elf(error) => Stop::Refused(error),
             ReportFault::Write => Stop::Write,
         })
@@ -90,7 +116,11 @@ fn print_report<'a, R: Read + Drop, W: Write + Drop>(
 {
     let path = path.ok_or(Fault::Usage)?;
     let input = read_whole(alloc, file).ok_or(Fault::Read { path })?;
-    write_buffered(alloc, &Report(&input), out).map_err(|stop| match stop {
+    let report = Report {
+        alloc,
+        input: &input,
+    };
+    write_buffered(alloc, &report, out).map_err(|stop| match stop {
         Stop::Refused(error) => Fault::Refused(error),
         Stop::Write => Fault::Write,
     })

@@ -5,7 +5,7 @@ use Rattle.std.specs.Prelude.{◌≢◌, IsOk, IsTrue, Option, is_some}
 use Rattle.elf_records.specs.HashNumber.{hash_number}
 use Rattle.elf_base.specs.declared.error.ElfError.TheVariants.{HashMissing}
 use Rattle.xmas_elf.specs.Prelude.{ElfError, HashTable}
-use Rattle.xmas_elf.specs.HashTable.{Comes, EndsBelow, IsAtFault, IsCheck, IsGood, IsReached, LooksFrom, Reaches, Walks, bad_bucket, bucket_count_of, bucket_of, chains_of, ends, faulty, good, missing, start_of, stops}
+use Rattle.xmas_elf.specs.HashTable.{Comes, EndsBelow, Held, IsAtFault, IsCheck, IsGood, IsReached, LooksFrom, Reaches, Walks, bad_bucket, bucket_count_of, bucket_of, chains_of, ends, faulty, good, missing, start_of, stops}
 use Rattle.xmas_elf.specs.Symbol.{IsGlobal, Symbols}
 use Rattle.xmas_elf.proofs.ChainFinds.{goes, not_at_fault}
 use Rattle.xmas_elf.proofs.ChainOnce.{looks_once}
@@ -36,11 +36,7 @@ module _ {E : Type 0} (table : HashTable) (symbols : List E) where
   bad_at_fault k error at = (0, rw at (bad_bucket error))
 
 module _ {E : Type 0} (table : HashTable) (symbols : Symbols E) where
-  -- symbol i is found, if it must be
-  abbrev pub Held : ℕ → Type 0
-  Held i = (e : E) (name : List ℕ) → IsGlobal symbols i e name → IsReached table symbols.items name i
-
-  pub held_first : (i : ℕ) → i < 1 → Held i
+  pub held_first : (i : ℕ) → i < 1 → Held table symbols i
   held_first i below e name global = absurd (let above : 0 < i = global.not_first in omega arith)
 
   -- a symbol has one name
@@ -53,7 +49,7 @@ module _ {E : Type 0} (table : HashTable) (symbols : Symbols E) where
       let same : d ≡ e = cc in
       cc
 
-  pub held_named : (i : ℕ) (d : E) (name : List ℕ) → IsGlobal symbols i d name → IsReached table symbols.items name i → Held i
+  pub held_named : (i : ℕ) (d : E) (name : List ℕ) → IsGlobal symbols i d name → IsReached table symbols.items name i → Held table symbols i
   held_named i d name global reached e other global' = subst (λ n. IsReached table symbols.items n i) (named_once i d e name other global global') reached
 
   good_is : (r : Result (Unit {0}) ElfError) → IsCheck table symbols r → IsGood table symbols → Ok tt ≡ r

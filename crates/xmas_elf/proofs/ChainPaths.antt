@@ -87,8 +87,17 @@ module _ {E : Type 0} (chains : Chains E) where
   goes_along first n x _ _ at (goes t k j c l) =
       comes_in first (suc (n + t)) (n + suc t) j (omega arith) (goes (n + t) k j (goes_along first n x t k at c) l)
 
-  reaches_along : (i j k : ℕ) → Reaches chains i j → Reaches chains j k → Reaches chains i k
+  pub reaches_along : (i j k : ℕ) → Reaches chains i j → Reaches chains j k → Reaches chains i k
   reaches_along i j k (n, at) (m, on) = (n + m, goes_along i n j m k at on)
+
+  -- a walk that ends goes on from the next index to the end
+  pub ends_next : (i j : ℕ) → 0 < i → chains.chain i ≡ Ok j → Reaches chains i 0 → Reaches chains j 0
+  ends_next i j some next (zero, c) = absurd (let end : i ≡ 0 = comes_once i zero i 0 starts c in omega arith)
+  ends_next i j some next (suc m, c) =
+      let (k, l) = goes_on i (suc m) 0 zero i c (omega arith) starts in
+      let (t, sum, ahead) = goes_ahead i (suc m) 0 (suc zero) k c (omega arith) (goes zero i k starts l) in
+      let same : k ≡ j = cc in
+      (t, subst (λ z. Comes chains z t 0) same ahead)
 
   pub first_ends : (i : ℕ) → i < 1 → Reaches chains i 0
   first_ends i below = let end : 0 ≡ i = omega arith in subst (λ x. Reaches chains x 0) end (zero, starts)
@@ -202,9 +211,9 @@ module _ {E : Type 0} (Stop Over : ℕ × E → Type 0) (chains : Chains E) (fir
   pub walk_refused : (n : ℕ) (error : ElfError) → Walks Stop Over chains first (Err error) n → LooksFrom (λ _. ⊥) chains (Some (Ok first)) (Err error) n
   walk_refused n error walk = walk_looks (λ _. ⊥) n (Err error) walk (λ i e is stop. cc) (λ i e stands over none. none)
 
-  -- if a walk has no error and stops only below a bound, and the chains from there end, it ends
-  pub walk_ends : (bound n : ℕ) (a : Result (Option (ℕ × E)) ElfError) → Walks Stop Over chains first a n → IsOk a → ((i : ℕ) (e : E) → Stop (i, e) → i < bound) → ((i : ℕ) → i < bound → Reaches chains i 0) → Reaches chains first 0
-  walk_ends bound _ _ (ends n w) ok below each = (n, w.comes)
-  walk_ends bound _ _ (stops n i e w stands stop) ok below each = reaches_along chains first i 0 (n, w.comes) (each i (below i e stop))
-  walk_ends bound _ _ (halts n i error w above halt) ok below each = absurd (cc)
-  walk_ends bound _ _ (breaks n i e error w stands over fails) ok below each = absurd (cc)
+  -- if a walk has no error and stops only where a walk ends, it ends
+  pub walk_ends : (n : ℕ) (a : Result (Option (ℕ × E)) ElfError) → Walks Stop Over chains first a n → IsOk a → ((i : ℕ) (e : E) → Stop (i, e) → Reaches chains i 0) → Reaches chains first 0
+  walk_ends _ _ (ends n w) ok each = (n, w.comes)
+  walk_ends _ _ (stops n i e w stands stop) ok each = reaches_along chains first i 0 (n, w.comes) (each i e stop)
+  walk_ends _ _ (halts n i error w above halt) ok each = absurd (cc)
+  walk_ends _ _ (breaks n i e error w stands over fails) ok each = absurd (cc)

@@ -13,7 +13,8 @@ pub mod StringItems
 pub mod SymbolCounts
 pub mod ChainPaths
 pub mod ChainStarts
-pub mod ChainFinds
+mod ChainFinds
+mod ChainLinks
 pub mod ChainOnce
 pub mod ChainChecks
 pub mod ChainCounts

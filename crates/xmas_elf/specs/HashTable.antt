@@ -192,6 +192,10 @@ abbrev pub IsReached : {E : Type 0} → HashTable → List E → List ℕ → �
 IsReached table symbols name i =
     (first : ℕ) × (start_of table name ≡ Some (Ok first)) × Reaches (chains_of table symbols) first i
 
+-- symbol i is in the chain of its name, if it is not local and has a name
+abbrev pub Held : {E : Type 0} → HashTable → Symbols E → ℕ → Type 0
+Held {E} table symbols i = (e : E) (name : List ℕ) → IsGlobal symbols i e name → IsReached table symbols.items name i
+
 -- each chain ends, and each symbol that is not local and has a name is in the chain of that name
 pub record IsGood {E : Type 0} (table : HashTable) (symbols : Symbols E) : Type 0 where
   pub ends : EndsBelow table symbols.items (bucket_count_of table)

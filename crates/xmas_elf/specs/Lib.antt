@@ -47,6 +47,7 @@ pub mod Ranges
 pub mod SectionData
 pub mod Symbol
 pub mod HashTable
+pub mod ChainLinks
 pub mod Symbols
 pub mod SymbolTable
 pub mod Counted

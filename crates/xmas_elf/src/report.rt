@@ -221,17 +221,37 @@ pub fn report<W: io::Write>(input: &[u8], w: &mut W) -> Result<(), ReportFault>
     ensures refused { RefusesExactly input.now result }
     ensures untouched { IfErr result (λ fault. WritesNothing fault w.old w.new) }
 {
+    report_with(input, w, &mut [])
+}
+
+/// Writes the report that `report` writes, with memory that the caller lends for the check of the
+/// hash table, as `HashTable::check_with` takes it: a word for each chain.
+///
+/// Errors: those of `report`.
+pub fn report_with<W: io::Write>(
+    input: &[u8],
+    w: &mut W,
+    words: &mut [u32],
+) -> Result<(), ReportFault>
+    ensures written { OnOk result (WritesReport input.entry (W.contents w.old) (W.contents w.new)) }
+    ensures refused { RefusesExactly input.now result }
+    ensures untouched { IfErr result (λ fault. WritesNothing fault w.old w.new) }
+{
     match ElfFile::new(input) {
-        Ok(file) => write_file(&file, w),
+        Ok(file) => write_file(&file, w, words),
         Err(error) => Err(ReportFault::Elf(error)),
     }
 }
 
 // Writes the report of an accepted file.
-fn write_file<W: io::Write>(file: &ElfFile<'_>, w: &mut W) -> Result<(), ReportFault>
+fn write_file<W: io::Write>(
+    file: &ElfFile<'_>,
+    w: &mut W,
+    words: &mut [u32],
+) -> Result<(), ReportFault>
     ensures written { OnOk result (AppendsReport file.now (W.contents w.old) (W.contents w.new)) }
     ensures fault { IfErr result (λ fault. fault ≡ ReportFault.Write) }
 {
-    let verdict = hash_verdict(file);
+    let verdict = hash_verdict(file, words);
     write!(w, "{}", FileReport(file, verdict)).map_err(|_| ReportFault::Write)
 }

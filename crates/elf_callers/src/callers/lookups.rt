@@ -228,3 +228,18 @@ pub fn same_answers<E: Entry + Record, F: Fn(&E) -> bool + Copy>(
     let other = table.lookup_counted(name, symbols, file, f);
     (one, other.0)
 }
+
+/// Both checks of a table have one result, whatever words the second is lent.
+pub fn same_checks<E: Entry + Record>(
+    table: &HashTable<'_>,
+    symbols: &Table<'_, E>,
+    file: &ElfFile<'_>,
+    words: &mut [u32],
+) -> (Result<(), ElfError>, Result<(), ElfError>)
+    ensures same { result.0 ≡ result.1 }
+    ensures answer { IsCheck table.now (symbols_of E.fields E.text_in symbols.now file.now) result.0 }
+{
+    let one = table.check(symbols, file);
+    let other = table.check_with(symbols, file, words);
+    (one, other)
+}

@@ -10,6 +10,8 @@ ghost use Rattle.xmas_elf.specs.SymbolTable.{table_symbols};
 ghost use Rattle.xmas_elf.specs.Symbol.{IsGlobal};
 ghost use Rattle.xmas_elf.specs.Symbols.{symbols_of};
 
+mod lent;
+
 use crate::bytes::{Record, Table};
 use crate::hash::{HashTable, hash};
 use crate::symbol_table::{Entry, SymbolTable};
@@ -103,6 +105,31 @@ impl<'a> HashTable<'a> {
         self.check_in(&SymbolTable::new(*symbols, file))
     }
 
+    /// The result of `check`, with memory that the caller lends: a word for each chain.
+    ///
+    /// If buckets share chains, it passes each index a few times: its time grows with the buckets,
+    /// chains and symbols, and the logarithm of the chains, whatever the table. With fewer words
+    /// than chains, of those that have a symbol, it does what `check` does. What the words were is
+    /// not read, and what they are afterwards means nothing.
+    ///
+    /// Errors: those of `check`.
+    pub fn check_with<E: Entry + Record>(
+        &self,
+        symbols: &Table<'_, E>,
+        file: &ElfFile<'_>,
+        words: &mut [u32],
+    ) -> Result<(), ElfError>
+        ensures accepts { IsOk result
+            ↔ IsGood self.now (symbols_of E.fields E.text_in symbols.now file.now) }
+        ensures exact { IsCheck self.now
+            (symbols_of E.fields E.text_in symbols.now file.now) result }
+        ensures only { (other : Result (Unit {0}) ElfError)
+            → IsCheck self.now (symbols_of E.fields E.text_in symbols.now file.now) other
+            → other ≡ result }
+    {
+        self.check_in_with(&SymbolTable::new(*symbols, file), words)
+    }
+
     /// The result of `check` for a symbol table that carries its names.
     pub fn check_in<E: Entry + Record>(&self, symbols: &SymbolTable<'_, E>) -> Result<(), ElfError>
         ensures accepts { IsOk result ↔ IsGood self.now (table_symbols symbols.now) }
@@ -110,11 +137,29 @@ impl<'a> HashTable<'a> {
         ensures only { (other : Result (Unit {0}) ElfError)
             → IsCheck self.now (table_symbols symbols.now) other → other ≡ result }
     {
-        self.verdict(symbols)
+        self.verdict(symbols, &mut [])
+    }
+
+    /// The result of `check_with` for a symbol table that carries its names.
+    pub fn check_in_with<E: Entry + Record>(
+        &self,
+        symbols: &SymbolTable<'_, E>,
+        words: &mut [u32],
+    ) -> Result<(), ElfError>
+        ensures accepts { IsOk result ↔ IsGood self.now (table_symbols symbols.now) }
+        ensures exact { IsCheck self.now (table_symbols symbols.now) result }
+        ensures only { (other : Result (Unit {0}) ElfError)
+            → IsCheck self.now (table_symbols symbols.now) other → other ≡ result }
+    {
+        self.verdict(symbols, words)
     }
 
     // The result of the check, from which `check_in` proves its other clauses.
-    fn verdict<E: Entry + Record>(&self, symbols: &SymbolTable<'_, E>) -> Result<(), ElfError>
+    fn verdict<E: Entry + Record>(
+        &self,
+        symbols: &SymbolTable<'_, E>,
+        words: &mut [u32],
+    ) -> Result<(), ElfError>
         ensures { IsCheck self.now (table_symbols symbols.now) result }
     {
         match self.held_by_all(symbols) {
@@ -125,7 +170,13 @@ impl<'a> HashTable<'a> {
                 }
                 Ok(())
             }
-            Ok(None) => self.check_shared(symbols),
+            Ok(None) => {
+                let count = (self.chain_count() as usize).min(symbols.len());
+                match words.get_mut(..count) {
+                    Some(words) => self.check_lent(symbols, words),
+                    None => self.check_shared(symbols),
+                }
+            }
             Err(fault) => Err(fault),
         }
     }

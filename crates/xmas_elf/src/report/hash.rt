@@ -19,7 +19,7 @@ pub enum HashVerdict {
 }
 
 // The result for the first hash table of a file and the symbols that it links to.
-pub(crate) fn hash_verdict(file: &ElfFile<'_>) -> HashVerdict
+pub(crate) fn hash_verdict(file: &ElfFile<'_>, words: &mut [u32]) -> HashVerdict
     ensures { IsHashVerdict file.now result }
 {
     let Some(section) = hash_section(file) else {
@@ -30,7 +30,7 @@ pub(crate) fn hash_verdict(file: &ElfFile<'_>) -> HashVerdict
         Err(error) => return HashVerdict::Checked(Err(error)),
     };
     match found {
-        SectionData::HashTable(table) => linked_verdict(file, &table, section.link()),
+        SectionData::HashTable(table) => linked_verdict(file, &table, section.link(), words),
         _ => unreachable!(),
     }
 }
@@ -44,24 +44,29 @@ fn hash_section(file: &ElfFile<'_>) -> Option<SectionHeader>
 }
 
 // The result for a hash table whose symbols are in the section at index `link`.
-fn linked_verdict(file: &ElfFile<'_>, table: &HashTable<'_>, link: u32) -> HashVerdict
+fn linked_verdict(
+    file: &ElfFile<'_>,
+    table: &HashTable<'_>,
+    link: u32,
+    words: &mut [u32],
+) -> HashVerdict
     ensures { IsLinkedVerdict file.now table.now (content_at file.now link) result }
 {
     let Ok(section) = file.section_header_at(u64::from(link)) else {
         return HashVerdict::NoSymbols;
     };
     match section.get_data(file) {
-        Ok(SectionData::SymbolTable32(symbols)) => HashVerdict::Checked(table.check(
-            &symbols, file,
-        )),
-        Ok(SectionData::SymbolTable64(symbols)) => HashVerdict::Checked(table.check(
-            &symbols, file,
-        )),
+        Ok(SectionData::SymbolTable32(symbols)) => {
+            HashVerdict::Checked(table.check_with(&symbols, file, words))
+        }
+        Ok(SectionData::SymbolTable64(symbols)) => {
+            HashVerdict::Checked(table.check_with(&symbols, file, words))
+        }
         Ok(SectionData::DynSymbolTable32(symbols)) => {
-            HashVerdict::Checked(table.check(&symbols, file))
+            HashVerdict::Checked(table.check_with(&symbols, file, words))
         }
         Ok(SectionData::DynSymbolTable64(symbols)) => {
-            HashVerdict::Checked(table.check(&symbols, file))
+            HashVerdict::Checked(table.check_with(&symbols, file, words))
         }
         _ => HashVerdict::NoSymbols,
     }

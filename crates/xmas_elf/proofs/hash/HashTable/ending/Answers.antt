@@ -10,4 +10,4 @@ loop-index-init g c = first_ends (chains_of c.args.self.now (table_symbols c.arg
 pub loop-index-preserved : goal.loop-index-preserved
 loop-index-preserved g c =
     below_more (λ i. Reaches (chains_of c.args.self.now (table_symbols c.args.symbols.now).items) i 0) c.loop-index.index-counter c.loop-index.invariant
-    (walk_ends _ _ _ c.loop-index.index-counter c.loop-index.index-counter _ _ c.walk.ensures.answer (search rules) (λ i e stop. search rules) c.loop-index.invariant)
+    (walk_ends _ _ _ c.loop-index.index-counter _ _ c.walk.ensures.answer (search rules) (λ i e stop. c.loop-index.invariant i (search rules)))

@@ -6,7 +6,7 @@ use Rattle.xmas_elf.proofs.hash.HashTable.ends.Goals as goal
 
 pub returns-in-Ok-0₀ : goal.returns-in-Ok-0₀
 returns-in-Ok-0₀ g c =
-    (c.in-Ok.first, sym c.get_bucket.ensures.exact ∙ c.in-Ok.is, walk_ends _ _ _ c.in-Ok.first c.args.sound _ _ c.walk.ensures.answer (search rules) (λ i e stop. search rules) c.requires.each)
+    (c.in-Ok.first, sym c.get_bucket.ensures.exact ∙ c.in-Ok.is, walk_ends _ _ _ c.in-Ok.first _ _ c.walk.ensures.answer (search rules) (λ i e stop. c.requires.each i (search rules)))
 
 pub returns-in-Err-0₀ : goal.returns-in-Err-0₀
 returns-in-Err-0₀ g c =

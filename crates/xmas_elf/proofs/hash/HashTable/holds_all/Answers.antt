@@ -1,7 +1,8 @@
 use Rattle.std.proofs.Common.{arith, below_more, ◌<◌, length}
 use Rattle.xmas_elf.specs.SymbolTable.{table_symbols}
 use Rattle.std.proofs.lemmas.Option.{slice_get_within}
-use Rattle.xmas_elf.proofs.ChainChecks.{Held, held_first}
+use Rattle.xmas_elf.specs.HashTable.{Held}
+use Rattle.xmas_elf.proofs.ChainChecks.{held_first}
 use Rattle.xmas_elf.proofs.hash.HashTable.holds_all.Goals as goal
 
 pub loop-index-init : goal.loop-index-init

@@ -1,6 +1,6 @@
 use Rattle.std.proofs.Common.{ℕ, ◌<◌}
 use Rattle.xmas_elf.specs.SymbolTable.{table_symbols}
-use Rattle.xmas_elf.proofs.ChainChecks.{Held}
+use Rattle.xmas_elf.specs.HashTable.{Held}
 use Rattle.xmas_elf.proofs.hash.HashTable.holds_all.Given as goal
 
 abbrev pub invariant-loop-index : goal.invariant-loop-index

@@ -1,0 +1,7 @@
+use Rattle.std.proofs.Common.{ℕ, ◌<◌}
+use Rattle.xmas_elf.specs.HashTable.{Held}
+use Rattle.xmas_elf.specs.SymbolTable.{table_symbols}
+use Rattle.xmas_elf.proofs.hash.HashTable.holds_rest.Given as goal
+
+abbrev pub invariant-loop-index : goal.invariant-loop-index
+invariant-loop-index g l = (i : ℕ) → i < l.index → Held l.self (table_symbols l.symbols) i
