@@ -27,7 +27,7 @@ SECONDS = 2.0
 # A run that takes longer is ended.
 GIVEN_UP = 60
 # The cause of a run that may take longer, in the name of its file.
-SLOW = ", where the check takes buckets and symbols times chains"
+SLOW = ", where the check without memory takes buckets and symbols times chains"
 # So many files at once go to elfanswers.
 AT_ONCE = 50
 
@@ -133,7 +133,7 @@ class Fuzzing:
                 self.fault(names[0], f"{pathlib.Path(build).name} ended with {status}")
             if build.endswith(".by-rattle"):
                 continue
-            if seconds > SECONDS and SLOW in names[0]:
+            if seconds > SECONDS and SLOW in names[0] and program != "elfinfo":
                 print(f"{pathlib.Path(build).name} took {seconds:.2f} s: {names[0]}", flush=True)
             elif seconds > SECONDS:
                 self.fault(names[0], f"{pathlib.Path(build).name} took {seconds:.2f} s")

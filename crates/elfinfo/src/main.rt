@@ -91,7 +91,7 @@ impl Output for Report<'_> {
 
     type Refusal = ElfError;
 
-    // With no memory for a word for each chain the report is the same, and its check may take longer.
+    // Without memory for the words the report is the same, and the check of the hash table may take longer.
     fn write_to<W: Write>(&self, out: &mut W) -> Result<(), Stop<ElfError>> {
         let words = vec![in self.alloc; 0; chain_count(self.input)];
         let mut words = words.unwrap_or(Vec::new(self.alloc));

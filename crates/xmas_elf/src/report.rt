@@ -224,8 +224,9 @@ pub fn report<W: io::Write>(input: &[u8], w: &mut W) -> Result<(), ReportFault>
     report_with(input, w, &mut [])
 }
 
-/// Writes the report that `report` writes, with memory that the caller lends for the check of the
-/// hash table, as `HashTable::check_with` takes it: a word for each chain.
+/// Writes the report that `report` writes, with scratch memory from the caller for the check of the
+/// hash table: one word for each chain. With fewer words the report is the same, and its check may
+/// take longer.
 ///
 /// Errors: those of `report`.
 pub fn report_with<W: io::Write>(

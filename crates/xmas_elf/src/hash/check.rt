@@ -88,7 +88,7 @@ impl<'a> HashTable<'a> {
     /// step if chains lead downwards, as a linker makes them; from each bucket, if one of those
     /// walks reaches neither; and from the bucket of each symbol's name, which it reads once more,
     /// up to the symbol. With B buckets, C chains and S symbols, a table made to be expensive takes
-    /// at most B + C + S times the lesser of C and S such steps.
+    /// at most B + C + S times the lesser of C and S such steps. `check_with` needs fewer.
     pub fn check<E: Entry + Record>(
         &self,
         symbols: &Table<'_, E>,
@@ -105,12 +105,13 @@ impl<'a> HashTable<'a> {
         self.check_in(&SymbolTable::new(*symbols, file))
     }
 
-    /// The result of `check`, with memory that the caller lends: a word for each chain.
+    /// The result of `check`, with scratch memory from the caller: one word for each chain
+    /// (`chain_count`). Use it for files that nobody trusts.
     ///
-    /// If buckets share chains, it passes each index a few times: its time grows with the buckets,
-    /// chains and symbols, and the logarithm of the chains, whatever the table. With fewer words
-    /// than chains, of those that have a symbol, it does what `check` does. What the words were is
-    /// not read, and what they are afterwards means nothing.
+    /// If no buckets share a chain, it does what `check` does. Otherwise its time grows with the
+    /// buckets, chains and symbols, times the logarithm of the chains, whatever the table. If
+    /// `words` is shorter than the chains that have a symbol, it does what `check` does. It ignores
+    /// what `words` contains, and leaves anything there.
     ///
     /// Errors: those of `check`.
     pub fn check_with<E: Entry + Record>(

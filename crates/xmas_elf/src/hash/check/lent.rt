@@ -1,7 +1,10 @@
-//! The check of a table whose buckets share chains, with a word for each chain, lent by the caller.
-//! A word from `LINKED` on links its index to one that a walk from it comes to, so that later walks
-//! leave out what lies between. A word below is the number of indices that lead to its own and
-//! aren't linked; it sets the order, and no result rests on it.
+//! The check of a table whose buckets share chains, with one word of scratch memory for each chain.
+//!
+//! A word from `LINKED` on links its index to another one that a walk from it reaches, so that later
+//! walks skip what lies between. A word below is the number of indices whose chain leads to its own
+//! and that aren't linked. An index is linked once that number is 0: then all indices before it on
+//! any chain are linked, and the links from a bucket end at it exactly if its chain contains it. No
+//! result rests on these numbers: where links don't find a symbol, a walk looks for it.
 
 ghost use Rattle.std.specs.Prelude.{◌≡◌, ◌<◌, ◌+◌, ◌^◌, ◌⊎◌, ℕ, IsTrue, List, MatchOption};
 ghost use Rattle.std.specs.Prelude.{MatchResult, false, length, slice_index_or};
