@@ -4,7 +4,7 @@ use crate::calls::write_call;
 use crate::header::write_header;
 use crate::lookups::Linked;
 use crate::made::write_made;
-use crate::printed::{Answer, Nothing};
+use crate::printed::{Answer, Nothing, tell};
 use crate::sections::write_section;
 use crate::segments::write_segment;
 use crate::texts::write_links;
@@ -103,7 +103,7 @@ impl Case {
     fn lines(&self, alloc: Global, call: &str, len: usize) -> io::Result<Vec<u8>> {
         let mut out = Vec::new(alloc);
         let header = parse_header(self.input(len)).map(|_| Nothing);
-        writeln!(out, "parse_header = {}", Answer(header))?;
+        tell("parse_header", &Answer(header), &mut out)?;
         match self.open(len) {
             Ok(file) => {
                 writeln!(out, "file new = ok")?;

@@ -1,6 +1,6 @@
 //! The answers of the ELF header, and how many items both iterators have.
 
-use crate::printed::{Answer, Nothing};
+use crate::printed::{Answer, Nothing, tell};
 use std::io;
 use std::io::Write;
 use xmas_elf::ElfFile;
@@ -11,41 +11,41 @@ pub fn write_header<W: Write>(file: &ElfFile<'_>, out: &mut W) -> io::Result<()>
     write_first_part(file, out)?;
     write_second_part(file, out)?;
     write_sizes(file, out)?;
-    writeln!(out, "header display = {}", file.header)?;
+    tell("header display", &file.header, out)?;
     let check = Answer(sanity_check(file).map(|_| Nothing));
-    writeln!(out, "header sanity_check = {check}")?;
+    tell("header sanity_check", &check, out)?;
     let count = file.section_iter().count();
-    writeln!(out, "section_iter count = {count}")?;
+    tell("section_iter count", &count, out)?;
     let count = file.program_iter().count();
-    writeln!(out, "program_iter count = {count}")
+    tell("program_iter count", &count, out)
 }
 
 fn write_first_part<W: Write>(file: &ElfFile<'_>, out: &mut W) -> io::Result<()> {
     let pt1 = &file.header.pt1;
-    writeln!(out, "header class = {}", pt1.class())?;
-    writeln!(out, "header data = {}", pt1.data())?;
-    writeln!(out, "header version = {}", pt1.version())?;
-    writeln!(out, "header os_abi = {}", pt1.os_abi())?;
-    writeln!(out, "header abi_version = {}", pt1.abi_version)
+    tell("header class", &pt1.class(), out)?;
+    tell("header data", &pt1.data(), out)?;
+    tell("header version", &pt1.version(), out)?;
+    tell("header os_abi", &pt1.os_abi(), out)?;
+    tell("header abi_version", &pt1.abi_version, out)
 }
 
 fn write_second_part<W: Write>(file: &ElfFile<'_>, out: &mut W) -> io::Result<()> {
     let pt2 = &file.header.pt2;
-    writeln!(out, "header size = {}", pt2.size())?;
-    writeln!(out, "header type_ = {}", pt2.type_().as_type())?;
-    writeln!(out, "header machine = {}", pt2.machine().as_machine())?;
-    writeln!(out, "header pt2_version = {}", pt2.version())?;
-    writeln!(out, "header header_size = {}", pt2.header_size())?;
-    writeln!(out, "header entry_point = {}", pt2.entry_point())
+    tell("header size", &pt2.size(), out)?;
+    tell("header type_", &pt2.type_().as_type(), out)?;
+    tell("header machine", &pt2.machine().as_machine(), out)?;
+    tell("header pt2_version", &pt2.version(), out)?;
+    tell("header header_size", &pt2.header_size(), out)?;
+    tell("header entry_point", &pt2.entry_point(), out)
 }
 
 fn write_sizes<W: Write>(file: &ElfFile<'_>, out: &mut W) -> io::Result<()> {
     let pt2 = &file.header.pt2;
-    writeln!(out, "header ph_offset = {}", pt2.ph_offset())?;
-    writeln!(out, "header sh_offset = {}", pt2.sh_offset())?;
-    writeln!(out, "header ph_entry_size = {}", pt2.ph_entry_size())?;
-    writeln!(out, "header ph_count = {}", pt2.ph_count())?;
-    writeln!(out, "header sh_entry_size = {}", pt2.sh_entry_size())?;
-    writeln!(out, "header sh_count = {}", pt2.sh_count())?;
-    writeln!(out, "header sh_str_index = {}", pt2.sh_str_index())
+    tell("header ph_offset", &pt2.ph_offset(), out)?;
+    tell("header sh_offset", &pt2.sh_offset(), out)?;
+    tell("header ph_entry_size", &pt2.ph_entry_size(), out)?;
+    tell("header ph_count", &pt2.ph_count(), out)?;
+    tell("header sh_entry_size", &pt2.sh_entry_size(), out)?;
+    tell("header sh_count", &pt2.sh_count(), out)?;
+    tell("header sh_str_index", &pt2.sh_str_index(), out)
 }

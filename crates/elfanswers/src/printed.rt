@@ -1,7 +1,8 @@
 //! The printed forms of answers.
 
-use std::fmt;
 use std::fmt::{Debug, Display};
+use std::io::Write;
+use std::{fmt, io};
 use xmas_elf::ElfError;
 
 // So many bytes at the front and at the end of a slice are told apart.
@@ -138,4 +139,19 @@ impl Display for Place {
             None => Ok(()),
         }
     }
+}
+
+/// Writes the line of a call with what it answers.
+pub fn tell<A: Display, W: Write>(call: &str, answer: &A, out: &mut W) -> io::Result<()> {
+    writeln!(out, "{call} = {answer}")
+}
+
+/// Writes that line for a part of a file.
+pub fn tell_of<A: Display, W: Write>(
+    place: Place,
+    call: &str,
+    answer: &A,
+    out: &mut W,
+) -> io::Result<()> {
+    writeln!(out, "{place} {call} = {answer}")
 }

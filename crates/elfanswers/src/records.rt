@@ -1,6 +1,6 @@
 //! The answers of the records of a table.
 
-use crate::printed::{Answer, Place, Shown};
+use crate::printed::{Answer, Place, Shown, tell_of};
 use std::io;
 use std::io::Write;
 use xmas_elf::bytes::{Record, Table};
@@ -109,9 +109,9 @@ impl Answered for Dynamic<P32> {
 
     fn write_answers<W: Write>(&self, place: Place, out: &mut W) -> io::Result<()> {
         let tag = Answer(self.get_tag().map(|tag| Shown(tag)));
-        writeln!(out, "{place} get_tag = {tag}")?;
-        writeln!(out, "{place} get_val = {}", Answer(self.get_val()))?;
-        writeln!(out, "{place} get_ptr = {}", Answer(self.get_ptr()))
+        tell_of(place, "get_tag", &tag, out)?;
+        tell_of(place, "get_val", &Answer(self.get_val()), out)?;
+        tell_of(place, "get_ptr", &Answer(self.get_ptr()), out)
     }
 }
 
@@ -120,8 +120,8 @@ impl Answered for Dynamic<P64> {
 
     fn write_answers<W: Write>(&self, place: Place, out: &mut W) -> io::Result<()> {
         let tag = Answer(self.get_tag().map(|tag| Shown(tag)));
-        writeln!(out, "{place} get_tag = {tag}")?;
-        writeln!(out, "{place} get_val = {}", Answer(self.get_val()))?;
-        writeln!(out, "{place} get_ptr = {}", Answer(self.get_ptr()))
+        tell_of(place, "get_tag", &tag, out)?;
+        tell_of(place, "get_val", &Answer(self.get_val()), out)?;
+        tell_of(place, "get_ptr", &Answer(self.get_ptr()), out)
     }
 }

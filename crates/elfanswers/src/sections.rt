@@ -1,6 +1,6 @@
 //! The answers of a section: its numbers, name and data.
 
-use crate::printed::{Answer, Nothing, Place, Quoted, Told};
+use crate::printed::{Answer, Nothing, Place, Quoted, Told, tell_of};
 use crate::records::{write_records, write_table};
 use crate::symbols::write_symbols;
 use std::io;
@@ -40,15 +40,15 @@ pub fn write_parts<W: Write>(
 }
 
 fn write_numbers<W: Write>(place: Place, section: &SectionHeader, out: &mut W) -> io::Result<()> {
-    writeln!(out, "{place} name = {}", section.name())?;
-    writeln!(out, "{place} flags = {}", section.flags())?;
-    writeln!(out, "{place} address = {}", section.address())?;
-    writeln!(out, "{place} offset = {}", section.offset())?;
-    writeln!(out, "{place} size = {}", section.size())?;
-    writeln!(out, "{place} link = {}", section.link())?;
-    writeln!(out, "{place} info = {}", section.info())?;
-    writeln!(out, "{place} align = {}", section.align())?;
-    writeln!(out, "{place} entry_size = {}", section.entry_size())
+    tell_of(place, "name", &section.name(), out)?;
+    tell_of(place, "flags", &section.flags(), out)?;
+    tell_of(place, "address", &section.address(), out)?;
+    tell_of(place, "offset", &section.offset(), out)?;
+    tell_of(place, "size", &section.size(), out)?;
+    tell_of(place, "link", &section.link(), out)?;
+    tell_of(place, "info", &section.info(), out)?;
+    tell_of(place, "align", &section.align(), out)?;
+    tell_of(place, "entry_size", &section.entry_size(), out)
 }
 
 fn write_name<W: Write>(
@@ -57,14 +57,14 @@ fn write_name<W: Write>(
     section: &SectionHeader,
     out: &mut W,
 ) -> io::Result<()> {
-    writeln!(out, "{place} get_type = {}", Answer(section.get_type()))?;
+    tell_of(place, "get_type", &Answer(section.get_type()), out)?;
     let name = Answer(section.get_name(file).map(|name| Quoted(name)));
-    writeln!(out, "{place} get_name = {name}")?;
+    tell_of(place, "get_name", &name, out)?;
     let bytes = Answer(section.raw_data(file).map(|bytes| Told(bytes)));
-    writeln!(out, "{place} raw_data = {bytes}")?;
+    tell_of(place, "raw_data", &bytes, out)?;
     let check = Answer(sanity_check(*section, file).map(|_| Nothing));
-    writeln!(out, "{place} sanity_check = {check}")?;
-    writeln!(out, "{place} display = {section}")
+    tell_of(place, "sanity_check", &check, out)?;
+    tell_of(place, "display", &section, out)
 }
 
 fn write_data<W: Write>(
@@ -157,11 +157,11 @@ pub fn write_note<W: Write>(
     body: &[u8],
     out: &mut W,
 ) -> io::Result<()> {
-    writeln!(out, "{place} note type_ = {}", header.type_())?;
+    tell_of(place, "note type_", &header.type_(), out)?;
     let name = Answer(header.name(body).map(|name| Quoted(name)));
-    writeln!(out, "{place} note name = {name}")?;
+    tell_of(place, "note name", &name, out)?;
     let description = Answer(header.desc(body).map(|bytes| Told(bytes)));
-    writeln!(out, "{place} note desc = {description}")
+    tell_of(place, "note desc", &description, out)
 }
 
 fn write_hash_table<W: Write>(place: Place, table: &HashTable<'_>, out: &mut W) -> io::Result<()> {

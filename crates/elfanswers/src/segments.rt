@@ -1,6 +1,6 @@
 //! The answers of a segment: its numbers and data.
 
-use crate::printed::{Answer, Nothing, Pair, Place, Told};
+use crate::printed::{Answer, Nothing, Pair, Place, Told, tell_of};
 use crate::records::write_table;
 use crate::sections::write_note;
 use std::io;
@@ -33,15 +33,15 @@ pub fn write_parts<W: Write>(
 }
 
 fn write_numbers<W: Write>(place: Place, program: &ProgramHeader, out: &mut W) -> io::Result<()> {
-    writeln!(out, "{place} offset = {}", program.offset())?;
-    writeln!(out, "{place} virtual_addr = {}", program.virtual_addr())?;
-    writeln!(out, "{place} physical_addr = {}", program.physical_addr())?;
-    writeln!(out, "{place} file_size = {}", program.file_size())?;
-    writeln!(out, "{place} mem_size = {}", program.mem_size())?;
-    writeln!(out, "{place} align = {}", program.align())?;
+    tell_of(place, "offset", &program.offset(), out)?;
+    tell_of(place, "virtual_addr", &program.virtual_addr(), out)?;
+    tell_of(place, "physical_addr", &program.physical_addr(), out)?;
+    tell_of(place, "file_size", &program.file_size(), out)?;
+    tell_of(place, "mem_size", &program.mem_size(), out)?;
+    tell_of(place, "align", &program.align(), out)?;
     let flags = program.flags();
-    writeln!(out, "{place} flags = {}", Pair(flags.0, flags))?;
-    writeln!(out, "{place} get_type = {}", Answer(program.get_type()))
+    tell_of(place, "flags", &Pair(flags.0, flags), out)?;
+    tell_of(place, "get_type", &Answer(program.get_type()), out)
 }
 
 fn write_bytes<W: Write>(
@@ -51,10 +51,10 @@ fn write_bytes<W: Write>(
     out: &mut W,
 ) -> io::Result<()> {
     let bytes = Answer(program.raw_data(file).map(|bytes| Told(bytes)));
-    writeln!(out, "{place} raw_data = {bytes}")?;
+    tell_of(place, "raw_data", &bytes, out)?;
     let check = Answer(sanity_check(*program, file).map(|_| Nothing));
-    writeln!(out, "{place} sanity_check = {check}")?;
-    writeln!(out, "{place} display = {program}")
+    tell_of(place, "sanity_check", &check, out)?;
+    tell_of(place, "display", &program, out)
 }
 
 fn write_data<W: Write>(

@@ -1,6 +1,6 @@
 //! The answers of symbols.
 
-use crate::printed::{Answer, Pair, Place, Quoted};
+use crate::printed::{Answer, Pair, Place, Quoted, tell_of};
 use crate::records::is_asked;
 use std::fmt::Display;
 use std::io;
@@ -23,25 +23,25 @@ pub fn write_symbols<E: Record + Entry + Display, W: Write>(
             let place = place.record("symbol", k);
             write_numbers(place, &symbol, out)?;
             write_names(file, place, &symbol, k, out)?;
-            writeln!(out, "{place} display = {symbol}")?;
+            tell_of(place, "display", &symbol, out)?;
         }
     }
     Ok(())
 }
 
 fn write_numbers<E: Entry, W: Write>(place: Place, symbol: &E, out: &mut W) -> io::Result<()> {
-    writeln!(out, "{place} name = {}", symbol.name())?;
-    writeln!(out, "{place} info = {}", symbol.info())?;
-    writeln!(out, "{place} shndx = {}", symbol.shndx())?;
-    writeln!(out, "{place} value = {}", symbol.value())?;
-    writeln!(out, "{place} size = {}", symbol.size())?;
-    writeln!(out, "{place} get_other = {}", symbol.get_other())?;
+    tell_of(place, "name", &symbol.name(), out)?;
+    tell_of(place, "info", &symbol.info(), out)?;
+    tell_of(place, "shndx", &symbol.shndx(), out)?;
+    tell_of(place, "value", &symbol.value(), out)?;
+    tell_of(place, "size", &symbol.size(), out)?;
+    tell_of(place, "get_other", &symbol.get_other(), out)?;
     writeln!(
         out,
         "{place} get_binding = {}",
         Answer(symbol.get_binding())
     )?;
-    writeln!(out, "{place} get_type = {}", Answer(symbol.get_type()))
+    tell_of(place, "get_type", &Answer(symbol.get_type()), out)
 }
 
 // The name, and the section that the symbol belongs to, by the name and the offset in its header.
@@ -53,8 +53,8 @@ fn write_names<E: Entry, W: Write>(
     out: &mut W,
 ) -> io::Result<()> {
     let name = Answer(symbol.get_name(file).map(|name| Quoted(name)));
-    writeln!(out, "{place} get_name = {name}")?;
+    tell_of(place, "get_name", &name, out)?;
     let section = symbol.get_section_header(file, index);
     let section = Answer(section.map(|it| Pair(it.name(), it.offset())));
-    writeln!(out, "{place} get_section_header = {section}")
+    tell_of(place, "get_section_header", &section, out)
 }

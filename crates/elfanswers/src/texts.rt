@@ -1,6 +1,6 @@
 //! The answers of the calls that look for texts, names and links to debug information.
 
-use crate::printed::{Answer, Found, Pair, Quoted, Told};
+use crate::printed::{Answer, Found, Pair, Quoted, Told, tell};
 use std::io;
 use std::io::Write;
 use xmas_elf::hash::hash;
@@ -51,11 +51,11 @@ fn write_named<W: Write>(file: &ElfFile<'_>, name: &str, out: &mut W) -> io::Res
 /// Writes the answers of the calls that look for links to debug information.
 pub fn write_links<W: Write>(file: &ElfFile<'_>, out: &mut W) -> io::Result<()> {
     let id = Found(file.get_gnu_buildid().map(|id| Told(id)));
-    writeln!(out, "extensions get_gnu_buildid = {id}")?;
+    tell("extensions get_gnu_buildid", &id, out)?;
     let link = file.get_gnu_debuglink();
     let link = Found(link.map(|it| Pair(Quoted(it.0), it.1)));
-    writeln!(out, "extensions get_gnu_debuglink = {link}")?;
+    tell("extensions get_gnu_debuglink", &link, out)?;
     let link = file.get_gnu_debugaltlink();
     let link = Found(link.map(|it| Pair(Quoted(it.0), Told(it.1))));
-    writeln!(out, "extensions get_gnu_debugaltlink = {link}")
+    tell("extensions get_gnu_debugaltlink", &link, out)
 }
