@@ -47,7 +47,10 @@ NOTE = re.compile(r"note: (?:\./)?(src/\S+?):(\d+):\d+: it is not proved that (.
 ANSWER = re.compile(r"(?:\./)?proofs/(\S+)/\w+\.antt:\d+:\d+: error: (.*)")
 # A proof that only cites a name which the edit took away says nothing of the contract.
 LOST = re.compile(r"has no field|is not in scope|has no `|was not admitted")
-TOLD = re.compile(r"fn (\S+): (?:proved|not proved|no proof)")
+# A refused line in a function's proof: where there is one, the check doesn't print the goals of the function that stay
+# open, which takes as long as it took to find them. That they are open is told all the same.
+UNPRINTED = "\nunprinted : ⊥\nunprinted = tt\n"
+TOLD = re.compile(r"^fn (\S+): (?:proved|not proved|no proof)", re.M)
 FAULT = re.compile(r"(?:\./)?(src/\S+?):(\d+):\d+: error")
 PROGRESS = re.compile(r"checked (\S+), \d+ of \d+")
 REACHED = re.compile(r"^(?:logic=(proved|not-proved)|only=\d+ proved=\d+$)", re.M)
@@ -168,10 +171,21 @@ class Crate:
         files = sorted((folder / "src").rglob("*.rt"))
         self.texts = {str(it.relative_to(folder)): it.read_text(encoding="utf-8") for it in files}
         self.functions = [one for file, text in self.texts.items() for one in functions_of(file, text, self.name)]
+        # the paths of its functions, as a check tells them
+        self.told = set()
 
     def function_at(self, file: str, line: int):
         held = [it for it in self.functions if it.file == file and it.first <= line <= it.last]
         return held[-1] if held else None
+
+    def told_path(self, one: Function) -> str:
+        """The path by which a check tells a function, or the end of its path where that isn't known."""
+        alike = [it for it in self.told if "::".join(("", *it.split("::"))[-2:]) == one.tail()]
+        module = one.path.rsplit("::", 2)[0]
+        # The methods of a type are told by the module of the type, and may stand in one below.
+        above = [it for it in alike if f"{module}::".startswith(f"{it.rsplit('::', 2)[0]}::")]
+        chosen = [it for it in alike if it == one.path] or (alike if len(alike) == 1 else above)
+        return max(chosen, key=len) if chosen else one.tail()
 
     def lines_of(self, edit) -> dict:
         """The lines that an edit changes, by file and number; ValueError says which change can't be made."""
@@ -265,7 +279,7 @@ def goals_in(crate: Crate, said: str) -> dict:
         note, answer = NOTE.match(line), ANSWER.match(line)
         if note:
             goals.setdefault(crate.function_at(note[1], int(note[2])), []).append(note[3])
-        elif answer and not LOST.search(answer[2]):
+        elif answer and not LOST.search(answer[2]) and not answer[2].startswith("`unprinted`"):
             one = by_path.get(answer[1].replace("/", "::"))
             goals.setdefault(one, []).append(f"what the function ensures: {answer[2]}")
     return goals
@@ -293,12 +307,24 @@ class Room:
     def check(self, edits, functions) -> str:
         """What a check of these functions says of the crate with these edits made (none: of all); takes them back."""
         changed = self.made(edits)
-        ran = self.check_only(functions)
+        paths = sorted({self.crate.told_path(one) for one in functions})
+        unprinted = [self.unprinted(it) for it in paths if it in self.crate.told]
+        ran = self.check_only(paths)
+        for file, text in unprinted:
+            file.write_text(text, encoding="utf-8") if text else file.unlink()
         self.unmade(changed)
         what = edits[0].label() if len(edits) == 1 else f"{self.crate.name}: {len(edits)} edits"
         slow = ", ".join(f"{name} {seconds:.0f}" for seconds, name in ran.stays[:4] if seconds >= 1)
         self.times.append((ran.seconds, what + (f" ({slow})" if slow else "")))
         return ran.said
+
+    def unprinted(self, path: str):
+        """Adds the refused line to the proof of a function; gives the file, and what it was (nothing: it had none)."""
+        file = self.folder.joinpath("proofs", *path.split("::")[1:], "Answers.antt")
+        text = file.read_text(encoding="utf-8") if file.exists() else ""
+        file.parent.mkdir(parents=True, exist_ok=True)
+        file.write_text(text + UNPRINTED, encoding="utf-8")
+        return file, text
 
     def made(self, edits):
         """Writes the edits, and gives the files that they change."""
@@ -347,7 +373,7 @@ class Room:
         """Each edit with the goal for which it is refused, or with none and a fault."""
         functions = {one for edit in edits for one in edit.functions}
         # A line that stands in no function, as a constant's, is judged by the whole crate.
-        said = self.check(edits, [] if None in functions else sorted({one.tail() for one in functions}))
+        said = self.check(edits, [] if None in functions else functions)
         reached = REACHED.search(said)
         if reached and len(edits) == 1 and not goals_in(self.crate, said):
             # What the function does for others may be refused there.
@@ -437,6 +463,7 @@ class Trial:
         if not ran[0].status and any(task.crate.name in it.below for it in self.tasks):
             ran.append(check(task.crate.folder, "--jobs", str(jobs), verb="lib"))
         status = ran[-1].status
+        task.crate.told = set(TOLD.findall(ran[0].said))
         with self.lock:
             self.of_crate["the crates as they stand"] += sum(it.seconds for it in ran)
             task.state = "not proved" if status else "proved"
