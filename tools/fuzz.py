@@ -75,17 +75,23 @@ def hash_file(names, words):
     return bytes(data)
 
 
+def names(count) -> list:
+    return [b"n%05d" % k for k in range(count)]
+
+
+def shared_chain(count) -> bytes:
+    """A file whose buckets all lead to one chain of all names, upwards."""
+    return hash_file(names(count), [count, count + 1, *[1] * count, 0, *range(2, count + 1), 0])
+
+
 def long_files():
     """Files a little below 1 MB whose work is as much as their bytes allow, each with its name."""
-    def names(count):
-        return [b"n%05d" % k for k in range(count)]
     count = 20_000
     good = damage.hash_words(names(count), count // 2)
     yield "a good hash table of 20,000 names", hash_file(names(count), good)
     one = [1, count + 1, 1, *range(0, 1), *range(2, count + 1), 0]
     yield f"20,000 names on the chain of one bucket{SLOW}", hash_file(names(count), one)
-    tails = [count, count + 1, *[1] * count, 0, *range(2, count + 1), 0]
-    yield f"20,000 buckets that share one chain of 20,000 names{SLOW}", hash_file(names(count), tails)
+    yield f"20,000 buckets that share one chain of 20,000 names{SLOW}", shared_chain(count)
     looped = [count, count + 1, *[1] * count, 0, *range(2, count + 1), 1]
     yield f"20,000 buckets that share one looped chain{SLOW}", hash_file(names(count), looped)
     layout = damage.Layout(True, "little")
@@ -173,6 +179,9 @@ def main() -> int:
             sys.exit("no program is built: run `rt run` in crates/elfinfo and crates/elfanswers first")
         for name, data in long_files():
             fuzzing.files_at_once([(name, data)])
+        # A check that walks along the chain for each name would take minutes.
+        pathlib.Path(f"{room}/shared").write_bytes(shared_chain(200_000))
+        fuzzing.check("elfinfo", ["200,000 buckets that share one chain of 200,000 names"], [f"{room}/shared"])
         for start in range(options.start, options.start + options.count, AT_ONCE):
             numbers = range(start, min(start + AT_ONCE, options.start + options.count))
             fuzzing.files_at_once([(f"damage.damaged({options.seed}, {k})", damage.damaged(options.seed, k)) for k in numbers])
