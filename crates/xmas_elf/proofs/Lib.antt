@@ -20,5 +20,6 @@ pub mod ChainChecks
 pub mod ChainCounts
 pub mod HashSections
 pub mod Places
+pub mod Contents
 pub mod Shapes
 pub mod SegmentShapes

@@ -112,3 +112,15 @@ has_segment_shape file segment wanted = by_type file segment wanted (segment_typ
 pub segment_shaped_by : {T : Type 0} (file : ElfFile) (segment : ProgramHeader64) (content_is : T → Content) (answer : Result T ElfError) → MatchResult answer (λ d. segment_content_of file segment ≡ Ok (content_is d)) (λ e. segment_content_of file segment ≡ Err e) → (wanted : Shape) → IsOkAnd answer (λ d. shape (content_is d) ≡ wanted) ↔ HasSegmentShape file segment wanted
 segment_shaped_by file segment content_is (Ok part) exact wanted = subst (λ r. IsOkAnd r (λ c. shape c ≡ wanted) ↔ HasSegmentShape file segment wanted) exact (has_segment_shape file segment wanted)
 segment_shaped_by file segment content_is (Err error) exact wanted = subst (λ r. IsOkAnd r (λ c. shape c ≡ wanted) ↔ HasSegmentShape file segment wanted) exact (has_segment_shape file segment wanted)
+
+typed_not_null : (kind : SegmentType) → kind ≢ ph_type.Null → is_ph_type ph_type.Null kind ≡ false
+typed_not_null ph_type.Null not_null = absurd (not_null refl)
+typed_not_null _ not_null = refl
+
+-- the contents of a segment of another type than Null, whose bytes are there
+pub segment_content_there : (file : ElfFile) (segment : ProgramHeader64) (kind : SegmentType) (b : List ℕ) → segment_type segment ≡ Ok kind → kind ≢ ph_type.Null → segment_data_of file segment ≡ Ok b → segment_content_of file segment ≡ content_of_segment kind (file_class file.header) (file_order file.header) b
+unfolding segment_content_of
+segment_content_there file segment kind b typed not_null there =
+    ap (λ (k : Result SegmentType ElfError). and_then k (content_by file segment)) typed
+    ∙ ap (λ (t : Bool). if t then Ok empty else and_then (segment_data_of file segment) (content_of_segment kind (file_class file.header) (file_order file.header))) (typed_not_null kind not_null)
+    ∙ ap (λ (r : Result (List ℕ) ElfError). and_then r (content_of_segment kind (file_class file.header) (file_order file.header))) there

@@ -88,7 +88,7 @@ impl ProgramHeader64 {
     ghost use Rattle.xmas_elf.specs.Shapes.{HasSegmentShape, Shape, shape};
 
     /// The contents of the segment, as in `ProgramHeader::get_data`.
-    #[tactic(auto, using(crate::proofs::Places::part_lies), unfolding(crate::specs::SegmentContent::segment_content_of))]
+    #[tactic(auto, unfolding(crate::specs::SegmentContent::segment_content_of))]
     #[inline(always)]
     pub fn get_data<'a>(&self, file: &ElfFile<'a>) -> Result<SegmentData<'a>, ElfError>
         ensures readable { (wanted : Shape)
@@ -102,21 +102,36 @@ impl ProgramHeader64 {
         ensures place { IfOk result (λ d. self.now.file_size ≢ 0
             → PartLies file.now.input self.now.offset (segment_part d)) }
     {
-        let kind = self.get_type()?;
-        if kind == Type::Null {
-            return Ok(SegmentData::Empty);
+        match self.get_type()? {
+            Type::Null => Ok(SegmentData::Empty),
+            kind => SegmentData::read(kind, file, self.raw_data(file)?),
         }
-        let bytes = self.raw_data(file)?;
+    }
+}
+
+impl<'a> SegmentData<'a> {
+    ghost use Rattle.xmas_elf.specs.SegmentContent.{content_of_segment, segment_content};
+
+    // The contents in `bytes` of a segment of this type, which is not Null.
+    #[inline(always)]
+    fn read(kind: Type, file: &ElfFile<'a>, bytes: &'a [u8]) -> Result<SegmentData<'a>, ElfError>
+        ensures exact { MatchResult result
+            (λ d. content_of_segment kind (file_class file.now.header) (file_order file.now.header)
+            bytes.now ≡ Ok (segment_content d))
+            (λ e. content_of_segment kind (file_class file.now.header) (file_order file.now.header)
+            bytes.now ≡ Err e) }
+        ensures place { IfOk result (λ d. PartLies bytes.entry 0 (segment_part d)) }
+    {
         let order = file.byte_order();
         match (kind, file.header.pt1.class()) {
-            (Type::Dynamic, ThirtyTwo) => Ok(SegmentData::Dynamic32(Table::new(bytes, order)?)),
-            (Type::Dynamic, SixtyFour) => Ok(SegmentData::Dynamic64(Table::new(bytes, order)?)),
+            (Type::Dynamic, ThirtyTwo) => Ok(Self::Dynamic32(Table::new(bytes, order)?)),
+            (Type::Dynamic, SixtyFour) => Ok(Self::Dynamic64(Table::new(bytes, order)?)),
             (Type::Dynamic, _) => Err(ElfError::UnknownClass),
             (Type::Note, _) => {
                 let (header, body) = first_note(file, bytes)?;
-                Ok(SegmentData::Note64(header, body))
+                Ok(Self::Note64(header, body))
             }
-            _ => Ok(SegmentData::Undefined(bytes)),
+            _ => Ok(Self::Undefined(bytes)),
         }
     }
 }

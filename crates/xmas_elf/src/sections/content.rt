@@ -4,8 +4,6 @@ ghost use Rattle.std.specs.Prelude.{◌≡◌, ◌↔◌, Ok, Err, IfOk, IsOkAnd
 ghost use Rattle.elf_base.specs.FileHeader.{file_class, file_order};
 ghost use Rattle.xmas_elf.specs.SectionData.{IsSectionData};
 ghost use Rattle.xmas_elf.specs.SectionHeader.{section_fields};
-ghost use Rattle.xmas_elf.specs.declared.ElfFile.{ElfFile};
-ghost use Rattle.xmas_elf.specs.declared.sections.section_header.SectionHeader.{SectionHeader};
 
 use crate::bytes::{Order, Table};
 use crate::dynamic::Dynamic;
@@ -82,7 +80,7 @@ impl SectionHeader {
     /// whole number of records. For groups: `ShortData` if there are fewer than 4 bytes,
     /// `NotMultiple`. For notes: `Note32` in class 1, `UnknownClass`, and `ShortData` if there are
     /// fewer than 12 bytes. For hash tables: `ShortData` if there are fewer than 12 bytes.
-    #[tactic(auto, using(crate::proofs::Places::section_lies), unfolding(crate::specs::SectionContent::section_content_of))]
+    #[tactic(auto, unfolding(crate::specs::SectionContent::section_content_of))]
     #[inline(always)]
     pub fn get_data<'a>(&self, file: &ElfFile<'a>) -> Result<SectionData<'a>, ElfError>
         ensures readable { (wanted : Shape)
@@ -108,7 +106,7 @@ impl SectionHeader {
 
 impl<'a> SectionData<'a> {
     ghost use Rattle.xmas_elf.specs.SectionContent.{section_content, content_of_section};
-    ghost use Rattle.xmas_elf.specs.Content.{IsReadFrom, group_content};
+    ghost use Rattle.xmas_elf.specs.Content.{group_content};
     ghost use Rattle.xmas_elf.specs.Place.{PartLies, section_part};
 
     // The contents in `bytes` of a section of this type, which is not Null or NoBits.
@@ -119,9 +117,6 @@ impl<'a> SectionData<'a> {
             bytes.now ≡ Ok (section_content d))
             (λ e. content_of_section kind (file_class file.now.header) (file_order file.now.header)
             bytes.now ≡ Err e) }
-        ensures holds { (f : ElfFile) (section : SectionHeader) → IsSectionData f section bytes.now
-            → IfOk result (λ d. IsReadFrom (IsSectionData f section)
-            (file_order file.now.header) (section_content d)) }
         ensures place { IfOk result (λ d. PartLies bytes.entry 0 (section_part d)) }
     {
         let order = file.byte_order();
@@ -170,8 +165,6 @@ impl<'a> SectionData<'a> {
         ensures exact { MatchResult result
             (λ d. group_content order bytes.now ≡ Ok (section_content d))
             (λ e. group_content order bytes.now ≡ Err e) }
-        ensures holds { (f : ElfFile) (section : SectionHeader) → IsSectionData f section bytes.now
-            → IfOk result (λ d. IsReadFrom (IsSectionData f section) order (section_content d)) }
         ensures place { IfOk result (λ d. PartLies bytes.entry 0 (section_part d)) }
     {
         if bytes.len() < 4 {

@@ -53,7 +53,7 @@ impl<'a> Iterator for SectionStrings<'a> {
 
     /// The next text; `TextEnd` or `TextUtf8` if there is none at the front of the bytes,
     /// and `None` from then on.
-    #[tactic(auto, using(crate::proofs::StringItems::strings_none, crate::proofs::StringItems::strings_bare, crate::proofs::StringItems::strings_last, crate::proofs::StringItems::strings_of_next, crate::proofs::StringItems::text_within))]
+    #[tactic(auto, using(crate::proofs::StringItems::text_within))]
     fn next(&mut self) -> Option<Result<&'a str, ElfError>> {
         if self.rest.is_empty() {
             return None;
