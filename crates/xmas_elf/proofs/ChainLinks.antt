@@ -1,7 +1,7 @@
 -- Links between the indices of a hash table's chains, one more at a time.
 use Rattle.std.proofs.Common.{◌≡◌, ◌<◌, ◌^◌, ℕ, ◌⊎◌, inl, inr, List, Option, Some, None, Ok, subst, sym, slice_get, slice_index_or, length, refl, zero}
 use Rattle.std.specs.Prelude.{IsTrue, MatchOption, is_some, unwrap_or}
-use Rattle.xmas_elf.specs.HashTable.{Chains, Reaches, StandsAt, Links, goes, starts}
+use Rattle.xmas_elf.specs.HashTable.{Chains, Reaches, goes, starts}
 use Rattle.xmas_elf.specs.ChainLinks.{AreLinks, Joins}
 
 -- what holds of each link still does with one more of which it holds

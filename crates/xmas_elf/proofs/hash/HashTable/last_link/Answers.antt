@@ -1,4 +1,3 @@
-use Rattle.std.proofs.Common.{rules}
 use Rattle.xmas_elf.specs.HashTable.{Held, Reaches, chains_of, starts}
 use Rattle.xmas_elf.specs.SymbolTable.{table_symbols}
 use Rattle.xmas_elf.proofs.ChainLinks.{reaches_linked, with_link}
