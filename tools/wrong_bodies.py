@@ -10,12 +10,13 @@ compile, that changes nothing, or with which the crate is still proved.
 
     tools/wrong_bodies.py [--jobs N] [NAME..]    a NAME is that of a crate, a topic or an edit; none: all
     tools/wrong_bodies.py --since COMMIT         those of functions that changed since this commit
+    tools/wrong_bodies.py --proved [NAME..]      behind `rt ci`: no crate is checked first, and only what edits call is
     tools/wrong_bodies.py --list [NAME..]        the batches, and nothing is tried
     tools/wrong_bodies.py --compile [NAME..]     only whether each edit compiles, some ten seconds a batch
     tools/wrong_bodies.py --self-test            whether the script itself tells right from wrong
 
-Each crate must be proved as it stands, and is checked first; what that check and earlier ones kept in
-out/ is used again. At the end stand what the checks of each crate took, the slowest ones, and the
+Each crate must be proved as it stands, and is checked first, unless `rt ci` has just proved it; what
+that check and earlier ones kept in out/ is used again. At the end stand what the checks of each crate took, the slowest ones, and the
 functions at which each of these stayed longest, so that edits can be found that make the prover's
 search run to its limits. The last line is
 `N refused, M failed`.
@@ -40,7 +41,7 @@ ROOT = pathlib.Path(__file__).resolve().parent.parent
 MUST_STAY = ROOT / "docs" / "wrong_bodies.txt"
 
 # Many edits of one batch share what a check costs before the first goal; few leave work for others.
-BATCH = 40
+BATCH = 80
 
 CONTRACT = re.compile(r"what the function ensures|the invariant of the loop|the loop's invariant")
 NOTE = re.compile(r"note: (?:\./)?(src/\S+?):(\d+):\d+: it is not proved that (.*)")
@@ -50,12 +51,15 @@ LOST = re.compile(r"has no field|is not in scope|has no `|was not admitted")
 # A refused line in a function's proof: where there is one, the check doesn't print the goals of the function that stay
 # open, which takes as long as it took to find them. That they are open is told all the same.
 UNPRINTED = "\nunprinted : ⊥\nunprinted = tt\n"
-TOLD = re.compile(r"^fn (\S+): (?:proved|not proved|no proof)", re.M)
 FAULT = re.compile(r"(?:\./)?(src/\S+?):(\d+):\d+: error")
 PROGRESS = re.compile(r"checked (\S+), \d+ of \d+")
 REACHED = re.compile(r"^(?:logic=(proved|not-proved)|only=\d+ proved=\d+$)", re.M)
 NO_FUNCTION = re.compile(r"^rattle: error: `\w+` has no function `(\S+)`", re.M)
-ALIKE = re.compile(r"^rattle: error: several functions are named `(\S+)`: help: write one of (.*)", re.M)
+CALL = re.compile(r"(?:\b(\w+)::|(\.)\s*|(?<![\w.:]))(\w+)(?:::<[^()]*>)?\(")
+# A function more that is proved again costs a sixth of another batch, or less.
+BETWEEN = 0
+# Methods of one name, up to which a call counts as one of each; a name of more, as `len`, tells nothing.
+ALIKE = 1
 # How many checks are listed at the end, and functions of each.
 SLOWEST = 12
 
@@ -70,6 +74,8 @@ class Function:
     path: str
     # the line that opens the body
     body: int = 0
+    # the type of an inherent method, which a check tells by the module of that type
+    owner: str = ""
 
     def tail(self) -> str:
         return "::".join(self.path.split("::")[-2:])
@@ -91,17 +97,22 @@ class Edit:
         return f"{self.crate}/{self.name}"
 
 
-def label_of(head: str) -> str:
-    """The name of an impl or a trait in the path of a function: `Table`, `TableClone`, `Part_+P32`."""
-    found = re.match(r"(?:pub )?(?:impl|trait)(?:<((?:[^<>]|<[^<>]*>)*)>)?\s+(?:([\w:]+)(?:<[^{]*?>)? for )?(\w+)(?:<([^{]*?)>)?", head)
+def label_of(head: str) -> tuple:
+    """The name of an impl or a trait in the path of a function, as `Table`, `TableClone`, `Part_+P32`; the type of an
+    impl of no trait, or nothing."""
+    found = re.match(r"(?:pub )?(impl|trait)(?:<((?:[^<>]|<[^<>]*>)*)>)?\s+(?:([\w:]+)(?:<([^{]*?)>)? for )?(\w+)(?:<([^{]*?)>)?", head)
     if not found:
-        return ""
+        return "", ""
     # The arguments of a type stand in its name where they are types, and not parameters of the impl.
-    own = re.findall(r"\w+", re.sub(r":[^,]*", "", found[1] or ""))
-    arguments = [it.strip() for it in (found[4] or "").split(",")]
-    arguments = [it for it in arguments if re.fullmatch(r"\w+", it) and it not in own and it != "_"]
-    trait = (found[2] or "").split("::")[-1]
-    return found[3] + "".join(arguments if trait else ["+" + it for it in arguments]) + trait
+    own = re.findall(r"\w+", re.sub(r":[^,]*", "", found[2] or ""))
+    arguments, given = ([it.strip() for it in (found[at] or "").split(",")] for at in (6, 4))
+    arguments, given = ([it for it in some if re.fullmatch(r"\w+", it) and it not in own and it != "_"] for some in (arguments, given))
+    trait = (found[3] or "").split("::")[-1]
+    if not trait:
+        # With arguments it is told by the module of the impl, as an impl of a trait is.
+        return found[5] + "".join("+" + it for it in arguments), found[5] if found[1] == "impl" and not arguments else ""
+    of = "Any" if found[5] in own else found[5]
+    return "".join(it[0].upper() + it[1:] for it in [of, *arguments, trait, *given]), ""
 
 
 def body_of(lines: list, first: int, last: int, indent: str) -> int:
@@ -113,14 +124,19 @@ def body_of(lines: list, first: int, last: int, indent: str) -> int:
     return last
 
 
+def module_of(file: str, crate: str) -> str:
+    """The path of the module that a source file holds."""
+    module = re.sub(r"^src/|\.rt$", "", file).replace("/", "::")
+    return crate if module in ("lib", "main") else f"{crate}::{module}"
+
+
 def functions_of(file: str, text: str, crate: str) -> list:
     """The functions of a source file, as its layout shows where each begins and ends."""
-    module = re.sub(r"^src/|\.rt$", "", file).replace("/", "::")
-    prefix = crate if module in ("lib", "main") else f"{crate}::{module}"
-    lines, found, label, first = text.split("\n"), [], "", None
+    prefix = module_of(file, crate)
+    lines, found, label, owner, first = text.split("\n"), [], "", "", None
     for at, line in enumerate(lines, 1):
         if re.match(r"(pub )?(impl|trait)\b", line):
-            label = label_of(" ".join(lines[at - 1 : at + 6]))
+            label, owner = label_of(" ".join(lines[at - 1 : at + 6]))
         elif line == "}":
             label = "" if not re.match(r"}", lines[at - 2]) else label
         begins = re.match(r"( {0,4})(?:pub(?:\(\w+\))? )?(?:const )?(?:unsafe )?(?:extern \"C\" )?fn (\w+)", line)
@@ -130,7 +146,7 @@ def functions_of(file: str, text: str, crate: str) -> list:
             inside = label if begins[1] else ""
             path = "::".join(it for it in (prefix, inside, begins[2]) if it)
             end = next((k for k in range(at, len(lines) + 1) if lines[k - 1] == begins[1] + "}"), at)
-            found.append(Function(file, first or at, end, path, body_of(lines, at, end, begins[1])))
+            found.append(Function(file, first or at, end, path, body_of(lines, at, end, begins[1]), owner if inside else ""))
             first = None
         else:
             first = None
@@ -171,21 +187,62 @@ class Crate:
         files = sorted((folder / "src").rglob("*.rt"))
         self.texts = {str(it.relative_to(folder)): it.read_text(encoding="utf-8") for it in files}
         self.functions = [one for file, text in self.texts.items() for one in functions_of(file, text, self.name)]
-        # the paths of its functions, as a check tells them
-        self.told = set()
+        # the modules that declare a type of a name
+        self.modules = collections.defaultdict(list)
+        for file, text in self.texts.items():
+            for it in re.findall(r"^(?:pub(?:\(\w+\))? )?(?:struct|enum) (\w+)", text, re.M):
+                self.modules[it].append(module_of(file, self.name))
+
+    def calls(self) -> dict:
+        """Each function with those of the crate that its body calls, as far as names tell: a batch only costs more by
+        what this misses, or adds."""
+        named = collections.defaultdict(list)
+        for one in self.functions:
+            named[one.path.rpartition("::")[2]].append(one)
+        found = {}
+        for one in self.functions:
+            body = "\n".join(self.texts[one.file].split("\n")[one.body - 1 : one.last])
+            found[one] = {it for call in CALL.finditer(body) for it in self.called(one, named, *call.groups())} - {one}
+        return found
+
+    def called(self, caller: Function, named: dict, of: str, dot: str, name: str) -> list:
+        """The functions that a call may be of: of a type or a module, a method, or a free function."""
+        several = named[name]
+        if of == "Self" or dot and several and caller.owner:
+            own = [it for it in several if it.owner == caller.owner or it.owner and it.path.rpartition("::")[0] == caller.path.rpartition("::")[0]]
+            several = own or several
+        elif of:
+            several = [it for it in several if of in it.path.split("::")] or several
+        elif not dot:
+            several = [it for it in several if not it.owner]
+        return several if len(several) <= ALIKE else []
+
+    def reached(self) -> tuple:
+        """Each function with those that it calls, through others too, and with those that call it so."""
+        calls, below = self.calls(), {}
+
+        def reach(one):
+            if one not in below:
+                below[one] = set()
+                below[one] = set().union(*({it} | reach(it) for it in calls[one]))
+            return below[one]
+
+        above = collections.defaultdict(set)
+        for one in self.functions:
+            for it in reach(one):
+                above[it].add(one)
+        return below, above
 
     def function_at(self, file: str, line: int):
         held = [it for it in self.functions if it.file == file and it.first <= line <= it.last]
         return held[-1] if held else None
 
     def told_path(self, one: Function) -> str:
-        """The path by which a check tells a function, or the end of its path where that isn't known."""
-        alike = [it for it in self.told if "::".join(("", *it.split("::"))[-2:]) == one.tail()]
-        module = one.path.rsplit("::", 2)[0]
-        # The methods of a type are told by the module of the type, and may stand in one below.
-        above = [it for it in alike if f"{module}::".startswith(f"{it.rsplit('::', 2)[0]}::")]
-        chosen = [it for it in alike if it == one.path] or (alike if len(alike) == 1 else above)
-        return max(chosen, key=len) if chosen else one.tail()
+        """The path by which a check tells a function: that of its module, or of the type's module for a method."""
+        here = f"{module_of(one.file, self.name)}::"
+        # A method may stand in a module below that of its type.
+        modules = sorted(self.modules[one.owner], key=lambda it: (here.startswith(f"{it}::"), len(it)))
+        return f"{modules[-1]}::{one.tail()}" if modules else one.path
 
     def lines_of(self, edit) -> dict:
         """The lines that an edit changes, by file and number; ValueError says which change can't be made."""
@@ -244,35 +301,38 @@ class Crate:
 
 
 def batches_of(crate: Crate, edits) -> list:
-    """The edits in few groups, each of edits of different functions that can be made together."""
+    """The edits in few groups, each of edits of different functions that can be made together, and with few functions
+    between those: what calls an edited function, and is called by another, is proved again."""
     many = collections.Counter(one for edit in edits for one in edit.functions)
+    below, above = crate.reached()
+
+    def between(changed: set) -> int:
+        under, over = (set().union(*(it.get(one, ()) for one in changed)) for it in (below, above))
+        return len((under & over) - changed)
+
+    def joins(batch: list, edit: Edit) -> bool:
+        used = set().union(*(it.functions for it in batch))
+        if len(batch) == BATCH or None in used | edit.functions or used & edit.functions:
+            return False
+        try:
+            crate.changed([*batch, edit])
+        except ValueError:
+            return False
+        return between(used | edit.functions) - between(used) <= BETWEEN
+
     # Those of functions with many edits come first, each in a group of its own, and the others fill these groups.
     rank = lambda it: (not it.inside, -max(many[one] for one in it.functions), it.changes[0][0], it.name)
     batches = []
     for edit in sorted(edits, key=rank):
-        for batch in batches:
-            used = set().union(*(it.functions for it in batch))
-            if len(batch) < BATCH and None not in used | edit.functions and not used & edit.functions:
-                try:
-                    crate.changed([*batch, edit])
-                    batch.append(edit)
-                    break
-                except ValueError:
-                    continue
-        else:
-            batches.append([edit])
+        batch = next((it for it in batches if joins(it, edit)), None)
+        batch.append(edit) if batch else batches.append([edit])
     # The longest begin first, so that none is the last to end.
     return sorted(batches, key=len, reverse=True)
 
 
 def goals_in(crate: Crate, said: str) -> dict:
     """What a check left open, by the function that it said it of (None: of no function of the sources)."""
-    told = {it.split("::", 1)[1] for it in TOLD.findall(said) if "::" in it}
-    by_path = {}
-    for one in crate.functions:
-        alike = [it for it in told if "::".join(("", *it.split("::"))[-2:]) == one.tail()]
-        exact = one.path.split("::", 1)[1]
-        by_path[exact if exact in told or len(alike) != 1 else alike[0]] = one
+    by_path = {crate.told_path(one).split("::", 1)[1]: one for one in crate.functions}
     goals = {}
     # What is said of a proof may go on in indented lines.
     for line in re.sub(r"\n {2,}(?=\S)", " ", said).split("\n"):
@@ -285,10 +345,15 @@ def goals_in(crate: Crate, said: str) -> dict:
     return goals
 
 
+def copied(source: str, place: str):
+    """Copies a file of kept work, by a link where a check replaces such a file and never changes it."""
+    return os.link(source, place) if source.endswith(".oantt") else shutil.copy2(source, place)
+
+
 class Room:
     """A copy of the repository in which one crate is changed and checked again and again."""
 
-    def __init__(self, root: pathlib.Path, crate: Crate, below, place: pathlib.Path):
+    def __init__(self, root: pathlib.Path, crate: Crate, below, place: pathlib.Path, kept: pathlib.Path):
         self.crate, self.folder = crate, place / "crates" / crate.name
         self.times = []
         place.mkdir()
@@ -300,15 +365,15 @@ class Room:
             for part in ("src", "specs", "proofs"):
                 if (source / part).is_dir():
                     shutil.copytree(source / part, copy / part)
-            kept = "incremental" if name == crate.name else "rlib"
-            if (source / "out" / kept).is_dir():
-                shutil.copytree(source / "out" / kept, copy / "out" / kept)
+            part, there = ("incremental", kept) if name == crate.name else ("rlib", source / "out" / "rlib")
+            if there.is_dir():
+                shutil.copytree(there, copy / "out" / part, copy_function=copied)
 
     def check(self, edits, functions) -> str:
         """What a check of these functions says of the crate with these edits made (none: of all); takes them back."""
         changed = self.made(edits)
         paths = sorted({self.crate.told_path(one) for one in functions})
-        unprinted = [self.unprinted(it) for it in paths if it in self.crate.told]
+        unprinted = [self.unprinted(it) for it in paths]
         ran = self.check_only(paths)
         for file, text in unprinted:
             file.write_text(text, encoding="utf-8") if text else file.unlink()
@@ -352,13 +417,8 @@ class Room:
         return [(edits[0], why[0])]
 
     def check_only(self, functions) -> Checked:
-        """A check of some functions, by the ends of their names, and of what they call; of none: of the whole crate."""
+        """A check of some functions, by their paths, and of what they call; of none: of the whole crate."""
         ran = check(self.folder, "--jobs", "1", *(word for name in functions for word in ("--only", name)))
-        # Of functions whose names end alike all are checked.
-        alike = ALIKE.search(re.sub(r"\n {2,}(?=\S)", " ", ran.said))
-        if alike:
-            whole = [it.split("::", 1)[1] for it in re.findall(r"`(\S+)`", alike[2])]
-            return self.check_only([it for it in functions if it != alike[1]] + whole)
         unknown = NO_FUNCTION.search(ran.said)
         # A method of a built-in type has no such name: its edit is then tried alone.
         return self.check_only([it for it in functions if it != unknown[1]]) if unknown else ran
@@ -408,13 +468,15 @@ class Task:
     batches: list
     state: str = "unproved"
     rooms: list = dataclasses.field(default_factory=list)
+    # what a check of the crate kept, for new copies
+    kept: pathlib.Path = pathlib.Path()
 
 
 class Trial:
     """All edits of a repository that are to be tried, by several workers."""
 
-    def __init__(self, root: pathlib.Path, names, jobs: int, since=None):
-        self.root, self.jobs, self.lock = root, jobs, threading.Lock()
+    def __init__(self, root: pathlib.Path, names, jobs: int, since=None, proved=False):
+        self.root, self.jobs, self.lock, self.proved = root, jobs, threading.Lock(), proved
         self.of_crate = collections.Counter()
         self.refused, self.failed, self.times = [], [], []
         self.tasks, self.idle, self.made = [], jobs, 0
@@ -435,7 +497,8 @@ class Trial:
                     self.tell(edit, "", edit.fault)
             batches = batches_of(crate, [it for it in edits if not it.fault])
             if batches:
-                self.tasks.append(Task(crate, self.closure(below, name), batches))
+                kept = crate.folder / "out" / "incremental"
+                self.tasks.append(Task(crate, self.closure(below, name), batches, kept=kept))
 
     @staticmethod
     def is_named(edit: Edit, word: str) -> bool:
@@ -463,7 +526,6 @@ class Trial:
         if not ran[0].status and any(task.crate.name in it.below for it in self.tasks):
             ran.append(check(task.crate.folder, "--jobs", str(jobs), verb="lib"))
         status = ran[-1].status
-        task.crate.told = set(TOLD.findall(ran[0].said))
         with self.lock:
             self.of_crate["the crates as they stand"] += sum(it.seconds for it in ran)
             task.state = "not proved" if status else "proved"
@@ -475,12 +537,16 @@ class Trial:
 
     def work(self, task: Task, batch: list, room, place: pathlib.Path):
         """Tries a batch in a copy of its crate, which is left for the next one."""
-        room = room or Room(self.root, task.crate, task.below, place)
+        room = room or Room(self.root, task.crate, task.below, place, task.kept)
         for edit, goal, fault in room.judge(batch):
             self.tell(edit, goal, fault)
+        if task.state == "begun" and task.batches:
+            task.kept = place.with_name(f"{place.name}-kept")
+            shutil.copytree(room.folder / "out" / "incremental", task.kept, copy_function=copied)
         with self.lock:
             self.of_crate[task.crate.name] += sum(it[0] for it in room.times)
             self.times, room.times = self.times + room.times, []
+            task.state = "proved"
             is_wanted = len(task.rooms) < len(task.batches)
             if is_wanted:
                 task.rooms.append(room)
@@ -489,7 +555,10 @@ class Trial:
             shutil.rmtree(room.folder.parent.parent, ignore_errors=True)
 
     def startable(self, rooms: str):
-        """What can begin now: a call, and how many workers it takes. A crate comes after those below it."""
+        """What can begin now: a call, and how many workers it takes. A crate comes after those below it, if it is to
+        be checked; else its first batch comes before the others, which go on with what that proves."""
+        if self.proved:
+            return self.tried_next(rooms)
         unproved = [it for it in self.tasks if it.state == "unproved"]
         names = {it.crate.name for it in self.tasks if it.state in ("unproved", "checked now")}
         ready = [it for it in unproved if not names & set(it.below)]
@@ -500,14 +569,20 @@ class Trial:
             jobs = min(self.idle, max(1, self.jobs // 2, self.idle - bool(proved)))
             ready[0].state = "checked now"
             return (lambda: self.prove(ready[0], jobs)), jobs
-        if self.idle and proved:
-            # The crate with most left, since its last batch may be the last of all.
-            task = max(proved, key=lambda it: len(it.batches))
-            batch, room = task.batches.pop(0), task.rooms.pop() if task.rooms else None
-            self.made += 1
-            place = pathlib.Path(rooms, f"{task.crate.name}-{self.made}")
-            return (lambda: self.work(task, batch, room, place)), 1
-        return None, 0
+        return self.tried_next(rooms)
+
+    def tried_next(self, rooms: str):
+        """A batch that can be tried now, of the crate with most left, since its last batch may be the last of all."""
+        states = ("proved", "unproved") if self.proved else ("proved",)
+        ready = [it for it in self.tasks if it.state in states and it.batches]
+        if not self.idle or not ready:
+            return None, 0
+        task = max(ready, key=lambda it: (it.state == "unproved", len(it.batches)))
+        task.state = "begun" if task.state == "unproved" else task.state
+        batch, room = task.batches.pop(0), task.rooms.pop() if task.rooms else None
+        self.made += 1
+        place = pathlib.Path(rooms, f"{task.crate.name}-{self.made}")
+        return (lambda: self.work(task, batch, room, place)), 1
 
     def run(self) -> int:
         running = {}
@@ -539,7 +614,7 @@ class Trial:
         """Says of the edits that don't compile why."""
         for task in self.tasks:
             with tempfile.TemporaryDirectory(prefix="wrong-bodies-") as rooms:
-                room = Room(self.root, task.crate, task.below, pathlib.Path(rooms, task.crate.name))
+                room = Room(self.root, task.crate, task.below, pathlib.Path(rooms, task.crate.name), task.kept)
                 for batch in task.batches:
                     for edit, why in room.uncompiled(batch):
                         self.tell(edit, "", f"it does not compile: {why}")
@@ -642,6 +717,7 @@ def main() -> int:
     words.add_argument("--jobs", type=int, default=2, help="how many checks run side by side (each takes some 2 GB)")
     words.add_argument("--self-test", action="store_true", help="try the script on a crate of two functions")
     words.add_argument("--since", metavar="COMMIT", help="only edits of functions that changed since this commit, and edits that are new")
+    words.add_argument("--proved", action="store_true", help="each crate is proved as it stands, and isn't checked first")
     words.add_argument("--list", action="store_true", help="print the batches, and try none")
     words.add_argument("--compile", action="store_true", help="say only which edits don't compile")
     words.add_argument("names", nargs="*", metavar="NAME", help="a crate, a topic or an edit")
@@ -651,7 +727,7 @@ def main() -> int:
     if missing := lost():
         print(f"FAILED: no edit has the name {', '.join(missing)}")
         return 1
-    trial = Trial(ROOT, given.names, max(given.jobs, 1), Since(given.since) if given.since else None)
+    trial = Trial(ROOT, given.names, max(given.jobs, 1), Since(given.since) if given.since else None, given.proved)
     if given.compile:
         return trial.compile()
     return trial.list() if given.list else trial.run()

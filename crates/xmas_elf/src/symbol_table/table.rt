@@ -106,11 +106,14 @@ impl<'a, E: Entry + Record> SymbolTable<'a, E> {
     /// those of `name_of`.
     #[inline(always)]
     pub fn name(&self, index: usize) -> Option<Result<&'a str, ElfError>>
-        ensures { MatchOption (slice_get (table_symbols self.now).items index)
+        ensures text { MatchOption (slice_get (table_symbols self.now).items index)
             (IsNone result)
             (λ symbol. IsSomeAnd result (λ found. MatchResult found
             (λ name. (table_symbols self.now).text symbol ≡ Some name.now)
             (λ _. (table_symbols self.now).text symbol ≡ None))) }
+        ensures exact { IfSome (carried_strings self.now) (λ strings.
+            IfSome (slice_get (table_symbols self.now).items index) (λ symbol.
+            IsSomeAnd result (Answers (name_in_table strings (E.fields symbol).name)))) }
     {
         let symbol = self.table.get(index)?;
         Some(self.name_of(&symbol))
