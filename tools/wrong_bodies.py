@@ -115,13 +115,16 @@ def label_of(head: str) -> tuple:
     return "".join(it[0].upper() + it[1:] for it in [of, *arguments, trait, *given]), ""
 
 
-def body_of(lines: list, first: int, last: int, indent: str) -> int:
-    """The line that opens the body of a function: the end of its head, or a line of its own behind a contract."""
+def body_of(lines: list, first: int, last: int, indent: str) -> tuple:
+    """The line that opens the body of a function, which is the end of its head, or stands behind a contract; and the
+    last line, which is the same of a function that is only declared."""
     for at in range(first, last + 1):
         line = lines[at - 1]
+        if line.endswith(";"):
+            return at, at
         if line == indent + "{" or line.endswith(" {") and (at == first or line.startswith(indent + ")")):
-            return at
-    return last
+            return at, last
+    return last, last
 
 
 def module_of(file: str, crate: str) -> str:
@@ -146,7 +149,8 @@ def functions_of(file: str, text: str, crate: str) -> list:
             inside = label if begins[1] else ""
             path = "::".join(it for it in (prefix, inside, begins[2]) if it)
             end = next((k for k in range(at, len(lines) + 1) if lines[k - 1] == begins[1] + "}"), at)
-            found.append(Function(file, first or at, end, path, body_of(lines, at, end, begins[1]), owner if inside else ""))
+            body, last = body_of(lines, at, end, begins[1])
+            found.append(Function(file, first or at, last, path, body, owner if inside else ""))
             first = None
         else:
             first = None
@@ -193,6 +197,15 @@ class Crate:
             for it in re.findall(r"^(?:pub(?:\(\w+\))? )?(?:struct|enum) (\w+)", text, re.M):
                 self.modules[it].append(module_of(file, self.name))
 
+    def body(self, one: Function) -> str:
+        return "\n".join(self.texts[one.file].split("\n")[one.body - 1 : one.last])
+
+    def mentioned(self, functions) -> list:
+        """The paths of the functions whose names stand in the bodies of some, or of one of these where none does."""
+        words = {it for one in functions if one for it in re.findall(r"\w+", self.body(one))}
+        found = [self.told_path(it) for it in self.functions if it.body < it.last and it.path.rpartition("::")[2] in words]
+        return sorted(found) or [self.told_path(one) for one in functions if one][:1]
+
     def calls(self) -> dict:
         """Each function with those of the crate that its body calls, as far as names tell: a batch only costs more by
         what this misses, or adds."""
@@ -201,8 +214,7 @@ class Crate:
             named[one.path.rpartition("::")[2]].append(one)
         found = {}
         for one in self.functions:
-            body = "\n".join(self.texts[one.file].split("\n")[one.body - 1 : one.last])
-            found[one] = {it for call in CALL.finditer(body) for it in self.called(one, named, *call.groups())} - {one}
+            found[one] = {it for call in CALL.finditer(self.body(one)) for it in self.called(one, named, *call.groups())} - {one}
         return found
 
     def called(self, caller: Function, named: dict, of: str, dot: str, name: str) -> list:
@@ -353,8 +365,9 @@ def copied(source: str, place: str):
 class Room:
     """A copy of the repository in which one crate is changed and checked again and again."""
 
-    def __init__(self, root: pathlib.Path, crate: Crate, below, place: pathlib.Path, kept: pathlib.Path):
+    def __init__(self, root: pathlib.Path, crate: Crate, below, place: pathlib.Path):
         self.crate, self.folder = crate, place / "crates" / crate.name
+        self.kept = crate.folder / "out" / "incremental"
         self.times = []
         place.mkdir()
         needed = [*below, crate.name]
@@ -365,12 +378,19 @@ class Room:
             for part in ("src", "specs", "proofs"):
                 if (source / part).is_dir():
                     shutil.copytree(source / part, copy / part)
-            part, there = ("incremental", kept) if name == crate.name else ("rlib", source / "out" / "rlib")
-            if there.is_dir():
-                shutil.copytree(there, copy / "out" / part, copy_function=copied)
+            if name != crate.name and (source / "out" / "rlib").is_dir():
+                shutil.copytree(source / "out" / "rlib", copy / "out" / "rlib")
+
+    def begin(self):
+        """Takes what a check of the crate as it stands kept: a check with an edit replaces what was kept of its function."""
+        there = self.folder / "out" / "incremental"
+        shutil.rmtree(there, ignore_errors=True)
+        if self.kept.is_dir():
+            shutil.copytree(self.kept, there, copy_function=copied)
 
     def check(self, edits, functions) -> str:
         """What a check of these functions says of the crate with these edits made (none: of all); takes them back."""
+        self.begin()
         changed = self.made(edits)
         paths = sorted({self.crate.told_path(one) for one in functions})
         unprinted = [self.unprinted(it) for it in paths]
@@ -405,6 +425,7 @@ class Room:
 
     def uncompiled(self, edits) -> list:
         """Those of the edits that don't compile, each with the error."""
+        self.begin()
         changed = self.made(edits)
         # A check of a function that isn't there ends once the crate is compiled.
         said = check(self.folder, "--jobs", "1", "--only", "no_such::function").said
@@ -468,8 +489,6 @@ class Task:
     batches: list
     state: str = "unproved"
     rooms: list = dataclasses.field(default_factory=list)
-    # what a check of the crate kept, for new copies
-    kept: pathlib.Path = pathlib.Path()
 
 
 class Trial:
@@ -497,8 +516,7 @@ class Trial:
                     self.tell(edit, "", edit.fault)
             batches = batches_of(crate, [it for it in edits if not it.fault])
             if batches:
-                kept = crate.folder / "out" / "incremental"
-                self.tasks.append(Task(crate, self.closure(below, name), batches, kept=kept))
+                self.tasks.append(Task(crate, self.closure(below, name), batches))
 
     @staticmethod
     def is_named(edit: Edit, word: str) -> bool:
@@ -519,11 +537,12 @@ class Trial:
             print(f"{edit.label()}: " + (f"FAILED: {fault}" if fault else f"refused: {goal}")[:200], flush=True)
 
     def prove(self, task: Task, jobs: int):
-        """Checks a crate as it stands, and keeps what that proves for the copies."""
+        """Checks a crate as it stands, or of a proved one what its edited functions call, and keeps that for the copies."""
         began = time.monotonic()
-        ran = [check(task.crate.folder, "--jobs", str(jobs))]
+        only = task.crate.mentioned({one for batch in task.batches for edit in batch for one in edit.functions}) if self.proved else []
+        ran = [check(task.crate.folder, "--jobs", str(jobs), *(word for name in only for word in ("--only", name)))]
         # The check of a crate above would build it, and so change what is being copied.
-        if not ran[0].status and any(task.crate.name in it.below for it in self.tasks):
+        if not self.proved and not ran[0].status and any(task.crate.name in it.below for it in self.tasks):
             ran.append(check(task.crate.folder, "--jobs", str(jobs), verb="lib"))
         status = ran[-1].status
         with self.lock:
@@ -537,16 +556,12 @@ class Trial:
 
     def work(self, task: Task, batch: list, room, place: pathlib.Path):
         """Tries a batch in a copy of its crate, which is left for the next one."""
-        room = room or Room(self.root, task.crate, task.below, place, task.kept)
+        room = room or Room(self.root, task.crate, task.below, place)
         for edit, goal, fault in room.judge(batch):
             self.tell(edit, goal, fault)
-        if task.state == "begun" and task.batches:
-            task.kept = place.with_name(f"{place.name}-kept")
-            shutil.copytree(room.folder / "out" / "incremental", task.kept, copy_function=copied)
         with self.lock:
             self.of_crate[task.crate.name] += sum(it[0] for it in room.times)
             self.times, room.times = self.times + room.times, []
-            task.state = "proved"
             is_wanted = len(task.rooms) < len(task.batches)
             if is_wanted:
                 task.rooms.append(room)
@@ -555,13 +570,10 @@ class Trial:
             shutil.rmtree(room.folder.parent.parent, ignore_errors=True)
 
     def startable(self, rooms: str):
-        """What can begin now: a call, and how many workers it takes. A crate comes after those below it, if it is to
-        be checked; else its first batch comes before the others, which go on with what that proves."""
-        if self.proved:
-            return self.tried_next(rooms)
+        """What can begin now: a call, and how many workers it takes. A crate comes after those below it."""
         unproved = [it for it in self.tasks if it.state == "unproved"]
         names = {it.crate.name for it in self.tasks if it.state in ("unproved", "checked now")}
-        ready = [it for it in unproved if not names & set(it.below)]
+        ready = [it for it in unproved if self.proved or not names & set(it.below)]
         proved = [it for it in self.tasks if it.state == "proved" and it.batches]
         checks_one = any(it.state == "checked now" for it in self.tasks)
         if self.idle and ready and not checks_one:
@@ -569,20 +581,14 @@ class Trial:
             jobs = min(self.idle, max(1, self.jobs // 2, self.idle - bool(proved)))
             ready[0].state = "checked now"
             return (lambda: self.prove(ready[0], jobs)), jobs
-        return self.tried_next(rooms)
-
-    def tried_next(self, rooms: str):
-        """A batch that can be tried now, of the crate with most left, since its last batch may be the last of all."""
-        states = ("proved", "unproved") if self.proved else ("proved",)
-        ready = [it for it in self.tasks if it.state in states and it.batches]
-        if not self.idle or not ready:
-            return None, 0
-        task = max(ready, key=lambda it: (it.state == "unproved", len(it.batches)))
-        task.state = "begun" if task.state == "unproved" else task.state
-        batch, room = task.batches.pop(0), task.rooms.pop() if task.rooms else None
-        self.made += 1
-        place = pathlib.Path(rooms, f"{task.crate.name}-{self.made}")
-        return (lambda: self.work(task, batch, room, place)), 1
+        if self.idle and proved:
+            # The crate with most left, since its last batch may be the last of all.
+            task = max(proved, key=lambda it: len(it.batches))
+            batch, room = task.batches.pop(0), task.rooms.pop() if task.rooms else None
+            self.made += 1
+            place = pathlib.Path(rooms, f"{task.crate.name}-{self.made}")
+            return (lambda: self.work(task, batch, room, place)), 1
+        return None, 0
 
     def run(self) -> int:
         running = {}
@@ -614,7 +620,7 @@ class Trial:
         """Says of the edits that don't compile why."""
         for task in self.tasks:
             with tempfile.TemporaryDirectory(prefix="wrong-bodies-") as rooms:
-                room = Room(self.root, task.crate, task.below, pathlib.Path(rooms, task.crate.name), task.kept)
+                room = Room(self.root, task.crate, task.below, pathlib.Path(rooms, task.crate.name))
                 for batch in task.batches:
                     for edit, why in room.uncompiled(batch):
                         self.tell(edit, "", f"it does not compile: {why}")
