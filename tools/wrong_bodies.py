@@ -16,10 +16,10 @@ compile, that changes nothing, or with which the crate is still proved.
     tools/wrong_bodies.py --self-test            whether the script itself tells right from wrong
 
 Each crate must be proved as it stands, and is checked first, unless `rt ci` has just proved it; what
-that check and earlier ones kept in out/ is used again. At the end stand what the checks of each crate took, the slowest ones, and the
-functions at which each of these stayed longest, so that edits can be found that make the prover's
-search run to its limits. The last line is
-`N refused, M failed`.
+that check and earlier ones kept in out/ is used again. What calls an edited function is proved again,
+so a batch has no function between two that it edits. At the end stand what the checks of each crate
+took, the slowest ones, and the functions at which each of these stayed longest, so that edits can be
+found that make the prover's search run to its limits. The last line is `N refused, M failed`.
 """
 import argparse
 import collections
@@ -56,10 +56,6 @@ PROGRESS = re.compile(r"checked (\S+), \d+ of \d+")
 REACHED = re.compile(r"^(?:logic=(proved|not-proved)|only=\d+ proved=\d+$)", re.M)
 NO_FUNCTION = re.compile(r"^rattle: error: `\w+` has no function `(\S+)`", re.M)
 CALL = re.compile(r"(?:\b(\w+)::|(\.)\s*|(?<![\w.:]))(\w+)(?:::<[^()]*>)?\(")
-# A function more that is proved again costs a sixth of another batch, or less.
-BETWEEN = 0
-# Methods of one name, up to which a call counts as one of each; a name of more, as `len`, tells nothing.
-ALIKE = 1
 # How many checks are listed at the end, and functions of each.
 SLOWEST = 12
 
@@ -198,17 +194,18 @@ class Crate:
                 self.modules[it].append(module_of(file, self.name))
 
     def body(self, one: Function) -> str:
+        """The lines of a function's body."""
         return "\n".join(self.texts[one.file].split("\n")[one.body - 1 : one.last])
 
     def mentioned(self, functions) -> list:
-        """The paths of the functions whose names stand in the bodies of some, or of one of these where none does."""
+        """The paths of the functions whose names stand in the bodies of others; of one of these where none does."""
         words = {it for one in functions if one for it in re.findall(r"\w+", self.body(one))}
         found = [self.told_path(it) for it in self.functions if it.body < it.last and it.path.rpartition("::")[2] in words]
         return sorted(found) or [self.told_path(one) for one in functions if one][:1]
 
     def calls(self) -> dict:
-        """Each function with those of the crate that its body calls, as far as names tell: a batch only costs more by
-        what this misses, or adds."""
+        """Each function with those of the crate that its body calls, as far as names tell: what this misses only makes
+        a batch take longer."""
         named = collections.defaultdict(list)
         for one in self.functions:
             named[one.path.rpartition("::")[2]].append(one)
@@ -218,7 +215,7 @@ class Crate:
         return found
 
     def called(self, caller: Function, named: dict, of: str, dot: str, name: str) -> list:
-        """The functions that a call may be of: of a type or a module, a method, or a free function."""
+        """The function of a call, of a type or a module, of a method or free, in a list; none where several may be meant."""
         several = named[name]
         if of == "Self" or dot and several and caller.owner:
             own = [it for it in several if it.owner == caller.owner or it.owner and it.path.rpartition("::")[0] == caller.path.rpartition("::")[0]]
@@ -227,7 +224,7 @@ class Crate:
             several = [it for it in several if of in it.path.split("::")] or several
         elif not dot:
             several = [it for it in several if not it.owner]
-        return several if len(several) <= ALIKE else []
+        return several if len(several) == 1 else []
 
     def reached(self) -> tuple:
         """Each function with those that it calls, through others too, and with those that call it so."""
@@ -313,8 +310,8 @@ class Crate:
 
 
 def batches_of(crate: Crate, edits) -> list:
-    """The edits in few groups, each of edits of different functions that can be made together, and with few functions
-    between those: what calls an edited function, and is called by another, is proved again."""
+    """The edits in few groups, each of edits of different functions that can be made together, with no function between
+    those, as far as names tell: what calls an edited function, and is called by another, is proved again."""
     many = collections.Counter(one for edit in edits for one in edit.functions)
     below, above = crate.reached()
 
@@ -330,7 +327,7 @@ def batches_of(crate: Crate, edits) -> list:
             crate.changed([*batch, edit])
         except ValueError:
             return False
-        return between(used | edit.functions) - between(used) <= BETWEEN
+        return between(used | edit.functions) <= between(used)
 
     # Those of functions with many edits come first, each in a group of its own, and the others fill these groups.
     rank = lambda it: (not it.inside, -max(many[one] for one in it.functions), it.changes[0][0], it.name)
