@@ -1,12 +1,14 @@
 #!/usr/bin/env python3
 """Wants the prover to refuse each wrong body of crates/NAME/wrong-bodies/TOPIC/*.edit.
 
-A function is proved by the contracts of what it calls, and not by their bodies. So edits of different
-functions are tried together, in one check of a copy of the crate, and each is judged by what is said
-of its own function. Any goal that is left open there will do while no edit of the batch changes a
-line outside a body; else it must be a goal of the contract. An edit of which that isn't said is tried
-alone, where any goal will do, since nothing else was changed. An edit fails that doesn't apply or
-compile, that changes nothing, or with which the crate is still proved.
+A function is proved by the contracts of what it calls, and not by their bodies. So many edits are
+tried together, in one check of a copy of the crate, and each is judged by what is said of its own
+function. Of a free function or an inherent method each wrong body stands beside the right one, as a
+function of another name, with a copy of its proof. The method of a trait keeps its name, so one edit
+of it is made in its place. Any goal that is left open there will do while no edit of the batch changes
+a line outside a body in place; else it must be a goal of the contract. An edit of which that isn't
+said is tried alone and in place, where any goal will do, since nothing else was changed. An edit fails
+that doesn't apply or compile, that changes nothing, or with which the crate is still proved.
 
     tools/wrong_bodies.py [--jobs N] [NAME..]    a NAME is that of a crate, a topic or an edit; none: all
     tools/wrong_bodies.py --since COMMIT         those of functions that changed since this commit
@@ -16,10 +18,11 @@ compile, that changes nothing, or with which the crate is still proved.
     tools/wrong_bodies.py --self-test            whether the script itself tells right from wrong
 
 Each crate must be proved as it stands, and is checked first, unless `rt ci` has just proved it; what
-that check and earlier ones kept in out/ is used again. What calls an edited function is proved again,
-so a batch has no function between two that it edits. At the end stand what the checks of each crate
-took, the slowest ones, and the functions at which each of these stayed longest, so that edits can be
-found that make the prover's search run to its limits. The last line is `N refused, M failed`.
+that check and earlier ones kept in out/ is used again. What calls a function that is edited in place
+is proved again, so a batch has no function between two of these. At the end stand what the checks of
+each crate took, the slowest ones, and the functions at which each of these stayed longest, so that
+edits can be found that make the prover's search run to its limits. The last line is `N refused, M
+failed`.
 """
 import argparse
 import collections
@@ -72,9 +75,22 @@ class Function:
     body: int = 0
     # the type of an inherent method, which a check tells by the module of that type
     owner: str = ""
+    # whether it stands in a trait or an impl of one, and so can't have another name
+    in_trait: bool = False
 
     def tail(self) -> str:
         return "::".join(self.path.split("::")[-2:])
+
+    def name(self) -> str:
+        return self.path.rpartition("::")[2]
+
+    def moved(self, lines: int):
+        """The function so many lines further down."""
+        return dataclasses.replace(self, first=self.first + lines, last=self.last + lines, body=self.body + lines)
+
+    def named(self, name: str) -> str:
+        """Its path under another name."""
+        return self.path.rpartition("::")[0] + "::" + name
 
 
 @dataclasses.dataclass
@@ -91,6 +107,11 @@ class Edit:
 
     def label(self) -> str:
         return f"{self.crate}/{self.name}"
+
+    def beside(self):
+        """The one function that it changes, if its wrong body can stand beside the right one; else None."""
+        one = next(iter(self.functions)) if len(self.functions) == 1 else None
+        return one if one and not one.in_trait and all(file == one.file for file, _, _ in self.changes) else None
 
 
 def label_of(head: str) -> tuple:
@@ -132,10 +153,12 @@ def module_of(file: str, crate: str) -> str:
 def functions_of(file: str, text: str, crate: str) -> list:
     """The functions of a source file, as its layout shows where each begins and ends."""
     prefix = module_of(file, crate)
-    lines, found, label, owner, first = text.split("\n"), [], "", "", None
+    lines, found, label, owner, first, in_trait = text.split("\n"), [], "", "", None, False
     for at, line in enumerate(lines, 1):
         if re.match(r"(pub )?(impl|trait)\b", line):
-            label, owner = label_of(" ".join(lines[at - 1 : at + 6]))
+            head = " ".join(lines[at - 1 : at + 6])
+            label, owner = label_of(head)
+            in_trait = line.startswith(("trait", "pub trait")) or " for " in head.partition("{")[0]
         elif line == "}":
             label = "" if not re.match(r"}", lines[at - 2]) else label
         begins = re.match(r"( {0,4})(?:pub(?:\(\w+\))? )?(?:const )?(?:unsafe )?(?:extern \"C\" )?fn (\w+)", line)
@@ -146,7 +169,7 @@ def functions_of(file: str, text: str, crate: str) -> list:
             path = "::".join(it for it in (prefix, inside, begins[2]) if it)
             end = next((k for k in range(at, len(lines) + 1) if lines[k - 1] == begins[1] + "}"), at)
             body, last = body_of(lines, at, end, begins[1])
-            found.append(Function(file, first or at, last, path, body, owner if inside else ""))
+            found.append(Function(file, first or at, last, path, body, owner if inside else "", bool(inside and in_trait)))
             first = None
         else:
             first = None
@@ -246,6 +269,39 @@ class Crate:
         held = [it for it in self.functions if it.file == file and it.first <= line <= it.last]
         return held[-1] if held else None
 
+    def tried(self, edits):
+        """The crate with these edits made: one alone in its place, of several each beside the right function where it can."""
+        beside = collections.defaultdict(list)
+        for number, edit in enumerate(edits if len(edits) > 1 else []):
+            if edit.beside():
+                beside[edit.beside()].append((edit, self.renamed(edit, number)))
+        apart = {edit.label() for some in beside.values() for edit, _ in some}
+        texts = self.changed([it for it in edits if it.label() not in apart])
+        now, of = {it: it for it in self.functions}, {}
+        for file in {it.file for it in beside}:
+            lines, shift = texts.get(file, self.texts[file]).split("\n"), 0
+            for one in (it for it in self.functions if it.file == file):
+                now[one] = one.moved(shift)
+                for edit, (name, copy) in beside[one]:
+                    at = one.last + shift
+                    lines[at:at] = copy
+                    of[edit.label()] = [Function(file, at + 1, at + len(copy), now[one].named(name), at + 1, one.owner)]
+                    shift += len(copy)
+            texts[file] = "\n".join(lines)
+        copies = {of[it.label()][0]: it.beside() for it in edits if it.label() in apart}
+        of |= {it.label(): [one and now[one] for one in it.functions] for it in edits if it.label() not in apart}
+        return Tried(self, texts, [*now.values(), *copies], of, copies)
+
+    def renamed(self, edit: Edit, number: int) -> tuple:
+        """Another name for the function of an edit, and its lines under that name with the edit made, without the docs."""
+        one, changed = edit.beside(), self.lines_of(edit)
+        name, lines = f"{one.name()}_wrong{number}", self.texts[one.file].split("\n")
+        text = "\n".join(changed.get((one.file, at), lines[at]) for at in range(one.first - 1, one.last))
+        text = re.sub(rf"\bfn {one.name()}\b", f"fn {name}", text, count=1)
+        # The right body may stand behind the wrong one, under a name that another edit gives it too.
+        text = re.sub(r"\bfn (right_\w+)", rf"fn \1_{number}", text)
+        return name, [it for it in text.split("\n") if not it.lstrip().startswith("///")]
+
     def told_path(self, one: Function) -> str:
         """The path by which a check tells a function: that of its module, or of the type's module for a method."""
         here = f"{module_of(one.file, self.name)}::"
@@ -309,10 +365,40 @@ class Crate:
         return edit
 
 
+@dataclasses.dataclass
+class Tried:
+    """A crate with edits made: the files that changed, the functions where they stand there, those by which each edit is
+    judged, and of the wrong ones that stand beside a right one, that one."""
+
+    crate: Crate
+    texts: dict
+    functions: list
+    of: dict
+    copies: dict
+
+    def function_at(self, file: str, line: int):
+        held = [it for it in self.functions if it.file == file and it.first <= line <= it.last]
+        return held[-1] if held else None
+
+    def goals(self, said: str) -> dict:
+        """What a check left open, by the function that it said it of (None: of no function of the sources)."""
+        by_path = {self.crate.told_path(one).split("::", 1)[1]: one for one in self.functions}
+        goals = {}
+        # What is said of a proof may go on in indented lines.
+        for line in re.sub(r"\n {2,}(?=\S)", " ", said).split("\n"):
+            note, answer = NOTE.match(line), ANSWER.match(line)
+            if note:
+                goals.setdefault(self.function_at(note[1], int(note[2])), []).append(note[3])
+            elif answer and not LOST.search(answer[2]) and not answer[2].startswith("`unprinted`"):
+                one = by_path.get(answer[1].replace("/", "::"))
+                goals.setdefault(one, []).append(f"what the function ensures: {answer[2]}")
+        return goals
+
+
 def batches_of(crate: Crate, edits) -> list:
-    """The edits in few groups, each of edits of different functions that can be made together, with no function between
-    those, as far as names tell: what calls an edited function, and is called by another, is proved again."""
-    many = collections.Counter(one for edit in edits for one in edit.functions)
+    """The edits in few groups. Those in place are of different functions that can be changed together, with no function
+    between those, as far as names tell: what calls an edited function, and is called by another, is proved again."""
+    many = collections.Counter(one for edit in edits if not edit.beside() for one in edit.functions)
     below, above = crate.reached()
 
     def between(changed: set) -> int:
@@ -320,38 +406,28 @@ def batches_of(crate: Crate, edits) -> list:
         return len((under & over) - changed)
 
     def joins(batch: list, edit: Edit) -> bool:
-        used = set().union(*(it.functions for it in batch))
-        if len(batch) == BATCH or None in used | edit.functions or used & edit.functions:
+        placed = [it for it in batch if not it.beside()]
+        used = set().union(*(it.functions for it in placed))
+        if len(batch) == BATCH or None in used | edit.functions:
+            return False
+        if edit.beside():
+            return True
+        if used & edit.functions:
             return False
         try:
-            crate.changed([*batch, edit])
+            crate.changed([*placed, edit])
         except ValueError:
             return False
         return between(used | edit.functions) <= between(used)
 
-    # Those of functions with many edits come first, each in a group of its own, and the others fill these groups.
-    rank = lambda it: (not it.inside, -max(many[one] for one in it.functions), it.changes[0][0], it.name)
+    # Those in place come first, of functions with many edits each in a group of its own, and the others fill these groups.
+    rank = lambda it: (it.beside() is not None, not it.inside, -max(many[one] for one in it.functions), it.changes[0][0], it.name)
     batches = []
     for edit in sorted(edits, key=rank):
         batch = next((it for it in batches if joins(it, edit)), None)
         batch.append(edit) if batch else batches.append([edit])
     # The longest begin first, so that none is the last to end.
     return sorted(batches, key=len, reverse=True)
-
-
-def goals_in(crate: Crate, said: str) -> dict:
-    """What a check left open, by the function that it said it of (None: of no function of the sources)."""
-    by_path = {crate.told_path(one).split("::", 1)[1]: one for one in crate.functions}
-    goals = {}
-    # What is said of a proof may go on in indented lines.
-    for line in re.sub(r"\n {2,}(?=\S)", " ", said).split("\n"):
-        note, answer = NOTE.match(line), ANSWER.match(line)
-        if note:
-            goals.setdefault(crate.function_at(note[1], int(note[2])), []).append(note[3])
-        elif answer and not LOST.search(answer[2]) and not answer[2].startswith("`unprinted`"):
-            one = by_path.get(answer[1].replace("/", "::"))
-            goals.setdefault(one, []).append(f"what the function ensures: {answer[2]}")
-    return goals
 
 
 def copied(source: str, place: str):
@@ -385,16 +461,16 @@ class Room:
         if self.kept.is_dir():
             shutil.copytree(self.kept, there, copy_function=copied)
 
-    def check(self, edits, functions) -> str:
+    def check(self, edits, tried: Tried, functions) -> str:
         """What a check of these functions says of the crate with these edits made (none: of all); takes them back."""
         self.begin()
-        changed = self.made(edits)
+        proofs = self.made(tried)
         paths = sorted({self.crate.told_path(one) for one in functions})
         unprinted = [self.unprinted(it) for it in paths]
         ran = self.check_only(paths)
         for file, text in unprinted:
             file.write_text(text, encoding="utf-8") if text else file.unlink()
-        self.unmade(changed)
+        self.unmade(tried, proofs)
         what = edits[0].label() if len(edits) == 1 else f"{self.crate.name}: {len(edits)} edits"
         slow = ", ".join(f"{name} {seconds:.0f}" for seconds, name in ran.stays[:4] if seconds >= 1)
         self.times.append((ran.seconds, what + (f" ({slow})" if slow else "")))
@@ -408,29 +484,50 @@ class Room:
         file.write_text(text + UNPRINTED, encoding="utf-8")
         return file, text
 
-    def made(self, edits):
-        """Writes the edits, and gives the files that they change."""
-        changed = self.crate.changed(edits)
-        for file, text in changed.items():
+    def made(self, tried: Tried) -> list:
+        """Writes the files that edits change, and the proofs of functions beside others; gives the folders of these."""
+        for file, text in tried.texts.items():
             (self.folder / file).write_text(text, encoding="utf-8")
-        return changed
+        return [it for copy, one in tried.copies.items() for it in self.copy_proofs(one, copy.name())]
 
-    def unmade(self, changed):
-        """Takes edits of these files back."""
-        for file in changed:
+    def copy_proofs(self, one: Function, name: str) -> list:
+        """Copies the proof of a function and those of its closures for one of another name; gives the folders."""
+        *above, old = self.crate.told_path(one).split("::")[1:]
+        proofs, made = self.folder / "proofs", []
+        above_it = lambda parts: [it for it in parts if it != "fn"] == above
+
+        def moved(found) -> str:
+            parts = found[0].split(".")
+            at = next((at for at, it in enumerate(parts) if it == old and above_it(parts[3:at])), None)
+            return found[0] if at is None else ".".join([*parts[:at], name, *parts[at + 1 :]])
+
+        for folder in [it for it in proofs.rglob(old) if it.is_dir() and above_it(it.relative_to(proofs).parts[:-1])]:
+            made.append(pathlib.Path(shutil.copytree(folder, folder.with_name(name))))
+            for file in made[-1].rglob("*.antt"):
+                text = file.read_text(encoding="utf-8")
+                file.write_text(re.sub(rf"Rattle\.{self.crate.name}\.proofs(\.[\w+]+)+", moved, text), encoding="utf-8")
+        # Where there is none, the refused line makes one.
+        return made or [proofs.joinpath(*above, name)]
+
+    def unmade(self, tried: Tried, proofs):
+        """Takes edits and the proofs that were made for them back."""
+        for file in tried.texts:
             (self.folder / file).write_text(self.crate.texts[file], encoding="utf-8")
+        for folder in proofs:
+            shutil.rmtree(folder, ignore_errors=True)
 
     def uncompiled(self, edits) -> list:
         """Those of the edits that don't compile, each with the error."""
         self.begin()
-        changed = self.made(edits)
+        tried = self.crate.tried(edits)
+        proofs = self.made(tried)
         # A check of a function that isn't there ends once the crate is compiled.
         said = check(self.folder, "--jobs", "1", "--only", "no_such::function").said
-        self.unmade(changed)
+        self.unmade(tried, proofs)
         if NO_FUNCTION.search(said):
             return []
         if len(edits) > 1:
-            return [it for part in self.apart(edits, said) for it in self.uncompiled(part)]
+            return [it for part in self.apart(edits, tried, said) for it in self.uncompiled(part)]
         why = [it for it in said.split("\n") if "error" in it] or said.strip().split("\n")[-1:]
         return [(edits[0], why[0])]
 
@@ -441,38 +538,39 @@ class Room:
         # A method of a built-in type has no such name: its edit is then tried alone.
         return self.check_only([it for it in functions if it != unknown[1]]) if unknown else ran
 
-    def apart(self, edits, said: str) -> list:
+    def apart(self, edits, tried: Tried, said: str) -> list:
         """Edits that don't compile together, in parts: those of which that is said, and the others."""
-        blamed = {self.crate.function_at(it[1], int(it[2])) for it in FAULT.finditer(said)}
-        parts = [[it for it in edits if it.functions & blamed], [it for it in edits if not it.functions & blamed]]
+        blamed = {tried.function_at(it[1], int(it[2])) for it in FAULT.finditer(said)}
+        parts = [[it for it in edits if bool(blamed & {*tried.of[it.label()]}) is is_blamed] for is_blamed in (True, False)]
         return parts if all(parts) else [edits[::2], edits[1::2]]
 
     def judge(self, edits) -> list:
         """Each edit with the goal for which it is refused, or with none and a fault."""
-        functions = {one for edit in edits for one in edit.functions}
+        tried = self.crate.tried(edits)
+        functions = {one for some in tried.of.values() for one in some}
         # A line that stands in no function, as a constant's, is judged by the whole crate.
-        said = self.check(edits, [] if None in functions else functions)
+        said = self.check(edits, tried, [] if None in functions else functions)
         reached = REACHED.search(said)
-        if reached and len(edits) == 1 and not goals_in(self.crate, said):
+        if reached and len(edits) == 1 and not tried.goals(said):
             # What the function does for others may be refused there.
-            said = self.check(edits, [])
+            said = self.check(edits, tried, [])
             reached = REACHED.search(said)
         if not reached and len(edits) > 1:
-            return [it for part in self.apart(edits, said) for it in self.judge(part)]
+            return [it for part in self.apart(edits, tried, said) for it in self.judge(part)]
         if not reached:
             why = [it for it in said.split("\n") if "error" in it] or said.strip().split("\n")[-1:]
             return [(edits[0], "", f"it does not compile: {why[0]}")]
-        goals = goals_in(self.crate, said)
+        goals = tried.goals(said)
         if len(edits) == 1:
-            own = [it for one in edits[0].functions for it in goals.get(one, [])]
+            own = [it for one in tried.of[edits[0].label()] for it in goals.get(one, [])]
             others = [it for them in goals.values() for it in them]
             goal = next((it for it in [*own, *others]), "")
             fault = "the crate is still proved" if reached[1] == "proved" else "no goal is left open, only a name that it took away"
             return [(edits[0], goal, "" if goal else fault)]
         judged = []
-        hidden = all(it.inside for it in edits)
+        hidden = all(it.inside or it.beside() for it in edits)
         for edit in edits:
-            own = [it for one in edit.functions for it in goals.get(one, []) if hidden or CONTRACT.search(it)]
+            own = [it for one in tried.of[edit.label()] for it in goals.get(one, []) if hidden or CONTRACT.search(it)]
             judged += [(edit, own[0], "")] if own else self.judge([edit])
         return judged
 
