@@ -62,57 +62,83 @@ fn index_of<E: LinkedSymbol>(
     }
 }
 
-fn check_symbols<E: LinkedSymbol>(rt: &impl Abort, bytes: &[u8]) -> Result<(), LinkError> {
-    let file = open(rt, bytes);
-    let object = DynamicObject::<E>::read(&file)?;
+fn check_symbols<E: LinkedSymbol>(
+    rt: &impl Abort,
+    object: &DynamicObject<'_, E>,
+) -> Result<(), LinkError> {
     want(rt, object.symbol_count(), 7);
     for &(index, name, narrow, wide, version) in SYMBOLS {
         let value = if E::CLASS == 1 { narrow } else { wide };
         want_at(rt, index, object.name(index), Ok(name));
         let found = object.symbol(index).map(|symbol| symbol.value());
         want_at(rt, index, found, Some(value));
-        want_at(rt, index, version_name(&object, index), Ok(version));
-        want_at(rt, index, name_and_version(&object, index)?.0, name);
-    }
-    want(rt, object.name(7), Err(LinkError::SymbolIndex));
-    want(rt, object.symbol(7).is_none(), true);
-    want(rt, version_name(&object, 7), Err(LinkError::SymbolIndex));
-    for (name, index) in [("ab", Some(3)), ("call", Some(5)), ("outer", None)] {
-        want_at(rt, name, index_of(&object, name), Ok(index));
+        want_at(rt, index, version_name(object, index), Ok(version));
+        want_at(rt, index, name_and_version(object, index)?.0, name);
     }
     Ok(())
 }
 
+const INDICES: &[(&str, Option<u32>)] = &[("ab", Some(3)), ("call", Some(5)), ("outer", None)];
+
+// Wants these indices of names, and no symbol past the last.
+fn check_indices<E: LinkedSymbol>(rt: &impl Abort, object: &DynamicObject<'_, E>) {
+    want(rt, object.name(7), Err(LinkError::SymbolIndex));
+    want(rt, object.symbol(7).is_none(), true);
+    want(rt, version_name(object, 7), Err(LinkError::SymbolIndex));
+    for &(name, index) in INDICES {
+        want_at(rt, name, index_of(object, name), Ok(index));
+    }
+}
+
 #[test]
 fn answers_about_each_symbol(rt: HostRuntime) -> Result<(), LinkError> {
-    check_symbols::<LinkedEntry32>(&rt, NARROW)?;
-    check_symbols::<LinkedEntry64>(&rt, WIDE)?;
+    let (narrow, wide) = (open(&rt, NARROW), open(&rt, WIDE));
+    let narrow = DynamicObject::<LinkedEntry32>::read(&narrow)?;
+    let wide = DynamicObject::<LinkedEntry64>::read(&wide)?;
+    check_symbols(&rt, &narrow)?;
+    check_symbols(&rt, &wide)?;
+    check_indices(&rt, &narrow);
+    check_indices(&rt, &wide);
+    Ok(())
+}
+
+#[test]
+fn callers_answer_about_a_symbol(rt: HostRuntime) {
     want(&rt, narrow_refusal(&open(&rt, NARROW)), None);
     want(&rt, symbol_name(&open(&rt, WIDE), 5), Ok("call"));
-    Ok(())
 }
 
 // Wants these values of the exported names, and of no others.
 fn check_values<E: LinkedSymbol>(
     rt: &impl Abort,
-    bytes: &[u8],
-    values: [u64; 7],
-) -> Result<(), LinkError> {
-    let file = open(rt, bytes);
-    let object = DynamicObject::<E>::read(&file)?;
-    for (name, value) in shared_object::NAMES.iter().zip(values) {
-        want_at(rt, name, value_of(&object, name), Ok(Some(value)));
+    object: &DynamicObject<'_, E>,
+    values: &[u64; 7],
+) {
+    for (name, &value) in shared_object::NAMES.iter().zip(values) {
+        want_at(rt, name, value_of(object, name), Ok(Some(value)));
     }
-    for name in ["outer", "inner", "", "firs"] {
-        want_at(rt, name, value_of(&object, name), Ok(None));
+    for &name in MISSING {
+        want_at(rt, name, value_of(object, name), Ok(None));
     }
+}
+
+const MISSING: &[&str] = &["outer", "inner", "", "firs"];
+
+#[test]
+fn finds_values_by_an_object(rt: HostRuntime) -> Result<(), LinkError> {
+    let (narrow, wide) = (
+        open(&rt, shared_object::NARROW),
+        open(&rt, shared_object::WIDE),
+    );
+    let narrow = DynamicObject::<LinkedEntry32>::read(&narrow)?;
+    check_values(&rt, &narrow, &shared_object::NARROW_VALUES);
+    let wide = DynamicObject::<LinkedEntry64>::read(&wide)?;
+    check_values(&rt, &wide, &shared_object::WIDE_VALUES);
     Ok(())
 }
 
 #[test]
-fn finds_values_by_an_object(rt: HostRuntime) -> Result<(), LinkError> {
-    check_values::<LinkedEntry32>(&rt, shared_object::NARROW, shared_object::NARROW_VALUES)?;
-    check_values::<LinkedEntry64>(&rt, shared_object::WIDE, shared_object::WIDE_VALUES)?;
+fn finds_a_value_in_a_file_without_versions(rt: HostRuntime) -> Result<(), LinkError> {
     let file = open(&rt, SMALL);
     let object = DynamicObject::<LinkedEntry64>::read(&file)?;
     want(&rt, value_of(&object, "ef"), Ok(Some(0x23a)));
@@ -256,13 +282,22 @@ fn names_need_not_be_utf8(rt: HostRuntime) -> Result<(), LinkError> {
     put(&mut bytes, 464, b"\xff");
     let file = open(&rt, &bytes);
     let object = DynamicObject::<LinkedEntry64>::read(&file)?;
-    let refused = Err(LinkError::Elf(ElfError::TextUtf8));
-    want(&rt, object.name(1), refused);
-    want(&rt, object.view().needed().next(), Some(refused));
-    want(&rt, object.name_bytes(1), Ok(b"a\xff".as_slice()));
-    want(&rt, object.name_bytes(5), Err(LinkError::SymbolIndex));
-    let mut needed = object.view().needed_bytes();
-    want(&rt, needed.next(), Some(Ok(b"\xffibneed.so".as_slice())));
-    want(&rt, needed.next(), None);
+    check_names_of_bytes(&rt, &object);
+    check_libraries_of_bytes(&rt, &object.view());
     Ok(())
+}
+
+const NOT_UTF8: LinkError = LinkError::Elf(ElfError::TextUtf8);
+
+fn check_names_of_bytes(rt: &impl Abort, object: &DynamicObject<'_, LinkedEntry64>) {
+    want(rt, object.name(1), Err(NOT_UTF8));
+    want(rt, object.name_bytes(1), Ok(b"a\xff".as_slice()));
+    want(rt, object.name_bytes(5), Err(LinkError::SymbolIndex));
+}
+
+fn check_libraries_of_bytes(rt: &impl Abort, view: &DynamicView<'_>) {
+    want(rt, view.needed().next(), Some(Err(NOT_UTF8)));
+    let mut needed = view.needed_bytes();
+    want(rt, needed.next(), Some(Ok(b"\xffibneed.so".as_slice())));
+    want(rt, needed.next(), None);
 }
