@@ -163,7 +163,7 @@ def table(output: str) -> str:
     return "\n\n".join([HEADING, ABOUT, said, "\n".join([head, *rows])]) + "\n"
 
 
-ABOUT = f"""Written by `tools/budget.py write OUTPUT` from the output of `.ci/run`, and checked in it: the total may be {BUDGET} processor minutes. `rt ci` takes what it proved earlier on the machine from there; a run that is to be measured has `rt ci --anew` in its place, or a machine that has proved nothing."""
+ABOUT = f"""Written by `tools/budget.py write OUTPUT` from the output of `.ci/run`, which checks it: the total may be {BUDGET} processor minutes. Measure where nothing was proved before; a kit whose `rt ci` keeps proofs has `rt ci --anew`."""
 
 
 def write(path: str) -> int:
