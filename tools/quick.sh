@@ -34,7 +34,7 @@ try_run() {
     done
     [ ! -f "crates/$1/stdin" ] || cp "crates/$1/stdin" "$room/$1.in"
     touch "$room/$1.in"
-    (cd "crates/$1" && rt try "${data[@]}" -- "${words[@]}") < "$room/$1.in" > "$room/$1.out" 2> "$room/$1.err" || status=$?
+    (cd "crates/$1" && rt try --seconds 300 "${data[@]}" -- "${words[@]}") < "$room/$1.in" > "$room/$1.out" 2> "$room/$1.err" || status=$?
     local wanted=0
     [ ! -f "crates/$1/status" ] || wanted="$(cat "crates/$1/status")"
     cmp "$room/$1.out" "crates/$1/stdout" && [ "$status" = "$wanted" ] && return

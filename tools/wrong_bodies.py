@@ -4,8 +4,9 @@
 A function is proved by the contracts of what it calls, and not by their bodies. So many edits are
 tried together, in one check of a copy of the crate, and each is judged by what is said of its own
 function. Of a free function or an inherent method each wrong body stands beside the right one, as a
-function of another name, with a copy of its proof. The method of a trait keeps its name, so one edit
-of it is made in its place. Any goal that is left open there will do while no edit of the batch changes
+function of another name, with a copy of its proof; of its clauses all but that which the edit's line
+`clause:` names say nothing there. The method of a trait keeps its name, so one edit of it is made in
+its place. Any goal that is left open there will do while no edit of the batch changes
 a line outside a body in place; else it must be a goal of the contract. An edit of which that isn't
 said is tried alone and in place, where any goal will do, since nothing else was changed. An edit fails
 that doesn't apply or compile, that changes nothing, or with which the crate is still proved.
@@ -54,6 +55,7 @@ LOST = re.compile(r"has no field|is not in scope|has no `|was not admitted")
 # A refused line in a function's proof: where there is one, the check doesn't print the goals of the function that stay
 # open, which takes as long as it took to find them. That they are open is told all the same.
 UNPRINTED = "\nunprinted : ⊥\nunprinted = tt\n"
+CLAUSE = re.compile(r"( +)(ensures|requires)(?: (\w+))? \{")
 FAULT = re.compile(r"(?:\./)?(src/\S+?):(\d+):\d+: error")
 PROGRESS = re.compile(r"checked (\S+), \d+ of \d+")
 REACHED = re.compile(r"^(?:logic=(proved|not-proved)|only=\d+ proved=\d+$)", re.M)
@@ -104,6 +106,8 @@ class Edit:
     fault: str = ""
     # whether each changed line stands in a function's body, so that no other function can see the change
     inside: bool = True
+    # the clause that it breaks, if it names one
+    clause: str = ""
 
     def label(self) -> str:
         return f"{self.crate}/{self.name}"
@@ -142,6 +146,20 @@ def body_of(lines: list, first: int, last: int, indent: str) -> tuple:
         if line == indent + "{" or line.endswith(" {") and (at == first or line.startswith(indent + ")")):
             return at, last
     return last, last
+
+
+def only_clause(lines: list, name: str) -> list:
+    """The lines of a function whose other named clauses say nothing, so that they take no time."""
+    kept, is_kept = [], True
+    for at, line in enumerate(lines):
+        clause = CLAUSE.match(line)
+        if line.strip() == "{":
+            return kept + lines[at:]
+        if clause:
+            is_kept = clause[2] == "requires" or clause[3] in (None, name)
+            kept += [] if is_kept else [f"{clause[1]}ensures {clause[3]} {{ Unit {{0}} }}"]
+        kept += [line] if is_kept else []
+    return lines
 
 
 def module_of(file: str, crate: str) -> str:
@@ -300,7 +318,8 @@ class Crate:
         text = re.sub(rf"\bfn {one.name()}\b", f"fn {name}", text, count=1)
         # The right body may stand behind the wrong one, under a name that another edit gives it too.
         text = re.sub(r"\bfn (right_\w+)", rf"fn \1_{number}", text)
-        return name, [it for it in text.split("\n") if not it.lstrip().startswith("///")]
+        lines = [it for it in text.split("\n") if not it.lstrip().startswith("///")]
+        return name, only_clause(lines, edit.clause) if edit.clause and edit.inside else lines
 
     def told_path(self, one: Function) -> str:
         """The path by which a check tells a function: that of its module, or of the type's module for a method."""
@@ -336,7 +355,7 @@ class Crate:
 
     def read_edit(self, path: pathlib.Path) -> Edit:
         """The edit of a file, with a fault where it can't be tried."""
-        file, old, changes, functions = "", "", [], set()
+        file, old, changes, functions, clause = "", "", [], set(), ""
         for line in path.read_text(encoding="utf-8").split("\n"):
             word, _, text = line.partition(":")
             text = text.removeprefix(" ")
@@ -346,8 +365,10 @@ class Crate:
                 old = text
             elif word == "new":
                 changes.append((file, old, text))
+            elif word == "clause":
+                clause = text.strip()
         folder = path.parent.relative_to(self.folder / "wrong-bodies")
-        edit = Edit(self.name, str(folder / path.stem), changes, functions)
+        edit = Edit(self.name, str(folder / path.stem), changes, functions, clause=clause)
         try:
             self.changed([edit])
         except ValueError as error:
@@ -571,6 +592,8 @@ class Room:
         hidden = all(it.inside or it.beside() for it in edits)
         for edit in edits:
             own = [it for one in tried.of[edit.label()] for it in goals.get(one, []) if hidden or CONTRACT.search(it)]
+            if edit.clause and edit.beside() and edit.inside:
+                own = [it for it in own if f"-clause-{edit.clause}`" in it]
             judged += [(edit, own[0], "")] if own else self.judge([edit])
         return judged
 
@@ -774,14 +797,16 @@ pub fn half(number: u32) -> u32
 }
 """
 
-# Edits of that crate, and whether each is refused as it must be.
+# Edits of that crate, whether each is refused as it must be, and the clause that it says it breaks.
 TOLD_APART = {
-    "smaller": ("if one < other { other }", "if one > other { other }", True),
-    "third": ("let parts = 2;", "let parts = 3;", True),
-    "nothing_changed": ("let parts = 2;", "let parts = 2;", False),
-    "does_not_compile": ("if one < other { other }", "if one < true { other }", False),
-    "right_in_other_words": ("if one < other { other }", "if one <= other { other }", False),
-    "not_there": ("if one == other", "if one < other", False),
+    "smaller": ("if one < other { other }", "if one > other { other }", True, "least"),
+    "third": ("let parts = 2;", "let parts = 3;", True, ""),
+    "breaks_another_clause": ("if one < other { other }", "if one < other { one }", True, "least"),
+    "nothing_changed": ("let parts = 2;", "let parts = 2;", False, ""),
+    "does_not_compile": ("if one < other { other }", "if one < true { other }", False, ""),
+    "right_in_other_words": ("if one < other { other }", "if one <= other { other }", False, ""),
+    "right_but_for_no_clause": ("if one < other { other }", "if one <= other { other }", False, "too"),
+    "not_there": ("if one == other", "if one < other", False, ""),
 }
 
 
@@ -795,12 +820,12 @@ def self_test() -> int:
         (root / "crates.txt").write_text("pair:\n", encoding="utf-8")
         (root / "HANDLES").write_text("Handles allowed: none.\n", encoding="utf-8")
         (folder / "src" / "lib.rt").write_text(PAIR, encoding="utf-8")
-        for name, (old, new, _) in TOLD_APART.items():
-            lines = f"file: src/lib.rt\nold: {old}\nnew: {new}\n"
+        for name, (old, new, _, clause) in TOLD_APART.items():
+            lines = f"file: src/lib.rt\n{clause and f'clause: {clause}'}\nold: {old}\nnew: {new}\n"
             (folder / "wrong-bodies" / "numbers" / f"{name}.edit").write_text(lines, encoding="utf-8")
         trial = Trial(root, [], 1)
         status = trial.run()
-    wanted = {f"pair/numbers/{name}" for name, (_, _, is_refused) in TOLD_APART.items() if is_refused}
+    wanted = {f"pair/numbers/{name}" for name, (_, _, is_refused, _) in TOLD_APART.items() if is_refused}
     well = status == 1 and set(trial.refused) == wanted and len(trial.failed) == len(TOLD_APART) - len(wanted)
     print(f"the script {'tells' if well else 'DOES NOT TELL'} right bodies from wrong ones")
     return 0 if well else 1
