@@ -2,7 +2,7 @@
 """What the gate costs, in processor minutes by part.
 
     tools/budget.py run COMMAND..   runs a part of `.ci/run`, and says behind its output what it took
-    tools/budget.py write OUTPUT    writes the table of docs/TESTS.md from the stored output of `.ci/run`
+    tools/budget.py write OUTPUT..  writes docs/GATE.md from the stored output of `.ci/run`, or of its parts
     tools/budget.py check           fails where that table's total passes the budget, or its numbers don't add up
     tools/budget.py dearest CRATE   the functions at which the first check of a crate stayed longest
 
@@ -25,8 +25,8 @@ import threading
 import time
 
 ROOT = pathlib.Path(__file__).resolve().parent.parent
-PAGE = ROOT / "docs" / "TESTS.md"
-HEADING = "## What the gate costs"
+PAGE = ROOT / "docs" / "GATE.md"
+HEADING = "# What the gate costs"
 
 # In processor minutes.
 BUDGET = 230
@@ -128,12 +128,13 @@ def minutes(seconds: float) -> str:
 
 
 def table(output: str) -> str:
-    """The section of the page, from the output of a run of the gate."""
+    """The page, from the output of a run of the gate."""
     took = TOOK.findall(output)
     cells = collections.defaultdict(collections.Counter)
     for kind, name, seconds in PART.findall(output):
         cells[name][kind] += int(seconds)
-    for name, seconds in BATCHES.findall(output):
+    # The self-test of the script tries a crate of its own.
+    for name, seconds in BATCHES.findall(re.sub(r"(?s).*^-- tools/wrong_bodies.py --self-test:", "", output, flags=re.M)):
         cells[name]["batches"] += int(seconds)
     # What stands in no row of a crate: the scripts, and of the two watched parts what is left.
     watched = {"rt ci": sum(cells[name][kind] for name in cells for kind in KINDS[:3])}
@@ -153,12 +154,14 @@ def table(output: str) -> str:
     whole = sum(int(seconds) for _, _, seconds in took)
     wall = sum(int(seconds) for _, seconds, _ in took)
     rows.append("| **total** | " + " | ".join(map(minutes, sums)) + f" | {minutes(whole)} |")
-    machine = MACHINE.search(output)
-    where = f"{machine[2].split(',')[0]} with {machine[1]} processors" if machine else "a machine"
+    machines = MACHINE.findall(output)
+    where = ", then ".join(f"{processors} processors" for processors, _ in machines) or "a machine"
+    how = "in one run" if len(machines) < 2 else "in parts, one after the other"
     done = DONE.search(output)
     share = f" Of the proofs {done[1]} were done in this run; the others had been done on the machine before." if done else ""
     commit = subprocess.run(["git", "rev-parse", "--short", "HEAD"], cwd=ROOT, capture_output=True, text=True, check=False).stdout.strip()
-    said = f"Measured at {commit} by `.ci/run` on {where}. Processor minutes by part; the run took {minutes(wall)} minutes, {datetime.date.today()}.{share}"
+    kit = subprocess.run(["rt", "version"], capture_output=True, text=True, check=False).stdout.split(" ")[0]
+    said = f"Measured at {commit} by `.ci/run`, {how}, on x86-64 with {where}, {kit}, {datetime.date.today()}: {minutes(wall)} minutes. Processor minutes by part.{share}"
     head = "| Part | proof | tests | must-fail | batches | together |\n|---|---:|---:|---:|---:|---:|"
     return "\n\n".join([HEADING, ABOUT, said, "\n".join([head, *rows])]) + "\n"
 
@@ -166,32 +169,26 @@ def table(output: str) -> str:
 ABOUT = f"""Written by `tools/budget.py write OUTPUT` from the output of `.ci/run`, which checks it: the total may be {BUDGET} processor minutes. Measure where nothing was proved before; a kit whose `rt ci` keeps proofs has `rt ci --anew`."""
 
 
-def write(path: str) -> int:
-    output, page = pathlib.Path(path).read_text(encoding="utf-8", errors="replace"), PAGE.read_text(encoding="utf-8")
+def write(paths) -> int:
+    output = "\n".join(pathlib.Path(it).read_text(encoding="utf-8", errors="replace") for it in paths)
     if not TOOK.search(output):
-        print(f"{path}: no part of the gate stands there")
+        print(f"{', '.join(paths)}: no part of the gate stands there")
         return 1
-    begin = page.find(HEADING)
-    end = page.find("\n## ", begin + 1) + 1 or len(page)
-    if begin < 0:
-        begin = end = page.index("\n## ") + 1
-    PAGE.write_text(page[:begin] + table(output) + "\n" + page[end:].lstrip("\n"), encoding="utf-8")
+    PAGE.write_text(table(output), encoding="utf-8")
     return check()
 
 
 def check() -> int:
     page = PAGE.read_text(encoding="utf-8")
-    begin = page.find(HEADING)
-    section = page[begin : page.find("\n## ", begin + 1)] if begin >= 0 else ""
-    total = TOTAL.search(section)
+    total = TOTAL.search(page)
     if not total:
-        print("docs/TESTS.md: the table of what the gate costs has no total")
+        print("docs/GATE.md: the table has no total")
         return 1
-    rows = re.findall(r"^\| (?!\*\*total|Part).*\| ([\d.]+) \|$", section, re.M)
+    rows = re.findall(r"^\| (?!\*\*total|Part).*\| ([\d.]+) \|$", page, re.M)
     whole, parts = float(total[1]), sum(map(float, rows))
     # Each row is rounded, and parts below three seconds have none.
     if abs(whole - parts) > 0.1 * (len(rows) + 1):
-        print(f"docs/TESTS.md: the parts are {parts:.1f} processor minutes, and the total is {whole:.1f}")
+        print(f"docs/GATE.md: the parts are {parts:.1f} processor minutes, and the total is {whole:.1f}")
         return 1
     print(f"the gate took {whole:.1f} of {BUDGET} processor minutes when it was last measured")
     if whole > BUDGET:
@@ -219,8 +216,8 @@ def dearest(name: str) -> int:
 def main(words: list) -> int:
     if words[:1] == ["run"] and len(words) > 1:
         return run(words[1:])
-    if words[:1] == ["write"] and len(words) == 2:
-        return write(words[1])
+    if words[:1] == ["write"] and len(words) > 1:
+        return write(words[1:])
     if words == ["check"]:
         return check()
     if words[:1] == ["dearest"] and len(words) == 2:

@@ -16,6 +16,7 @@ that doesn't apply or compile, that changes nothing, or with which the crate is 
     tools/wrong_bodies.py --proved [NAME..]      behind `rt ci`: no crate is checked first, and only what edits call is
     tools/wrong_bodies.py --list [NAME..]        the batches, and nothing is tried
     tools/wrong_bodies.py --compile [NAME..]     only whether each edit compiles, some ten seconds a batch
+    tools/wrong_bodies.py --right [NAME..]       whether each right body is proved beside itself, as the wrong ones are tried
     tools/wrong_bodies.py --self-test            whether the script itself tells right from wrong
 
 Each crate must be proved as it stands, and is checked first, unless `rt ci` has just proved it; what
@@ -559,6 +560,22 @@ class Room:
         # A method of a built-in type has no such name: its edit is then tried alone.
         return self.check_only([it for it in functions if it != unknown[1]]) if unknown else ran
 
+    def left_open(self, edits) -> list:
+        """What is left open of each of these functions beside themselves, in a check of them all."""
+        tried = self.crate.tried(edits)
+        said = self.check(edits, tried, [tried.of[it.label()][0] for it in edits])
+        goals = tried.goals(said)
+        if not REACHED.search(said):
+            return [(edits[0], "the check did not come to an end")]
+        return [(it, goal) for it in edits for goal in self.own(it, tried, goals)[:1]]
+
+    @staticmethod
+    def own(edit: Edit, tried: Tried, goals: dict) -> list:
+        """The goals of the functions of an edit, those of the clause that it names if the others say nothing."""
+        own = [it for one in tried.of[edit.label()] for it in goals.get(one, [])]
+        is_of_one = edit.clause and edit.inside and edit.beside()
+        return [it for it in own if f"-clause-{edit.clause}`" in it] if is_of_one else own
+
     def apart(self, edits, tried: Tried, said: str) -> list:
         """Edits that don't compile together, in parts: those of which that is said, and the others."""
         blamed = {tried.function_at(it[1], int(it[2])) for it in FAULT.finditer(said)}
@@ -591,9 +608,7 @@ class Room:
         judged = []
         hidden = all(it.inside or it.beside() for it in edits)
         for edit in edits:
-            own = [it for one in tried.of[edit.label()] for it in goals.get(one, []) if hidden or CONTRACT.search(it)]
-            if edit.clause and edit.beside() and edit.inside:
-                own = [it for it in own if f"-clause-{edit.clause}`" in it]
+            own = [it for it in self.own(edit, tried, goals) if hidden or CONTRACT.search(it)]
             judged += [(edit, own[0], "")] if own else self.judge([edit])
         return judged
 
@@ -746,6 +761,23 @@ class Trial:
         print(f"{len(self.failed)} failed")
         return 1 if self.failed else 0
 
+    def right(self) -> int:
+        """Tries the right body of each function that edits change beside itself: where it isn't proved there, that a
+        wrong one is refused there says nothing."""
+        for task in self.tasks:
+            clauses = {(it.beside(), it.clause if it.inside else "") for batch in task.batches for it in batch if it.beside()}
+            clauses = sorted(clauses, key=lambda it: (it[0].file, it[0].first, it[1]))
+            edits = [Edit(task.crate.name, f"{one.path} {clause}".strip(), [], {one}, clause=clause) for one, clause in clauses]
+            with tempfile.TemporaryDirectory(prefix="wrong-bodies-") as rooms:
+                room = Room(self.root, task.crate, task.below, pathlib.Path(rooms, task.crate.name))
+                for some in (edits[at : at + BATCH] for at in range(0, len(edits), BATCH)):
+                    # One alone would stand in its own place.
+                    for edit, goal in room.left_open(some + edits[:1] * (len(some) == 1)):
+                        self.tell(edit, "", f"its right body is not proved beside it: {goal}")
+            print(f"{task.crate.name}: {len(edits)} right bodies tried", flush=True)
+        print(f"{len(self.failed)} failed")
+        return 1 if self.failed else 0
+
     def list(self) -> int:
         """Prints the batches."""
         for task in self.tasks:
@@ -846,6 +878,7 @@ def main() -> int:
     words.add_argument("--proved", action="store_true", help="each crate is proved as it stands, and isn't checked first")
     words.add_argument("--list", action="store_true", help="print the batches, and try none")
     words.add_argument("--compile", action="store_true", help="say only which edits don't compile")
+    words.add_argument("--right", action="store_true", help="try right bodies in place of the wrong ones; they must be proved")
     words.add_argument("names", nargs="*", metavar="NAME", help="a crate, a topic or an edit")
     given = words.parse_args()
     if given.self_test:
@@ -856,6 +889,8 @@ def main() -> int:
     trial = Trial(ROOT, given.names, max(given.jobs, 1), Since(given.since) if given.since else None, given.proved)
     if given.compile:
         return trial.compile()
+    if given.right:
+        return trial.right()
     return trial.list() if given.list else trial.run()
 
 
