@@ -8,7 +8,7 @@ ghost use Rattle.elf_c.specs.Records.{found_in};
 use crate::status::Refusal;
 
 /// Items in order, with a record to store for each.
-pub(crate) trait Records: Copy {
+pub(crate) trait Records: Drop {
     /// An item of the file.
     type Item;
 

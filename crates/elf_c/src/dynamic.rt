@@ -32,7 +32,7 @@ pub struct DynamicEntry {
 }
 
 // The entries of class 32 of a table.
-#[derive(Clone, Copy)]
+#[derive(Drop)]
 struct Entries32<'a> {
     table: Table<'a, Dynamic<P32>>,
 }
@@ -64,7 +64,7 @@ impl Records for Entries32<'_> {
 }
 
 // The entries of class 64 of a table.
-#[derive(Clone, Copy)]
+#[derive(Drop)]
 struct Entries64<'a> {
     table: Table<'a, Dynamic<P64>>,
 }

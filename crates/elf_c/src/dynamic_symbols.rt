@@ -110,7 +110,7 @@ pub extern "C" fn xmas_elf_dynamic_symbols(
 }
 
 // The symbols of a table, and the range of the string table of their names.
-#[derive(Clone, Copy)]
+#[derive(Drop)]
 struct LinkedNames<'a, E: Record> {
     symbols: Table<'a, E>,
     strings: Result<Range, Refusal>,

@@ -175,7 +175,7 @@ pub extern "C" fn xmas_elf_section_name(
 }
 
 // The sections of a table, and the range of the table of their names.
-#[derive(Clone, Copy)]
+#[derive(Drop)]
 struct SectionNames<'b, 'a> {
     sections: SectionTable<'b, 'a>,
     names: Result<Range, ElfError>,

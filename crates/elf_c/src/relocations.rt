@@ -154,7 +154,7 @@ pub extern "C" fn xmas_elf_relocation(
 }
 
 // The relocations of a table.
-#[derive(Clone, Copy)]
+#[derive(Drop)]
 struct Relocations<'a, T: Record> {
     table: Table<'a, T>,
 }

@@ -173,7 +173,7 @@ pub extern "C" fn xmas_elf_symbols(
 }
 
 // The symbols of a table, and the range of the string table of their names.
-#[derive(Clone, Copy)]
+#[derive(Drop)]
 struct SymbolNames<'a, E: Record> {
     symbols: Table<'a, E>,
     strings: Result<Range, ElfError>,

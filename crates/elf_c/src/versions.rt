@@ -159,7 +159,7 @@ impl Version {
 }
 
 // The version tables of a file, and the range of the string table of the dynamic segment.
-#[derive(Clone, Copy)]
+#[derive(Drop)]
 struct Tables<'a> {
     versions: Versions<'a>,
     strings: Result<Range, Refusal>,
@@ -341,7 +341,7 @@ fn version_record(
 }
 
 // The versions of the symbols of a file.
-#[derive(Clone, Copy)]
+#[derive(Drop)]
 struct SymbolVersions<'a> {
     tables: Tables<'a>,
     count: u64,

@@ -1,14 +1,18 @@
 -- What the program writes of its files (this project's own), by what is asked.
 use Rattle.std.specs.Prelude.{◌≡◌, ℕ, Bool, List, Option}
+use Rattle.std.specs.Result.{result_ok}
+use Rattle.elf_linking.specs.DynamicView.{linked_text_of}
 use Rattle.elf_linking.specs.Scope.{AreGood}
 use Rattle.elf_linking.specs.declared.object.DynamicObject.{DynamicObject}
+use Rattle.elf_linking.specs.declared.view.linked_entry.Linked.{Linked}
 use Rattle.elfbind.specs.Bindings.{IsObjectText}
 use Rattle.elfbind.specs.Checks.{IsCheckLine}
-use Rattle.elfbind.specs.Files.{AreWritten}
+use Rattle.elfbind.specs.Files.{AreObjectsOf, AreWritten}
 use Rattle.elfbind.specs.declared.Question as questions
 use Rattle.elfbind.specs.declared.Question.TheVariants.{Bindings, Checks}
 use Rattle.elfbind.specs.declared.files.Input.{Input}
-use Rattle.xmas_elf.specs.Symbol.{SymbolFields}
+use Rattle.xmas_elf.specs.Symbol.{SymbolFields, dyn_entry_32_fields, dyn_entry_64_fields}
+use Rattle.xmas_elf.specs.Types.{DynEntry32, DynEntry64}
 use Rattle.xmas_elf.specs.declared.ElfFile.{ElfFile}
 
 -- what is written of objects: the texts of their references, if the checks of all pass; or the lines of their
@@ -19,3 +23,20 @@ pub data IsAnswer {E : Type 0} {r : _} (fields : E → SymbolFields) (text_in : 
       → IsAnswer fields text_in inputs objects question wrong text
   checks : question ≡ Checks → AreWritten (IsCheckLine fields text_in inputs) objects wrong text
       → IsAnswer fields text_in inputs objects question wrong text
+
+-- what is answered of files of a class, whose symbols have this size: whether something is wrong, by their objects and
+-- some text
+pub record IsAnswerOf {E : Type 0} (r : _) (fields : E → SymbolFields) (text_in : E → ElfFile → Option (List ℕ)) (class size : ℕ) (inputs : List Input) (question : questions.Question) (wrong : Bool) : Type 0 where
+  pub objects : List (DynamicObject E r)
+  pub objects_are : AreObjectsOf class size inputs objects
+  pub text : List ℕ
+  pub answer : IsAnswer fields text_in inputs objects question wrong text
+
+-- what is answered of files, which are all of class 32 or all of class 64, with how records of their symbols are read
+pub data IsAnswerByClass (narrow_record wide_record : _) (inputs : List Input) (question : questions.Question) (wrong : Bool) : Type 0 where
+  narrow : IsAnswerOf {E = Linked DynEntry32} narrow_record (λ symbol. dyn_entry_32_fields symbol.0)
+      (λ symbol file. result_ok (linked_text_of file (dyn_entry_32_fields symbol.0).name)) 1 16 inputs question wrong
+      → IsAnswerByClass narrow_record wide_record inputs question wrong
+  wide : IsAnswerOf {E = Linked DynEntry64} wide_record (λ symbol. dyn_entry_64_fields symbol.0)
+      (λ symbol file. result_ok (linked_text_of file (dyn_entry_64_fields symbol.0).name)) 2 24 inputs question wrong
+      → IsAnswerByClass narrow_record wide_record inputs question wrong

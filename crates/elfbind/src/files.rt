@@ -7,7 +7,7 @@ ghost use Rattle.elf_linking.specs.DynamicObject.{object_dynamic_symbols};
 ghost use Rattle.elf_linking.specs.Find.{AreReadable};
 ghost use Rattle.elf_linking.specs.Scope.{AreGood};
 ghost use Rattle.elfbind.specs.Checks.{AreChecked};
-ghost use Rattle.elfbind.specs.Files.{AreObjectsOf, IsObjectOfBytes};
+ghost use Rattle.elfbind.specs.Files.{AreObjectsOf, IsObjectOfBytes, IsRefusedAsObject};
 
 use elf_linking::view::LinkedSymbol;
 use elf_linking::{DynamicObject, LinkError};
@@ -60,7 +60,8 @@ pub(crate) fn refusal<'a>(path: &'a str, error: LinkError) -> Stop<Refused<'a>> 
 
 // The object of a file.
 fn read_object<'a, E: LinkedSymbol>(bytes: &'a [u8]) -> Result<DynamicObject<'a, E>, LinkError>
-    ensures { IfOk result (IsObjectOfBytes E.CLASS E.SIZE bytes.now) }
+    ensures exact { MatchResult result (IsObjectOfBytes E.CLASS E.SIZE bytes.now)
+        (IsRefusedAsObject E.CLASS E.SIZE bytes.now) }
 {
     match ElfFile::new(bytes) {
         Ok(file) => DynamicObject::read(&file),

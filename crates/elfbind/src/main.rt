@@ -6,16 +6,17 @@
 //! writes a line for each file, whether its hash table and its versions pass their checks.
 #![tactic(auto)]
 
-ghost use Rattle.std.specs.Prelude.{◌≡◌, ◌≤◌, [], IfOk, List, OnOk, length};
+ghost use Rattle.std.specs.Prelude.{◌≡◌, ◌≤◌, [], IfOk, List, OnOk, false, length};
 ghost use Rattle.std.specs.Io.Buffered.{writer_buffer, writer_inner};
 ghost use Rattle.elf_linking.specs.declared.object.DynamicObject.{DynamicObject};
-ghost use Rattle.elfbind.specs.Answers.{IsAnswer};
+ghost use Rattle.elfbind.specs.Answers.{IsAnswer, IsAnswerByClass};
 ghost use Rattle.elfbind.specs.Files.{AreAccepted, AreObjectsOf};
 ghost use Rattle.program_ends.specs.Appended.{AppendsSome};
 
 use crate::bindings::write_bindings;
 use crate::checks::write_checks;
 use crate::files::{Input, Refused, check_objects, read_objects};
+use elf_base::bytes::Record;
 use elf_base::header::Class;
 use elf_linking::view::{LinkedEntry32, LinkedEntry64, LinkedSymbol};
 use elf_linking::{DynamicObject, LinkError};
@@ -61,8 +62,8 @@ pub enum Question {
 /// status.
 ///
 /// The status is 0 once all is written and flushed, no reference is missing its symbol and no check
-/// fails, and 1 otherwise. The contract says that it is 0 only if each file is accepted, and nothing
-/// of what `out` and `err` hold.
+/// fails, and 1 otherwise. The contract says that it is 0 only if each file is accepted and nothing
+/// is wrong, and nothing of what `out` and `err` hold.
 pub fn run<W: Write, E: Write>(
     alloc: Global,
     question: Question,
@@ -72,6 +73,8 @@ pub fn run<W: Write, E: Write>(
 ) -> u8
     ensures bound { result ≤ 1 }
     ensures accepted { result ≡ 0 → AreAccepted inputs.now }
+    ensures right { result ≡ 0 → IsAnswerByClass ⟦<LinkedEntry32 as Record>⟧
+        ⟦<LinkedEntry64 as Record>⟧ inputs.now question false }
 {
     match answer(alloc, question, inputs, out) {
         Ok(false) => 0,
@@ -81,13 +84,16 @@ pub fn run<W: Write, E: Write>(
 }
 
 // Writes what is asked of the files, by the class of the first; whether something is wrong.
+#[tactic(auto, using(crate::proofs::Objects::answered_by))]
 fn answer<'a, W: Write>(
     alloc: Global,
     question: Question,
     inputs: &'a [Input<'_>],
     out: &mut W,
 ) -> Result<bool, Fault<'a>>
-    ensures { OnOk result (AreAccepted inputs.now) }
+    ensures accepted { OnOk result (AreAccepted inputs.now) }
+    ensures answered { IfOk result (IsAnswerByClass ⟦<LinkedEntry32 as Record>⟧
+        ⟦<LinkedEntry64 as Record>⟧ inputs.now question) }
 {
     let written = match class_of_first(inputs) {
         Class::ThirtyTwo => print::<LinkedEntry32, _>(alloc, question, inputs, &mut *out),

@@ -18,7 +18,7 @@ loop-input-preserved g c =
     let pushed : c.push.new.self.items ≡ done ++ (object ∷ []) = search rules in
     let longer : take (index + 1) inputs ≡ take index inputs ++ (item ∷ []) =
     take_more inputs index item below ∙ ap (λ x. take index inputs ++ (x ∷ [])) (sym c.input-item.is) in
-    let own : IsObjectOfBytes C S item.bytes.items object = subst (λ (bytes : List ℕ). IsObjectOfBytes C S bytes object) c.deref.ensures.value c.in-Ok.ensures in
+    let own : IsObjectOfBytes C S item.bytes.items object = subst (λ (bytes : List ℕ). IsObjectOfBytes C S bytes object) c.deref.ensures.value c.in-Ok.ensures.exact in
     let all = zip_one_more (λ (input : Input) one. IsObjectOfBytes C S input.bytes.items one) (take index inputs) done item object c.loop-input.invariant.0 own in (
       subst (λ (xs : List Input). AreObjectsOf C S xs c.push.new.self.items) (sym longer) (subst (λ ys. AreObjectsOf C S (take index inputs ++ (item ∷ [])) ys) (sym pushed) all),
       ap length pushed ∙ length_push done object ∙ ap (λ n. n + 1) c.loop-input.invariant.1,
