@@ -24,15 +24,16 @@ pub data IsAnswer {E : Type 0} {r : _} (fields : E → SymbolFields) (text_in : 
   checks : question ≡ Checks → AreWritten (IsCheckLine fields text_in inputs) objects wrong text
       → IsAnswer fields text_in inputs objects question wrong text
 
--- what is answered of files of a class, whose symbols have this size: whether something is wrong, by their objects and
--- some text
+-- whether something is wrong with files of one class, whose symbols have this size: a text that may be written of their
+-- objects says so
 pub record IsAnswerOf {E : Type 0} (r : _) (fields : E → SymbolFields) (text_in : E → ElfFile → Option (List ℕ)) (class size : ℕ) (inputs : List Input) (question : questions.Question) (wrong : Bool) : Type 0 where
   pub objects : List (DynamicObject E r)
   pub objects_are : AreObjectsOf class size inputs objects
   pub text : List ℕ
   pub answer : IsAnswer fields text_in inputs objects question wrong text
 
--- what is answered of files, which are all of class 32 or all of class 64, with how records of their symbols are read
+-- the same of files that are all of class 32, or all of class 64; the first two arguments say how the record of a symbol
+-- of each class is read
 pub data IsAnswerByClass (narrow_record wide_record : _) (inputs : List Input) (question : questions.Question) (wrong : Bool) : Type 0 where
   narrow : IsAnswerOf {E = Linked DynEntry32} narrow_record (λ symbol. dyn_entry_32_fields symbol.0)
       (λ symbol file. result_ok (linked_text_of file (dyn_entry_32_fields symbol.0).name)) 1 16 inputs question wrong
