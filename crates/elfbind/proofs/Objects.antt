@@ -1,5 +1,5 @@
 -- Objects by their indices: that they are good, and those of the inputs in order.
-use Rattle.std.proofs.Common.{Bool, ◌≡◌, ◌<◌, ◌++◌, ◌∷◌, [], ℕ, List, get_or, length, Option, Some, None, option_map, refl, sym, ap, ◌∙◌, subst}
+use Rattle.std.proofs.Common.{◌≡◌, ◌<◌, ◌++◌, ◌∷◌, [], ℕ, List, get_or, length, Option, Some, None, option_map, refl, sym, ap, ◌∙◌, subst}
 use Rattle.std.specs.Prelude.{Err, IfSome, IsOk, IsSomeAnd, MatchOption, MatchResult, Ok, Result, slice_get}
 use Rattle.std.specs.List.{AllZip}
 use Rattle.std.proofs.lemmas.Slice.Zip.{AllZip-left}
@@ -11,11 +11,8 @@ use Rattle.elf_linking.specs.declared.error.LinkError.{LinkError}
 use Rattle.elf_linking.specs.Find.{AreReadable, DynamicSymbols}
 use Rattle.elf_linking.specs.Scope.{symbols_at}
 use Rattle.elf_linking.specs.declared.object.DynamicObject.{DynamicObject}
-use Rattle.elfbind.specs.Answers.{IsAnswer, IsAnswerOf}
 use Rattle.elfbind.specs.Files.{AreAccepted, AreObjectsOf, IsObjectOfBytes, IsRefusedAsObject, no_object}
-use Rattle.elfbind.specs.declared.Question.{Question}
 use Rattle.elfbind.specs.declared.files.Input.{Input}
-use Rattle.program_ends.specs.Appended.{AppendsSome}
 use Rattle.xmas_elf.specs.Symbol.{SymbolFields}
 use Rattle.xmas_elf.specs.declared.ElfFile.{ElfFile}
 
@@ -61,10 +58,6 @@ accepted_by {E} {r} class size inputs objects all i = go (slice_get inputs i) (A
     go : (found : Option Input) → MatchOption found (Unit {0}) (λ input. IsSomeAnd (slice_get objects i) (IsObjectOfBytes class size input.bytes.items)) → IfSome found (λ input. IsOk (header_of input.bytes.items))
     go None none = tt
     go (Some input) is = with_object input (slice_get objects i) is
-
--- what was written of some objects answers for the files
-pub answered_by : {E : Type 0} {r : _} (fields : E → SymbolFields) (text_in : E → ElfFile → Option (List ℕ)) (class size : ℕ) (inputs : List Input) (question : Question) (wrong : Bool) (old new : Option (List ℕ)) → (objects : List (DynamicObject E r)) × AreObjectsOf class size inputs objects × AppendsSome (IsAnswer fields text_in inputs objects question wrong) old new → IsAnswerOf r fields text_in class size inputs question wrong
-answered_by fields text_in class size inputs question wrong old new is = record { objects = is.0; objects_are = is.1; text = is.2.0; answer = is.2.1 }
 
 -- what is read of a file is read of its bytes
 pub object_or_refused : {E : Type 0} {r : _} (class size : ℕ) (bytes : List ℕ) (file : ElfFile) (result : Result (DynamicObject E r) LinkError) → file.input.now ≡ bytes → header_of bytes ≡ Ok file.header → MatchResult result (IsObject class size file) (IsObjectRefused class size file) → MatchResult result (IsObjectOfBytes class size bytes) (IsRefusedAsObject class size bytes)

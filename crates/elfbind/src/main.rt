@@ -84,7 +84,6 @@ pub fn run<W: Write, E: Write>(
 }
 
 // Writes what is asked of the files, by the class of the first; whether something is wrong.
-#[tactic(auto, using(crate::proofs::Objects::answered_by))]
 fn answer<'a, W: Write>(
     alloc: Global,
     question: Question,
