@@ -37,7 +37,7 @@ SHOWN = 20  # functions that `dearest` lists
 
 TOOK = re.compile(r"^-- (.+): (\d+) s, (\d+) processor s$", re.M)
 PART = re.compile(r"^--   (proof|tests|must-fail|batches|rest) of (\S+): (\d+) processor s$", re.M)
-BATCHES = re.compile(r"^(\w+|the crates as they stand): (\d+) processor seconds$", re.M)
+BATCHES = re.compile(r"^([\w-]+|the crates as they stand): (\d+) processor seconds$", re.M)
 DONE = re.compile(r"done in this run: (\d+ of the \d+) proofs")
 MACHINE = re.compile(r"^-- (\d+) processors, (.*)$", re.M)
 TOTAL = re.compile(r"^\| \*\*total\*\* \|.*\| ([\d.]+) \|$", re.M)

@@ -6,25 +6,27 @@ tried together, in one check of a copy of the crate, and each is judged by what 
 function. Of a free function or an inherent method each wrong body stands beside the right one, as a
 function of another name, with a copy of its proof; of its clauses all but that which the edit's line
 `clause:` names say nothing there. The method of a trait keeps its name, so one edit of it is made in
-its place. Any goal that is left open there will do while no edit of the batch changes
+its place. Every other function is a stand-in there: `loop {}` for its body, and for its proof a hole,
+since it has been proved. Any goal that is left open there will do while no edit of the batch changes
 a line outside a body in place; else it must be a goal of the contract. An edit of which that isn't
-said is tried alone and in place, where any goal will do, since nothing else was changed. An edit fails
-that doesn't apply or compile, that changes nothing, or with which the crate is still proved.
+said is tried alone and in place, among stand-ins and then in the whole crate, where any goal will do,
+since nothing else was changed. An edit fails that doesn't apply or compile, that changes nothing, or
+with which the crate is still proved.
 
     tools/wrong_bodies.py [--jobs N] [NAME..]    a NAME is that of a crate, a topic or an edit; none: all
     tools/wrong_bodies.py --since COMMIT         those of functions that changed since this commit
-    tools/wrong_bodies.py --proved [NAME..]      behind `rt ci`: no crate is checked first, and only what edits call is
+    tools/wrong_bodies.py --proved [NAME..]      behind `rt ci`: no crate is checked first as it stands
     tools/wrong_bodies.py --list [NAME..]        the batches, and nothing is tried
     tools/wrong_bodies.py --compile [NAME..]     only whether each edit compiles, some ten seconds a batch
     tools/wrong_bodies.py --right [NAME..]       whether each right body is proved beside itself, as the wrong ones are tried
     tools/wrong_bodies.py --self-test            whether the script itself tells right from wrong
 
-Each crate must be proved as it stands, and is checked first, unless `rt ci` has just proved it; what
-that check and earlier ones kept in out/ is used again. What calls a function that is edited in place
-is proved again, so a batch has no function between two of these. At the end stand what the checks of
-each crate took, the slowest ones, and the functions at which each of these stayed longest, so that
-edits can be found that make the prover's search run to its limits. The last line is `N refused, M
-failed`.
+Each crate must be proved as it stands, and is checked first, unless `rt ci` has just proved it. Then
+the stand-ins of what edits call are checked, which each batch begins with. What calls a function that
+is edited in place is proved again, so a batch has no function between two of these. At the end stand
+what the checks of each crate took, the slowest ones, and the edits at which they stayed longest, so
+that edits can be found that make the prover's search run to its limits. The last line is `N refused,
+M failed`.
 """
 import argparse
 import collections
@@ -59,11 +61,25 @@ UNPRINTED = "\nunprinted : ⊥\nunprinted = tt\n"
 CLAUSE = re.compile(r"( +)(ensures|requires)(?: (\w+))? \{")
 FAULT = re.compile(r"(?:\./)?(src/\S+?):(\d+):\d+: error")
 PROGRESS = re.compile(r"checked (\S+), \d+ of \d+")
-REACHED = re.compile(r"^(?:logic=(proved|not-proved)|only=\d+ proved=\d+$)", re.M)
+REACHED = re.compile(r"^(?:logic=(proved|not-proved)|only=\d+ (?:proved|holes)=\d+$)", re.M)
+# The last line of a check in which nothing is left open but what stands for the proofs of the stand-ins.
+STANDS_IN = re.compile(r"^only=\d+ holes=1$", re.M)
+# What has no such body: a constant is computed by its body, and an opaque type is read off it.
+NO_STAND_IN = re.compile(r"\bconst (?:unsafe )?fn\b|-> impl\b")
+UNPROVED = """-- Stands for the proofs of functions that aren't tried.
+pub any : {A : Type 2} → A
+any = ?
+"""
+STAND_IN = """use Rattle.{crate}.proofs.Unproved.{{any}}
+use Rattle.{crate}.proofs.{path}.Statement.{{statement}}
+
+pub {name}_spec : {{M : Type 1}} → statement M
+{name}_spec = any
+"""
 NO_FUNCTION = re.compile(r"^rattle: error: `\w+` has no function `(\S+)`", re.M)
 CALL = re.compile(r"(?:\b(\w+)::|(\.)\s*|(?<![\w.:]))(\w+)(?:::<[^()]*>)?\(")
-# How many checks are listed at the end, and functions of each.
-SLOWEST = 12
+# How many checks are listed at the end, and how many edits.
+SLOWEST, DEAREST = 12, 40
 
 
 @dataclasses.dataclass(frozen=True)
@@ -288,17 +304,41 @@ class Crate:
         held = [it for it in self.functions if it.file == file and it.first <= line <= it.last]
         return held[-1] if held else None
 
-    def tried(self, edits):
-        """The crate with these edits made: one alone in its place, of several each beside the right function where it can."""
+    def stands_in(self, one: Function) -> bool:
+        """Whether a function is known by its contract alone while others are tried: `loop {}` takes the place of its body."""
+        lines = self.texts[one.file].split("\n")
+        is_block = lines[one.body - 1].endswith("{") and one.last - one.body > 1
+        return is_block and not NO_STAND_IN.search(" ".join(lines[one.first - 1 : one.body]))
+
+    def with_stand_ins(self, but) -> dict:
+        """The texts with stand-ins for all functions but these, each on the lines of its function."""
+        texts = {file: text.split("\n") for file, text in self.texts.items()}
+        for one in self.functions:
+            if one not in but and self.stands_in(one):
+                texts[one.file][one.body : one.last - 1] = ["loop {}"] + [""] * (one.last - one.body - 2)
+        return {file: "\n".join(lines) for file, lines in texts.items()}
+
+    def proofs_of(self, one: Function) -> list:
+        """The folders below proofs/ of what was written of the proofs of a function and of its closures."""
+        *above, name = self.told_path(one).split("::")[1:]
+        found = [it.relative_to(self.folder / "proofs").parts for it in (self.folder / "proofs").rglob(name) if it.is_dir()]
+        return [it for it in found if [part for part in it[:-1] if part != "fn"] == above]
+
+    def tried(self, edits, whole=False):
+        """The crate with these edits made, among stand-ins or the whole crate: one alone in its place, of several each
+        beside the right function where it can."""
         beside = collections.defaultdict(list)
         for number, edit in enumerate(edits if len(edits) > 1 else []):
             if edit.beside():
                 beside[edit.beside()].append((edit, self.renamed(edit, number)))
         apart = {edit.label() for some in beside.values() for edit, _ in some}
-        texts = self.changed([it for it in edits if it.label() not in apart])
+        placed = [it for it in edits if it.label() not in apart]
+        in_place = {one for it in placed for one in it.functions}
+        over = self.texts if whole else self.with_stand_ins(in_place)
+        texts = self.changed(placed, over)
         now, of = {it: it for it in self.functions}, {}
         for file in {it.file for it in beside}:
-            lines, shift = texts.get(file, self.texts[file]).split("\n"), 0
+            lines, shift = texts.get(file, over[file]).split("\n"), 0
             for one in (it for it in self.functions if it.file == file):
                 now[one] = one.moved(shift)
                 for edit, (name, copy) in beside[one]:
@@ -309,7 +349,7 @@ class Crate:
             texts[file] = "\n".join(lines)
         copies = {of[it.label()][0]: it.beside() for it in edits if it.label() in apart}
         of |= {it.label(): [one and now[one] for one in it.functions] for it in edits if it.label() not in apart}
-        return Tried(self, texts, [*now.values(), *copies], of, copies)
+        return Tried(self, texts, [*now.values(), *copies], of, copies, set() if whole else in_place)
 
     def renamed(self, edit: Edit, number: int) -> tuple:
         """Another name for the function of an edit, and its lines under that name with the edit made, without the docs."""
@@ -340,8 +380,9 @@ class Crate:
         pairs = [(file, enumerate(zip(text.split("\n"), self.texts[file].split("\n")))) for file, text in texts.items()]
         return {(file, at): line for file, lines in pairs for at, (line, before) in lines if line != before}
 
-    def changed(self, edits) -> dict:
-        """The texts of the changed files, each edit made by itself; ValueError says which can't be made."""
+    def changed(self, edits, over=None) -> dict:
+        """The texts of the changed files, each edit made by itself, over other texts of the same lines if these are
+        given; ValueError says which can't be made."""
         lines = {}
         for edit in edits:
             mine = self.lines_of(edit)
@@ -350,7 +391,7 @@ class Crate:
             lines |= mine
         texts = {}
         for file in {file for file, _ in lines}:
-            before = enumerate(self.texts[file].split("\n"))
+            before = enumerate((over or self.texts)[file].split("\n"))
             texts[file] = "\n".join(lines.get((file, at), line) for at, line in before)
         return texts
 
@@ -390,13 +431,14 @@ class Crate:
 @dataclasses.dataclass
 class Tried:
     """A crate with edits made: the files that changed, the functions where they stand there, those by which each edit is
-    judged, and of the wrong ones that stand beside a right one, that one."""
+    judged, of the wrong ones that stand beside a right one, that one, and those that are edited in place of a stand-in."""
 
     crate: Crate
     texts: dict
     functions: list
     of: dict
     copies: dict
+    in_place: set
 
     def function_at(self, file: str, line: int):
         held = [it for it in self.functions if it.file == file and it.first <= line <= it.last]
@@ -458,12 +500,16 @@ def copied(source: str, place: str):
 
 
 class Room:
-    """A copy of the repository in which one crate is changed and checked again and again."""
+    """A copy of the repository in which one crate is changed and checked again and again: with stand-ins for all
+    functions that aren't tried, or as it stands."""
 
-    def __init__(self, root: pathlib.Path, crate: Crate, below, place: pathlib.Path):
-        self.crate, self.folder = crate, place / "crates" / crate.name
-        self.kept = crate.folder / "out" / "incremental"
-        self.times = []
+    def __init__(self, root: pathlib.Path, crate: Crate, below, place: pathlib.Path, kept=None, whole=False):
+        self.root, self.crate, self.below, self.is_whole = root, crate, below, whole
+        self.folder, self.kept = place / "crates" / crate.name, kept
+        self.words = [] if whole else ["--allow-holes"]
+        self.texts = crate.texts if whole else crate.with_stand_ins(set())
+        # what each check took, and what each edit did
+        self.times, self.stays = [], []
         place.mkdir()
         needed = [*below, crate.name]
         lines = (root / "crates.txt").read_text(encoding="utf-8").splitlines(keepends=True)
@@ -475,12 +521,49 @@ class Room:
                     shutil.copytree(source / part, copy / part)
             if name != crate.name and (source / "out" / "rlib").is_dir():
                 shutil.copytree(source / "out" / "rlib", copy / "out" / "rlib")
+        if not whole:
+            self.make_stand_ins()
+
+    def make_stand_ins(self):
+        """Writes the stand-ins, and for each a proof that rests on the one hole."""
+        proofs = self.folder / "proofs"
+        proofs.mkdir(exist_ok=True)
+        (proofs / "Unproved.antt").write_text(UNPROVED, encoding="utf-8")
+        with open(proofs / "Lib.antt", "a", encoding="utf-8") as modules:
+            modules.write("pub mod Unproved\n")
+        for file, text in self.texts.items():
+            (self.folder / file).write_text(text, encoding="utf-8")
+        for one in filter(self.crate.stands_in, self.crate.functions):
+            self.leave_unproved(one)
+
+    def leave_unproved(self, one: Function):
+        """Puts the proof of a stand-in in the place of its function's."""
+        proofs, path = self.folder / "proofs", self.crate.told_path(one).split("::")[1:]
+        for parts in self.crate.proofs_of(one):
+            shutil.rmtree(proofs.joinpath(*parts), ignore_errors=True)
+        text = STAND_IN.format(crate=self.crate.name, path=".".join(path), name=path[-1])
+        shutil.rmtree(proofs.joinpath(*path), ignore_errors=True)
+        proofs.joinpath(*path).mkdir(parents=True)
+        proofs.joinpath(*path, "Proof.antt").write_text(text, encoding="utf-8")
+
+    def give_proof(self, one: Function):
+        """Puts the proof of a function, if it has one, in the place of its stand-in's."""
+        proofs = self.folder / "proofs"
+        shutil.rmtree(proofs.joinpath(*self.crate.told_path(one).split("::")[1:]))
+        for parts in self.crate.proofs_of(one):
+            shutil.copytree(self.crate.folder.joinpath("proofs", *parts), proofs.joinpath(*parts))
+
+    def whole(self):
+        """Another room, with the crate as it stands."""
+        place = self.folder.parent.parent / "whole"
+        shutil.rmtree(place, ignore_errors=True)
+        return Room(self.root, self.crate, self.below, place, self.crate.folder / "out" / "incremental", whole=True)
 
     def begin(self):
-        """Takes what a check of the crate as it stands kept: a check with an edit replaces what was kept of its function."""
+        """Takes what a check of the crate kept before any edit: a check with an edit replaces what was kept of its function."""
         there = self.folder / "out" / "incremental"
         shutil.rmtree(there, ignore_errors=True)
-        if self.kept.is_dir():
+        if self.kept and self.kept.is_dir():
             shutil.copytree(self.kept, there, copy_function=copied)
 
     def check(self, edits, tried: Tried, functions) -> str:
@@ -493,9 +576,9 @@ class Room:
         for file, text in unprinted:
             file.write_text(text, encoding="utf-8") if text else file.unlink()
         self.unmade(tried, proofs)
-        what = edits[0].label() if len(edits) == 1 else f"{self.crate.name}: {len(edits)} edits"
-        slow = ", ".join(f"{name} {seconds:.0f}" for seconds, name in ran.stays[:4] if seconds >= 1)
-        self.times.append((ran.seconds, what + (f" ({slow})" if slow else "")))
+        self.times.append((ran.seconds, edits[0].label() if len(edits) == 1 else f"{self.crate.name}: {len(edits)} edits"))
+        labels = {self.crate.told_path(one).split("::", 1)[1]: it.label() for it in edits for one in tried.of[it.label()] if one}
+        self.stays += [(seconds, labels.get(name, f"{self.crate.name}: {name}")) for seconds, name in ran.stays]
         return ran.said
 
     def unprinted(self, path: str):
@@ -510,21 +593,22 @@ class Room:
         """Writes the files that edits change, and the proofs of functions beside others; gives the folders of these."""
         for file, text in tried.texts.items():
             (self.folder / file).write_text(text, encoding="utf-8")
+        for one in filter(self.crate.stands_in, tried.in_place):
+            self.give_proof(one)
         return [it for copy, one in tried.copies.items() for it in self.copy_proofs(one, copy.name())]
 
     def copy_proofs(self, one: Function, name: str) -> list:
         """Copies the proof of a function and those of its closures for one of another name; gives the folders."""
         *above, old = self.crate.told_path(one).split("::")[1:]
         proofs, made = self.folder / "proofs", []
-        above_it = lambda parts: [it for it in parts if it != "fn"] == above
 
         def moved(found) -> str:
             parts = found[0].split(".")
-            at = next((at for at, it in enumerate(parts) if it == old and above_it(parts[3:at])), None)
+            at = next((at for at, it in enumerate(parts) if it == old and [it for it in parts[3:at] if it != "fn"] == above), None)
             return found[0] if at is None else ".".join([*parts[:at], name, *parts[at + 1 :]])
 
-        for folder in [it for it in proofs.rglob(old) if it.is_dir() and above_it(it.relative_to(proofs).parts[:-1])]:
-            made.append(pathlib.Path(shutil.copytree(folder, folder.with_name(name))))
+        for parts in self.crate.proofs_of(one):
+            made.append(pathlib.Path(shutil.copytree(self.crate.folder.joinpath("proofs", *parts), proofs.joinpath(*parts[:-1], name))))
             for file in made[-1].rglob("*.antt"):
                 text = file.read_text(encoding="utf-8")
                 file.write_text(re.sub(rf"Rattle\.{self.crate.name}\.proofs(\.[\w+]+)+", moved, text), encoding="utf-8")
@@ -534,14 +618,16 @@ class Room:
     def unmade(self, tried: Tried, proofs):
         """Takes edits and the proofs that were made for them back."""
         for file in tried.texts:
-            (self.folder / file).write_text(self.crate.texts[file], encoding="utf-8")
+            (self.folder / file).write_text(self.texts[file], encoding="utf-8")
+        for one in filter(self.crate.stands_in, tried.in_place):
+            self.leave_unproved(one)
         for folder in proofs:
             shutil.rmtree(folder, ignore_errors=True)
 
     def uncompiled(self, edits) -> list:
         """Those of the edits that don't compile, each with the error."""
         self.begin()
-        tried = self.crate.tried(edits)
+        tried = self.crate.tried(edits, self.is_whole)
         proofs = self.made(tried)
         # A check of a function that isn't there ends once the crate is compiled.
         said = check(self.folder, "--jobs", "1", "--only", "no_such::function").said
@@ -555,14 +641,14 @@ class Room:
 
     def check_only(self, functions) -> Checked:
         """A check of some functions, by their paths, and of what they call; of none: of the whole crate."""
-        ran = check(self.folder, "--jobs", "1", *(word for name in functions for word in ("--only", name)))
+        ran = check(self.folder, "--jobs", "1", *self.words, *(word for name in functions for word in ("--only", name)))
         unknown = NO_FUNCTION.search(ran.said)
         # A method of a built-in type has no such name: its edit is then tried alone.
         return self.check_only([it for it in functions if it != unknown[1]]) if unknown else ran
 
     def left_open(self, edits) -> list:
         """What is left open of each of these functions beside themselves, in a check of them all."""
-        tried = self.crate.tried(edits)
+        tried = self.crate.tried(edits, self.is_whole)
         said = self.check(edits, tried, [tried.of[it.label()][0] for it in edits])
         goals = tried.goals(said)
         if not REACHED.search(said):
@@ -584,15 +670,16 @@ class Room:
 
     def judge(self, edits) -> list:
         """Each edit with the goal for which it is refused, or with none and a fault."""
-        tried = self.crate.tried(edits)
+        tried = self.crate.tried(edits, self.is_whole)
         functions = {one for some in tried.of.values() for one in some}
-        # A line that stands in no function, as a constant's, is judged by the whole crate.
-        said = self.check(edits, tried, [] if None in functions else functions)
+        said = self.check(edits, tried, [] if self.is_whole else functions - {None})
         reached = REACHED.search(said)
-        if reached and len(edits) == 1 and not tried.goals(said):
-            # What the function does for others may be refused there.
-            said = self.check(edits, tried, [])
-            reached = REACHED.search(said)
+        if not self.is_whole and len(edits) == 1 and (None in functions or reached and not tried.goals(said)):
+            # A line that stands in no function, as a constant's, and what a function does for others, may be refused there.
+            whole = self.whole()
+            judged = whole.judge(edits)
+            self.times, self.stays = self.times + whole.times, self.stays + whole.stays
+            return judged
         if not reached and len(edits) > 1:
             return [it for part in self.apart(edits, tried, said) for it in self.judge(part)]
         if not reached:
@@ -620,6 +707,8 @@ class Task:
     crate: Crate
     below: list
     batches: list
+    # the copy with stand-ins alone, whose check the others begin with
+    first: Room = None
     state: str = "unproved"
     rooms: list = dataclasses.field(default_factory=list)
 
@@ -630,7 +719,7 @@ class Trial:
     def __init__(self, root: pathlib.Path, names, jobs: int, since=None, proved=False):
         self.root, self.jobs, self.lock, self.proved = root, jobs, threading.Lock(), proved
         self.of_crate = collections.Counter()
-        self.refused, self.failed, self.times = [], [], []
+        self.refused, self.failed, self.times, self.stays = [], [], [], []
         self.tasks, self.idle, self.made = [], jobs, 0
         self.may_be_empty = since is not None
         below = {}
@@ -669,32 +758,47 @@ class Trial:
             (self.failed if fault else self.refused).append(edit.label())
             print(f"{edit.label()}: " + (f"FAILED: {fault}" if fault else f"refused: {goal}")[:200], flush=True)
 
-    def prove(self, task: Task, jobs: int):
-        """Checks a crate as it stands, or of a proved one what its edited functions call, and keeps that for the copies."""
-        began = time.monotonic()
-        only = task.crate.mentioned({one for batch in task.batches for edit in batch for one in edit.functions}) if self.proved else []
-        ran = [check(task.crate.folder, "--jobs", str(jobs), *(word for name in only for word in ("--only", name)))]
-        # The check of a crate above would build it, and so change what is being copied.
-        if not self.proved and not ran[0].status and any(task.crate.name in it.below for it in self.tasks):
-            ran.append(check(task.crate.folder, "--jobs", str(jobs), verb="lib"))
-        status = ran[-1].status
+    def prove(self, task: Task, jobs: int, rooms: str):
+        """Checks a crate as it stands, unless `rt ci` did, and its stand-ins, which is kept for the copies."""
+        began, folder, ran = time.monotonic(), task.crate.folder, []
+        if not self.proved:
+            ran.append(check(folder, "--jobs", str(jobs)))
+            # The check of a crate above would build it, and so change what is being copied.
+            if not ran[0].status and any(task.crate.name in it.below for it in self.tasks):
+                ran.append(check(folder, "--jobs", str(jobs), verb="lib"))
+        fault = "it is not proved as it stands" if any(it.status for it in ran) else self.check_stand_ins(task, jobs, rooms)
         with self.lock:
-            self.of_crate["the crates as they stand"] += sum(it.seconds for it in ran)
-            task.state = "not proved" if status else "proved"
-            if status:
+            if ran:
+                self.of_crate["the crates as they stand"] += sum(it.seconds for it in ran)
+            task.state = "not proved" if fault else "proved"
+            if fault:
                 self.failed.append(task.crate.name)
             count = sum(map(len, task.batches))
-            what = "FAILED: it is not proved as it stands" if status else f"{count} edits in {len(task.batches)} batches"
+            what = f"FAILED: {fault}" if fault else f"{count} edits in {len(task.batches)} batches"
             print(f"{task.crate.name}: {what} (checked in {time.monotonic() - began:.0f} s)", flush=True)
+
+    def check_stand_ins(self, task: Task, jobs: int, rooms: str) -> str:
+        """Checks the functions that edited ones call, as stand-ins: the check of each batch begins with these. Gives the
+        fault, if there is one."""
+        task.first = Room(self.root, task.crate, task.below, pathlib.Path(rooms, f"{task.crate.name}-first"))
+        only = task.crate.mentioned({one for batch in task.batches for edit in batch for one in edit.functions})
+        words = [word for name in only for word in ("--only", name)]
+        ran = check(task.first.folder, "--jobs", str(jobs), *task.first.words, *words)
+        with self.lock:
+            self.of_crate["stand-ins"] += ran.seconds
+        if STANDS_IN.search(ran.said):
+            return ""
+        return "its stand-ins aren't accepted: " + "\n".join([it for it in ran.said.split("\n") if "rror" in it or "not proved" in it][:8] or ran.said.split("\n")[-8:])
 
     def work(self, task: Task, batch: list, room, place: pathlib.Path):
         """Tries a batch in a copy of its crate, which is left for the next one."""
-        room = room or Room(self.root, task.crate, task.below, place)
+        room = room or Room(self.root, task.crate, task.below, place, task.first.folder / "out" / "incremental")
         for edit, goal, fault in room.judge(batch):
             self.tell(edit, goal, fault)
         with self.lock:
             self.of_crate[task.crate.name] += sum(it[0] for it in room.times)
             self.times, room.times = self.times + room.times, []
+            self.stays, room.stays = self.stays + room.stays, []
             is_wanted = len(task.rooms) < len(task.batches)
             if is_wanted:
                 task.rooms.append(room)
@@ -713,7 +817,7 @@ class Trial:
             # One at a time, since a check locks the crates below. Others wait for it: one worker is for batches.
             jobs = min(self.idle, max(1, self.jobs // 2, self.idle - bool(proved)))
             ready[0].state = "checked now"
-            return (lambda: self.prove(ready[0], jobs)), jobs
+            return (lambda: self.prove(ready[0], jobs, rooms)), jobs
         if self.idle and proved:
             # The crate with most left, since its last batch may be the last of all.
             task = max(proved, key=lambda it: len(it.batches))
@@ -744,6 +848,9 @@ class Trial:
             print(f"{sum(it[0] for it in self.times):.0f} processor seconds in {len(self.times)} checks of wrong bodies, of these")
         for seconds, what in sorted(self.times, reverse=True)[:SLOWEST]:
             print(f"{seconds:6.0f} {what}")
+        print(f"{sum(it[0] for it in self.stays):.0f} seconds in the functions of these checks, of these")
+        for seconds, what in sorted(self.stays, reverse=True)[:DEAREST]:
+            print(f"{seconds:6.1f} {what}")
         if self.failed:
             print(f"FAILED: {' '.join(sorted(self.failed))}")
         print(f"{len(self.refused)} refused, {len(self.failed)} failed")
@@ -769,7 +876,11 @@ class Trial:
             clauses = sorted(clauses, key=lambda it: (it[0].file, it[0].first, it[1]))
             edits = [Edit(task.crate.name, f"{one.path} {clause}".strip(), [], {one}, clause=clause) for one, clause in clauses]
             with tempfile.TemporaryDirectory(prefix="wrong-bodies-") as rooms:
-                room = Room(self.root, task.crate, task.below, pathlib.Path(rooms, task.crate.name))
+                if fault := self.check_stand_ins(task, self.jobs, rooms):
+                    print(f"{task.crate.name}: FAILED: {fault}")
+                    self.failed.append(task.crate.name)
+                    continue
+                room = Room(self.root, task.crate, task.below, pathlib.Path(rooms, task.crate.name), task.first.folder / "out" / "incremental")
                 for some in (edits[at : at + BATCH] for at in range(0, len(edits), BATCH)):
                     # One alone would stand in its own place.
                     for edit, goal in room.left_open(some + edits[:1] * (len(some) == 1)):
