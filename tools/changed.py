@@ -15,6 +15,7 @@ import re
 import subprocess
 import sys
 
+import crate_sources
 import wrong_bodies
 
 ROOT = pathlib.Path(__file__).resolve().parent.parent
@@ -90,7 +91,7 @@ def changes(commit: str) -> dict:
             continue
         change = found.setdefault(name, Change())
         if part.startswith("src/") and part.endswith(".rt"):
-            read_source(change, wrong_bodies.Crate(ROOT / "crates" / name), commit, path)
+            read_source(change, crate_sources.Crate(ROOT / "crates" / name), commit, path)
         elif part.startswith(("specs/", "proofs/", "src/")):
             change.kind = "contracts"
     return found

@@ -11,7 +11,7 @@ A line is a kind and a function, as `one-sided elf_linking::view::loaded::bytes_
     no-place     a slice is lent from the input, and no clause says where it lies
     no-wrong     a caller has no wrong body
 
-The sources are read as `rt fmt` lays them out, by `tools/wrong_bodies.py`. At the end docs/contracts.toml has the
+The sources are read as `rt fmt` lays them out, by `tools/crate_sources.py`. At the end docs/contracts.toml has the
 clauses that refuse no wrong body by themselves; --check fails where no such function or clause is there.
 """
 import fnmatch
@@ -20,7 +20,7 @@ import re
 import sys
 import tomllib
 
-import wrong_bodies
+import edits
 
 ROOT = pathlib.Path(__file__).resolve().parent.parent
 REASONS = ROOT / "docs" / "contracts.toml"
@@ -73,7 +73,7 @@ def lines() -> list:
     """The whole list, in the order of the crates and of their files."""
     found = []
     for name in LIBRARIES + CALLERS:
-        crate = wrong_bodies.Crate(ROOT / "crates" / name)
+        crate = edits.EditedCrate(ROOT / "crates" / name)
         tried = set()
         for path in sorted((crate.folder / "wrong-bodies").rglob("*.edit")):
             tried |= {it.path for it in crate.read_edit(path).functions if it}
@@ -88,7 +88,7 @@ def lines() -> list:
 
 def heads() -> dict:
     """The functions of the libraries by their paths, each up to the line that opens its body."""
-    crates = [wrong_bodies.Crate(ROOT / "crates" / name) for name in LIBRARIES]
+    crates = [edits.EditedCrate(ROOT / "crates" / name) for name in LIBRARIES]
     return {one.path: head_of(crate.texts[one.file], one) for crate in crates for one in crate.functions}
 
 
