@@ -1,11 +1,9 @@
-"""The sources of a crate, as `rt fmt` lays them out: which function stands where, what it calls, and by which path a
-check tells it."""
+"""The sources of a crate, as `rt fmt` lays them out: which function stands where, and by which path a check tells it."""
 import collections
 import dataclasses
 import pathlib
 import re
 
-CALL = re.compile(r"(?:\b(\w+)::|(\.)\s*|(?<![\w.:]))(\w+)(?:::<[^()]*>)?\(")
 # What has no such body: a constant is computed by its body, and an opaque type is read off it.
 NO_STAND_IN = re.compile(r"\bconst (?:unsafe )?fn\b|-> impl\b")
 
@@ -125,45 +123,6 @@ class Crate:
         words = {it for one in functions if one for it in re.findall(r"\w+", self.body(one))}
         found = [self.told_path(it) for it in self.functions if it.body < it.last and it.path.rpartition("::")[2] in words]
         return sorted(found) or [self.told_path(one) for one in functions if one][:1]
-
-    def calls(self) -> dict:
-        """Each function with those of the crate that its body calls, as far as names tell: what this misses only makes
-        a batch take longer."""
-        named = collections.defaultdict(list)
-        for one in self.functions:
-            named[one.path.rpartition("::")[2]].append(one)
-        found = {}
-        for one in self.functions:
-            found[one] = {it for call in CALL.finditer(self.body(one)) for it in self.called(one, named, *call.groups())} - {one}
-        return found
-
-    def called(self, caller: Function, named: dict, of: str, dot: str, name: str) -> list:
-        """The function of a call, of a type or a module, of a method or free, in a list; none where several may be meant."""
-        several = named[name]
-        if of == "Self" or dot and several and caller.owner:
-            own = [it for it in several if it.owner == caller.owner or it.owner and it.path.rpartition("::")[0] == caller.path.rpartition("::")[0]]
-            several = own or several
-        elif of:
-            several = [it for it in several if of in it.path.split("::")] or several
-        elif not dot:
-            several = [it for it in several if not it.owner]
-        return several if len(several) == 1 else []
-
-    def reached(self) -> tuple:
-        """Each function with those that it calls, through others too, and with those that call it so."""
-        calls, below = self.calls(), {}
-
-        def reach(one):
-            if one not in below:
-                below[one] = set()
-                below[one] = set().union(*({it} | reach(it) for it in calls[one]))
-            return below[one]
-
-        above = collections.defaultdict(set)
-        for one in self.functions:
-            for it in reach(one):
-                above[it].add(one)
-        return below, above
 
     def function_at(self, file: str, line: int):
         held = [it for it in self.functions if it.file == file and it.first <= line <= it.last]

@@ -189,14 +189,8 @@ class Tried:
 
 
 def batches_of(crate: EditedCrate, edits) -> list:
-    """The edits in few groups. Those in place are of different functions that can be changed together, with no function
-    between those, as far as names tell: what calls an edited function, and is called by another, is proved again."""
+    """The edits in few groups. Those in place are of different functions that can be changed together."""
     many = collections.Counter(one for edit in edits if not edit.beside() for one in edit.functions)
-    below, above = crate.reached()
-
-    def between(changed: set) -> int:
-        under, over = (set().union(*(it.get(one, ()) for one in changed)) for it in (below, above))
-        return len((under & over) - changed)
 
     def joins(batch: list, edit: Edit) -> bool:
         placed = [it for it in batch if not it.beside()]
@@ -211,7 +205,7 @@ def batches_of(crate: EditedCrate, edits) -> list:
             crate.changed([*placed, edit])
         except ValueError:
             return False
-        return between(used | edit.functions) <= between(used)
+        return True
 
     # Those in place come first, of functions with many edits each in a group of its own, and the others fill these groups.
     rank = lambda it: (it.beside() is not None, not it.inside, -max(many[one] for one in it.functions), it.changes[0][0], it.name)

@@ -22,11 +22,9 @@ with which the crate is still proved.
     tools/wrong_bodies.py --self-test            whether the script itself tells right from wrong
 
 Each crate must be proved as it stands, and is checked first, unless `rt ci` has just proved it. Then
-the stand-ins of what edits call are checked, which each batch begins with. What calls a function that
-is edited in place is proved again, so a batch has no function between two of these. At the end stand
-what the checks of each crate took, the slowest ones, and the edits at which they stayed longest, so
-that edits can be found that make the prover's search run to its limits. The last line is `N refused,
-M failed`.
+the stand-ins of what edits call are checked, which each batch begins with. At the end stand what the
+checks of each crate took, the slowest ones, and the edits at which they stayed longest, so that edits
+can be found that make the prover's search run to its limits. The last line is `N refused, M failed`.
 """
 import argparse
 import collections
