@@ -11,6 +11,9 @@ the processes below it are looked at twice a second: a prover's command line nam
 the tests; its folder tells a must-fail edit. What stands between two looks counts as `rest`. `tools/wrong_bodies.py`
 says itself what the checks of each crate took.
 
+Two processors of a machine may be one core, and others may use it: then each takes up to twice the seconds. So a short
+loop is timed now and then, and the page says what it took.
+
 `dearest` goes by the times of the files that a check keeps in out/. It tells only of a check from nothing by one job,
 as `rt check --jobs 1` is where neither this checkout nor another on the machine has kept work of the crate.
 """
@@ -33,11 +36,13 @@ BUDGET = 230
 
 TICKS = os.sysconf("SC_CLK_TCK")
 LOOKS = 0.5  # seconds between two looks
+SAMPLES = 10  # seconds between two loops that are timed
 SHOWN = 20  # functions that `dearest` lists
 
 TOOK = re.compile(r"^-- (.+): (\d+) s, (\d+) processor s$", re.M)
 PART = re.compile(r"^--   (proof|tests|must-fail|batches|rest) of (\S+): (\d+) processor s$", re.M)
 BATCHES = re.compile(r"^([\w-]+|the crates as they stand): (\d+) processor seconds$", re.M)
+LOOP = re.compile(r"^--   a loop: ([\d.]+) ms in (\d+) times, ([\d.]+) at best$", re.M)
 DONE = re.compile(r"done in this run: (\d+ of the \d+) proofs")
 MACHINE = re.compile(r"^-- (\d+) processors, (.*)$", re.M)
 TOTAL = re.compile(r"^\| \*\*total\*\* \|.*\| ([\d.]+) \|$", re.M)
@@ -101,24 +106,45 @@ class Looks:
         return sums
 
 
+class Speed:
+    """How long a loop takes, in milliseconds of its processor, while something else runs."""
+
+    def __init__(self):
+        self.took, self.is_done = [], threading.Event()
+
+    @staticmethod
+    def loop() -> float:
+        began, number = time.thread_time(), 0
+        for at in range(200_000):
+            number += at
+        return 1000 * (time.thread_time() - began)
+
+    def run(self):
+        while not self.is_done.wait(SAMPLES):
+            self.took.append(self.loop())
+
+
 def run(words: list) -> int:
     """Runs a command, and says what it took, and of `rt ci` what each of its parts did."""
     began = time.monotonic()
     with subprocess.Popen(words) as started:
-        looks = Looks(started.pid)
-        watching = threading.Thread(target=looks.run) if words[0] == "rt" else None
-        if watching:
-            watching.start()
+        looks, speed = Looks(started.pid), Speed()
+        watching = [threading.Thread(target=it.run) for it in ([looks, speed] if words[0] == "rt" else [speed])]
+        for it in watching:
+            it.start()
         _, status, used = os.wait4(started.pid, 0)
         started.returncode = os.waitstatus_to_exitcode(status)
         looks.is_done.set()
-        if watching:
-            watching.join()
+        speed.is_done.set()
+        for it in watching:
+            it.join()
     whole, sums = used.ru_utime + used.ru_stime, looks.sums()
     for part, seconds in sorted(sums.items()):
         print(f"--   {part}: {seconds:.0f} processor s")
     if sums:
         print(f"--   rest of rt: {max(whole - sum(sums.values()), 0):.0f} processor s")
+    if speed.took:
+        print(f"--   a loop: {sum(speed.took) / len(speed.took):.1f} ms in {len(speed.took)} times, {min(speed.took):.1f} at best")
     print(f"-- {' '.join(words)}: {time.monotonic() - began:.0f} s, {whole:.0f} processor s", flush=True)
     return started.returncode if started.returncode >= 0 else 1
 
@@ -159,6 +185,10 @@ def table(output: str) -> str:
     how = "in one run" if len(machines) < 2 else "in parts, one after the other"
     done = DONE.search(output)
     share = f" Of the proofs {done[1]} were done in this run; the others had been done on the machine before." if done else ""
+    loops = [(float(mean), int(count), float(best)) for mean, count, best in LOOP.findall(output)]
+    if loops:
+        mean = sum(it[0] * it[1] for it in loops) / sum(it[1] for it in loops)
+        share += f" A loop that took {min(it[2] for it in loops):.0f} ms at best took {mean:.0f} on average."
     commit = subprocess.run(["git", "rev-parse", "--short", "HEAD"], cwd=ROOT, capture_output=True, text=True, check=False).stdout.strip()
     kit = subprocess.run(["rt", "version"], capture_output=True, text=True, check=False).stdout.split(" ")[0]
     said = f"Measured at {commit} by `.ci/run`, {how}, on x86-64 with {where}, {kit}, {datetime.date.today()}: {minutes(wall)} minutes. Processor minutes by part.{share}"
