@@ -41,7 +41,8 @@ def main() -> int:
         for crate in crates:
             folder, built = pathlib.Path(crate.folder), pathlib.Path(crate.rlib)
             sources = max(newest(pathlib.Path(it.folder)) for it in [crate, *crate.below()])
-            if (built / "format").is_file() and (built / "format").stat().st_mtime > sources and not crate.is_built():
+            # Files that an earlier run on this machine built and kept are older than the folder that they were put into.
+            if (built / "format").is_file() and built.stat().st_mtime > sources and not crate.is_built():
                 (folder / "out" / "rlib" / "stamp").write_text(crate.stamp(), encoding="utf-8")
                 written.append(crate.name)
     except (AttributeError, OSError, TypeError) as why:
