@@ -42,6 +42,7 @@ SHOWN = 20  # functions that `dearest` lists
 TOOK = re.compile(r"^-- (.+): (\d+) s, (\d+) processor s$", re.M)
 PART = re.compile(r"^--   (proof|tests|must-fail|batches|rest) of (\S+): (\d+) processor s$", re.M)
 BATCHES = re.compile(r"^([\w-]+|the crates as they stand): (\d+) processor seconds$", re.M)
+PAGES = re.compile(r"^-- huge pages: (\w+)$", re.M)
 LOOP = re.compile(r"^--   a loop: ([\d.]+) ms in (\d+) times, ([\d.]+) at best$", re.M)
 DONE = re.compile(r"done in this run: (\d+ of the \d+) proofs")
 MACHINE = re.compile(r"^-- (\d+) processors, (.*)$", re.M)
@@ -191,7 +192,9 @@ def table(output: str) -> str:
         share += f" A loop that took {min(it[2] for it in loops):.0f} ms at best took {mean:.0f} on average."
     commit = subprocess.run(["git", "rev-parse", "--short", "HEAD"], cwd=ROOT, capture_output=True, text=True, check=False).stdout.strip()
     kit = subprocess.run(["rt", "version"], capture_output=True, text=True, check=False).stdout.split(" ")[0]
-    said = f"Measured at {commit} by `.ci/run`, {how}, on x86-64 with {where}, {kit}, {datetime.date.today()}: {minutes(wall)} minutes. Processor minutes by part.{share}"
+    pages = PAGES.search(output)
+    huge = f", transparent huge pages `{pages[1]}`" if pages else ""
+    said = f"Measured at {commit} by `.ci/run`, {how}, on x86-64 with {where}{huge}, {kit}, {datetime.date.today()}: {minutes(wall)} minutes. Processor minutes by part.{share}"
     head = "| Part | proof | tests | must-fail | batches | together |\n|---|---:|---:|---:|---:|---:|"
     return "\n\n".join([HEADING, ABOUT, said, "\n".join([head, *rows])]) + "\n"
 
