@@ -29,6 +29,7 @@ PATHS = {
     "bench/growth.sh": (*LINKING, "bench/here", "bench/growth.sh", "bench/files.sh", "bench/hostile.py"),
     "elfinfo": (*LIBRARIES, "crates/elfinfo/src", "crates/program_ends/src", "bench/hostile.py"),
     r"\time": PROVED,
+    "rt": PROVED,
     "tools/compare_rust.py": (*LIBRARIES, "crates/elfanswers/src", "oracle", "tools/compare_rust.py"),
     "tools/fuzz.py": (*LIBRARIES, "crates/elfanswers/src", "crates/elfinfo/src", "tools/fuzz.py", "tools/damage.py"),
     "tools/compare_readelf.py": (*LIBRARIES, "crates/elfinfo/src", "tools/compare_readelf.py"),

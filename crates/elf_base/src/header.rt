@@ -1,7 +1,7 @@
 //! The ELF header, with which every file begins (gABI, "ELF Header").
 
 ghost use Rattle.std.specs.Prelude.{◌≡◌, ◌↔◌, ◌==◌, ◌||◌, [], ◌∷◌, IfOk, IsOk, if◌then◌else◌};
-ghost use Rattle.std.specs.Prelude.{length, nat_lt, not};
+ghost use Rattle.std.specs.Prelude.{length, nat_lt, not, ⊤};
 ghost use Rattle.elf_base.specs.FileHeader.{IsAccepted, class_number, class_of, encoding_number};
 ghost use Rattle.elf_base.specs.FileHeader.{encoding_of, file_header, header_fields, header_of};
 ghost use Rattle.elf_base.specs.FileHeader.{order_of, os_abi_number, os_abi_of, pt2_record};
@@ -18,6 +18,7 @@ pub use crate::header::numbers::{
     Class, Class_, Data, Data_, Machine, Machine_, OsAbi, OsAbi_, Type, Type_, Version, Version_,
 };
 use crate::{ElfError, P32, P64};
+use std::alloc::AllocError;
 
 /// `ELFMAG`: the four bytes that every ELF file begins with.
 pub const MAGIC: [u8; 4] = [0x7f, b'E', b'L', b'F'];
@@ -60,7 +61,7 @@ pub enum HeaderPt2 {
 }
 
 /// Part 2 with addresses and offsets of type `P` (gABI, "ELF Header", Elf32_Ehdr and Elf64_Ehdr).
-#[derive(Clone, Copy, Debug)]
+#[derive(Copy, Debug)]
 pub struct HeaderPt2_<P> {
     /// The object file type.
     pub type_: Type_,
@@ -90,6 +91,17 @@ pub struct HeaderPt2_<P> {
     /// The index of the section that contains the section names; 0xffff if section header 0 has the
     /// index.
     pub sh_str_index: u16,
+}
+
+// A derived `clone` goes field by field, and is dear to prove.
+impl<P: Copy> Clone for HeaderPt2_<P> {
+    ghost is_clone = { λ x y. y ≡ x };
+
+    ghost is_infallible = { λ _. ⊤ };
+
+    fn clone(&self) -> Result<Self, AllocError> {
+        Ok(*self)
+    }
 }
 
 impl HeaderPt1 {
