@@ -335,38 +335,40 @@ pub fn parse_header(input: &[u8]) -> Result<Header, ElfError>
         return Err(ElfError::NoMagic);
     }
     // The byte order is chosen once for all fields.
-    let pt2 = match byte_order(pt1.encoding) {
-        Order::Little => read_pt2(input, pt1.class, Order::Little)?,
-        Order::Big => read_pt2(input, pt1.class, Order::Big)?,
-    };
-    Ok(Header { pt1, pt2 })
+    match byte_order(pt1.encoding) {
+        Order::Little => with_pt2(pt1, input, Order::Little),
+        Order::Big => with_pt2(pt1, input, Order::Big),
+    }
 }
 
-// Part 2, in the layout of the class.
+// The header with this first part, and a second in the layout of the class.
 #[inline(always)]
-fn read_pt2(input: &[u8], class: Class_, order: Order) -> Result<HeaderPt2, ElfError>
-    ensures { result ≡ unless (
-        (not (class_number class == 1 || class_number class == 2), ElfError.InvalidClass)
-        ∷ (
-          nat_lt (length input.now) (if class_number class == 1 then 52 else 64),
-          ElfError.ShortHeaders,
-        )
-        ∷ []) (pt2_record (class_number class) order input.now) }
+fn with_pt2(pt1: HeaderPt1, input: &[u8], order: Order) -> Result<Header, ElfError>
+    ensures { let class = class_number pt1.class in result ≡ unless (
+        (not (class == 1 || class == 2), ElfError.InvalidClass)
+        ∷ (nat_lt (length input.now) (if class == 1 then 52 else 64), ElfError.ShortHeaders)
+        ∷ []) (record { pt1 = pt1; pt2 = pt2_record class order input.now }) }
 {
-    match class.as_class() {
+    match pt1.class() {
         ThirtyTwo => {
             if input.len() < HeaderPt1::SIZE + HeaderPt2_::<P32>::SIZE {
                 return Err(ElfError::ShortHeaders);
             }
             let part = HeaderPt2_::<P32>::read(input, HeaderPt1::SIZE, order);
-            Ok(HeaderPt2::Header32(part))
+            Ok(Header {
+                pt1,
+                pt2: HeaderPt2::Header32(part),
+            })
         }
         SixtyFour => {
             if input.len() < HeaderPt1::SIZE + HeaderPt2_::<P64>::SIZE {
                 return Err(ElfError::ShortHeaders);
             }
             let part = HeaderPt2_::<P64>::read(input, HeaderPt1::SIZE, order);
-            Ok(HeaderPt2::Header64(part))
+            Ok(Header {
+                pt1,
+                pt2: HeaderPt2::Header64(part),
+            })
         }
         _ => Err(ElfError::InvalidClass),
     }
