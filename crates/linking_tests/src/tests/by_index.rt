@@ -28,6 +28,22 @@ fn check_rows(rt: &impl Abort, table: &AnyTable<'_>, symbols: &SymbolTable<'_, E
     }
 }
 
+fn check_gnu(rt: &impl Abort, symbols: &SymbolTable<'_, Entry32>) -> Result<(), LinkError> {
+    let mut words = [0; 32];
+    put_words(&mut words, 0, &GNU);
+    let table = GnuHashTable::read(&words, Class::ThirtyTwo, LITTLE)?;
+    check_rows(rt, &AnyTable::Gnu(table), symbols);
+    Ok(())
+}
+
+fn check_standard(rt: &impl Abort, symbols: &SymbolTable<'_, Entry32>) -> Result<(), LinkError> {
+    let mut words = [0; 24];
+    put_words(&mut words, 0, &SYSV);
+    let table = HashTable::read(&words, LITTLE)?;
+    check_rows(rt, &AnyTable::Sysv(table), symbols);
+    Ok(())
+}
+
 #[test]
 fn picks_a_symbol_by_its_index(rt: HostRuntime) -> Result<(), LinkError> {
     let file = strtab_file(LITTLE);
@@ -35,13 +51,6 @@ fn picks_a_symbol_by_its_index(rt: HostRuntime) -> Result<(), LinkError> {
     let mut bytes = [0; 48];
     put_symbols(&mut bytes, 0, &[(0, 0), (9, 0x12), (9, 0x12)]);
     let symbols = SymbolTable::new(Table::<Entry32>::new(&bytes, LITTLE)?, &file);
-    let mut words = [0; 32];
-    put_words(&mut words, 0, &GNU);
-    let table = GnuHashTable::read(&words, Class::ThirtyTwo, LITTLE)?;
-    check_rows(&rt, &AnyTable::Gnu(table), &symbols);
-    let mut words = [0; 24];
-    put_words(&mut words, 0, &SYSV);
-    let table = HashTable::read(&words, LITTLE)?;
-    check_rows(&rt, &AnyTable::Sysv(table), &symbols);
-    Ok(())
+    check_gnu(&rt, &symbols)?;
+    check_standard(&rt, &symbols)
 }
