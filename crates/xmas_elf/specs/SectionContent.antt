@@ -1,11 +1,11 @@
 -- The contents of a section, by its type (gABI, "Sections", sh_type).
-use Rattle.std.specs.Prelude.{◌≡◌, ℕ, Bool, true, false, List, Result, Ok, Err, MatchResult, if◌then◌else◌}
+use Rattle.std.specs.Prelude.{ℕ, Bool, true, false, List, Result, Ok, if◌then◌else◌}
 use Rattle.elf_base.specs.FileHeader.{file_class, file_order}
 use Rattle.elf_base.specs.Refusal.{and_then}
 use Rattle.elf_base.specs.Table.{table_data, table_order}
 use Rattle.elf_records.specs.declared.sections.ShType.TheVariants as sh_type
 use Rattle.xmas_elf.specs.Prelude.{ElfError, ElfFile, Order, SectionData, SectionHeader, ShType}
-use Rattle.xmas_elf.specs.Content.{Content, TableKind, by_class, dyn_symbols_32, dyn_symbols_64, dynamic_32, dynamic_64, empty, functions_32, functions_64, group, group_content, hash_table, hash_table_content, note_64, note_content, rel_32, rel_64, rela_32, rela_64, section_indices, strings, symbols_32, symbols_64, table_of, undefined, whole_table}
+use Rattle.xmas_elf.specs.Content.{Content, by_class, dyn_symbols_32, dyn_symbols_64, dynamic_32, dynamic_64, empty, functions_32, functions_64, group, group_content, hash_table, hash_table_content, note_64, note_content, rel_32, rel_64, rela_32, rela_64, section_indices, strings, symbols_32, symbols_64, table_of, undefined, whole_table}
 use Rattle.xmas_elf.specs.HashTable.{hash_data, hash_order}
 use Rattle.xmas_elf.specs.Ranges.{range_of}
 use Rattle.xmas_elf.specs.SectionHeader.{section_fields, section_type}
@@ -50,12 +50,6 @@ content_of_section sh_type.Group class order bytes = group_content order bytes
 content_of_section sh_type.Note class order bytes = note_content class order bytes
 content_of_section sh_type.Hash class order bytes = hash_table_content order bytes
 content_of_section _ class order bytes = Ok (undefined bytes)
-
--- a table whose records depend on the class, read from bytes of a file, or why they are malformed
-abbrev pub ReadsByClass : TableKind → TableKind → ElfFile → List ℕ → Result SectionData ElfError → Type 0
-ReadsByClass narrow wide file bytes result = MatchResult result
-    (λ d. by_class narrow wide (file_class file.header) (file_order file.header) bytes ≡ Ok (section_content d))
-    (λ e. by_class narrow wide (file_class file.header) (file_order file.header) bytes ≡ Err e)
 
 -- sections of this type have no bytes in the file (SHT_NULL and SHT_NOBITS)
 abbrev pub has_no_bytes : ShType → Bool

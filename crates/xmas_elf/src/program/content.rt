@@ -110,7 +110,6 @@ impl ProgramHeader64 {
 }
 
 impl<'a> SegmentData<'a> {
-    ghost use Rattle.xmas_elf.specs.Content.{by_class, dynamic_32, dynamic_64};
     ghost use Rattle.xmas_elf.specs.SegmentContent.{content_of_segment, segment_content};
 
     // The contents in `bytes` of a segment of this type, which is not Null.
@@ -123,29 +122,16 @@ impl<'a> SegmentData<'a> {
             bytes.now ≡ Err e) }
         ensures place { IfOk result (λ d. PartLies bytes.entry 0 (segment_part d)) }
     {
-        match kind {
-            Type::Dynamic => Self::dynamic(file, bytes),
-            Type::Note => {
+        let order = file.byte_order();
+        match (kind, file.header.pt1.class()) {
+            (Type::Dynamic, ThirtyTwo) => Ok(Self::Dynamic32(Table::new(bytes, order)?)),
+            (Type::Dynamic, SixtyFour) => Ok(Self::Dynamic64(Table::new(bytes, order)?)),
+            (Type::Dynamic, _) => Err(ElfError::UnknownClass),
+            (Type::Note, _) => {
                 let (header, body) = first_note(file, bytes)?;
                 Ok(Self::Note64(header, body))
             }
             _ => Ok(Self::Undefined(bytes)),
-        }
-    }
-
-    // The dynamic segment.
-    #[inline(always)]
-    fn dynamic(file: &ElfFile<'a>, bytes: &'a [u8]) -> Result<SegmentData<'a>, ElfError>
-        ensures exact { let content = by_class dynamic_32 dynamic_64 (file_class file.now.header)
-            (file_order file.now.header) bytes.now in MatchResult result
-            (λ d. content ≡ Ok (segment_content d)) (λ e. content ≡ Err e) }
-        ensures place { IfOk result (λ d. PartLies bytes.entry 0 (segment_part d)) }
-    {
-        let order = file.byte_order();
-        match file.header.pt1.class() {
-            ThirtyTwo => Ok(Self::Dynamic32(Table::new(bytes, order)?)),
-            SixtyFour => Ok(Self::Dynamic64(Table::new(bytes, order)?)),
-            _ => Err(ElfError::UnknownClass),
         }
     }
 }

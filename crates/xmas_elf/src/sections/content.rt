@@ -105,11 +105,8 @@ impl SectionHeader {
 }
 
 impl<'a> SectionData<'a> {
-    ghost use Rattle.xmas_elf.specs.SectionContent.{ReadsByClass, content_of_section};
-    ghost use Rattle.xmas_elf.specs.SectionContent.{section_content};
-    ghost use Rattle.xmas_elf.specs.Content.{dyn_symbols_32, dyn_symbols_64, dynamic_32, dynamic_64};
-    ghost use Rattle.xmas_elf.specs.Content.{functions_32, functions_64, group_content, rel_32};
-    ghost use Rattle.xmas_elf.specs.Content.{rel_64, rela_32, rela_64, symbols_32, symbols_64};
+    ghost use Rattle.xmas_elf.specs.SectionContent.{section_content, content_of_section};
+    ghost use Rattle.xmas_elf.specs.Content.{group_content};
     ghost use Rattle.xmas_elf.specs.Place.{PartLies, section_part};
 
     // The contents in `bytes` of a section of this type, which is not Null or NoBits.
@@ -123,114 +120,41 @@ impl<'a> SectionData<'a> {
         ensures place { IfOk result (λ d. PartLies bytes.entry 0 (section_part d)) }
     {
         let order = file.byte_order();
-        // Most arms hand on: a `?` in each of them would be dear to prove.
-        match kind {
-            ShType::StrTab => Ok(Self::StrArray(bytes)),
-            ShType::SymTab => Self::symbols(file, bytes),
-            ShType::DynSym => Self::dyn_symbols(file, bytes),
-            ShType::InitArray | ShType::FiniArray | ShType::PreInitArray => {
-                Self::functions(file, bytes)
-            }
-            ShType::Rela => Self::rela(file, bytes),
-            ShType::Rel => Self::rel(file, bytes),
-            ShType::Dynamic => Self::dynamic(file, bytes),
-            ShType::SymTabShIndex => Ok(Self::SymTabShIndex(Table::new(bytes, order)?)),
-            ShType::Group => Self::group(bytes, order),
-            ShType::Note => {
+        match (kind, file.header.pt1.class()) {
+            (ShType::StrTab, _) => Ok(Self::StrArray(bytes)),
+            (ShType::SymTab, ThirtyTwo) => Ok(Self::SymbolTable32(Table::new(bytes, order)?)),
+            (ShType::SymTab, SixtyFour) => Ok(Self::SymbolTable64(Table::new(bytes, order)?)),
+            (ShType::DynSym, ThirtyTwo) => Ok(Self::DynSymbolTable32(Table::new(bytes, order)?)),
+            (ShType::DynSym, SixtyFour) => Ok(Self::DynSymbolTable64(Table::new(bytes, order)?)),
+            (ShType::InitArray | ShType::FiniArray | ShType::PreInitArray, ThirtyTwo) => Ok(
+                Self::FnArray32(Table::new(bytes, order)?),
+            ),
+            (ShType::InitArray | ShType::FiniArray | ShType::PreInitArray, SixtyFour) => Ok(
+                Self::FnArray64(Table::new(bytes, order)?),
+            ),
+            (ShType::Rela, ThirtyTwo) => Ok(Self::Rela32(Table::new(bytes, order)?)),
+            (ShType::Rela, SixtyFour) => Ok(Self::Rela64(Table::new(bytes, order)?)),
+            (ShType::Rel, ThirtyTwo) => Ok(Self::Rel32(Table::new(bytes, order)?)),
+            (ShType::Rel, SixtyFour) => Ok(Self::Rel64(Table::new(bytes, order)?)),
+            (ShType::Dynamic, ThirtyTwo) => Ok(Self::Dynamic32(Table::new(bytes, order)?)),
+            (ShType::Dynamic, SixtyFour) => Ok(Self::Dynamic64(Table::new(bytes, order)?)),
+            (ShType::SymTabShIndex, _) => Ok(Self::SymTabShIndex(Table::new(bytes, order)?)),
+            (ShType::Group, _) => Self::group(bytes, order),
+            (ShType::Note, _) => {
                 let (header, body) = first_note(file, bytes)?;
                 Ok(Self::Note64(header, body))
             }
-            ShType::Hash => Ok(Self::HashTable(HashTable::read(bytes, order)?)),
-            ShType::Null
-            | ShType::NoBits
-            | ShType::ProgBits
-            | ShType::ShLib
-            | ShType::OsSpecific(_)
-            | ShType::ProcessorSpecific(_)
-            | ShType::User(_) => Ok(Self::Undefined(bytes)),
-        }
-    }
-
-    // Symbols of the class.
-    #[inline(always)]
-    fn symbols(file: &ElfFile<'a>, bytes: &'a [u8]) -> Result<SectionData<'a>, ElfError>
-        ensures exact { ReadsByClass symbols_32 symbols_64 file.now bytes.now result }
-        ensures place { IfOk result (λ d. PartLies bytes.entry 0 (section_part d)) }
-    {
-        let order = file.byte_order();
-        match file.header.pt1.class() {
-            ThirtyTwo => Ok(Self::SymbolTable32(Table::new(bytes, order)?)),
-            SixtyFour => Ok(Self::SymbolTable64(Table::new(bytes, order)?)),
-            _ => Err(ElfError::UnknownClass),
-        }
-    }
-
-    // Symbols for dynamic linking.
-    #[inline(always)]
-    fn dyn_symbols(file: &ElfFile<'a>, bytes: &'a [u8]) -> Result<SectionData<'a>, ElfError>
-        ensures exact { ReadsByClass dyn_symbols_32 dyn_symbols_64 file.now bytes.now result }
-        ensures place { IfOk result (λ d. PartLies bytes.entry 0 (section_part d)) }
-    {
-        let order = file.byte_order();
-        match file.header.pt1.class() {
-            ThirtyTwo => Ok(Self::DynSymbolTable32(Table::new(bytes, order)?)),
-            SixtyFour => Ok(Self::DynSymbolTable64(Table::new(bytes, order)?)),
-            _ => Err(ElfError::UnknownClass),
-        }
-    }
-
-    // Pointers to functions.
-    #[inline(always)]
-    fn functions(file: &ElfFile<'a>, bytes: &'a [u8]) -> Result<SectionData<'a>, ElfError>
-        ensures exact { ReadsByClass functions_32 functions_64 file.now bytes.now result }
-        ensures place { IfOk result (λ d. PartLies bytes.entry 0 (section_part d)) }
-    {
-        let order = file.byte_order();
-        match file.header.pt1.class() {
-            ThirtyTwo => Ok(Self::FnArray32(Table::new(bytes, order)?)),
-            SixtyFour => Ok(Self::FnArray64(Table::new(bytes, order)?)),
-            _ => Err(ElfError::UnknownClass),
-        }
-    }
-
-    // Relocations with addends.
-    #[inline(always)]
-    fn rela(file: &ElfFile<'a>, bytes: &'a [u8]) -> Result<SectionData<'a>, ElfError>
-        ensures exact { ReadsByClass rela_32 rela_64 file.now bytes.now result }
-        ensures place { IfOk result (λ d. PartLies bytes.entry 0 (section_part d)) }
-    {
-        let order = file.byte_order();
-        match file.header.pt1.class() {
-            ThirtyTwo => Ok(Self::Rela32(Table::new(bytes, order)?)),
-            SixtyFour => Ok(Self::Rela64(Table::new(bytes, order)?)),
-            _ => Err(ElfError::UnknownClass),
-        }
-    }
-
-    // Relocations without addends.
-    #[inline(always)]
-    fn rel(file: &ElfFile<'a>, bytes: &'a [u8]) -> Result<SectionData<'a>, ElfError>
-        ensures exact { ReadsByClass rel_32 rel_64 file.now bytes.now result }
-        ensures place { IfOk result (λ d. PartLies bytes.entry 0 (section_part d)) }
-    {
-        let order = file.byte_order();
-        match file.header.pt1.class() {
-            ThirtyTwo => Ok(Self::Rel32(Table::new(bytes, order)?)),
-            SixtyFour => Ok(Self::Rel64(Table::new(bytes, order)?)),
-            _ => Err(ElfError::UnknownClass),
-        }
-    }
-
-    // The dynamic section.
-    #[inline(always)]
-    fn dynamic(file: &ElfFile<'a>, bytes: &'a [u8]) -> Result<SectionData<'a>, ElfError>
-        ensures exact { ReadsByClass dynamic_32 dynamic_64 file.now bytes.now result }
-        ensures place { IfOk result (λ d. PartLies bytes.entry 0 (section_part d)) }
-    {
-        let order = file.byte_order();
-        match file.header.pt1.class() {
-            ThirtyTwo => Ok(Self::Dynamic32(Table::new(bytes, order)?)),
-            SixtyFour => Ok(Self::Dynamic64(Table::new(bytes, order)?)),
+            (ShType::Hash, _) => Ok(Self::HashTable(HashTable::read(bytes, order)?)),
+            (
+                ShType::Null
+                | ShType::NoBits
+                | ShType::ProgBits
+                | ShType::ShLib
+                | ShType::OsSpecific(_)
+                | ShType::ProcessorSpecific(_)
+                | ShType::User(_),
+                _,
+            ) => Ok(Self::Undefined(bytes)),
             _ => Err(ElfError::UnknownClass),
         }
     }
