@@ -120,6 +120,7 @@ impl<'a> SectionData<'a> {
         ensures place { IfOk result (λ d. PartLies bytes.entry 0 (section_part d)) }
     {
         let order = file.byte_order();
+        // One `match`, though dear to prove: a function for each kind takes more instructions.
         match (kind, file.header.pt1.class()) {
             (ShType::StrTab, _) => Ok(Self::StrArray(bytes)),
             (ShType::SymTab, ThirtyTwo) => Ok(Self::SymbolTable32(Table::new(bytes, order)?)),
