@@ -1,7 +1,7 @@
 //! The ELF header, with which every file begins (gABI, "ELF Header").
 
 ghost use Rattle.std.specs.Prelude.{◌≡◌, ◌↔◌, ◌==◌, ◌||◌, [], ◌∷◌, IfOk, IsOk, if◌then◌else◌};
-ghost use Rattle.std.specs.Prelude.{length, nat_lt, not, ⊤};
+ghost use Rattle.std.specs.Prelude.{length, nat_lt, not};
 ghost use Rattle.elf_base.specs.FileHeader.{IsAccepted, class_number, class_of, encoding_number};
 ghost use Rattle.elf_base.specs.FileHeader.{encoding_of, file_header, header_fields, header_of};
 ghost use Rattle.elf_base.specs.FileHeader.{order_of, os_abi_number, os_abi_of, pt2_record};
@@ -18,7 +18,6 @@ pub use crate::header::numbers::{
     Class, Class_, Data, Data_, Machine, Machine_, OsAbi, OsAbi_, Type, Type_, Version, Version_,
 };
 use crate::{ElfError, P32, P64};
-use std::alloc::AllocError;
 
 /// `ELFMAG`: the four bytes that every ELF file begins with.
 pub const MAGIC: [u8; 4] = [0x7f, b'E', b'L', b'F'];
@@ -61,7 +60,7 @@ pub enum HeaderPt2 {
 }
 
 /// Part 2 with addresses and offsets of type `P` (gABI, "ELF Header", Elf32_Ehdr and Elf64_Ehdr).
-#[derive(Copy, Debug)]
+#[derive(Clone, Copy, Debug)]
 pub struct HeaderPt2_<P> {
     /// The object file type.
     pub type_: Type_,
@@ -91,17 +90,6 @@ pub struct HeaderPt2_<P> {
     /// The index of the section that contains the section names; 0xffff if section header 0 has the
     /// index.
     pub sh_str_index: u16,
-}
-
-// A derived `clone` goes field by field, and is dear to prove.
-impl<P: Copy> Clone for HeaderPt2_<P> {
-    ghost is_clone = { λ x y. y ≡ x };
-
-    ghost is_infallible = { λ _. ⊤ };
-
-    fn clone(&self) -> Result<Self, AllocError> {
-        Ok(*self)
-    }
 }
 
 impl HeaderPt1 {
@@ -335,40 +323,38 @@ pub fn parse_header(input: &[u8]) -> Result<Header, ElfError>
         return Err(ElfError::NoMagic);
     }
     // The byte order is chosen once for all fields.
-    match byte_order(pt1.encoding) {
-        Order::Little => with_pt2(pt1, input, Order::Little),
-        Order::Big => with_pt2(pt1, input, Order::Big),
-    }
+    let pt2 = match byte_order(pt1.encoding) {
+        Order::Little => read_pt2(input, pt1.class, Order::Little)?,
+        Order::Big => read_pt2(input, pt1.class, Order::Big)?,
+    };
+    Ok(Header { pt1, pt2 })
 }
 
-// The header with this first part, and a second in the layout of the class.
+// Part 2, in the layout of the class.
 #[inline(always)]
-fn with_pt2(pt1: HeaderPt1, input: &[u8], order: Order) -> Result<Header, ElfError>
-    ensures { let class = class_number pt1.class in result ≡ unless (
-        (not (class == 1 || class == 2), ElfError.InvalidClass)
-        ∷ (nat_lt (length input.now) (if class == 1 then 52 else 64), ElfError.ShortHeaders)
-        ∷ []) (record { pt1 = pt1; pt2 = pt2_record class order input.now }) }
+fn read_pt2(input: &[u8], class: Class_, order: Order) -> Result<HeaderPt2, ElfError>
+    ensures { result ≡ unless (
+        (not (class_number class == 1 || class_number class == 2), ElfError.InvalidClass)
+        ∷ (
+          nat_lt (length input.now) (if class_number class == 1 then 52 else 64),
+          ElfError.ShortHeaders,
+        )
+        ∷ []) (pt2_record (class_number class) order input.now) }
 {
-    match pt1.class() {
+    match class.as_class() {
         ThirtyTwo => {
             if input.len() < HeaderPt1::SIZE + HeaderPt2_::<P32>::SIZE {
                 return Err(ElfError::ShortHeaders);
             }
             let part = HeaderPt2_::<P32>::read(input, HeaderPt1::SIZE, order);
-            Ok(Header {
-                pt1,
-                pt2: HeaderPt2::Header32(part),
-            })
+            Ok(HeaderPt2::Header32(part))
         }
         SixtyFour => {
             if input.len() < HeaderPt1::SIZE + HeaderPt2_::<P64>::SIZE {
                 return Err(ElfError::ShortHeaders);
             }
             let part = HeaderPt2_::<P64>::read(input, HeaderPt1::SIZE, order);
-            Ok(Header {
-                pt1,
-                pt2: HeaderPt2::Header64(part),
-            })
+            Ok(HeaderPt2::Header64(part))
         }
         _ => Err(ElfError::InvalidClass),
     }

@@ -1,6 +1,5 @@
 //! Clones are their originals, and the numbers of a default are 0. `Clone` and `Default` are
-//! derived alike for all types of one form, so that one type of each form stands for the others. The
-//! records of a file header and of a section header have a `clone` of their own.
+//! derived alike for all types of one form, so that one type of each form stands for the others.
 
 ghost use Rattle.std.specs.Prelude.{◌≡◌, IsOkAnd};
 ghost use Rattle.xmas_elf.specs.ProgramNumbers.{ph_type_number};

@@ -2,7 +2,7 @@
 //! Elf64_Shdr).
 
 ghost use Rattle.std.specs.Prelude.{◌≡◌, ◌↔◌, ◌+◌, ◌≤◌, ◌<◌, [], ◌∷◌, Err, IfOk, IsOk, IsTrue};
-ghost use Rattle.std.specs.Prelude.{MatchResult, Ok, drop, length, nat_lt, not, take, ⊤};
+ghost use Rattle.std.specs.Prelude.{MatchResult, Ok, drop, length, nat_lt, not, take};
 ghost use Rattle.std.proofs.Common.{lit<};
 ghost use Rattle.elf_base.specs.FileHeader.{file_class, header_fields};
 ghost use Rattle.elf_base.specs.Lent.{Answers, Lends, LendsOnly};
@@ -29,10 +29,9 @@ use crate::sections::{SHN_LORESERVE, ShType, ShType_};
 use crate::{ElfError, ElfFile, P32, P64};
 use elf_base::bytes::{read_u32, read_u64};
 use elf_base::header::byte_order;
-use std::alloc::AllocError;
 
 /// A section header with numbers of type `P`; `SectionHeader` has its getters (gABI, "Sections").
-#[derive(Copy, Debug)]
+#[derive(Clone, Copy, Debug)]
 pub struct SectionHeader_<P> {
     pub(crate) name: u32,
     pub(crate) type_: ShType_,
@@ -44,17 +43,6 @@ pub struct SectionHeader_<P> {
     pub(crate) info: u32,
     pub(crate) align: P,
     pub(crate) entry_size: P,
-}
-
-// A derived `clone` goes field by field, and is dear to prove.
-impl<P: Copy> Clone for SectionHeader_<P> {
-    ghost is_clone = { λ x y. y ≡ x };
-
-    ghost is_infallible = { λ _. ⊤ };
-
-    fn clone(&self) -> Result<Self, AllocError> {
-        Ok(*self)
-    }
 }
 
 impl SectionHeader_<P32> {
