@@ -166,7 +166,8 @@ class Trial:
         checks_one = any(it.state == "checked now" for it in self.tasks)
         if self.idle and ready and not checks_one:
             # One at a time, since a check locks the crates below. Others wait for it: one worker is for batches.
-            jobs = min(self.idle, max(1, self.jobs // 2, self.idle - bool(proved)))
+            # Stand-ins get one job: the copies of a check with two do much of their work twice.
+            jobs = 1 if self.proved else min(self.idle, max(1, self.jobs // 2, self.idle - bool(proved)))
             ready[0].state = "checked now"
             return (lambda: self.prove(ready[0], jobs, rooms)), jobs
         if self.idle and proved:
