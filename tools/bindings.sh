@@ -20,6 +20,7 @@ trap 'rm -rf "$room"' EXIT
 tools/statuses.py --check
 tools/exports.py --check
 if [ -z "${XMAS_ELF_ARCHIVE:-}" ]; then
+    # One job takes the fewest processor seconds.
     (cd crates/elf_c && rt lib --jobs 1) > "$room/lib" 2>&1 || { tail -n 20 "$room/lib"; exit 1; }
     XMAS_ELF_ARCHIVE="$PWD/crates/elf_c/out"
 fi
