@@ -128,25 +128,38 @@ fn write_named<W: Write>(
     out: &mut W,
 ) -> io::Result<()> {
     match call {
-        "shstr_is" => {
-            let (index, name) = argument.split_once(' ').unwrap_or((argument, ""));
-            let index = index.parse::<u32>().unwrap_or(0);
-            let name = plain(alloc, name)?;
-            let answer = file.shstr_is(index, name.as_str());
-            write!(out, "{}", Pair(answer.0, answer.1))
-        }
+        "shstr_is" => write_compared(alloc, file, argument, out),
         "hash" => write!(out, "{}", hash(argument)),
-        "find_section_by_name" => {
-            let name = plain(alloc, argument)?;
-            let found = file.find_section_by_name(name.as_str());
-            write!(
-                out,
-                "{}",
-                Found(found.map(|it| Pair(it.name(), it.offset())))
-            )
-        }
+        "find_section_by_name" => write_section_found(alloc, file, argument, out),
         _ => Ok(()),
     }
+}
+
+// Whether the name at an index is this, and how many bytes were compared.
+fn write_compared<W: Write>(
+    alloc: Global,
+    file: &ElfFile<'_>,
+    argument: &str,
+    out: &mut W,
+) -> io::Result<()> {
+    let (index, name) = argument.split_once(' ').unwrap_or((argument, ""));
+    let index = index.parse::<u32>().unwrap_or(0);
+    let name = plain(alloc, name)?;
+    let answer = file.shstr_is(index, name.as_str());
+    write!(out, "{}", Pair(answer.0, answer.1))
+}
+
+// The name and the offset of the section with this name.
+fn write_section_found<W: Write>(
+    alloc: Global,
+    file: &ElfFile<'_>,
+    argument: &str,
+    out: &mut W,
+) -> io::Result<()> {
+    let name = plain(alloc, argument)?;
+    let found = file.find_section_by_name(name.as_str());
+    let numbers = Found(found.map(|it| Pair(it.name(), it.offset())));
+    write!(out, "{numbers}")
 }
 
 // The text that is quoted so.

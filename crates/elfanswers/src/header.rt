@@ -1,6 +1,6 @@
 //! The answers of the ELF header, and how many items both iterators have.
 
-use crate::printed::{Answer, Nothing, tell};
+use crate::printed::{Answer, Nothing, tell, tell_numbers};
 use std::io;
 use std::io::Write;
 use xmas_elf::ElfFile;
@@ -34,18 +34,21 @@ fn write_second_part<W: Write>(file: &ElfFile<'_>, out: &mut W) -> io::Result<()
     tell("header size", &pt2.size(), out)?;
     tell("header type_", &pt2.type_().as_type(), out)?;
     tell("header machine", &pt2.machine().as_machine(), out)?;
-    tell("header pt2_version", &pt2.version(), out)?;
-    tell("header header_size", &pt2.header_size(), out)?;
-    tell("header entry_point", &pt2.entry_point(), out)
+    tell("header pt2_version", &pt2.version(), out)
 }
 
 fn write_sizes<W: Write>(file: &ElfFile<'_>, out: &mut W) -> io::Result<()> {
     let pt2 = &file.header.pt2;
-    tell("header ph_offset", &pt2.ph_offset(), out)?;
-    tell("header sh_offset", &pt2.sh_offset(), out)?;
-    tell("header ph_entry_size", &pt2.ph_entry_size(), out)?;
-    tell("header ph_count", &pt2.ph_count(), out)?;
-    tell("header sh_entry_size", &pt2.sh_entry_size(), out)?;
-    tell("header sh_count", &pt2.sh_count(), out)?;
-    tell("header sh_str_index", &pt2.sh_str_index(), out)
+    let numbers = [
+        ("header_size", u64::from(pt2.header_size())),
+        ("entry_point", pt2.entry_point()),
+        ("ph_offset", pt2.ph_offset()),
+        ("sh_offset", pt2.sh_offset()),
+        ("ph_entry_size", u64::from(pt2.ph_entry_size())),
+        ("ph_count", u64::from(pt2.ph_count())),
+        ("sh_entry_size", u64::from(pt2.sh_entry_size())),
+        ("sh_count", u64::from(pt2.sh_count())),
+        ("sh_str_index", u64::from(pt2.sh_str_index())),
+    ];
+    tell_numbers(&"header", &numbers, out)
 }

@@ -155,3 +155,15 @@ pub fn tell_of<A: Display, W: Write>(
 ) -> io::Result<()> {
     writeln!(out, "{place} {call} = {answer}")
 }
+
+/// Writes a line for each of these numbers, of the ELF header or of a part of a file.
+pub fn tell_numbers<P: Display, W: Write>(
+    part: &P,
+    numbers: &[(&str, u64)],
+    out: &mut W,
+) -> io::Result<()> {
+    for (call, number) in numbers {
+        writeln!(out, "{part} {call} = {number}")?;
+    }
+    Ok(())
+}

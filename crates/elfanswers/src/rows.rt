@@ -95,13 +95,24 @@ fn check(rt: &HostRuntime, rows: &mut Rows, row: &str) -> io::Result<()> {
     let (call, wanted) = row.split_once(" = ").ok_or(unreadable())?;
     rows.count = rows.count.saturating_add(1);
     for len in rows.first..=rows.last {
-        let found = rows.case.answer(rt.alloc(), call, len)?;
-        let found = str::from_utf8(&found).unwrap_or("");
-        if found != wanted {
-            rows.others = rows.others.saturating_add(1);
-            let name = rows.name.as_str();
-            eprintln!(rt; "{name}, {len} bytes: {call} = {found}, and not {wanted}")?;
-        }
+        check_at(rt, rows, call, wanted, len)?;
     }
     Ok(())
+}
+
+fn check_at(
+    rt: &HostRuntime,
+    rows: &mut Rows,
+    call: &str,
+    wanted: &str,
+    len: usize,
+) -> io::Result<()> {
+    let found = rows.case.answer(rt.alloc(), call, len)?;
+    let found = str::from_utf8(&found).unwrap_or("");
+    if found == wanted {
+        return Ok(());
+    }
+    rows.others = rows.others.saturating_add(1);
+    let name = rows.name.as_str();
+    eprintln!(rt; "{name}, {len} bytes: {call} = {found}, and not {wanted}")
 }

@@ -1,19 +1,20 @@
 //! The answers of a section: its numbers, name and data.
 
-use crate::printed::{Answer, Nothing, Place, Quoted, Told, tell_of};
+use crate::printed::{Answer, Nothing, Place, Quoted, Told, tell_numbers, tell_of};
 use crate::records::{write_records, write_table};
 use crate::symbols::write_symbols;
 use std::io;
 use std::io::Write;
-use xmas_elf::ElfFile;
+use xmas_elf::bytes::Table;
 use xmas_elf::hash::HashTable;
 use xmas_elf::sections::{NoteHeader, SectionData, SectionHeader, sanity_check};
+use xmas_elf::{ElfError, ElfFile};
 
 // So many texts of a string table are asked.
 const TEXTS: usize = 40;
 
 // Buckets and chains, some behind the last of most tables.
-const PLACES: [u32; 7] = [0, 1, 2, 3, 10, 1000, 0xffff_ffff];
+const PLACES: &[u32] = &[0, 1, 2, 3, 10, 1000, 0xffff_ffff];
 
 /// Writes them for the section at an index.
 pub fn write_section<W: Write>(file: &ElfFile<'_>, index: u16, out: &mut W) -> io::Result<()> {
@@ -36,19 +37,23 @@ pub fn write_parts<W: Write>(
 ) -> io::Result<()> {
     write_numbers(place, section, out)?;
     write_name(file, place, section, out)?;
+    write_checks(file, place, section, out)?;
     write_data(file, place, section, out)
 }
 
 fn write_numbers<W: Write>(place: Place, section: &SectionHeader, out: &mut W) -> io::Result<()> {
-    tell_of(place, "name", &section.name(), out)?;
-    tell_of(place, "flags", &section.flags(), out)?;
-    tell_of(place, "address", &section.address(), out)?;
-    tell_of(place, "offset", &section.offset(), out)?;
-    tell_of(place, "size", &section.size(), out)?;
-    tell_of(place, "link", &section.link(), out)?;
-    tell_of(place, "info", &section.info(), out)?;
-    tell_of(place, "align", &section.align(), out)?;
-    tell_of(place, "entry_size", &section.entry_size(), out)
+    let numbers = [
+        ("name", u64::from(section.name())),
+        ("flags", section.flags()),
+        ("address", section.address()),
+        ("offset", section.offset()),
+        ("size", section.size()),
+        ("link", u64::from(section.link())),
+        ("info", u64::from(section.info())),
+        ("align", section.align()),
+        ("entry_size", section.entry_size()),
+    ];
+    tell_numbers(&place, &numbers, out)
 }
 
 fn write_name<W: Write>(
@@ -59,7 +64,15 @@ fn write_name<W: Write>(
 ) -> io::Result<()> {
     tell_of(place, "get_type", &Answer(section.get_type()), out)?;
     let name = Answer(section.get_name(file).map(|name| Quoted(name)));
-    tell_of(place, "get_name", &name, out)?;
+    tell_of(place, "get_name", &name, out)
+}
+
+fn write_checks<W: Write>(
+    file: &ElfFile<'_>,
+    place: Place,
+    section: &SectionHeader,
+    out: &mut W,
+) -> io::Result<()> {
     let bytes = Answer(section.raw_data(file).map(|bytes| Told(bytes)));
     tell_of(place, "raw_data", &bytes, out)?;
     let check = Answer(sanity_check(*section, file).map(|_| Nothing));
@@ -100,23 +113,10 @@ fn write_bytes<W: Write>(place: Place, found: SectionData<'_>, out: &mut W) -> i
         SectionData::Undefined(bytes) => {
             writeln!(out, "{place} get_data = ok Undefined {}", Told(bytes))
         }
-        SectionData::StrArray(bytes) => {
-            writeln!(out, "{place} get_data = ok StrArray {}", Told(bytes))?;
-            write_strings(place, &SectionData::StrArray(bytes), out)
-        }
-        SectionData::Note64(header, body) => {
-            writeln!(out, "{place} get_data = ok Note64 {}", Told(body))?;
-            write_note(place, &header, body, out)
-        }
-        SectionData::HashTable(table) => {
-            writeln!(out, "{place} get_data = ok HashTable")?;
-            write_hash_table(place, &table, out)
-        }
-        SectionData::Group { flags, indicies } => {
-            let count = indicies.len();
-            writeln!(out, "{place} get_data = ok Group {flags} {count}")?;
-            write_records(place, indicies, out)
-        }
+        SectionData::StrArray(bytes) => write_string_table(place, bytes, out),
+        SectionData::Note64(header, body) => write_note(place, &header, body, out),
+        SectionData::HashTable(table) => write_hash_table(place, &table, out),
+        SectionData::Group { flags, indicies } => write_group(place, flags, indicies, out),
         other => write_tables(place, other, out),
     }
 }
@@ -136,28 +136,69 @@ fn write_tables<W: Write>(place: Place, found: SectionData<'_>, out: &mut W) -> 
     }
 }
 
+fn write_string_table<W: Write>(place: Place, bytes: &[u8], out: &mut W) -> io::Result<()> {
+    writeln!(out, "{place} get_data = ok StrArray {}", Told(bytes))?;
+    write_strings(place, &SectionData::StrArray(bytes), out)
+}
+
+fn write_group<W: Write>(
+    place: Place,
+    flags: u32,
+    members: Table<'_, u32>,
+    out: &mut W,
+) -> io::Result<()> {
+    let count = members.len();
+    writeln!(out, "{place} get_data = ok Group {flags} {count}")?;
+    write_records(place, members, out)
+}
+
 fn write_strings<W: Write>(place: Place, found: &SectionData<'_>, out: &mut W) -> io::Result<()> {
     let Ok(mut strings) = found.strings() else {
         return writeln!(out, "{place} strings = none");
     };
     for k in 0..TEXTS {
-        match strings.next() {
-            Some(Ok(text)) => writeln!(out, "{place} string {k} = ok {}", Quoted(text))?,
-            Some(Err(error)) => return writeln!(out, "{place} string {k} = err {error}"),
-            None => return writeln!(out, "{place} string {k} = none"),
+        let text = strings.next();
+        write_string(place, k, text, out)?;
+        if !matches!(text, Some(Ok(_))) {
+            break;
         }
     }
     Ok(())
 }
 
-/// Writes the answers of a note.
+fn write_string<W: Write>(
+    place: Place,
+    k: usize,
+    text: Option<Result<&str, ElfError>>,
+    out: &mut W,
+) -> io::Result<()> {
+    match text {
+        Some(text) => {
+            let text = Answer(text.map(|text| Quoted(text)));
+            writeln!(out, "{place} string {k} = {text}")
+        }
+        None => writeln!(out, "{place} string {k} = none"),
+    }
+}
+
+/// Writes the kind of the data and the answers of a note.
 pub fn write_note<W: Write>(
     place: Place,
     header: &NoteHeader,
     body: &[u8],
     out: &mut W,
 ) -> io::Result<()> {
+    writeln!(out, "{place} get_data = ok Note64 {}", Told(body))?;
     tell_of(place, "note type_", &header.type_(), out)?;
+    write_note_parts(place, header, body, out)
+}
+
+fn write_note_parts<W: Write>(
+    place: Place,
+    header: &NoteHeader,
+    body: &[u8],
+    out: &mut W,
+) -> io::Result<()> {
     let name = Answer(header.name(body).map(|name| Quoted(name)));
     tell_of(place, "note name", &name, out)?;
     let description = Answer(header.desc(body).map(|bytes| Told(bytes)));
@@ -165,17 +206,21 @@ pub fn write_note<W: Write>(
 }
 
 fn write_hash_table<W: Write>(place: Place, table: &HashTable<'_>, out: &mut W) -> io::Result<()> {
-    for index in PLACES {
-        writeln!(
-            out,
-            "{place} get_bucket {index} = {}",
-            Answer(table.get_bucket(index))
-        )?;
-        writeln!(
-            out,
-            "{place} get_chain {index} = {}",
-            Answer(table.get_chain(index))
-        )?;
+    writeln!(out, "{place} get_data = ok HashTable")?;
+    for &index in PLACES {
+        write_links(place, table, index, out)?;
     }
     Ok(())
+}
+
+fn write_links<W: Write>(
+    place: Place,
+    table: &HashTable<'_>,
+    index: u32,
+    out: &mut W,
+) -> io::Result<()> {
+    let bucket = Answer(table.get_bucket(index));
+    writeln!(out, "{place} get_bucket {index} = {bucket}")?;
+    let chain = Answer(table.get_chain(index));
+    writeln!(out, "{place} get_chain {index} = {chain}")
 }

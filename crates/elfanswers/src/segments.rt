@@ -1,6 +1,6 @@
 //! The answers of a segment: its numbers and data.
 
-use crate::printed::{Answer, Nothing, Pair, Place, Told, tell_of};
+use crate::printed::{Answer, Nothing, Pair, Place, Told, tell_numbers, tell_of};
 use crate::records::write_table;
 use crate::sections::write_note;
 use std::io;
@@ -33,12 +33,19 @@ pub fn write_parts<W: Write>(
 }
 
 fn write_numbers<W: Write>(place: Place, program: &ProgramHeader, out: &mut W) -> io::Result<()> {
-    tell_of(place, "offset", &program.offset(), out)?;
-    tell_of(place, "virtual_addr", &program.virtual_addr(), out)?;
-    tell_of(place, "physical_addr", &program.physical_addr(), out)?;
-    tell_of(place, "file_size", &program.file_size(), out)?;
-    tell_of(place, "mem_size", &program.mem_size(), out)?;
-    tell_of(place, "align", &program.align(), out)?;
+    let numbers = [
+        ("offset", program.offset()),
+        ("virtual_addr", program.virtual_addr()),
+        ("physical_addr", program.physical_addr()),
+        ("file_size", program.file_size()),
+        ("mem_size", program.mem_size()),
+        ("align", program.align()),
+    ];
+    tell_numbers(&place, &numbers, out)?;
+    write_kind(place, program, out)
+}
+
+fn write_kind<W: Write>(place: Place, program: &ProgramHeader, out: &mut W) -> io::Result<()> {
     let flags = program.flags();
     tell_of(place, "flags", &Pair(flags.0, flags), out)?;
     tell_of(place, "get_type", &Answer(program.get_type()), out)
@@ -70,10 +77,7 @@ fn write_data<W: Write>(
         }
         Ok(SegmentData::Dynamic32(table)) => write_table(place, "Dynamic32", table, out),
         Ok(SegmentData::Dynamic64(table)) => write_table(place, "Dynamic64", table, out),
-        Ok(SegmentData::Note64(header, body)) => {
-            writeln!(out, "{place} get_data = ok Note64 {}", Told(body))?;
-            write_note(place, &header, body, out)
-        }
+        Ok(SegmentData::Note64(header, body)) => write_note(place, &header, body, out),
         Err(error) => writeln!(out, "{place} get_data = err {error}"),
     }
 }

@@ -1,6 +1,6 @@
 //! The answers of symbols.
 
-use crate::printed::{Answer, Pair, Place, Quoted, tell_of};
+use crate::printed::{Answer, Pair, Place, Quoted, tell_numbers, tell_of};
 use crate::records::is_asked;
 use std::fmt::Display;
 use std::io;
@@ -30,17 +30,20 @@ pub fn write_symbols<E: Record + Entry + Display, W: Write>(
 }
 
 fn write_numbers<E: Entry, W: Write>(place: Place, symbol: &E, out: &mut W) -> io::Result<()> {
-    tell_of(place, "name", &symbol.name(), out)?;
-    tell_of(place, "info", &symbol.info(), out)?;
-    tell_of(place, "shndx", &symbol.shndx(), out)?;
-    tell_of(place, "value", &symbol.value(), out)?;
-    tell_of(place, "size", &symbol.size(), out)?;
+    let numbers = [
+        ("name", u64::from(symbol.name())),
+        ("info", u64::from(symbol.info())),
+        ("shndx", u64::from(symbol.shndx())),
+        ("value", symbol.value()),
+        ("size", symbol.size()),
+    ];
+    tell_numbers(&place, &numbers, out)?;
+    write_kinds(place, symbol, out)
+}
+
+fn write_kinds<E: Entry, W: Write>(place: Place, symbol: &E, out: &mut W) -> io::Result<()> {
     tell_of(place, "get_other", &symbol.get_other(), out)?;
-    writeln!(
-        out,
-        "{place} get_binding = {}",
-        Answer(symbol.get_binding())
-    )?;
+    tell_of(place, "get_binding", &Answer(symbol.get_binding()), out)?;
     tell_of(place, "get_type", &Answer(symbol.get_type()), out)
 }
 
