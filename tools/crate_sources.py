@@ -118,12 +118,6 @@ class Crate:
         """The lines of a function's body."""
         return "\n".join(self.texts[one.file].split("\n")[one.body - 1 : one.last])
 
-    def mentioned(self, functions) -> list:
-        """The paths of the functions whose names stand in the bodies of others; of one of these where none does."""
-        words = {it for one in functions if one for it in re.findall(r"\w+", self.body(one))}
-        found = [self.told_path(it) for it in self.functions if it.body < it.last and it.path.rpartition("::")[2] in words]
-        return sorted(found) or [self.told_path(one) for one in functions if one][:1]
-
     def function_at(self, file: str, line: int):
         held = [it for it in self.functions if it.file == file and it.first <= line <= it.last]
         return held[-1] if held else None

@@ -1,5 +1,6 @@
 """Copies of a repository in which the functions of one crate are edited and checked."""
 import dataclasses
+import functools
 import os
 import pathlib
 import re
@@ -7,6 +8,7 @@ import shutil
 import subprocess
 import time
 
+import built
 from crate_sources import Function
 from edits import Edit, EditedCrate, Tried
 
@@ -45,8 +47,28 @@ class Checked:
 
 def check(folder: pathlib.Path, *words: str, verb: str = "check") -> Checked:
     """Checks the crate in a folder, or does what else `rt` does with a crate."""
+    return checked(folder, ["rt", verb, *words])
+
+
+kit = functools.cache(built.kit)
+
+
+def check_once(folder: pathlib.Path, *words: str) -> Checked:
+    """Checks the crate in a folder, and keeps nothing for a later check. `rt check` would keep what it proves, and for
+    long checks starts several processes one after another, each of which loads the libraries."""
+    try:
+        crates = kit().crates_below(str(folder.parent.parent))
+        crate = next(it for it in crates if os.path.samefile(it.folder, folder))
+        ran = [kit().RATTLE, "check", *crate.words(list(words), keeps=False), "--progress"]
+    except (AttributeError, OSError, StopIteration, SystemExit, TypeError):
+        # Another kit may have other names for these.
+        return check(folder, *words)
+    return checked(folder, ran)
+
+
+def checked(folder: pathlib.Path, ran: list) -> Checked:
+    """What a check says, and what it takes."""
     said, stays, last = [], [], None
-    ran = ["rt", verb, *words]
     with subprocess.Popen(ran, cwd=folder, stdout=subprocess.PIPE, stderr=subprocess.STDOUT, text=True, errors="replace") as started:
         for line in started.stdout:
             now, through = time.monotonic(), PROGRESS.match(line)
@@ -124,11 +146,15 @@ class Room:
         shutil.rmtree(place, ignore_errors=True)
         return Room(self.root, self.crate, self.below, place, self.crate.folder / "out" / "incremental", whole=True)
 
+    def keeps(self) -> bool:
+        """Whether a check of the crate kept what the checks here can begin with."""
+        return self.kept is not None and self.kept.is_dir()
+
     def begin(self):
         """Takes what a check of the crate kept before any edit: a check with an edit replaces what was kept of its function."""
         there = self.folder / "out" / "incremental"
         shutil.rmtree(there, ignore_errors=True)
-        if self.kept and self.kept.is_dir():
+        if self.keeps():
             shutil.copytree(self.kept, there, copy_function=copied)
 
     def check(self, edits, tried: Tried, functions) -> str:
@@ -206,7 +232,8 @@ class Room:
 
     def check_only(self, functions) -> Checked:
         """A check of some functions, by their paths, and of what they call; of none: of the whole crate."""
-        ran = check(self.folder, "--jobs", "1", *self.words, *(word for name in functions for word in ("--only", name)))
+        words = ["--jobs", "1", *self.words, *(word for name in functions for word in ("--only", name))]
+        ran = check(self.folder, *words) if self.keeps() else check_once(self.folder, *words)
         unknown = NO_FUNCTION.search(ran.said)
         # A method of a built-in type has no such name: its edit is then tried alone.
         return self.check_only([it for it in functions if it != unknown[1]]) if unknown else ran

@@ -6,8 +6,8 @@ import re
 
 from crate_sources import Crate, Function
 
-# Many edits of one batch share what a check costs before the first goal; few leave work for others.
-BATCH = 80
+# The edits of one batch share what a check costs before the first goal.
+BATCH = 400
 
 # Lines of a check: a goal that is open, and an answer to one that doesn't hold.
 NOTE = re.compile(r"note: (?:\./)?(src/\S+?):(\d+):\d+: it is not proved that (.*)")

@@ -21,22 +21,20 @@ with which the crate is still proved.
     tools/wrong_bodies.py --right [NAME..]       whether each right body is proved beside itself, as the wrong ones are tried
     tools/wrong_bodies.py --self-test            whether the script itself tells right from wrong
 
-Each crate must be proved as it stands, and is checked first, unless `rt ci` has just proved it. Then
-the stand-ins of what edits call are checked, which each batch begins with. At the end stand what the
-checks of each crate took, the slowest ones, and the edits at which they stayed longest, so that edits
-can be found that make the prover's search run to its limits. The last line is `N refused, M failed`.
+Each crate must be proved as it stands, and is checked first, unless `rt ci` has just proved it. At
+the end stand what the checks of each crate took, the slowest ones, and the edits at which they stayed
+longest, so that edits can be found that make the prover's search run to its limits. The last line is
+`N refused, M failed`.
 """
 import argparse
 import collections
 import concurrent.futures
 import dataclasses
 import pathlib
-import re
 import shutil
 import sys
 import tempfile
 import threading
-import time
 
 from edit_rooms import Room, check
 from edits import BATCH, Edit, EditedCrate, batches_of
@@ -46,8 +44,6 @@ ROOT = pathlib.Path(__file__).resolve().parent.parent
 # The names of the edits that must stay.
 MUST_STAY = ROOT / "docs" / "wrong_bodies.txt"
 
-# The last line of a check in which nothing is left open but what stands for the proofs of the stand-ins.
-STANDS_IN = re.compile(r"^only=\d+ holes=1$", re.M)
 # How many checks are listed at the end, and how many edits.
 SLOWEST, DEAREST = 12, 20
 
@@ -59,9 +55,7 @@ class Task:
     crate: EditedCrate
     below: list
     batches: list
-    # the copy with stand-ins alone, whose check the others begin with
-    first: Room = None
-    state: str = "unproved"
+    state: str
     rooms: list = dataclasses.field(default_factory=list)
 
 
@@ -69,7 +63,7 @@ class Trial:
     """All edits of a repository that are to be tried, by several workers."""
 
     def __init__(self, root: pathlib.Path, names, jobs: int, since=None, proved=False):
-        self.root, self.jobs, self.lock, self.proved = root, jobs, threading.Lock(), proved
+        self.root, self.jobs, self.lock = root, jobs, threading.Lock()
         self.of_crate = collections.Counter()
         self.refused, self.failed, self.times, self.stays = [], [], [], []
         self.tasks, self.idle, self.made = [], jobs, 0
@@ -90,7 +84,7 @@ class Trial:
                     self.tell(edit, "", edit.fault)
             batches = batches_of(crate, [it for it in edits if not it.fault])
             if batches:
-                self.tasks.append(Task(crate, self.closure(below, name), batches))
+                self.tasks.append(Task(crate, self.closure(below, name), batches, "proved" if proved else "unproved"))
 
     @staticmethod
     def is_named(edit: Edit, word: str) -> bool:
@@ -110,40 +104,24 @@ class Trial:
             (self.failed if fault else self.refused).append(edit.label())
             print(f"{edit.label()}: " + (f"FAILED: {fault}" if fault else f"refused: {goal}")[:200], flush=True)
 
-    def prove(self, task: Task, jobs: int, rooms: str):
-        """Checks a crate as it stands, unless `rt ci` did, and its stand-ins, which is kept for the copies."""
-        began, folder, ran = time.monotonic(), task.crate.folder, []
-        if not self.proved:
-            ran.append(check(folder, "--jobs", str(jobs)))
-            # The check of a crate above would build it, and so change what is being copied.
-            if not ran[0].status and any(task.crate.name in it.below for it in self.tasks):
-                ran.append(check(folder, "--jobs", str(jobs), verb="lib"))
-        fault = "it is not proved as it stands" if any(it.status for it in ran) else self.check_stand_ins(task, jobs, rooms)
+    def prove(self, task: Task, jobs: int):
+        """Checks a crate as it stands."""
+        folder = task.crate.folder
+        ran = [check(folder, "--jobs", str(jobs))]
+        # The check of a crate above would build it, and so change what is being copied.
+        if not ran[0].status and any(task.crate.name in it.below for it in self.tasks):
+            ran.append(check(folder, "--jobs", str(jobs), verb="lib"))
+        is_proved = not any(it.status for it in ran)
         with self.lock:
-            if ran:
-                self.of_crate["the crates as they stand"] += sum(it.seconds for it in ran)
-            task.state = "not proved" if fault else "proved"
-            if fault:
+            self.of_crate["the crates as they stand"] += sum(it.seconds for it in ran)
+            task.state = "proved" if is_proved else "not proved"
+            if not is_proved:
                 self.failed.append(task.crate.name)
-            count = sum(map(len, task.batches))
-            what = f"FAILED: {fault}" if fault else f"{count} edits in {len(task.batches)} batches"
-            print(f"{task.crate.name}: {what} (checked in {time.monotonic() - began:.0f} s)", flush=True)
-
-    def check_stand_ins(self, task: Task, jobs: int, rooms: str) -> str:
-        """Checks the functions that edited ones call, as stand-ins: the check of each batch begins with these. Gives the
-        fault, if there is one."""
-        task.first = Room(self.root, task.crate, task.below, pathlib.Path(rooms, f"{task.crate.name}-first"))
-        only = task.crate.mentioned({one for batch in task.batches for edit in batch for one in edit.functions})
-        words = [word for name in only for word in ("--only", name)]
-        ran = check(task.first.folder, "--jobs", str(jobs), *task.first.words, *words)
-        with self.lock:
-            self.of_crate["stand-ins"] += ran.seconds
-        why = [it for it in ran.said.split("\n") if "error" in it] or ran.said.strip().split("\n")[-1:]
-        return "" if STANDS_IN.search(ran.said) else f"its stand-ins are not accepted: {why[0]}"
+                print(f"{task.crate.name}: FAILED: it is not proved as it stands", flush=True)
 
     def work(self, task: Task, batch: list, room, place: pathlib.Path):
         """Tries a batch in a copy of its crate, which is left for the next one."""
-        room = room or Room(self.root, task.crate, task.below, place, task.first.folder / "out" / "incremental")
+        room = room or Room(self.root, task.crate, task.below, place)
         for edit, goal, fault in room.judge(batch):
             self.tell(edit, goal, fault)
         with self.lock:
@@ -161,18 +139,17 @@ class Trial:
         """What can begin now: a call, and how many workers it takes. A crate comes after those below it."""
         unproved = [it for it in self.tasks if it.state == "unproved"]
         names = {it.crate.name for it in self.tasks if it.state in ("unproved", "checked now")}
-        ready = [it for it in unproved if self.proved or not names & set(it.below)]
+        ready = [it for it in unproved if not names & set(it.below)]
         proved = [it for it in self.tasks if it.state == "proved" and it.batches]
         checks_one = any(it.state == "checked now" for it in self.tasks)
         if self.idle and ready and not checks_one:
             # One at a time, since a check locks the crates below. Others wait for it: one worker is for batches.
-            # Stand-ins get one job: the copies of a check with two do much of their work twice.
-            jobs = 1 if self.proved else min(self.idle, max(1, self.jobs // 2, self.idle - bool(proved)))
+            jobs = min(self.idle, max(1, self.jobs // 2, self.idle - bool(proved)))
             ready[0].state = "checked now"
-            return (lambda: self.prove(ready[0], jobs, rooms)), jobs
+            return (lambda: self.prove(ready[0], jobs)), jobs
         if self.idle and proved:
-            # The crate with most left, since its last batch may be the last of all.
-            task = max(proved, key=lambda it: len(it.batches))
+            # The longest batch, so that none is the last to end.
+            task = max(proved, key=lambda it: len(it.batches[0]))
             batch, room = task.batches.pop(0), task.rooms.pop() if task.rooms else None
             self.made += 1
             place = pathlib.Path(rooms, f"{task.crate.name}-{self.made}")
@@ -228,11 +205,7 @@ class Trial:
             clauses = sorted(clauses, key=lambda it: (it[0].file, it[0].first, it[1]))
             edits = [Edit(task.crate.name, f"{one.path} {clause}".strip(), [], {one}, clause=clause) for one, clause in clauses]
             with tempfile.TemporaryDirectory(prefix="wrong-bodies-") as rooms:
-                if fault := self.check_stand_ins(task, self.jobs, rooms):
-                    print(f"{task.crate.name}: FAILED: {fault}")
-                    self.failed.append(task.crate.name)
-                    continue
-                room = Room(self.root, task.crate, task.below, pathlib.Path(rooms, task.crate.name), task.first.folder / "out" / "incremental")
+                room = Room(self.root, task.crate, task.below, pathlib.Path(rooms, task.crate.name))
                 for some in (edits[at : at + BATCH] for at in range(0, len(edits), BATCH)):
                     # One alone would stand in its own place.
                     for edit, goal in room.left_open(some + edits[:1] * (len(some) == 1)):
