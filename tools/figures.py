@@ -43,6 +43,8 @@ PATHS = {
     "tools/web_page.py": (*LINKING, "crates/elf_c/src", "bindings/web", "tools/web_page.py"),
     "tools/python.sh": (*LINKING, "crates/elf_c/src", "bindings/python/xmas_elf", "bindings/python/speed.py"),
     "tools/web.sh": (*LINKING, "crates/elf_c/src", "bindings/web/*.js", "tools/web*"),
+    "tools/wrong_bodies.py": ("crates", "tools/wrong_bodies.py", "tools/edit*.py"),
+    "tools/quick.sh": ("crates", "tools"),
     ".ci/run": ("crates", "tools", ".ci"),
 }
 
