@@ -242,7 +242,7 @@ class Since:
         return is_new or any(one and (edit.crate, one.file, one.path) in self.functions for one in edit.functions)
 
 
-PAIR = """//! Two functions.
+PAIR = """//! Three functions, of which one calls another.
 
 #![tactic(auto)]
 
@@ -263,6 +263,14 @@ pub fn half(number: u32) -> u32
     let parts = 2;
     number / parts
 }
+
+/// The largest of three numbers.
+pub fn largest(one: u32, other: u32, third: u32) -> u32
+    ensures { one ≤ result }
+{
+    let found = larger(one, other);
+    larger(found, third)
+}
 """
 
 # Edits of that crate, whether each is refused as it must be, and the clause that it says it breaks.
@@ -274,6 +282,9 @@ TOLD_APART = {
     "does_not_compile": ("if one < other { other }", "if one < true { other }", False, ""),
     "right_in_other_words": ("if one < other { other }", "if one <= other { other }", False, ""),
     "right_but_for_no_clause": ("if one < other { other }", "if one <= other { other }", False, "too"),
+    # In a batch the called function is a stand-in, which the proof of a right body must be able to rest on.
+    "right_by_a_call": ("larger(found, third)", "larger(third, found)", False, ""),
+    "first_left_out_of_a_call": ("larger(one, other);", "larger(other, other);", True, ""),
     "not_there": ("if one == other", "if one < other", False, ""),
 }
 
@@ -309,7 +320,7 @@ def lost() -> list:
 def main() -> int:
     words = argparse.ArgumentParser(description=__doc__, formatter_class=argparse.RawDescriptionHelpFormatter)
     words.add_argument("--jobs", type=int, default=2, help="how many checks run side by side (each takes some 2 GB)")
-    words.add_argument("--self-test", action="store_true", help="try the script on a crate of two functions")
+    words.add_argument("--self-test", action="store_true", help="try the script on a crate of three functions")
     words.add_argument("--since", metavar="COMMIT", help="only edits of functions that changed since this commit, and edits that are new")
     words.add_argument("--proved", action="store_true", help="each crate is proved as it stands, and isn't checked first")
     words.add_argument("--list", action="store_true", help="print the batches, and try none")
