@@ -100,6 +100,7 @@ fn check(rt: &HostRuntime, rows: &mut Rows, row: &str) -> io::Result<()> {
     Ok(())
 }
 
+// Wants it at one length.
 fn check_at(
     rt: &HostRuntime,
     rows: &mut Rows,

@@ -208,12 +208,12 @@ fn write_note_parts<W: Write>(
 fn write_hash_table<W: Write>(place: Place, table: &HashTable<'_>, out: &mut W) -> io::Result<()> {
     writeln!(out, "{place} get_data = ok HashTable")?;
     for &index in PLACES {
-        write_links(place, table, index, out)?;
+        write_bucket_and_chain(place, table, index, out)?;
     }
     Ok(())
 }
 
-fn write_links<W: Write>(
+fn write_bucket_and_chain<W: Write>(
     place: Place,
     table: &HashTable<'_>,
     index: u32,
