@@ -123,29 +123,29 @@ impl<'a> SectionData<'a> {
         // One `match`, though dear to prove: a function for each kind takes more instructions.
         match (kind, file.header.pt1.class()) {
             (ShType::StrTab, _) => Ok(Self::StrArray(bytes)),
-            (ShType::SymTab, ThirtyTwo) => Ok(Self::SymbolTable32(Table::new(bytes, order)?)),
-            (ShType::SymTab, SixtyFour) => Ok(Self::SymbolTable64(Table::new(bytes, order)?)),
-            (ShType::DynSym, ThirtyTwo) => Ok(Self::DynSymbolTable32(Table::new(bytes, order)?)),
-            (ShType::DynSym, SixtyFour) => Ok(Self::DynSymbolTable64(Table::new(bytes, order)?)),
-            (ShType::InitArray | ShType::FiniArray | ShType::PreInitArray, ThirtyTwo) => Ok(
-                Self::FnArray32(Table::new(bytes, order)?),
-            ),
-            (ShType::InitArray | ShType::FiniArray | ShType::PreInitArray, SixtyFour) => Ok(
-                Self::FnArray64(Table::new(bytes, order)?),
-            ),
-            (ShType::Rela, ThirtyTwo) => Ok(Self::Rela32(Table::new(bytes, order)?)),
-            (ShType::Rela, SixtyFour) => Ok(Self::Rela64(Table::new(bytes, order)?)),
-            (ShType::Rel, ThirtyTwo) => Ok(Self::Rel32(Table::new(bytes, order)?)),
-            (ShType::Rel, SixtyFour) => Ok(Self::Rel64(Table::new(bytes, order)?)),
-            (ShType::Dynamic, ThirtyTwo) => Ok(Self::Dynamic32(Table::new(bytes, order)?)),
-            (ShType::Dynamic, SixtyFour) => Ok(Self::Dynamic64(Table::new(bytes, order)?)),
-            (ShType::SymTabShIndex, _) => Ok(Self::SymTabShIndex(Table::new(bytes, order)?)),
+            (ShType::SymTab, ThirtyTwo) => Table::new(bytes, order).map(Self::SymbolTable32),
+            (ShType::SymTab, SixtyFour) => Table::new(bytes, order).map(Self::SymbolTable64),
+            (ShType::DynSym, ThirtyTwo) => Table::new(bytes, order).map(Self::DynSymbolTable32),
+            (ShType::DynSym, SixtyFour) => Table::new(bytes, order).map(Self::DynSymbolTable64),
+            (ShType::InitArray | ShType::FiniArray | ShType::PreInitArray, ThirtyTwo) => {
+                Table::new(bytes, order).map(Self::FnArray32)
+            }
+            (ShType::InitArray | ShType::FiniArray | ShType::PreInitArray, SixtyFour) => {
+                Table::new(bytes, order).map(Self::FnArray64)
+            }
+            (ShType::Rela, ThirtyTwo) => Table::new(bytes, order).map(Self::Rela32),
+            (ShType::Rela, SixtyFour) => Table::new(bytes, order).map(Self::Rela64),
+            (ShType::Rel, ThirtyTwo) => Table::new(bytes, order).map(Self::Rel32),
+            (ShType::Rel, SixtyFour) => Table::new(bytes, order).map(Self::Rel64),
+            (ShType::Dynamic, ThirtyTwo) => Table::new(bytes, order).map(Self::Dynamic32),
+            (ShType::Dynamic, SixtyFour) => Table::new(bytes, order).map(Self::Dynamic64),
+            (ShType::SymTabShIndex, _) => Table::new(bytes, order).map(Self::SymTabShIndex),
             (ShType::Group, _) => Self::group(bytes, order),
             (ShType::Note, _) => {
                 let (header, body) = first_note(file, bytes)?;
                 Ok(Self::Note64(header, body))
             }
-            (ShType::Hash, _) => Ok(Self::HashTable(HashTable::read(bytes, order)?)),
+            (ShType::Hash, _) => HashTable::read(bytes, order).map(Self::HashTable),
             (
                 ShType::Null
                 | ShType::NoBits
