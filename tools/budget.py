@@ -193,8 +193,8 @@ def table(output: str) -> str:
     commit = subprocess.run(["git", "rev-parse", "--short", "HEAD"], cwd=ROOT, capture_output=True, text=True, check=False).stdout.strip()
     kit = subprocess.run(["rt", "version"], capture_output=True, text=True, check=False).stdout.split(" ")[0]
     pages = PAGES.search(output)
-    huge = f", transparent huge pages `{pages[1]}`" if pages else ""
-    said = f"Measured at {commit} by `.ci/run`, {how}, on x86-64 with {where}{huge}, {kit}, {datetime.date.today()}: {minutes(wall)} minutes. Processor minutes by part.{share}"
+    huge = f", with transparent huge pages `{pages[1]}`" if pages else ""
+    said = f"Measured at {commit} by `.ci/run` on x86-64 with {where}: {minutes(wall)} minutes, {how}{huge}; {kit}, {datetime.date.today()}. Processor minutes by part.{share}"
     head = "| Part | proof | tests | must-fail | batches | together |\n|---|---:|---:|---:|---:|---:|"
     return "\n\n".join([HEADING, ABOUT, said, "\n".join([head, *rows])]) + "\n"
 
