@@ -199,7 +199,7 @@ def table(output: str) -> str:
     return "\n\n".join([HEADING, ABOUT, said, "\n".join([head, *rows])]) + "\n"
 
 
-ABOUT = f"""Written by `tools/budget.py write OUTPUT` from the output of `.ci/run`, which checks it: the total may be {BUDGET} processor minutes. Measure where nothing was proved before; a kit whose `rt ci` keeps proofs has `rt ci --anew`.
+ABOUT = f"""`tools/budget.py write OUTPUT` writes this page from the output of `.ci/run`, without the paragraphs that were added by hand, and `.ci/run` checks it: the total may be at most {BUDGET} processor minutes. Measure where nothing was proved before; a kit whose `rt ci` keeps proofs has `rt ci --anew`.
 
 As root, `.ci/run` turns on transparent huge pages while it runs, and it gives each check one job. Two checks of `elf_base` side by side, with one job each, took 178 and 186 processor seconds with huge pages and 235 each without; one with two jobs took 252 with them. Measured at 5d99415 by `rt verdict` on x86-64, on two of four processors; rattle-kit-13f."""
 

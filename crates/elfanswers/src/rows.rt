@@ -90,7 +90,7 @@ fn cut(rows: &mut Rows, lengths: &str) -> io::Result<()> {
     Ok(())
 }
 
-// Wants an answer at each length, and says which is another.
+// Compares the answers of a row, at each length of the file, with the wanted one.
 fn check(rt: &HostRuntime, rows: &mut Rows, row: &str) -> io::Result<()> {
     let (call, wanted) = row.split_once(" = ").ok_or(unreadable())?;
     rows.count = rows.count.saturating_add(1);
@@ -100,7 +100,7 @@ fn check(rt: &HostRuntime, rows: &mut Rows, row: &str) -> io::Result<()> {
     Ok(())
 }
 
-// Wants it at one length.
+// Counts and prints the answer at one length where it isn't the wanted one.
 fn check_at(
     rt: &HostRuntime,
     rows: &mut Rows,
