@@ -112,7 +112,9 @@ class Reader:
             if re.match(rf"(pub(\(\w+\))? )?(struct|enum|const) {named}\b", line):
                 file = ROOT / "crates" / crate / "src" / ("/".join(module) or "lib")
                 about = source.doc_above(at).split("\n\n")[0].replace("\n", " ")
-                return Definition(named, about, source.text_from(at, ""), file.with_suffix(".rt"), at + 1, "type", {})
+                # A ghost field is a fact about the others, which constructors prove: what it says is in their clauses.
+                text = re.sub(r"^    ghost .*?\},?\n", "", source.text_from(at, ""), flags=re.M | re.S)
+                return Definition(named, about, text, file.with_suffix(".rt"), at + 1, "type", {})
         return None
 
     def meaning(self, uses: dict, word: str):

@@ -34,10 +34,11 @@ use Rattle.elf_base.specs.declared.error.ElfError.TheVariants as error
 
 -- The meaning of the numbers of a header (e_ident, e_type, e_machine).
 
--- EI_CLASS: the number in the file, and the value of a number
+-- the number of EI_CLASS in the file
 abbrev pub class_number : Class_ → ℕ
 class_number raw = raw.0
 
+-- EI_CLASS with this number
 abbrev pub class_raw : ℕ → Class_
 class_raw n = record { 0 = n }
 
@@ -45,10 +46,11 @@ class_raw n = record { 0 = n }
 abbrev pub class_of : ℕ → Class
 class_of n = named_or classes.Other ((0, classes.None) ∷ (1, classes.ThirtyTwo) ∷ (2, classes.SixtyFour) ∷ []) n
 
--- EI_DATA: the number in the file, and the value of a number
+-- the number of EI_DATA in the file
 abbrev pub encoding_number : Data_ → ℕ
 encoding_number raw = raw.0
 
+-- EI_DATA with this number
 abbrev pub encoding_raw : ℕ → Data_
 encoding_raw n = record { 0 = n }
 
@@ -61,10 +63,11 @@ encoding_of n = named_or encodings.Other (
 abbrev pub order_of : ℕ → Order
 order_of n = if n == 2 then Big else Little
 
--- EI_VERSION: the number in the file, and the value of a number
+-- the number of EI_VERSION in the file
 abbrev pub version_number : Version_ → ℕ
 version_number raw = raw.0
 
+-- EI_VERSION with this number
 abbrev pub version_raw : ℕ → Version_
 version_raw n = record { 0 = n }
 
@@ -72,10 +75,11 @@ version_raw n = record { 0 = n }
 abbrev pub version_of : ℕ → Version
 version_of n = named_or versions.Other ((0, versions.None) ∷ (1, versions.Current) ∷ []) n
 
--- EI_OSABI: the number in the file, and the value of a number
+-- the number of EI_OSABI in the file
 abbrev pub os_abi_number : OsAbi_ → ℕ
 os_abi_number raw = raw.0
 
+-- EI_OSABI with this number
 abbrev pub os_abi_raw : ℕ → OsAbi_
 os_abi_raw n = record { 0 = n }
 
@@ -86,10 +90,11 @@ os_abi_of n = named_or os_abis.Other (
     ∷ (6, os_abis.Solaris) ∷ (7, os_abis.Aix) ∷ (8, os_abis.Irix) ∷ (9, os_abis.FreeBSD)
     ∷ (12, os_abis.OpenBSD) ∷ (13, os_abis.OpenVMS) ∷ []) n
 
--- e_type: the number in the file, and the value of a number
+-- the number of e_type in the file
 abbrev pub type_number : Type_ → ℕ
 type_number raw = raw.0
 
+-- e_type with this number
 abbrev pub type_raw : ℕ → Type_
 type_raw n = record { 0 = n }
 
@@ -98,10 +103,11 @@ abbrev pub type_of : ℕ → the_type.Type
 type_of n = named_or kind.ProcessorSpecific (
     (0, kind.None) ∷ (1, kind.Relocatable) ∷ (2, kind.Executable) ∷ (3, kind.SharedObject) ∷ (4, kind.Core) ∷ []) n
 
--- e_machine: the number in the file, and the value of a number
+-- the number of e_machine in the file
 abbrev pub machine_number : Machine_ → ℕ
 machine_number raw = raw.0
 
+-- e_machine with this number
 abbrev pub machine_raw : ℕ → Machine_
 machine_raw n = record { 0 = n }
 

@@ -62,8 +62,10 @@ row_of HashData = (53, codes "Hash table data is too short")
 row_of HashCycle = (54, codes "Hash chain never ends")
 row_of HashMissing = (55, codes "Symbol is missing from the hash table")
 
+-- the number of an error
 abbrev pub error_number : ElfError → ℕ
 error_number error = (row_of error).0
 
+-- the message of an error
 abbrev pub message_of : ElfError → List ℕ
 message_of error = (row_of error).1

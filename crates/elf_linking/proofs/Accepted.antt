@@ -7,14 +7,14 @@ use Rattle.std.specs.Prelude.{not, ◌&&◌, ◌||◌}
 use Rattle.std.specs.Str.{bytes_eq}
 use Rattle.elf_base.specs.Refusal.{and_then}
 use Rattle.elf_linking.specs.Find.{IsAccepted, IsAcceptedBy, accepted, accepts_version, has_no_hash, is_below, is_open, is_version, nameless, same, unnumbered}
-use Rattle.elf_linking.specs.VersionTables.{VersionTables, item_by}
+use Rattle.elf_linking.specs.VersionTables.{VersionTables, result_map}
 use Rattle.elf_linking.specs.Versions.{NamedParts, VersionParts, named_hash, named_name, number_of, version_at}
 use Rattle.elf_linking.specs.declared.error.LinkError.{LinkError}
 use Rattle.elf_linking.specs.declared.find.Wanted.{Wanted}
 use Rattle.elf_linking.specs.declared.find.Wanted.TheVariants.{Newest, Unversioned, Version}
 
 -- a number is that of a result, if there is no error
-below : (least : ℕ) (number : Result (Option ℕ) LinkError) → IfOk (item_by (is_below least) number) (λ held. IsTrue held ↔ ((n : Option ℕ) × (number ≡ Ok n) × (is_below least n ≡ true)))
+below : (least : ℕ) (number : Result (Option ℕ) LinkError) → IfOk (result_map (is_below least) number) (λ held. IsTrue held ↔ ((n : Option ℕ) × (number ≡ Ok n) × (is_below least n ≡ true)))
 below least (Ok n) = (λ held. (n, refl, held), λ (m, is, held). let one : n ≡ m = cc in subst (λ k. is_below least k ≡ true) (sym one) held)
 below least (Err error) = tt
 
@@ -23,7 +23,7 @@ module _ (name : List ℕ) (hash : ℕ) (hidden : Bool) where
   abbrev Bears : Option NamedParts → Type 0
   Bears named = (n : NamedParts) × (named ≡ Some n) × (named_hash n ≡ hash) × (named_name n ≡ Ok name)
 
-  by_name : (n : NamedParts) (read : Result (List ℕ) LinkError) → named_name n ≡ read → named_hash n ≡ hash → IfOk (item_by (λ other. bytes_eq other name) read) (λ held. IsTrue held ↔ Bears (Some n))
+  by_name : (n : NamedParts) (read : Result (List ℕ) LinkError) → named_name n ≡ read → named_hash n ≡ hash → IfOk (result_map (λ other. bytes_eq other name) read) (λ held. IsTrue held ↔ Bears (Some n))
   by_name n (Ok other) is agrees = (
     λ held. (n, refl, agrees, is ∙ ap (λ t. Ok t) ((bytes_eq-Decides other name).0 held)),
     λ (m, one, hashed, named). let same_part : n ≡ m = cc in
@@ -37,7 +37,7 @@ module _ (name : List ℕ) (hash : ℕ) (hidden : Bool) where
   bears None = (λ no. absurd (cc), λ (m, one, hashed, read). absurd (cc))
   bears (Some n) = go (eqb (named_hash n) hash) refl (eqb_tells (named_hash n) hash)
     where
-      go : (agrees : Bool) → eqb (named_hash n) hash ≡ agrees → ((eqb (named_hash n) hash ≡ true) × (named_hash n ≡ hash)) ⊎ ((eqb (named_hash n) hash ≡ false) × (named_hash n ≢ hash)) → IfOk (if agrees then item_by (λ other. bytes_eq other name) (named_name n) else Ok false) (λ held. IsTrue held ↔ Bears (Some n))
+      go : (agrees : Bool) → eqb (named_hash n) hash ≡ agrees → ((eqb (named_hash n) hash ≡ true) × (named_hash n ≡ hash)) ⊎ ((eqb (named_hash n) hash ≡ false) × (named_hash n ≢ hash)) → IfOk (if agrees then result_map (λ other. bytes_eq other name) (named_name n) else Ok false) (λ held. IsTrue held ↔ Bears (Some n))
       go true is (inl (_, agrees)) = by_name n (named_name n) refl agrees
       go true is (inr (other, _)) = absurd (cc)
       go false is (inl (other, _)) = absurd (cc)
@@ -67,7 +67,7 @@ module _ (name : List ℕ) (hash : ℕ) (hidden : Bool) where
   or_right true b is = refl
   or_right false b is = is
 
-  version_law : (version : VersionParts) (answer : Result Bool LinkError) → IfOk answer (λ held. IsTrue held ↔ Bears version.named) → IfOk (item_by (λ held. held || is_open hidden version) answer) (λ held. IsTrue held ↔ IsAcceptedBy name hash hidden (Some version))
+  version_law : (version : VersionParts) (answer : Result Bool LinkError) → IfOk answer (λ held. IsTrue held ↔ Bears version.named) → IfOk (result_map (λ held. held || is_open hidden version) answer) (λ held. IsTrue held ↔ IsAcceptedBy name hash hidden (Some version))
   version_law version (Ok held) law = (to, back)
     where
       to : (held || is_open hidden version) ≡ true → IsAcceptedBy name hash hidden (Some version)

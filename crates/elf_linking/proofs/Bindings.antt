@@ -13,7 +13,6 @@ use Rattle.elf_linking.specs.declared.scope.Bound.{Bound}
 use Rattle.elf_linking.proofs.Questions.{alone_found, found_alone, right_alone}
 use Rattle.elf_linking.proofs.Scopes.{first_so, gives_so, match_so, some_match}
 use Rattle.xmas_elf.specs.Symbol.{SymbolFields}
-use Rattle.xmas_elf.specs.declared.ElfFile.{ElfFile}
 
 -- what the first object gives is so for the object that asks
 pub right_for : {E : Type 0} → {r : _} → (Gives : ℕ → Result (Option (ℕ × E)) LinkError → Type 0) (objects : List (DynamicObject E r)) (from : ℕ) (asking : DynamicObject E r) → slice_get objects from ≡ Some asking → (answer : Result (Option (Bound E)) LinkError) → IsOkAnd answer (λ bound. IsFirstGiven Gives (length objects) (is_symbolic (view_entries (object_view asking))) from (Ok bound)) → IsOkAnd answer (λ bound. IsFirstFor Gives objects from (Ok bound))
@@ -25,18 +24,18 @@ first_for : {E : Type 0} → {r : _} → (Gives Others : ℕ → Result (Option 
 first_for Gives Others objects from so answer first =
     match_so _ _ _ (slice_get objects from) (λ asking is. first_so Gives Others (length objects) (is_symbolic (view_entries (object_view asking))) from so answer is) first
 
-pub bound_alone : {E : Type 0} → {r : _} → (fields : E → SymbolFields) (text_in : E → ElfFile → Option (List ℕ)) (objects : List (DynamicObject E r)) (from : ℕ) (name : List ℕ) (wanted : Wanted) (purpose : uses.Use) (answer : Result (Option (Bound E)) LinkError) → IsBound fields text_in objects from name wanted purpose answer → IsBound fields text_in objects from name (wanted_parts wanted) purpose answer
-bound_alone fields text_in objects from name wanted purpose answer bound =
-    first_for (FindsAt fields text_in objects name wanted purpose) (FindsAt fields text_in objects name (wanted_parts wanted) purpose) objects from
-    (gives_so (λ file. IsFound file name wanted purpose) (λ file. IsFound file name (wanted_parts wanted) purpose) (symbols_at fields text_in objects) purpose (λ file. found_alone file name purpose wanted)) answer bound
+pub bound_alone : {E : Type 0} → {r : _} → (fields : E → SymbolFields) (objects : List (DynamicObject E r)) (from : ℕ) (name : List ℕ) (wanted : Wanted) (purpose : uses.Use) (answer : Result (Option (Bound E)) LinkError) → IsBound fields objects from name wanted purpose answer → IsBound fields objects from name (wanted_parts wanted) purpose answer
+bound_alone fields objects from name wanted purpose answer bound =
+    first_for (FindsAt fields objects name wanted purpose) (FindsAt fields objects name (wanted_parts wanted) purpose) objects from
+    (gives_so (λ file. IsFound file name wanted purpose) (λ file. IsFound file name (wanted_parts wanted) purpose) (symbols_at fields objects) purpose (λ file. found_alone file name purpose wanted)) answer bound
 
-pub alone_bound : {E : Type 0} → {r : _} → (fields : E → SymbolFields) (text_in : E → ElfFile → Option (List ℕ)) (objects : List (DynamicObject E r)) (from : ℕ) (name : List ℕ) (wanted : Wanted) (purpose : uses.Use) (answer : Result (Option (Bound E)) LinkError) → IsBound fields text_in objects from name (wanted_parts wanted) purpose answer → IsBound fields text_in objects from name wanted purpose answer
-alone_bound fields text_in objects from name wanted purpose answer bound =
-    first_for (FindsAt fields text_in objects name (wanted_parts wanted) purpose) (FindsAt fields text_in objects name wanted purpose) objects from
-    (gives_so (λ file. IsFound file name (wanted_parts wanted) purpose) (λ file. IsFound file name wanted purpose) (symbols_at fields text_in objects) purpose (λ file. alone_found file name purpose wanted)) answer bound
+pub alone_bound : {E : Type 0} → {r : _} → (fields : E → SymbolFields) (objects : List (DynamicObject E r)) (from : ℕ) (name : List ℕ) (wanted : Wanted) (purpose : uses.Use) (answer : Result (Option (Bound E)) LinkError) → IsBound fields objects from name (wanted_parts wanted) purpose answer → IsBound fields objects from name wanted purpose answer
+alone_bound fields objects from name wanted purpose answer bound =
+    first_for (FindsAt fields objects name (wanted_parts wanted) purpose) (FindsAt fields objects name wanted purpose) objects from
+    (gives_so (λ file. IsFound file name (wanted_parts wanted) purpose) (λ file. IsFound file name wanted purpose) (symbols_at fields objects) purpose (λ file. alone_found file name purpose wanted)) answer bound
 
-pub binds_alone : {E : Type 0} → {r : _} → (fields : E → SymbolFields) (text_in : E → ElfFile → Option (List ℕ)) (objects : List (DynamicObject E r)) (from : ℕ) (name : List ℕ) (wanted : Wanted) (purpose : uses.Use) (answer : Result (Option (Bound E)) LinkError) → BindsRight fields text_in objects from name wanted purpose answer → BindsRight fields text_in objects from name (wanted_parts wanted) purpose answer
-binds_alone fields text_in objects from name wanted purpose (Err error) never = never
-binds_alone fields text_in objects from name wanted purpose (Ok bound) right =
-    first_for (HasAt fields text_in objects name wanted purpose) (HasAt fields text_in objects name (wanted_parts wanted) purpose) objects from
-    (gives_so (λ file. FindsRight file name wanted purpose) (λ file. FindsRight file name (wanted_parts wanted) purpose) (symbols_at fields text_in objects) purpose (λ file. right_alone file name purpose wanted)) (Ok bound) right
+pub binds_alone : {E : Type 0} → {r : _} → (fields : E → SymbolFields) (objects : List (DynamicObject E r)) (from : ℕ) (name : List ℕ) (wanted : Wanted) (purpose : uses.Use) (answer : Result (Option (Bound E)) LinkError) → BindsRight fields objects from name wanted purpose answer → BindsRight fields objects from name (wanted_parts wanted) purpose answer
+binds_alone fields objects from name wanted purpose (Err error) never = never
+binds_alone fields objects from name wanted purpose (Ok bound) right =
+    first_for (HasAt fields objects name wanted purpose) (HasAt fields objects name (wanted_parts wanted) purpose) objects from
+    (gives_so (λ file. FindsRight file name wanted purpose) (λ file. FindsRight file name (wanted_parts wanted) purpose) (symbols_at fields objects) purpose (λ file. right_alone file name purpose wanted)) (Ok bound) right

@@ -5,9 +5,9 @@ use Rattle.elf_base.specs.FileHeader.{class_of, file_class, file_order}
 use Rattle.elf_base.specs.declared.header.numbers.Class.TheVariants as class
 use Rattle.elf_base.specs.declared.error.ElfError.{ElfError}
 use Rattle.elf_linking.specs.DynamicView.{before_null, dynamic_entries_of, dynamic_segment_of, entries_in, entries_of_segment, whole_entries}
-use Rattle.elf_linking.specs.Layouts.{dynamic_entry_32, dynamic_entry_64}
+use Rattle.elf_records.specs.Dynamic.{dynamic_32, dynamic_64}
 use Rattle.elf_linking.specs.declared.error.LinkError.{LinkError}
-use Rattle.elf_linking.specs.declared.view.entry.DynamicEntry.{DynamicEntry}
+use Rattle.elf_records.specs.declared.dynamic.Dynamic.{Dynamic}
 use Rattle.xmas_elf.specs.ProgramHeader.{program_fields, segment_data_of}
 use Rattle.xmas_elf.specs.Types.{ElfFile, ProgramHeader}
 
@@ -36,21 +36,21 @@ pub wide_is : (n : ℕ) → n ≡ 2 → class_of n ≡ class.SixtyFour
 wide_is n e = ap class_of e
 
 -- a file that has dynamic entries, and isn't of class 32, is of class 64
-pick : (b : Bool) (class : ℕ) (one two : Result (List (DynamicEntry ℕ)) LinkError) (entries : List (DynamicEntry ℕ)) (error : LinkError) → (class == 2) ≡ b → (class == 1) ≡ false
+pick : (b : Bool) (class : ℕ) (one two : Result (List (Dynamic ℕ)) LinkError) (entries : List (Dynamic ℕ)) (error : LinkError) → (class == 2) ≡ b → (class == 1) ≡ false
     → before_null (if class == 1 then one else (if class == 2 then two else Err error)) ≡ Ok entries → class ≡ 2
 pick true class one two entries error is other found = eqb-true class 2 is
 pick false class one two entries error is other found =
     let none : before_null (if class == 1 then one else (if class == 2 then two else Err error)) ≡ Err error = rw other (rw is refl) in absurd (cc)
 
-wide_in : (file : ElfFile) (entries : List (DynamicEntry ℕ)) (found : Result (List ℕ) ElfError) → entries_in file found ≡ Ok entries → file_class file.header ≢ 1 → file_class file.header ≡ 2
+wide_in : (file : ElfFile) (entries : List (Dynamic ℕ)) (found : Result (List ℕ) ElfError) → entries_in file found ≡ Ok entries → file_class file.header ≢ 1 → file_class file.header ≡ 2
 wide_in file entries (Ok bytes) found other =
-    pick (file_class file.header == 2) (file_class file.header) (whole_entries 8 (dynamic_entry_32 (file_order file.header)) bytes) (whole_entries 16 (dynamic_entry_64 (file_order file.header)) bytes) entries _ refl (ne_eqb (file_class file.header) 1 other) found
+    pick (file_class file.header == 2) (file_class file.header) (whole_entries 8 (dynamic_32 (file_order file.header)) bytes) (whole_entries 16 (dynamic_64 (file_order file.header)) bytes) entries _ refl (ne_eqb (file_class file.header) 1 other) found
 wide_in file entries (Err error) found other = absurd (cc)
 
-wide_of : (file : ElfFile) (entries : List (DynamicEntry ℕ)) (segment : Option ProgramHeader) → entries_of_segment file segment ≡ Ok entries → file_class file.header ≢ 1 → file_class file.header ≡ 2
+wide_of : (file : ElfFile) (entries : List (Dynamic ℕ)) (segment : Option ProgramHeader) → entries_of_segment file segment ≡ Ok entries → file_class file.header ≢ 1 → file_class file.header ≡ 2
 wide_of file entries (Some program) found other = wide_in file entries (segment_data_of file (program_fields program)) found other
 wide_of file entries None found other = absurd (cc)
 
-pub wide_else : (file : ElfFile) (entries : List (DynamicEntry ℕ)) → dynamic_entries_of file ≡ Ok entries → file_class file.header ≢ 1 → file_class file.header ≡ 2
+pub wide_else : (file : ElfFile) (entries : List (Dynamic ℕ)) → dynamic_entries_of file ≡ Ok entries → file_class file.header ≢ 1 → file_class file.header ≡ 2
 unfolding dynamic_entries_of
 wide_else file entries found other = wide_of file entries (dynamic_segment_of file) found other

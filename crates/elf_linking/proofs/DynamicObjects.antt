@@ -9,17 +9,17 @@ use Rattle.elf_base.specs.FileHeader.{file_class, file_order}
 use Rattle.elf_base.specs.Table.{table_data, table_order}
 use Rattle.elf_base.specs.declared.bytes.table.Table.{Table}
 use Rattle.elf_linking.specs.DynamicObject.{AreOfClass, AreRefused, IsNameAt, unreadable}
-use Rattle.elf_linking.specs.DynamicView.{AreSymbols, as_link_error, linked_table_of, linked_text_of, strings_of, text_in_strings}
+use Rattle.elf_linking.specs.DynamicView.{AreSymbols, as_link_error, text_in_strings}
 use Rattle.elf_linking.specs.Loaded.{lent}
 use Rattle.elf_linking.specs.VersionTables.{VersionTables, version_tables_of}
 use Rattle.elf_linking.specs.declared.error.LinkError.{LinkError}
 use Rattle.elf_linking.specs.declared.error.LinkError.TheVariants.{SymbolIndex}
-use Rattle.elf_linking.specs.declared.view.entry.DynamicEntry.{DynamicEntry}
+use Rattle.elf_records.specs.declared.dynamic.Dynamic.{Dynamic}
 use Rattle.xmas_elf.specs.Symbol.{Symbols}
 use Rattle.xmas_elf.specs.declared.ElfFile.{ElfFile}
 
 -- the symbols that were read are those of the class of the file
-pub of_class : {E : Type 0} → {r : _} → (class size : ℕ) (file : ElfFile) (entries : List (DynamicEntry ℕ)) (found : Result (Table E r) LinkError) → file_class file.header ≡ class
+pub of_class : {E : Type 0} → {r : _} → (class size : ℕ) (file : ElfFile) (entries : List (Dynamic ℕ)) (found : Result (Table E r) LinkError) → file_class file.header ≡ class
     → MatchResult found (λ symbols. AreSymbols file entries size (Ok (table_data symbols)) × (table_order symbols ≡ file_order file.header)) (λ error. AreSymbols file entries size (Err error))
     → MatchResult found (λ symbols. AreOfClass class size file entries (table_data symbols) × (table_order symbols ≡ file_order file.header)) (AreRefused class size file entries)
 of_class class size file entries (Ok symbols) same (are, order) = (record { class_is = same; symbols_are = are }, order)
@@ -32,16 +32,11 @@ count_in count size bytes above whole =
     ap (λ n. n / size) none ∙ div-mul-add count size 0 above
 
 -- the version tables, or why they are not read, by the bytes of the symbols
-pub versions_by : (file : ElfFile) (entries : List (DynamicEntry ℕ)) (strings : Result (List ℕ) LinkError) (text : List ℕ) (count size : ℕ) (bytes : List ℕ) (answer : Result VersionTables LinkError) → strings ≡ Ok text → 0 < size → count * size ≡ length bytes
+pub versions_by : (file : ElfFile) (entries : List (Dynamic ℕ)) (strings : Result (List ℕ) LinkError) (text : List ℕ) (count size : ℕ) (bytes : List ℕ) (answer : Result VersionTables LinkError) → strings ≡ Ok text → 0 < size → count * size ≡ length bytes
     → version_tables_of file entries strings count ≡ answer → version_tables_of file entries (Ok text) (length bytes / size) ≡ answer
 versions_by file entries strings text count size bytes answer found above whole refused =
     subst (λ n. version_tables_of file entries (Ok text) n ≡ answer) (sym (count_in count size bytes above whole))
     (subst (λ s. version_tables_of file entries s count ≡ answer) found refused)
-
--- a name in a file is a text in its string table
-pub text_found : (file : ElfFile) (strings : List ℕ) (name : ℕ) → strings_of file ≡ Ok strings → result_ok (linked_text_of file name) ≡ result_ok (text_of strings name)
-unfolding linked_text_of linked_table_of
-text_found file strings name found = rw found refl
 
 -- the text that was read is the name of the symbol
 module _ {E : Type 0} (text : E → Option (List ℕ)) (symbol : E) where

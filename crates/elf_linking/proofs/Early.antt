@@ -5,7 +5,7 @@ use Rattle.std.specs.Prelude.{nat_lt, not, option_map, ◌||◌}
 use Rattle.elf_linking.specs.Find.{DynamicSymbols, IsAsked, IsDefault, IsFound, IsLikely, IsOtherwise, IsShown, Seeks, accepted, dynamic_symbols, is_below, is_by_version, is_default, is_near, symbol_at}
 use Rattle.elf_linking.specs.GnuHash.{EndsRun, IsHit, IsThere, LooksBehind, LooksFrom, LooksWhere, NoHit, Run, Stops, at_end, chain_word, ended, found, further, goes, no_run, refused, too_early}
 use Rattle.elf_linking.specs.Layouts.{gnu_hash_number}
-use Rattle.elf_linking.specs.VersionTables.{VersionTables, is_hidden, item_by, version_number}
+use Rattle.elf_linking.specs.VersionTables.{VersionTables, is_hidden, result_map, version_number}
 use Rattle.elf_linking.specs.Versions.{number_of}
 use Rattle.elf_linking.specs.declared.any_table.AnyTable.TheVariants.{Gnu}
 use Rattle.elf_linking.specs.declared.error.LinkError.{LinkError}
@@ -134,7 +134,7 @@ found_there table symbols Q name _ i e (goes from n _ starts begins looks) =
 
 -- Which candidates are likely.
 
-near_below : (least : ℕ) (number : Result (Option ℕ) LinkError) → item_by (is_below least) number ≢ Ok false → is_near least number ≡ true
+near_below : (least : ℕ) (number : Result (Option ℕ) LinkError) → result_map (is_below least) number ≢ Ok false → is_near least number ≡ true
 near_below least (Ok (Some raw)) asked = go (nat_lt (version_number raw) least) (not (is_hidden raw)) (Ok (nat_lt (version_number raw) least)) refl asked
   where
     go : (below shown : Bool) (answer : Result Bool LinkError) → answer ≡ Ok below → answer ≢ Ok false → (below || shown) ≡ true
@@ -152,7 +152,7 @@ near_shown least (Ok (Some raw)) shown = go (nat_lt (version_number raw) least) 
 near_shown least (Ok None) shown = refl
 near_shown least (Err error) shown = refl
 
-shown_near : (least : ℕ) (number : Result (Option ℕ) LinkError) → item_by (is_below least) number ≡ Ok false → is_near least number ≡ true → is_default number ≡ true
+shown_near : (least : ℕ) (number : Result (Option ℕ) LinkError) → result_map (is_below least) number ≡ Ok false → is_near least number ≡ true → is_default number ≡ true
 shown_near least (Ok (Some raw)) refuses near = go (nat_lt (version_number raw) least) (not (is_hidden raw)) (Ok (nat_lt (version_number raw) least)) refl refuses near
   where
     go : (below shown : Bool) (answer : Result Bool LinkError) → answer ≡ Ok below → answer ≡ Ok false → (below || shown) ≡ true → shown ≡ true
@@ -225,7 +225,7 @@ module _ {E : Type 0} (table : GnuHashTable) (symbols : Symbols E) (versions : V
     likely_refused error (n, looks) = (Err error, (n, looks_narrow table symbols.items Asked Likely (asked_likely wanted) name n (Err error) tt looks), refl)
 
     -- the first likely candidate is found, or why its version can't be read, unless it isn't accepted at once
-    pub likely_first : (at : ℕ × E) (answer : Result (Option (ℕ × E)) LinkError) → accepted versions wanted at.0 ≢ Ok false → answer ≡ item_by (λ _. Some at) (accepted versions wanted at.0) → Seeks Likely file name (Ok (Some at)) → IsFound file name wanted purpose answer
+    pub likely_first : (at : ℕ × E) (answer : Result (Option (ℕ × E)) LinkError) → accepted versions wanted at.0 ≢ Ok false → answer ≡ result_map (λ _. Some at) (accepted versions wanted at.0) → Seeks Likely file name (Ok (Some at)) → IsFound file name wanted purpose answer
     likely_first at answer asked is (n, looks) =
         let likely : Likely at = looks_has table symbols.items Likely name n at.0 at.1 looks in
         (Ok (Some at), (n, looks_narrow table symbols.items Asked Likely (asked_likely wanted) name n (Ok (Some at)) (likely.0, asked) looks), is)
@@ -241,7 +241,7 @@ module _ {E : Type 0} (table : GnuHashTable) (symbols : Symbols E) (versions : V
       pub behind_refused : (error : LinkError) → LooksBehind Likely table symbols.items at.0 (Err error) → IsFound file name wanted purpose (Err error)
       behind_refused error behind = (Err error, join Asked (asked_likely wanted) (Err error) not_asked tt behind, refl)
 
-      pub behind_asked : (other : ℕ × E) (answer : Result (Option (ℕ × E)) LinkError) → accepted versions wanted other.0 ≢ Ok false → answer ≡ item_by (λ _. Some other) (accepted versions wanted other.0) → LooksBehind Likely table symbols.items at.0 (Ok (Some other)) → IsFound file name wanted purpose answer
+      pub behind_asked : (other : ℕ × E) (answer : Result (Option (ℕ × E)) LinkError) → accepted versions wanted other.0 ≢ Ok false → answer ≡ result_map (λ _. Some other) (accepted versions wanted other.0) → LooksBehind Likely table symbols.items at.0 (Ok (Some other)) → IsFound file name wanted purpose answer
       behind_asked other answer asked is behind =
           let likely : Likely other = behind_has table symbols.items Likely at.0 other.0 other.1 behind in
           (Ok (Some other), join Asked (asked_likely wanted) (Ok (Some other)) not_asked (likely.0, asked) behind, is)
@@ -269,7 +269,7 @@ pub not_false : (answer other : Result Bool LinkError) → answer ≡ other → 
 not_false answer other is unlike same = unlike (sym is ∙ same)
 
 -- what is found, with its index alone
-pub of_index : {E : Type 0} (file : DynamicSymbols E) (name : List ℕ) (wanted : Wanted) (purpose : uses.Use) (at : ℕ × E) → slice_get file.symbols.items at.0 ≡ Some at.1 → IsFound file name wanted purpose (Ok (Some at)) → IsFound file name wanted purpose (item_by (symbol_at file.symbols.items) (Ok (Some at.0)))
+pub of_index : {E : Type 0} (file : DynamicSymbols E) (name : List ℕ) (wanted : Wanted) (purpose : uses.Use) (at : ℕ × E) → slice_get file.symbols.items at.0 ≡ Some at.1 → IsFound file name wanted purpose (Ok (Some at)) → IsFound file name wanted purpose (result_map (symbol_at file.symbols.items) (Ok (Some at.0)))
 of_index file name wanted purpose at is = subst (λ found. IsFound file name wanted purpose (Ok found)) (sym (ap (option_map (λ e. (at.0, e))) is))
 
 pub looks_symbol : {E : Type 0} (table : GnuHashTable) (symbols : List E) (Q : ℕ × E → Type 0) (name : List ℕ) (n i : ℕ) (e : E) → LooksWhere Q table symbols name (Ok (Some (i, e))) n → slice_get symbols i ≡ Some e

@@ -5,7 +5,8 @@ use Rattle.std.specs.List.{find}
 use Rattle.elf_linking.specs.DynamicView.{entries_left, has_tag, pairs_left, until_null}
 use Rattle.elf_linking.proofs.Firsts.{find_hit, find_none, find_other}
 use Rattle.elf_linking.specs.declared.view.entries.DynamicEntries.{DynamicEntries}
-use Rattle.elf_linking.specs.declared.view.entry.DynamicEntry.{DynamicEntry}
+use Rattle.elf_records.specs.Dynamic.{dynamic_tag, dynamic_value}
+use Rattle.elf_records.specs.declared.dynamic.Dynamic.{Dynamic}
 use Rattle.elf_linking.specs.declared.view.tags.TheConstants.{DT_NULL}
 
 pub left_ended : (iter : DynamicEntries) → iter.ended ≡ true → entries_left iter ≡ []
@@ -18,41 +19,37 @@ left_none iter is = by_end iter.ended
     by_end true = refl
     by_end false = ap until_null is
 
-pub left_null : (iter : DynamicEntries) (entry : DynamicEntry ℕ) (others : List (DynamicEntry ℕ)) → pairs_left iter.rest ≡ entry ∷ others → entry.tag ≡ DT_NULL → entries_left iter ≡ []
+pub left_null : (iter : DynamicEntries) (entry : Dynamic ℕ) (others : List (Dynamic ℕ)) → pairs_left iter.rest ≡ entry ∷ others → dynamic_tag entry ≡ DT_NULL → entries_left iter ≡ []
 left_null iter entry others is null = by_end iter.ended
   where
     by_end : (b : Bool) → (if b then [] else until_null (pairs_left iter.rest)) ≡ []
     by_end true = refl
-    by_end false = ap until_null is ∙ rw (eq-eqb entry.tag DT_NULL null) refl
+    by_end false = ap until_null is ∙ rw (eq-eqb (dynamic_tag entry) DT_NULL null) refl
 
-pub left_first : (iter : DynamicEntries) (entry : DynamicEntry ℕ) (others : List (DynamicEntry ℕ)) → iter.ended ≡ false → pairs_left iter.rest ≡ entry ∷ others → entry.tag ≢ DT_NULL → entries_left iter ≡ entry ∷ until_null others
-left_first iter entry others going is other = rw going (ap until_null is ∙ rw (ne_eqb entry.tag DT_NULL other) refl)
+pub left_first : (iter : DynamicEntries) (entry : Dynamic ℕ) (others : List (Dynamic ℕ)) → iter.ended ≡ false → pairs_left iter.rest ≡ entry ∷ others → dynamic_tag entry ≢ DT_NULL → entries_left iter ≡ entry ∷ until_null others
+left_first iter entry others going is other = rw going (ap until_null is ∙ rw (ne_eqb (dynamic_tag entry) DT_NULL other) refl)
 
 pub left_going : (iter : DynamicEntries) → iter.ended ≡ false → entries_left iter ≡ until_null (pairs_left iter.rest)
 left_going iter going = rw going refl
 
--- an entry of class 32, with its numbers as 64-bit numbers
-pub widened : (entry : DynamicEntry ℕ) (entries others : List (DynamicEntry ℕ)) (tag number : ℕ) → entries ≡ entry ∷ others → tag ≡ entry.tag → number ≡ entry.number → entries ≡ record { tag = tag; number = number } ∷ others
-widened entry entries others tag number is same_tag same_number = is ∙ sym (rw (same_tag, same_number) refl)
-
 -- a search for a tag, entry by entry
-pub number_none : (tag : ℕ) (entries : List (DynamicEntry ℕ)) → entries ≡ [] → find (has_tag tag) entries ≡ None
+pub number_none : (tag : ℕ) (entries : List (Dynamic ℕ)) → entries ≡ [] → find (has_tag tag) entries ≡ None
 number_none tag entries is = find_none (has_tag tag) entries is
 
-pub number_hit : (tag : ℕ) (entries others : List (DynamicEntry ℕ)) (entry : DynamicEntry ℕ) → entries ≡ entry ∷ others → entry.tag ≡ tag → find (has_tag tag) entries ≡ Some entry
-number_hit tag entries others entry is same = find_hit (has_tag tag) entries others entry is (eq-eqb entry.tag tag same)
+pub number_hit : (tag : ℕ) (entries others : List (Dynamic ℕ)) (entry : Dynamic ℕ) → entries ≡ entry ∷ others → dynamic_tag entry ≡ tag → find (has_tag tag) entries ≡ Some entry
+number_hit tag entries others entry is same = find_hit (has_tag tag) entries others entry is (eq-eqb (dynamic_tag entry) tag same)
 
-pub number_other : (tag : ℕ) (entries others : List (DynamicEntry ℕ)) (entry : DynamicEntry ℕ) → entries ≡ entry ∷ others → entry.tag ≢ tag → find (has_tag tag) entries ≡ find (has_tag tag) others
-number_other tag entries others entry is other = find_other (has_tag tag) entries others entry is (ne_eqb entry.tag tag other)
+pub number_other : (tag : ℕ) (entries others : List (Dynamic ℕ)) (entry : Dynamic ℕ) → entries ≡ entry ∷ others → dynamic_tag entry ≢ tag → find (has_tag tag) entries ≡ find (has_tag tag) others
+number_other tag entries others entry is other = find_other (has_tag tag) entries others entry is (ne_eqb (dynamic_tag entry) tag other)
 
 -- the entries before the first with tag Null are no more than all entries
-few_by : (b : Bool) (entry : DynamicEntry ℕ) (before entries : List (DynamicEntry ℕ)) → length before ≤ length entries → length (if b then [] else entry ∷ before) ≤ suc (length entries)
+few_by : (b : Bool) (entry : Dynamic ℕ) (before entries : List (Dynamic ℕ)) → length before ≤ length entries → length (if b then [] else entry ∷ before) ≤ suc (length entries)
 few_by true entry before entries few = omega arith
 few_by false entry before entries few = omega (arith, few)
 
-until_null_few : (entries : List (DynamicEntry ℕ)) → length (until_null entries) ≤ length entries
+until_null_few : (entries : List (Dynamic ℕ)) → length (until_null entries) ≤ length entries
 until_null_few [] = omega arith
-until_null_few (entry ∷ entries) = few_by (entry.tag == DT_NULL) entry (until_null entries) entries (until_null_few entries)
+until_null_few (entry ∷ entries) = few_by (dynamic_tag entry == DT_NULL) entry (until_null entries) entries (until_null_few entries)
 
-pub until_null_fits : (entries : List (DynamicEntry ℕ)) (bound : ℕ) → length entries < bound → length (until_null entries) < bound
+pub until_null_fits : (entries : List (Dynamic ℕ)) (bound : ℕ) → length entries < bound → length (until_null entries) < bound
 until_null_fits entries bound fits = let few = until_null_few entries in omega (arith, few, fits)

@@ -5,7 +5,7 @@ use Rattle.std.proofs.lemmas.Option.{slice_get_within}
 use Rattle.elf_linking.specs.AnyTable.{FindsAllWhereBy, IsGoodBy}
 use Rattle.elf_linking.specs.Find.{AreReadable, DynamicSymbols, FindsRight, IsAlone, IsAsked, IsDefault, IsFirstOf, IsFound, IsOtherwise, IsRightDefault, IsShown, NoneAccepted, Seeks, Then, accepted, dynamic_symbols, if_alone, no_version}
 use Rattle.elf_linking.specs.GnuHash.{FindsAllWhere}
-use Rattle.elf_linking.specs.VersionTables.{VersionTables, item_by}
+use Rattle.elf_linking.specs.VersionTables.{VersionTables, result_map}
 use Rattle.elf_linking.specs.declared.any_table.AnyTable.TheVariants.{Gnu}
 use Rattle.elf_linking.specs.declared.error.LinkError.{LinkError}
 use Rattle.elf_linking.specs.declared.find.Use as uses
@@ -78,13 +78,13 @@ module _ {E : Type 0} (table : GnuHashTable) (symbols : Symbols E) (versions : V
     right_default answer (Err error, refused, is) = absurd (finds (IsShown file name purpose None) (Err error) refused)
 
     module _ (readable : AreReadable file) where
-      right_first : (wanted : Wanted) (at : ℕ × E) (answer : Result (Option (ℕ × E)) LinkError) → Seeks (IsAsked file name wanted purpose) file name (Ok (Some at)) → answer ≡ item_by (λ _. Some at) (accepted versions wanted at.0) → FindsRight file name wanted purpose answer
+      right_first : (wanted : Wanted) (at : ℕ × E) (answer : Result (Option (ℕ × E)) LinkError) → Seeks (IsAsked file name wanted purpose) file name (Ok (Some at)) → answer ≡ result_map (λ _. Some at) (accepted versions wanted at.0) → FindsRight file name wanted purpose answer
       right_first wanted at answer seeks is = go (accepted versions wanted at.0) refl is
         where
           found : FindsAllWhereBy (Gnu table) symbols name (IsAsked file name wanted purpose) (Ok (Some at))
           found = finds (IsAsked file name wanted purpose) (Ok (Some at)) seeks
 
-          go : (r : Result Bool LinkError) → accepted versions wanted at.0 ≡ r → answer ≡ item_by (λ _. Some at) r → FindsRight file name wanted purpose answer
+          go : (r : Result Bool LinkError) → accepted versions wanted at.0 ≡ r → answer ≡ result_map (λ _. Some at) r → FindsRight file name wanted purpose answer
           go (Ok b) read is = subst (FindsRight file name wanted purpose) (sym is) (accepted_stands file name purpose wanted at b found read)
           go (Err error) read is = absurd (not_refused (accepted versions wanted at.0) (accepted_read file readable wanted at.0 (slice_get_within _ _ _ (asked_stands file name purpose wanted at found).symbol)) error read)
 

@@ -2,7 +2,7 @@
 use Rattle.std.proofs.Common.{◌≡◌, ◌≢◌, ◌+◌, ◌<◌, ◌≤◌, ℕ, ◌⊎◌, inl, inr, Result, Ok, Err, refl, sym, ap, ◌∙◌, subst, arith, below_more}
 use Rattle.std.proofs.lemmas.Bool.{cases_lt, cases_order, le-ltb}
 use Rattle.std.specs.Prelude.{IfOk, if◌then◌else◌, nat_lt, Bool, true, false, length}
-use Rattle.elf_linking.specs.DynamicView.{CountStops, CountsFrom, GoesTo, IsAboveRuns, IsGnuCount, IsLastRun, IsReachedByRun, counted, ended, no_run, refused, too_long}
+use Rattle.elf_linking.specs.GnuCount.{CountStops, CountsFrom, GoesTo, IsAboveRuns, IsGnuCount, IsLastRun, IsReachedByRun, counted, ended, no_run, refused, too_long}
 use Rattle.elf_linking.specs.GnuHash.{EndsRun, HasChain, bucket_word, chain_of, chain_place, chain_word, first_symbol_of, gnu_data}
 use Rattle.elf_linking.specs.declared.error.LinkError.{LinkError}
 use Rattle.elf_linking.specs.declared.error.LinkError.TheVariants.{ChainData, ChainIndex}

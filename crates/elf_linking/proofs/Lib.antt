@@ -14,7 +14,6 @@ pub mod EntryItems
 pub mod NeededItems
 pub mod NeededTexts
 pub mod ReferenceItems
-pub mod LinkedNames
 pub mod ViewTables
 pub mod SymbolCounts
 pub mod Classes

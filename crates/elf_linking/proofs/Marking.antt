@@ -6,7 +6,7 @@ use Rattle.std.proofs.lemmas.List.{get_or-replicate, get_or_past, get_or-set_oth
 use Rattle.elf_base.specs.Number.{number}
 use Rattle.elf_base.specs.declared.bytes.Order.{Order}
 use Rattle.elf_linking.specs.MarkedVersions.{AreMarks, bears_at, first_place, marked_at, marked_with}
-use Rattle.elf_linking.specs.VersionTables.{DefinitionParts, VersionRecords, definition_at, item_by, places_of}
+use Rattle.elf_linking.specs.VersionTables.{DefinitionParts, VersionRecords, definition_at, result_map, places_of}
 use Rattle.elf_linking.specs.Versions.{BearsDefined, bears_defined, first_item}
 use Rattle.elf_linking.specs.declared.error.LinkError.{LinkError}
 use Rattle.elf_linking.proofs.VersionPlaces.{more_suc, place_first}
@@ -101,14 +101,14 @@ bears_not n d never = go (bears_defined n d) refl
 -- the definitions lead to that which a search finds
 module _ (records : VersionRecords) (n : ℕ) where
   abbrev items : ℕ → ℕ → List (Result DefinitionParts LinkError)
-  items start count = map (item_by (definition_at records)) (places_of records 16 start count)
+  items start count = map (result_map (definition_at records)) (places_of records 16 start count)
 
   leads_first : (start count place : ℕ) → LeadsTo records.order records.bytes n start count place → first_item (bears_defined n) (items start count) ≡ Ok (Some (definition_at records place))
   leads_first start _ _ (here _ count whole bears) =
       let (rest, begins) = place_first records 16 start count (omega (arith, whole)) in
-      search_found (bears_defined n) _ (map (item_by (definition_at records)) rest) (definition_at records start) (ap (map (item_by (definition_at records))) begins) (bears_so n (definition_at records start) bears.0 bears.1)
+      search_found (bears_defined n) _ (map (result_map (definition_at records)) rest) (definition_at records start) (ap (map (result_map (definition_at records))) begins) (bears_so n (definition_at records start) bears.0 bears.1)
   leads_first start _ place (behind _ count _ whole never goes leads) =
-      search_other (bears_defined n) _ (items (start + number records.order 4 (start + 16) records.bytes) count) (definition_at records start) (ap (map (item_by (definition_at records))) (more_suc records 16 start count (omega (arith, whole)) goes)) (bears_not n (definition_at records start) never)
+      search_other (bears_defined n) _ (items (start + number records.order 4 (start + 16) records.bytes) count) (definition_at records start) (ap (map (result_map (definition_at records))) (more_suc records 16 start count (omega (arith, whole)) goes)) (bears_not n (definition_at records start) never)
       ∙ leads_first (start + number records.order 4 (start + 16) records.bytes) count place leads
 
 leads_whole : (order : Order) (bytes : List ℕ) (n start count place : ℕ) → LeadsTo order bytes n start count place → place + 20 ≤ length bytes
@@ -123,7 +123,7 @@ mark_leads order bytes count n mark marks are is some =
 pub mark_whole : (order : Order) (bytes : List ℕ) (count n mark : ℕ) (marks : List ℕ) → AreMarks order bytes count marks → mark ≡ slice_index marks n → mark ≢ 0 → mark - 1 + 20 ≤ length bytes
 mark_whole order bytes count n mark marks are is some = leads_whole order bytes n 0 count (mark - 1) (mark_leads order bytes count n mark marks are is some)
 
-pub mark_first : (records : VersionRecords) (n mark : ℕ) (marks : List ℕ) → AreMarks records.order records.bytes records.count marks → mark ≡ slice_index marks n → mark ≢ 0 → Ok (Some (definition_at records (mark - 1))) ≡ first_item (bears_defined n) (map (item_by (definition_at records)) (places_of records 16 0 records.count))
+pub mark_first : (records : VersionRecords) (n mark : ℕ) (marks : List ℕ) → AreMarks records.order records.bytes records.count marks → mark ≡ slice_index marks n → mark ≢ 0 → Ok (Some (definition_at records (mark - 1))) ≡ first_item (bears_defined n) (map (result_map (definition_at records)) (places_of records 16 0 records.count))
 mark_first records n mark marks are is some = sym (leads_first records n 0 records.count (mark - 1) (mark_leads records.order records.bytes records.count n mark marks are is some))
 
 -- what holds of marks in these words

@@ -3,26 +3,27 @@ use Rattle.std.proofs.Common.{◌≡◌, ◌≢◌, ℕ, ◌==◌, ◌<◌, ◌�
 use Rattle.std.proofs.lemmas.Bool.{eq-eqb, ne_eqb}
 use Rattle.elf_linking.specs.DynamicView.{needed_by}
 use Rattle.elf_linking.specs.declared.error.LinkError.{LinkError}
-use Rattle.elf_linking.specs.declared.view.entry.DynamicEntry.{DynamicEntry}
+use Rattle.elf_records.specs.Dynamic.{dynamic_tag, dynamic_value}
+use Rattle.elf_records.specs.declared.dynamic.Dynamic.{Dynamic}
 use Rattle.elf_linking.specs.declared.view.tags.TheConstants.{DT_NEEDED}
 
-pub needed_none : (name_at : ℕ → Result (List ℕ) LinkError) (entries : List (DynamicEntry ℕ)) → entries ≡ [] → needed_by name_at entries ≡ []
+pub needed_none : (name_at : ℕ → Result (List ℕ) LinkError) (entries : List (Dynamic ℕ)) → entries ≡ [] → needed_by name_at entries ≡ []
 needed_none name_at entries is = ap (needed_by name_at) is
 
-pub needed_first : (name_at : ℕ → Result (List ℕ) LinkError) (entries others : List (DynamicEntry ℕ)) (entry : DynamicEntry ℕ) → entries ≡ entry ∷ others → entry.tag ≡ DT_NEEDED → needed_by name_at entries ≡ name_at entry.number ∷ needed_by name_at others
-needed_first name_at entries others entry is tagged = ap (needed_by name_at) is ∙ rw (eq-eqb entry.tag DT_NEEDED tagged) refl
+pub needed_first : (name_at : ℕ → Result (List ℕ) LinkError) (entries others : List (Dynamic ℕ)) (entry : Dynamic ℕ) → entries ≡ entry ∷ others → dynamic_tag entry ≡ DT_NEEDED → needed_by name_at entries ≡ name_at (dynamic_value entry) ∷ needed_by name_at others
+needed_first name_at entries others entry is tagged = ap (needed_by name_at) is ∙ rw (eq-eqb (dynamic_tag entry) DT_NEEDED tagged) refl
 
-pub needed_other : (name_at : ℕ → Result (List ℕ) LinkError) (entries others : List (DynamicEntry ℕ)) (entry : DynamicEntry ℕ) → entries ≡ entry ∷ others → entry.tag ≢ DT_NEEDED → needed_by name_at entries ≡ needed_by name_at others
-needed_other name_at entries others entry is other = ap (needed_by name_at) is ∙ rw (ne_eqb entry.tag DT_NEEDED other) refl
+pub needed_other : (name_at : ℕ → Result (List ℕ) LinkError) (entries others : List (Dynamic ℕ)) (entry : Dynamic ℕ) → entries ≡ entry ∷ others → dynamic_tag entry ≢ DT_NEEDED → needed_by name_at entries ≡ needed_by name_at others
+needed_other name_at entries others entry is other = ap (needed_by name_at) is ∙ rw (ne_eqb (dynamic_tag entry) DT_NEEDED other) refl
 
 -- the names are no more than the entries
 few_by : {A : Type 0} (b : Bool) (name : A) (names : List A) (count : ℕ) → length names ≤ count → length (if b then name ∷ names else names) ≤ suc count
 few_by true name names count few = omega (arith, few)
 few_by false name names count few = omega (arith, few)
 
-needed_few : (name_at : ℕ → Result (List ℕ) LinkError) (entries : List (DynamicEntry ℕ)) → length (needed_by name_at entries) ≤ length entries
+needed_few : (name_at : ℕ → Result (List ℕ) LinkError) (entries : List (Dynamic ℕ)) → length (needed_by name_at entries) ≤ length entries
 needed_few name_at [] = omega arith
-needed_few name_at (entry ∷ entries) = few_by (entry.tag == DT_NEEDED) (name_at entry.number) (needed_by name_at entries) (length entries) (needed_few name_at entries)
+needed_few name_at (entry ∷ entries) = few_by (dynamic_tag entry == DT_NEEDED) (name_at (dynamic_value entry)) (needed_by name_at entries) (length entries) (needed_few name_at entries)
 
-pub needed_fits : (name_at : ℕ → Result (List ℕ) LinkError) (entries : List (DynamicEntry ℕ)) (bound : ℕ) → length entries < bound → length (needed_by name_at entries) < bound
+pub needed_fits : (name_at : ℕ → Result (List ℕ) LinkError) (entries : List (Dynamic ℕ)) (bound : ℕ) → length entries < bound → length (needed_by name_at entries) < bound
 needed_fits name_at entries bound fits = let few = needed_few name_at entries in omega (arith, few, fits)

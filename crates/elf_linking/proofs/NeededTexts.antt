@@ -5,7 +5,8 @@ use Rattle.elf_base.specs.Text.{bytes_up_to_zero_of, text_of}
 use Rattle.elf_base.specs.declared.error.ElfError.{ElfError}
 use Rattle.elf_linking.specs.DynamicView.{as_link_error, as_linked_text, bytes_in_strings, needed_bytes_in, needed_in, text_in_strings}
 use Rattle.elf_linking.specs.declared.error.LinkError.{LinkError}
-use Rattle.elf_linking.specs.declared.view.entry.DynamicEntry.{DynamicEntry}
+use Rattle.elf_records.specs.Dynamic.{dynamic_tag, dynamic_value}
+use Rattle.elf_records.specs.declared.dynamic.Dynamic.{Dynamic}
 use Rattle.elf_linking.specs.declared.view.tags.TheConstants.{DT_NEEDED}
 
 text_by : (table : List ℕ) (place : ℕ) (found : Result (List ℕ) ElfError) → bytes_up_to_zero_of table place ≡ found → as_link_error (text_of table place) ≡ as_linked_text (as_link_error found)
@@ -20,8 +21,8 @@ step : (b : Bool) (text bytes : Result (List ℕ) LinkError) (texts parts : List
 step true text bytes texts parts first others = cc
 step false text bytes texts parts first others = others
 
-pub needed_texts : (strings : Result (List ℕ) LinkError) (entries : List (DynamicEntry ℕ)) → needed_in strings entries ≡ map as_linked_text (needed_bytes_in strings entries)
+pub needed_texts : (strings : Result (List ℕ) LinkError) (entries : List (Dynamic ℕ)) → needed_in strings entries ≡ map as_linked_text (needed_bytes_in strings entries)
 needed_texts strings [] = refl
 needed_texts strings (entry ∷ entries) =
-    step (entry.tag == DT_NEEDED) (text_in_strings strings entry.number) (bytes_in_strings strings entry.number) (needed_in strings entries) (needed_bytes_in strings entries)
-    (text_as_bytes strings entry.number) (needed_texts strings entries)
+    step (dynamic_tag entry == DT_NEEDED) (text_in_strings strings (dynamic_value entry)) (bytes_in_strings strings (dynamic_value entry)) (needed_in strings entries) (needed_bytes_in strings entries)
+    (text_as_bytes strings (dynamic_value entry)) (needed_texts strings entries)

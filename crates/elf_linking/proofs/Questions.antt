@@ -8,7 +8,7 @@ use Rattle.elf_linking.specs.DynamicObject.{object_dynamic_symbols, object_machi
 use Rattle.elf_linking.specs.Find.{AreReadable, DynamicSymbols, FindsRight, IsFound, IsRight, at_once, by_default, no_version}
 use Rattle.elf_linking.specs.References.{use_of}
 use Rattle.elf_linking.specs.Scope.{AnswersAsked, asked_of, asked_parts, asked_with, binds_to_itself, is_hidden_need, text_alone, wanted_by, wanted_of, wanted_parts}
-use Rattle.elf_linking.specs.VersionTables.{item_by, version_tables}
+use Rattle.elf_linking.specs.VersionTables.{result_map, version_tables}
 use Rattle.elf_linking.specs.Versions.{NamedParts, VersionParts, named_hash, named_name, number_of, version_at}
 use Rattle.elf_linking.specs.declared.error.LinkError.{LinkError}
 use Rattle.elf_linking.specs.declared.find.Use as uses
@@ -29,7 +29,7 @@ wanted_read : (version : Option VersionParts) → IfSome version (λ v. HasName 
 wanted_read None read = refl
 wanted_read (Some version) read = by_named version.named read
   where
-    by_hash : (named : NamedParts) (none : Bool) → IsOk (named_name named) → IsOk (if none then Ok Unversioned else item_by (λ name. Version (text_alone name) (named_hash named) (is_hidden_need named)) (named_name named))
+    by_hash : (named : NamedParts) (none : Bool) → IsOk (named_name named) → IsOk (if none then Ok Unversioned else result_map (λ name. Version (text_alone name) (named_hash named) (is_hidden_need named)) (named_name named))
     by_hash named true has = refl
     by_hash named false has = item_ok (λ name. Version (text_alone name) (named_hash named) (is_hidden_need named)) (named_name named) has
 
@@ -54,8 +54,8 @@ no_name fields strings None none named = cc
 no_name fields strings (Some symbol) none named = cc
 
 -- what a reference asks for is no error
-pub asked_read : {E : Type 0} → {r : _} → (fields : E → SymbolFields) (text_in : E → ElfFile → Option (List ℕ)) (object : DynamicObject E r) (reference : Reference) → AreReadable (object_dynamic_symbols fields text_in object) → IsOk (object_name fields object reference.symbol) → IsOk (asked_of fields object reference)
-asked_read {E} fields text_in object reference readable named = by_symbol (slice_get (table_items (object_records object)) reference.symbol) refl named
+pub asked_read : {E : Type 0} → {r : _} → (fields : E → SymbolFields) (object : DynamicObject E r) (reference : Reference) → AreReadable (object_dynamic_symbols fields object) → IsOk (object_name fields object reference.symbol) → IsOk (asked_of fields object reference)
+asked_read {E} fields object reference readable named = by_symbol (slice_get (table_items (object_records object)) reference.symbol) refl named
   where
     by_binding : (own : Bool) (symbol : E) → reference.symbol < length (table_items (object_records object)) → IsOk (object_name fields object reference.symbol) → IsOk (if own then Ok (Own symbol) else and_then (object_name fields object reference.symbol) (λ name. and_then (version_at (version_tables (object_versions object)) reference.symbol) (λ version. and_then (wanted_of version) (λ wanted. Ok (Look (text_alone name) wanted (use_of (object_machine object) reference.kind))))))
     by_binding true symbol below named = refl
@@ -92,10 +92,10 @@ module _ {E : Type 0} (file : DynamicSymbols E) (name : List ℕ) (purpose : use
   right_alone Newest answer right = right
 
 -- the results of what is asked for, by how the question is answered
-module _ {E : Type 0} (Finds : List ℕ → Wanted → uses.Use → Result (Option (Bound E)) LinkError → Type 0) (from index : ℕ) (read said : Result (Asked E) LinkError) (is : item_by asked_parts read ≡ said) where
+module _ {E : Type 0} (Finds : List ℕ → Wanted → uses.Use → Result (Option (Bound E)) LinkError → Type 0) (from index : ℕ) (read said : Result (Asked E) LinkError) (is : result_map asked_parts read ≡ said) where
   module _ (name : Bor (List ℕ)) (wanted : Wanted) (purpose : uses.Use) (look_is : read ≡ Ok (Look name wanted purpose)) where
     said_look : said ≡ Ok (Look (text_alone name.now) (wanted_parts wanted) purpose)
-    said_look = rw (← is) (ap (item_by asked_parts) look_is)
+    said_look = rw (← is) (ap (result_map asked_parts) look_is)
 
     pub look_answer : (answer : Result (Option (Bound E)) LinkError) → Finds name.now (wanted_parts wanted) purpose answer → MatchResult said (λ asked. AnswersAsked Finds from index asked answer) (λ error. answer ≡ Err error)
     look_answer answer finds = subst (λ s. MatchResult s (λ asked. AnswersAsked Finds from index asked answer) (λ error. answer ≡ Err error)) (sym said_look) finds
@@ -108,7 +108,7 @@ module _ {E : Type 0} (Finds : List ℕ → Wanted → uses.Use → Result (Opti
 
   module _ (error : LinkError) (error_is : read ≡ Err error) where
     said_error : said ≡ Err error
-    said_error = rw (← is) (ap (item_by asked_parts) error_is)
+    said_error = rw (← is) (ap (result_map asked_parts) error_is)
 
     pub error_answer : MatchResult said (λ asked. AnswersAsked Finds from index asked (Err error)) (λ why. ◌≡◌ {A = Result (Option (Bound E)) LinkError} (Err error) (Err why))
     error_answer = subst (λ s. MatchResult s (λ asked. AnswersAsked Finds from index asked (Err error)) (λ why. ◌≡◌ {A = Result (Option (Bound E)) LinkError} (Err error) (Err why))) (sym said_error) refl

@@ -7,7 +7,7 @@ use Rattle.std.specs.Borrow.{Bor}
 use Rattle.std.specs.Slice.{IsItemAt}
 use Rattle.elf_linking.specs.Find.{DynamicSymbols, FindsRight}
 use Rattle.elf_linking.specs.Scope.{Gives, GivesAt, IsFirstGiven, NoneBefore, asked, can_bind, fails, given, if_serving, is_passed_over, lacks, nowhere, passed_over, refused, serves, serves_none}
-use Rattle.elf_linking.specs.VersionTables.{item_by}
+use Rattle.elf_linking.specs.VersionTables.{result_map}
 use Rattle.elf_linking.specs.declared.error.LinkError.{LinkError}
 use Rattle.elf_linking.specs.declared.find.Use as uses
 use Rattle.elf_linking.specs.declared.find.Wanted.{Wanted}
@@ -119,16 +119,16 @@ module _ {E : Type 0} (Finds : DynamicSymbols E → Result (Option (ℕ × E)) L
   by_found at true is finds = serves at finds is
   by_found at false is finds = serves_none at finds is
 
-  gives_found : (found : Result (Option (ℕ × E)) LinkError) → Finds file found → Gives Finds file (item_by (if_serving file.symbols.fields) found)
+  gives_found : (found : Result (Option (ℕ × E)) LinkError) → Finds file found → Gives Finds file (result_map (if_serving file.symbols.fields) found)
   gives_found (Ok None) finds = lacks finds
   gives_found (Ok (Some at)) finds = by_found at (can_bind (file.symbols.fields at.1)) refl finds
   gives_found (Err error) finds = fails error finds
 
-  gives_once : (found : Result (Option (ℕ × E)) LinkError) → ((other : Result (Option (ℕ × E)) LinkError) → Finds file other → other ≡ found) → (answer : Result (Option (ℕ × E)) LinkError) → Gives Finds file answer → answer ≡ item_by (if_serving file.symbols.fields) found
-  gives_once found only _ (serves at finds is) = rw is refl ∙ ap (item_by (if_serving file.symbols.fields)) (only (Ok (Some at)) finds)
-  gives_once found only _ (serves_none at finds is) = rw is refl ∙ ap (item_by (if_serving file.symbols.fields)) (only (Ok (Some at)) finds)
-  gives_once found only _ (lacks finds) = ap (item_by (if_serving file.symbols.fields)) (only (Ok None) finds)
-  gives_once found only _ (fails error finds) = ap (item_by (if_serving file.symbols.fields)) (only (Err error) finds)
+  gives_once : (found : Result (Option (ℕ × E)) LinkError) → ((other : Result (Option (ℕ × E)) LinkError) → Finds file other → other ≡ found) → (answer : Result (Option (ℕ × E)) LinkError) → Gives Finds file answer → answer ≡ result_map (if_serving file.symbols.fields) found
+  gives_once found only _ (serves at finds is) = rw is refl ∙ ap (result_map (if_serving file.symbols.fields)) (only (Ok (Some at)) finds)
+  gives_once found only _ (serves_none at finds is) = rw is refl ∙ ap (result_map (if_serving file.symbols.fields)) (only (Ok (Some at)) finds)
+  gives_once found only _ (lacks finds) = ap (result_map (if_serving file.symbols.fields)) (only (Ok None) finds)
+  gives_once found only _ (fails error finds) = ap (result_map (if_serving file.symbols.fields)) (only (Err error) finds)
 
 -- what the object at an index gives
 module _ {E : Type 0} (objects : ℕ → Option (DynamicSymbols E)) (purpose : uses.Use) (index : ℕ) where
@@ -141,7 +141,7 @@ module _ {E : Type 0} (objects : ℕ → Option (DynamicSymbols E)) (purpose : u
   over_once Finds is _ (asked file answer not there gives) = absurd cc
 
   -- otherwise what a search finds, if that serves
-  module _ (Finds : DynamicSymbols E → Result (Option (ℕ × E)) LinkError → Type 0) (not : is_passed_over purpose index ≡ false) (file : DynamicSymbols E) (there : objects index ≡ Some file) (found answer : Result (Option (ℕ × E)) LinkError) (is : answer ≡ item_by (if_serving file.symbols.fields) found) where
+  module _ (Finds : DynamicSymbols E → Result (Option (ℕ × E)) LinkError → Type 0) (not : is_passed_over purpose index ≡ false) (file : DynamicSymbols E) (there : objects index ≡ Some file) (found answer : Result (Option (ℕ × E)) LinkError) (is : answer ≡ result_map (if_serving file.symbols.fields) found) where
     pub gives_at : Finds file found → GivesAt Finds objects purpose index answer
     gives_at finds = asked file answer not there (subst (Gives Finds file) (sym is) (gives_found Finds file found finds))
 

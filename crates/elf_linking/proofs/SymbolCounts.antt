@@ -1,11 +1,12 @@
 -- The number of symbols of a dynamic segment has only one result: GNU hash tables with the same bytes count the
 -- same.
 use Rattle.std.proofs.Common.{◌≡◌, ◌+◌, ◌%◌, ◌<◌, ◌≤◌, ℕ, List, length, Result, Ok, Err, sym, ap, ◌∙◌, subst}
-use Rattle.elf_linking.specs.DynamicView.{AreSymbols, CountStops, CountsFrom, GoesTo, IsGnuCount, IsLastRun, IsSymbolCount, by_gnu, by_hash, counted, ended, gnu_hash_table_of, no_run, no_table, number_with, refused, symbol_bytes, too_long}
+use Rattle.elf_linking.specs.GnuCount.{CountStops, CountsFrom, GoesTo, IsGnuCount, IsLastRun, counted, ended, no_run, refused, too_long}
+use Rattle.elf_linking.specs.DynamicView.{AreSymbols, IsSymbolCount, by_gnu, by_hash, gnu_hash_table_of, no_table, number_with, symbol_bytes}
 use Rattle.elf_linking.specs.GnuHash.{EndsRun, HasChain, bucket_count_of, bucket_word, chain_of, chain_place, chain_word, first_symbol_of, gnu_class, gnu_data, gnu_order}
 use Rattle.elf_linking.specs.declared.error.LinkError.{LinkError}
 use Rattle.elf_linking.specs.declared.gnu_hash.GnuHashTable.{GnuHashTable}
-use Rattle.elf_linking.specs.declared.view.entry.DynamicEntry.{DynamicEntry}
+use Rattle.elf_records.specs.declared.dynamic.Dynamic.{Dynamic}
 use Rattle.elf_linking.specs.declared.view.tags.TheConstants.{DT_SYMTAB}
 use Rattle.elf_linking.proofs.GnuCounts.{count_once}
 use Rattle.xmas_elf.specs.declared.ElfFile.{ElfFile}
@@ -73,7 +74,7 @@ same_bytes found one other is is' = let same = sym is ∙ is' in cc
 same_errors : (found : Result (List ℕ) LinkError) (one other : LinkError) → found ≡ Err one → found ≡ Err other → one ≡ other
 same_errors found one other is is' = let same = sym is ∙ is' in cc
 
-module _ (file : ElfFile) (entries : List (DynamicEntry ℕ)) where
+module _ (file : ElfFile) (entries : List (Dynamic ℕ)) where
   pub symbol_count_once : (one other : Result ℕ LinkError) → IsSymbolCount file entries one → IsSymbolCount file entries other → one ≡ other
   symbol_count_once _ _ (by_hash a one is answer) (by_hash b other is' answer') = answer ∙ sym answer'
   symbol_count_once _ _ (by_hash a one is answer) (by_gnu table other none gnu count) = absurd (cc)

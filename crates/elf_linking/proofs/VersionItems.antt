@@ -5,7 +5,7 @@ use Rattle.std.proofs.lemmas.Bool.{lt-ltb, le-ltb, ltb-true, ltb-false, leb-true
 use Rattle.std.proofs.lemmas.List.{length-map}
 use Rattle.elf_linking.specs.declared.error.LinkError.{LinkError}
 use Rattle.elf_linking.specs.declared.error.LinkError.TheVariants.{VersionCount}
-use Rattle.elf_linking.specs.VersionTables.{AreDefinitions, AreNeeds, AreParts, ended, cut_off, too_many, enough, NeedParts, VersionRecords, definition_at, definitions_in, file_offset, first_part, item_by, joined, need_at, needs_in, part_count, parts_at, parts_within, places_of, room_of}
+use Rattle.elf_linking.specs.VersionTables.{AreDefinitions, AreNeeds, AreParts, ended, cut_off, too_many, enough, NeedParts, VersionRecords, definition_at, definitions_in, file_offset, first_part, result_map, joined, need_at, needs_in, part_count, parts_at, parts_within, places_of, room_of}
 use Rattle.elf_linking.proofs.VersionPlaces.{places_are, places_fit}
 
 pub items_end : {A B : Type 0} (make : Result A LinkError → B) (items : List (Result A LinkError)) → items ≡ [] → map make items ≡ []
@@ -22,9 +22,9 @@ definitions_are records = record {
 }
 
 -- there are no more items than places, and no more places than records
-items_few : {A : Type 0} (make : ℕ → A) (records : VersionRecords) (offset start count : ℕ) → length (map (item_by make) (places_of records offset start count)) ≤ count
+items_few : {A : Type 0} (make : ℕ → A) (records : VersionRecords) (offset start count : ℕ) → length (map (result_map make) (places_of records offset start count)) ≤ count
 items_few make records offset start count =
-    let same = length-map (places_of records offset start count) (item_by make) in
+    let same = length-map (places_of records offset start count) (result_map make) in
     let few = places_fit records offset start count in omega (arith, same, few)
 
 pub definitions_fit : (records : VersionRecords) (bound : ℕ) → records.count < bound → length (definitions_in records) < bound
@@ -63,24 +63,24 @@ joined_cut items others rest error is = ap (λ front. joined front rest) is
 
 -- the items left behind the last part of a need, if there is no room for the next one's parts, and if there is
 pub left_many : (records : VersionRecords) (file room place : ℕ) (parts needs others : List (Result ℕ LinkError)) → parts ≡ [] → needs ≡ Ok place ∷ others → nat_le (part_count records place) room ≡ false
-    → joined (map (item_by (need_at records file)) parts) (parts_within records room needs) ≡ Err VersionCount ∷ []
+    → joined (map (result_map (need_at records file)) parts) (parts_within records room needs) ≡ Err VersionCount ∷ []
 left_many records file room place parts needs others bare begins never =
-    joined_end (map (item_by (need_at records file)) parts) (parts_within records room needs) (items_end (item_by (need_at records file)) parts bare)
+    joined_end (map (result_map (need_at records file)) parts) (parts_within records room needs) (items_end (result_map (need_at records file)) parts bare)
     ∙ within_many records room place needs others begins never
 
 pub left_fits : (records : VersionRecords) (file room place : ℕ) (parts needs others : List (Result ℕ LinkError)) → parts ≡ [] → needs ≡ Ok place ∷ others → nat_le (part_count records place) room ≡ true
-    → joined (map (item_by (need_at records file)) parts) (parts_within records room needs) ≡ joined (parts_at records place) (parts_within records (room - part_count records place) others)
+    → joined (map (result_map (need_at records file)) parts) (parts_within records room needs) ≡ joined (parts_at records place) (parts_within records (room - part_count records place) others)
 left_fits records file room place parts needs others bare begins fits =
-    joined_end (map (item_by (need_at records file)) parts) (parts_within records room needs) (items_end (item_by (need_at records file)) parts bare)
+    joined_end (map (result_map (need_at records file)) parts) (parts_within records room needs) (items_end (result_map (need_at records file)) parts bare)
     ∙ within_fits records room place needs others begins fits
 
 -- no parts are left at the start
-pub needs_start : (records : VersionRecords) (make : ℕ → NeedParts) (rest : List (Result NeedParts LinkError)) → joined (map (item_by make) (places_of records 12 0 0)) rest ≡ rest
+pub needs_start : (records : VersionRecords) (make : ℕ → NeedParts) (rest : List (Result NeedParts LinkError)) → joined (map (result_map make) (places_of records 12 0 0)) rest ≡ rest
 unfolding places_of
 needs_start records make rest = refl
 
 -- nothing is left behind a refusal
-pub needs_ended : (records : VersionRecords) (make : ℕ → NeedParts) (room place start : ℕ) → joined (map (item_by make) (places_of records 12 start 0)) (parts_within records room (places_of records 12 place 0)) ≡ []
+pub needs_ended : (records : VersionRecords) (make : ℕ → NeedParts) (room place start : ℕ) → joined (map (result_map make) (places_of records 12 start 0)) (parts_within records room (places_of records 12 place 0)) ≡ []
 unfolding places_of parts_within
 needs_ended records make room place start = refl
 

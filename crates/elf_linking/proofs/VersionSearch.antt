@@ -4,7 +4,7 @@ use Rattle.std.specs.Prelude.{nat_lt, not, option_map}
 use Rattle.std.proofs.lemmas.Bool.{eqb-true, eq-eqb, ne_eqb, ltb-true, ltb-false}
 use Rattle.elf_base.specs.Refusal.{and_then}
 use Rattle.elf_linking.specs.declared.error.LinkError.{LinkError}
-use Rattle.elf_linking.specs.VersionTables.{DefinitionParts, NeedParts, VersionTables, definitions_in, item_by, needs_in, version_number}
+use Rattle.elf_linking.specs.VersionTables.{DefinitionParts, NeedParts, VersionTables, definitions_in, result_map, needs_in, version_number}
 use Rattle.elf_linking.proofs.lemmas.FirstItems.{first_is}
 use Rattle.elf_linking.specs.Versions.{BearsDefined, BearsNeeded, IsFirst, IsNamed, reserved, defined, needed, unnamed, no_definitions, no_needs, IsVersion, no_numbers, no_number, version, unreadable, NamedParts, Needed, VersionParts, bears_defined, bears_needed, first_item, named_of, number_of, or_needed, version_at, version_by, version_with}
 
@@ -31,7 +31,7 @@ needed_misses n need is holds =
 
 -- the computed answer is what bears the number
 needs_by : (tables : VersionTables) (n : ℕ) (answer : Result (Option NeedParts) LinkError) → 2 ≤ n → IsFirst (BearsDefined n) (definitions_in tables.definitions) (Ok None)
-    → IsFirst (BearsNeeded n) (needs_in tables.needs) answer → IsNamed tables n (item_by (option_map Needed) answer)
+    → IsFirst (BearsNeeded n) (needs_in tables.needs) answer → IsNamed tables n (result_map (option_map Needed) answer)
 needs_by tables n (Ok (Some need)) above none first = needed need above none first
 needs_by tables n (Ok None) above none first = unnamed above none first
 needs_by tables n (Err error) above none first = no_needs error above none first
@@ -56,7 +56,7 @@ named_is tables n = named_by tables n (nat_lt n 2) refl
 
 -- the computed version is that of the symbol
 versions_by : (tables : VersionTables) (index raw : ℕ) (answer : Result (Option NamedParts) LinkError) → number_of tables index ≡ Ok (Some raw) → IsNamed tables (version_number raw) answer
-    → IsVersion tables index (item_by (λ named. Some (version_by raw named)) answer)
+    → IsVersion tables index (result_map (λ named. Some (version_by raw named)) answer)
 versions_by tables index raw (Ok named) is bears = version raw named is bears
 versions_by tables index raw (Err error) is bears = unreadable raw error is bears
 

@@ -5,13 +5,13 @@ use Rattle.std.specs.Prelude.{option_map, ◌||◌}
 use Rattle.std.specs.Str.{bytes_eq}
 use Rattle.elf_base.specs.Refusal.{and_then}
 use Rattle.elf_linking.specs.Find.{AreReadable, DynamicSymbols, accepted, accepts_version, is_below, is_open, is_version}
-use Rattle.elf_linking.specs.VersionTables.{DefinitionParts, NeedParts, VersionTables, definitions_in, item_by, needs_in, version_number}
+use Rattle.elf_linking.specs.VersionTables.{DefinitionParts, NeedParts, VersionTables, definitions_in, result_map, needs_in, version_number}
 use Rattle.elf_linking.specs.Versions.{NamedParts, Needed, VersionParts, bears_defined, bears_needed, first_item, named_hash, named_name, named_of, number_of, or_needed, version_at, version_by, version_with}
 use Rattle.elf_linking.specs.declared.error.LinkError.{LinkError}
 use Rattle.elf_linking.specs.declared.find.Wanted.{Wanted}
 use Rattle.elf_linking.specs.declared.find.Wanted.TheVariants.{Newest, Unversioned, Version}
 
-pub item_ok : {A B : Type 0} (make : A → B) (answer : Result A LinkError) → IsOk answer → IsOk (item_by make answer)
+pub item_ok : {A B : Type 0} (make : A → B) (answer : Result A LinkError) → IsOk answer → IsOk (result_map make answer)
 item_ok make (Ok item) ok = refl
 item_ok make (Err error) ok = ok
 
@@ -31,7 +31,7 @@ abbrev pub HasName : Option NamedParts → Type 0
 HasName named = IfSome named (λ n. IsOk (named_name n))
 
 module _ (tables : VersionTables) (defined : All (λ item. IsOkAnd item (λ d. IsOk d.name)) (definitions_in tables.definitions)) (needed : All (λ item. IsOkAnd item (λ need. IsOk need.name)) (needs_in tables.needs)) where
-  by_need : (answer : Result (Option NeedParts) LinkError) → IsOkAnd answer (λ found. IfSome found (λ need. IsOk need.name)) → IsOkAnd (item_by (option_map Needed) answer) HasName
+  by_need : (answer : Result (Option NeedParts) LinkError) → IsOkAnd answer (λ found. IfSome found (λ need. IsOk need.name)) → IsOkAnd (result_map (option_map Needed) answer) HasName
   by_need (Ok None) read = tt
   by_need (Ok (Some need)) read = read
   by_need (Err error) read = absurd read
@@ -48,7 +48,7 @@ module _ (tables : VersionTables) (defined : All (λ item. IsOkAnd item (λ d. I
       by_number true = tt
       by_number false = by_definition n (first_item (bears_defined n) (definitions_in tables.definitions)) (first_read (bears_defined n) (λ d. IsOk d.name) (definitions_in tables.definitions) defined)
 
-  with_name : (raw : ℕ) (answer : Result (Option NamedParts) LinkError) → IsOkAnd answer HasName → IsOkAnd (item_by (λ named. Some (version_by raw named)) answer) (λ version. IfSome version (λ v. HasName v.named))
+  with_name : (raw : ℕ) (answer : Result (Option NamedParts) LinkError) → IsOkAnd answer HasName → IsOkAnd (result_map (λ named. Some (version_by raw named)) answer) (λ version. IfSome version (λ v. HasName v.named))
   with_name raw (Ok named) read = read
   with_name raw (Err error) read = absurd read
 
@@ -61,7 +61,7 @@ is_version_read : (name : List ℕ) (hash : ℕ) (named : Option NamedParts) →
 is_version_read name hash None has = refl
 is_version_read name hash (Some named) has = by_hash (named_hash named == hash)
   where
-    by_hash : (same : Bool) → IsOk (if same then item_by (λ other. bytes_eq other name) (named_name named) else Ok false)
+    by_hash : (same : Bool) → IsOk (if same then result_map (λ other. bytes_eq other name) (named_name named) else Ok false)
     by_hash true = item_ok (λ other. bytes_eq other name) (named_name named) has
     by_hash false = refl
 

@@ -9,7 +9,7 @@ use Rattle.elf_base.specs.Number.{number}
 use Rattle.elf_linking.specs.DynamicView.{LieAsSymbols, chain_count_in, checked, number_with, passed}
 use Rattle.elf_linking.specs.Layouts.{IsGnuTable, bloom_count_in, chains_in, gnu_table_of, is_known}
 use Rattle.elf_linking.specs.Loaded.{IsAt, LiesAsLoaded}
-use Rattle.elf_linking.specs.declared.view.entry.DynamicEntry.{DynamicEntry}
+use Rattle.elf_records.specs.declared.dynamic.Dynamic.{Dynamic}
 use Rattle.elf_linking.specs.declared.view.tags.TheConstants.{DT_SYMTAB}
 use Rattle.elf_base.specs.Refusal.{unless}
 use Rattle.elf_linking.specs.declared.error.LinkError.{LinkError}
@@ -50,7 +50,7 @@ whole_at file address count size above (Ok part) is =
 whole_at file address count size above (Err error) is = tt
 
 -- the bytes of the symbols are at the address in the entry SymTab
-pub lie_at : (file : ElfFile) (entries : List (DynamicEntry ℕ)) (address count : ℕ) → number_with DT_SYMTAB entries ≡ Some address → (found : Result (Bor (List ℕ)) LinkError)
+pub lie_at : (file : ElfFile) (entries : List (Dynamic ℕ)) (address count : ℕ) → number_with DT_SYMTAB entries ≡ Some address → (found : Result (Bor (List ℕ)) LinkError)
     → IfOk found (λ part. IsAt file address count part.now) → IfOk found (LiesAsLoaded file address count) → IfOk found (LieAsSymbols file entries)
 lie_at file entries address count is (Ok part) at lies = rw is (subst (λ n. LiesAsLoaded file address n part) (sym at.count_is) lies)
 lie_at file entries address count is (Err error) at lies = tt

@@ -1,3 +1,4 @@
 pub mod GnuTables
 pub mod Looking
 pub mod FirstItems
+pub mod Objects

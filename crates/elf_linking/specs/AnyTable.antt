@@ -1,28 +1,25 @@
 -- Hash tables of either kind: their check, and look-ups (gABI, "Hash Table"; the convention of GNU binutils
 -- and glibc).
 use Rattle.std.specs.Prelude.{◌≡◌, ◌≢◌, ◌<◌, ◌≤◌, ℕ, List, Option, Some, None, MatchOption, MatchResult, Result, Ok, Err, slice_get}
-use Rattle.std.specs.Result.{result_ok}
 use Rattle.elf_base.specs.FileHeader.{file_order}
 use Rattle.elf_base.specs.declared.error.ElfError.TheVariants.{HashCycle}
-use Rattle.elf_base.specs.Table.{records}
 use Rattle.xmas_elf.specs.HashTable.{chain_count_of, hash_data, hash_order}
-use Rattle.xmas_elf.specs.Types.{ElfError, ElfFile, HashTable, DynEntry32, DynEntry64, Order}
-use Rattle.xmas_elf.specs.Symbol.{IsGlobal, Symbols, dyn_entry_32, dyn_entry_32_fields, dyn_entry_64, dyn_entry_64_fields}
-use Rattle.elf_linking.specs.DynamicView.{IsGnuTableBy, as_link_error, gnu_hash_table_of, hash_table_of, linked_text_of, number_with}
+use Rattle.xmas_elf.specs.Types.{ElfError, ElfFile, HashTable}
+use Rattle.xmas_elf.specs.Symbol.{IsGlobal, Symbols}
+use Rattle.elf_linking.specs.DynamicView.{IsGnuTableBy, as_link_error, gnu_hash_table_of, hash_table_of, number_with}
 use Rattle.elf_linking.specs.GnuHash.{first_symbol_of}
 use Rattle.elf_linking.specs.declared.any_table.AnyTable.{AnyTable}
 use Rattle.elf_linking.specs.declared.any_table.AnyTable.TheVariants.{Gnu, Sysv}
 use Rattle.elf_linking.specs.declared.error.LinkError.{LinkError}
 use Rattle.elf_linking.specs.declared.error.LinkError.TheVariants.{Elf}
 use Rattle.elf_linking.specs.declared.gnu_hash.GnuHashTable.{GnuHashTable}
-use Rattle.elf_linking.specs.declared.view.entry.DynamicEntry.{DynamicEntry}
+use Rattle.elf_records.specs.declared.dynamic.Dynamic.{Dynamic}
 use Rattle.elf_linking.specs.declared.view.tags.TheConstants.{DT_GNU_HASH}
-use Rattle.elf_linking.specs.declared.view.linked_entry.Linked.{Linked}
 use Rattle.elf_linking.specs.GnuHash as gnu
 use Rattle.xmas_elf.specs.HashTable as gabi
 
 -- the table is GNU's if there is an entry for it (DT_GNU_HASH), otherwise that of the standard
-pub data IsLinkedTable (file : ElfFile) (entries : List (DynamicEntry ℕ)) : AnyTable → Type 0 where
+pub data IsLinkedTable (file : ElfFile) (entries : List (Dynamic ℕ)) : AnyTable → Type 0 where
   by_gnu : (address : ℕ) (table : GnuHashTable) → number_with DT_GNU_HASH entries ≡ Some address
       → IsGnuTableBy file entries table → IsLinkedTable file entries (Gnu table)
   by_hash : (table : HashTable) → number_with DT_GNU_HASH entries ≡ None
@@ -30,7 +27,7 @@ pub data IsLinkedTable (file : ElfFile) (entries : List (DynamicEntry ℕ)) : An
       → IsLinkedTable file entries (Sysv table)
 
 -- why there is no such table
-pub data IsTableRefused (file : ElfFile) (entries : List (DynamicEntry ℕ)) : LinkError → Type 0 where
+pub data IsTableRefused (file : ElfFile) (entries : List (Dynamic ℕ)) : LinkError → Type 0 where
   no_gnu : (address : ℕ) (error : LinkError) → number_with DT_GNU_HASH entries ≡ Some address
       → gnu_hash_table_of file entries ≡ Err error → IsTableRefused file entries error
   no_hash : (error : LinkError) → number_with DT_GNU_HASH entries ≡ None
@@ -119,18 +116,3 @@ HasDefinedName symbols name e = (symbols.text e ≡ Some name) × ((symbols.fiel
 abbrev pub LooksForDefined : {E : Type 0} → AnyTable → Symbols E → List ℕ → Option (ℕ × E) → Type 0
 LooksForDefined table symbols name found =
     (count : ℕ) × LooksBy (HasDefinedName symbols name) table symbols.items name (Ok found) count
-
--- the symbols in bytes, of either class, with their names in the string table of the dynamic segment
-abbrev pub linked_symbols_32 : ElfFile → Order → List ℕ → Symbols (Linked DynEntry32)
-linked_symbols_32 file order bytes = record {
-  items = records 16 (λ part. record { 0 = dyn_entry_32 order part }) bytes;
-  fields = λ e. dyn_entry_32_fields e.0;
-  text = λ e. result_ok (linked_text_of file (dyn_entry_32_fields e.0).name);
-}
-
-abbrev pub linked_symbols_64 : ElfFile → Order → List ℕ → Symbols (Linked DynEntry64)
-linked_symbols_64 file order bytes = record {
-  items = records 24 (λ part. record { 0 = dyn_entry_64 order part }) bytes;
-  fields = λ e. dyn_entry_64_fields e.0;
-  text = λ e. result_ok (linked_text_of file (dyn_entry_64_fields e.0).name);
-}

@@ -40,11 +40,12 @@ id_in align order input start (Ok bytes) =
     id_among (notes_of align order (record { ref_ptr = (input.ref_ptr.0, input.ref_ptr.1 + start); now = bytes }))
 id_in align order input start (Err error) = Err (Elf error)
 
--- the build id in a section, and in a segment, of any type
+-- the build id in a section of any type
 unfoldable pub id_of_section : ElfFile → SectionHeader → Result (Option (Bor (List ℕ))) LinkError
 id_of_section file section = let fields = section_fields section in
     id_in fields.align (file_order file.header) file.input fields.offset (section_data_of file section)
 
+-- the build id in a segment of any type
 unfoldable pub id_of_segment : ElfFile → ProgramHeader → Result (Option (Bor (List ℕ))) LinkError
 id_of_segment file program = let segment = program_fields program in
     id_in segment.align (file_order file.header) file.input segment.offset (segment_data_of file segment)
@@ -54,6 +55,7 @@ abbrev pub id_of_named : ElfFile → Option SectionHeader → Result (Option (Bo
 id_of_named file None = Ok None
 id_of_named file (Some section) = id_of_section file section
 
+-- the same by the name `.note.gnu.build-id`
 abbrev pub id_by_sections : ElfFile → Result (Option (Bor (List ℕ))) LinkError
 id_by_sections file = id_of_named file (section_named file (codes ".note.gnu.build-id"))
 

@@ -2,11 +2,14 @@
 -- symbols, the string table of their names, and its version tables.
 use Rattle.std.specs.Prelude.{◌≡◌, ◌≢◌, ◌/◌, ℕ, List, Option, Some, None, Result, Ok, Err, IfOk, MatchResult, length, slice_get}
 use Rattle.std.specs.Borrow.{Bor}
+use Rattle.std.specs.Result.{result_ok}
 use Rattle.elf_base.specs.FileHeader.{file_class, file_order, header_fields, machine_number}
-use Rattle.elf_base.specs.Table.{table_bytes, table_data, table_items, table_order}
+use Rattle.elf_base.specs.Table.{records, table_bytes, table_data, table_items, table_order}
+use Rattle.elf_base.specs.Text.{text_of}
+use Rattle.elf_base.specs.declared.bytes.Order.{Order}
 use Rattle.elf_base.specs.declared.bytes.table.Table.{Table}
 use Rattle.elf_linking.specs.AnyTable.{IsLinkedTable, IsTableRefused}
-use Rattle.elf_linking.specs.DynamicView.{AreSymbols, LieAsSymbols, LiesAsFileStrings, LiesAsStrings, bytes_in_strings, dynamic_entries_of, strings_by, strings_of, text_in_strings, view_entries, view_strings, view_table}
+use Rattle.elf_linking.specs.DynamicView.{AreSymbols, LieAsSymbols, LiesAsFileStrings, LiesAsStrings, bytes_in_strings, dynamic_entries_of, strings_by, dynamic_strings_of, text_in_strings, view_entries, view_strings, view_table}
 use Rattle.elf_linking.specs.Find.{DynamicSymbols, dynamic_symbols}
 use Rattle.elf_linking.specs.VersionTables.{version_tables, version_tables_of}
 use Rattle.elf_linking.specs.declared.any_table.AnyTable.{AnyTable}
@@ -15,46 +18,51 @@ use Rattle.elf_linking.specs.declared.error.LinkError.TheVariants.{SymbolIndex, 
 use Rattle.elf_linking.specs.declared.object.DynamicObject.{DynamicObject}
 use Rattle.elf_linking.specs.declared.versions.Versions.{Versions}
 use Rattle.elf_linking.specs.declared.view.dynamic.DynamicView.{DynamicView}
-use Rattle.elf_linking.specs.declared.view.entry.DynamicEntry.{DynamicEntry}
+use Rattle.elf_records.specs.declared.dynamic.Dynamic.{Dynamic}
 use Rattle.xmas_elf.specs.Symbol.{SymbolFields, Symbols}
-use Rattle.xmas_elf.specs.Symbols.{symbols_of}
+use Rattle.xmas_elf.specs.Symbols.{named_symbols}
 use Rattle.xmas_elf.specs.declared.ElfFile.{ElfFile}
 
--- the parts of an object: the dynamic segment, the hash table, the symbols without and with their names, the
--- string table of the names, the version tables, and the file
+-- the dynamic segment of an object
 abbrev pub object_view : {E : Type 0} → {r : _} → DynamicObject E r → DynamicView
 object_view object = object.view
 
+-- the hash table of its symbols
 abbrev pub object_table : {E : Type 0} → {r : _} → DynamicObject E r → AnyTable
 object_table object = object.table
 
+-- its symbols without their names
 abbrev pub object_records : {E : Type 0} → {r : _} → DynamicObject E r → Table E r
 object_records object = object.symbols
 
+-- the string table of the names
 abbrev pub object_strings : {E : Type 0} → {r : _} → DynamicObject E r → Bor (List ℕ)
 object_strings object = object.strings
 
+-- its version tables
 abbrev pub object_versions : {E : Type 0} → {r : _} → DynamicObject E r → Versions
 object_versions object = object.versions
 
+-- its file
 abbrev pub object_file : {E : Type 0} → {r : _} → DynamicObject E r → ElfFile
 object_file object = object.file
 
-abbrev pub object_symbols : {E : Type 0} → {r : _} → (E → SymbolFields) → (E → ElfFile → Option (List ℕ)) → DynamicObject E r → Symbols E
-object_symbols fields text_in object = symbols_of fields text_in (object_records object) (object_file object)
+-- its symbols with their names
+abbrev pub object_symbols : {E : Type 0} → {r : _} → (E → SymbolFields) → DynamicObject E r → Symbols E
+object_symbols fields object = named_symbols fields (object_strings object).now (object_records object)
 
 -- what a search for the symbol that a reference gets reads of it
-abbrev pub object_dynamic_symbols : {E : Type 0} → {r : _} → (E → SymbolFields) → (E → ElfFile → Option (List ℕ)) → DynamicObject E r → DynamicSymbols E
-object_dynamic_symbols fields text_in object =
-    dynamic_symbols (object_table object) (object_symbols fields text_in object) (version_tables (object_versions object))
+abbrev pub object_dynamic_symbols : {E : Type 0} → {r : _} → (E → SymbolFields) → DynamicObject E r → DynamicSymbols E
+object_dynamic_symbols fields object =
+    dynamic_symbols (object_table object) (object_symbols fields object) (version_tables (object_versions object))
 
 -- the bytes of the symbols of a file of this class, which have this size each
-pub record AreOfClass (class size : ℕ) (file : ElfFile) (entries : List (DynamicEntry ℕ)) (bytes : List ℕ) : Type 0 where
+pub record AreOfClass (class size : ℕ) (file : ElfFile) (entries : List (Dynamic ℕ)) (bytes : List ℕ) : Type 0 where
   pub class_is : file_class file.header ≡ class
   pub symbols_are : AreSymbols file entries size (Ok bytes)
 
 -- why there are none
-pub data AreRefused (class size : ℕ) (file : ElfFile) (entries : List (DynamicEntry ℕ)) : LinkError → Type 0 where
+pub data AreRefused (class size : ℕ) (file : ElfFile) (entries : List (Dynamic ℕ)) : LinkError → Type 0 where
   other_class : file_class file.header ≢ class → AreRefused class size file entries UnknownClass
   unreadable : (error : LinkError) → file_class file.header ≡ class
       → AreSymbols file entries size (Err error) → AreRefused class size file entries error
@@ -72,27 +80,48 @@ pub record IsObject {E : Type 0} {r : _} (class size : ℕ) (file : ElfFile) (ob
   pub symbols_are : AreOfClass class size file (view_entries (object_view object)) (table_data (object_records object))
   pub order_is : table_order (object_records object) ≡ file_order file.header
   pub symbols_lie : LieAsSymbols file (view_entries (object_view object)) (table_bytes (object_records object))
-  pub strings_are : strings_of file ≡ Ok (object_strings object).now
+  pub strings_are : dynamic_strings_of file ≡ Ok (object_strings object).now
   pub strings_lie : LiesAsFileStrings file (object_strings object)
   pub view_strings_are : view_strings (object_view object) ≡ Ok (object_strings object).now
   pub view_strings_lie : IfOk (view_table (object_view object)) (LiesAsStrings file (view_entries (object_view object)))
   pub versions_are : version_tables_of file (view_entries (object_view object)) (Ok (object_strings object).now)
       (length (table_items (object_records object))) ≡ Ok (version_tables (object_versions object))
 
+-- the symbols in bytes, each of a size, with their names in a string table
+abbrev pub symbols_with : {E : Type 0} → ℕ → (List ℕ → E) → (E → SymbolFields) → List ℕ → List ℕ → Symbols E
+symbols_with size entry fields strings bytes = record {
+  items = records size entry bytes;
+  fields = fields;
+  text = λ e. result_ok (text_of strings (fields e).name);
+}
+
+-- the dynamic symbols of a file of this class, with symbols of this size: by the entries of its dynamic segment its
+-- hash table, its symbols with their names in its string table, and its version tables
+pub record AreDynamicSymbols {E : Type 0} (class size : ℕ) (entry : Order → List ℕ → E) (fields : E → SymbolFields) (file : ElfFile) (all : DynamicSymbols E) : Type 0 where
+  pub entries : List (Dynamic ℕ)
+  pub bytes : List ℕ
+  pub strings : List ℕ
+  pub entries_are : dynamic_entries_of file ≡ Ok entries
+  pub table_is : IsLinkedTable file entries all.table
+  pub bytes_are : AreOfClass class size file entries bytes
+  pub strings_are : strings_by file entries ≡ Ok strings
+  pub symbols_are : all.symbols ≡ symbols_with size (entry (file_order file.header)) fields strings bytes
+  pub versions_are : version_tables_of file entries (Ok strings) (length all.symbols.items) ≡ Ok all.versions
+
 -- why there is no such object: the first refusal, of the entries, of the hash table, of the symbols, of the
 -- string table, or of the version tables
 pub data IsObjectRefused (class size : ℕ) (file : ElfFile) : LinkError → Type 0 where
   no_entries : (error : LinkError) → dynamic_entries_of file ≡ Err error → IsObjectRefused class size file error
-  no_table : (entries : List (DynamicEntry ℕ)) (error : LinkError) → dynamic_entries_of file ≡ Ok entries
+  no_table : (entries : List (Dynamic ℕ)) (error : LinkError) → dynamic_entries_of file ≡ Ok entries
       → IsTableRefused file entries error → IsObjectRefused class size file error
-  no_symbols : (entries : List (DynamicEntry ℕ)) (table : AnyTable) (error : LinkError)
+  no_symbols : (entries : List (Dynamic ℕ)) (table : AnyTable) (error : LinkError)
       → dynamic_entries_of file ≡ Ok entries → IsLinkedTable file entries table
       → AreRefused class size file entries error → IsObjectRefused class size file error
-  no_strings : (entries : List (DynamicEntry ℕ)) (table : AnyTable) (symbols : List ℕ) (error : LinkError)
+  no_strings : (entries : List (Dynamic ℕ)) (table : AnyTable) (symbols : List ℕ) (error : LinkError)
       → dynamic_entries_of file ≡ Ok entries → IsLinkedTable file entries table
       → AreOfClass class size file entries symbols → strings_by file entries ≡ Err error
       → IsObjectRefused class size file error
-  no_versions : (entries : List (DynamicEntry ℕ)) (table : AnyTable) (symbols strings : List ℕ) (error : LinkError)
+  no_versions : (entries : List (Dynamic ℕ)) (table : AnyTable) (symbols strings : List ℕ) (error : LinkError)
       → dynamic_entries_of file ≡ Ok entries → IsLinkedTable file entries table
       → AreOfClass class size file entries symbols → strings_by file entries ≡ Ok strings
       → version_tables_of file entries (Ok strings) (length symbols / size) ≡ Err error
@@ -113,6 +142,7 @@ abbrev pub bytes_of_symbol : {E : Type 0} → (E → SymbolFields) → List ℕ 
 bytes_of_symbol fields strings None = Err SymbolIndex
 bytes_of_symbol fields strings (Some symbol) = bytes_in_strings (Ok strings) (fields symbol).name
 
+-- the bytes of the name of the symbol at an index of an object
 abbrev pub object_name_bytes : {E : Type 0} → {r : _} → (E → SymbolFields) → DynamicObject E r → ℕ → Result (List ℕ) LinkError
 object_name_bytes fields object index =
     bytes_of_symbol fields (object_strings object).now (slice_get (table_items (object_records object)) index)

@@ -5,20 +5,21 @@ use Rattle.std.specs.List.{find}
 use Rattle.std.specs.Borrow.{Bor}
 use Rattle.elf_base.specs.Table.{records, table_items, table_rest}
 use Rattle.elf_base.specs.declared.bytes.Order.{Order}
-use Rattle.elf_base.specs.Refusal.{unless, and_then}
+use Rattle.elf_base.specs.Refusal.{unless}
 use Rattle.elf_base.specs.FileHeader.{class_of, file_class, file_order}
 use Rattle.elf_base.specs.Text.{as_text, bytes_up_to_zero_of, text_of}
 use Rattle.elf_base.specs.declared.error.ElfError.{ElfError}
 use Rattle.elf_records.specs.ProgramNumbers.{has_ph_type}
-use Rattle.elf_records.specs.declared.program.Type.TheVariants.{Dynamic}
+use Rattle.elf_records.specs.declared.program.Type.TheVariants as segment_type_variants
 use Rattle.xmas_elf.specs.ProgramHeader.{program_fields, segment_type, program_list, segment_data_of}
 use Rattle.xmas_elf.specs.declared.ElfFile.{ElfFile}
 use Rattle.xmas_elf.specs.declared.program.program_header.ProgramHeader.{ProgramHeader}
-use Rattle.elf_linking.specs.Layouts.{dynamic_entry_32, dynamic_entry_64, gnu_table_of}
+use Rattle.elf_linking.specs.Layouts.{gnu_table_of}
 use Rattle.elf_linking.specs.declared.error.LinkError.{LinkError}
-use Rattle.elf_linking.specs.declared.error.LinkError.TheVariants.{Elf, NoDynamic, NoEntry, SymbolIndex}
+use Rattle.elf_linking.specs.declared.error.LinkError.TheVariants.{Elf, NoDynamic, NoEntry}
 use Rattle.elf_linking.specs.declared.view.entries.DynamicEntries.{DynamicEntries}
-use Rattle.elf_linking.specs.declared.view.entry.DynamicEntry.{DynamicEntry}
+use Rattle.elf_records.specs.Dynamic.{dynamic_32, dynamic_64, dynamic_tag, dynamic_value}
+use Rattle.elf_records.specs.declared.dynamic.Dynamic.{Dynamic}
 use Rattle.elf_linking.specs.declared.view.tags.TheConstants.{DT_NULL, DT_NEEDED, DT_STRSZ, DT_STRTAB, DT_FLAGS, DT_GNU_HASH, DT_HASH, DT_SYMBOLIC, DT_SYMTAB}
 use Rattle.elf_linking.specs.declared.view.entries.Pairs.{Pairs}
 use Rattle.elf_linking.specs.declared.view.entries.Rest.{Rest}
@@ -26,9 +27,10 @@ use Rattle.elf_linking.specs.Loaded.{LiesAsLoaded, bytes_at_of, lent, bytes_from
 use Rattle.elf_linking.specs.declared.view.dynamic.DynamicView.{DynamicView}
 use Rattle.elf_linking.specs.declared.view.needed.Needed.{Needed}
 use Rattle.elf_linking.specs.declared.view.needed_bytes.NeededBytes.{NeededBytes}
-use Rattle.elf_base.specs.declared.error.ElfError.TheVariants.{ShortData, NoDynstr}
+use Rattle.elf_base.specs.declared.error.ElfError.TheVariants.{ShortData}
 use Rattle.elf_base.specs.Number.{number}
-use Rattle.elf_linking.specs.GnuHash.{EndsRun, HasChain, bucket_count_of, bucket_word, chain_of, first_symbol_of, gnu_class, gnu_data, gnu_order}
+use Rattle.elf_linking.specs.GnuCount.{IsGnuCount}
+use Rattle.elf_linking.specs.GnuHash.{gnu_class, gnu_data, gnu_order}
 use Rattle.elf_linking.specs.declared.gnu_hash.GnuHashTable.{GnuHashTable}
 use Rattle.elf_base.specs.declared.error.ElfError.TheVariants as elf_error
 use Rattle.elf_linking.specs.declared.view.entries.Pairs.TheVariants as pairs
@@ -37,28 +39,28 @@ use Rattle.elf_linking.specs.declared.view.entries.Rest.TheVariants as rest
 -- The entries of a dynamic segment in order (DT_NULL).
 
 -- the records of bytes that are a whole number of records
-abbrev pub whole_entries : ℕ → (List ℕ → DynamicEntry ℕ) → List ℕ → Result (List (DynamicEntry ℕ)) LinkError
+abbrev pub whole_entries : ℕ → (List ℕ → Dynamic ℕ) → List ℕ → Result (List (Dynamic ℕ)) LinkError
 whole_entries size value bytes =
     unless ((not (length bytes % size == 0), Elf elf_error.NotMultiple) ∷ []) (records size value bytes)
 
 -- the entries in bytes of a file of this class and byte order
-abbrev pub all_entries : ℕ → Order → List ℕ → Result (List (DynamicEntry ℕ)) LinkError
+abbrev pub all_entries : ℕ → Order → List ℕ → Result (List (Dynamic ℕ)) LinkError
 all_entries class order bytes =
-    if class == 1 then whole_entries 8 (dynamic_entry_32 order) bytes
-    else (if class == 2 then whole_entries 16 (dynamic_entry_64 order) bytes else Err (Elf elf_error.UnknownClass))
+    if class == 1 then whole_entries 8 (dynamic_32 order) bytes
+    else (if class == 2 then whole_entries 16 (dynamic_64 order) bytes else Err (Elf elf_error.UnknownClass))
 
 -- the entries before the first with tag Null (DT_NULL)
-abbrev pub until_null : List (DynamicEntry ℕ) → List (DynamicEntry ℕ)
+abbrev pub until_null : List (Dynamic ℕ) → List (Dynamic ℕ)
 until_null [] = []
-until_null (entry ∷ entries) = if entry.tag == DT_NULL then [] else entry ∷ until_null entries
+until_null (entry ∷ entries) = if dynamic_tag entry == DT_NULL then [] else entry ∷ until_null entries
 
 -- an entry has this tag
-abbrev pub has_tag : ℕ → DynamicEntry ℕ → Bool
-has_tag tag entry = entry.tag == tag
+abbrev pub has_tag : ℕ → Dynamic ℕ → Bool
+has_tag tag entry = dynamic_tag entry == tag
 
 -- the number in the first entry with a tag
-abbrev pub number_with : ℕ → List (DynamicEntry ℕ) → Option ℕ
-number_with tag entries = option_map (λ entry. entry.number) (find (has_tag tag) entries)
+abbrev pub number_with : ℕ → List (Dynamic ℕ) → Option ℕ
+number_with tag entries = option_map (λ entry. dynamic_value entry) (find (has_tag tag) entries)
 
 -- a number of flags has the flag 2 (DF_SYMBOLIC)
 abbrev pub has_symbolic_flag : Option ℕ → Bool
@@ -67,19 +69,21 @@ has_symbolic_flag (Some flags) = flags / 2 % 2 == 1
 
 -- references of the file are bound within it first: there is an entry DT_SYMBOLIC, or the entry DT_FLAGS has the
 -- flag DF_SYMBOLIC
-abbrev pub is_symbolic : List (DynamicEntry ℕ) → Bool
+abbrev pub is_symbolic : List (Dynamic ℕ) → Bool
 is_symbolic entries = is_some (number_with DT_SYMBOLIC entries) || has_symbolic_flag (number_with DT_FLAGS entries)
 
--- the entries of a table, those that remain of it, and those that an iterator has not yet returned
-abbrev pub pairs_of : Pairs → List (DynamicEntry ℕ)
+-- the entries of a table
+abbrev pub pairs_of : Pairs → List (Dynamic ℕ)
 pairs_of (pairs.Narrow table) = table_items table
 pairs_of (pairs.Wide table) = table_items table
 
-abbrev pub pairs_left : Rest → List (DynamicEntry ℕ)
+-- the entries that remain of a table
+abbrev pub pairs_left : Rest → List (Dynamic ℕ)
 pairs_left (rest.Narrow table) = table_items (table_rest table)
 pairs_left (rest.Wide table) = table_items (table_rest table)
 
-abbrev pub entries_left : DynamicEntries → List (DynamicEntry ℕ)
+-- the entries that an iterator has not yet returned
+abbrev pub entries_left : DynamicEntries → List (Dynamic ℕ)
 entries_left iter = if iter.ended then [] else until_null (pairs_left iter.rest)
 
 -- The dynamic segment of a file and its string table (DT_NEEDED, DT_STRTAB, DT_STRSZ and others; that the
@@ -87,7 +91,7 @@ entries_left iter = if iter.ended then [] else until_null (pairs_left iter.rest)
 
 -- whether a segment has type Dynamic
 abbrev pub is_dynamic : ProgramHeader → Bool
-is_dynamic program = has_ph_type Dynamic (segment_type (program_fields program))
+is_dynamic program = has_ph_type segment_type_variants.Dynamic (segment_type (program_fields program))
 
 -- the first segment of type Dynamic
 unfoldable pub dynamic_segment_of : ElfFile → Option ProgramHeader
@@ -99,21 +103,22 @@ as_link_error (Ok value) = Ok value
 as_link_error (Err error) = Err (Elf error)
 
 -- the entries before the first with tag Null, if there are entries
-abbrev pub before_null : Result (List (DynamicEntry ℕ)) LinkError → Result (List (DynamicEntry ℕ)) LinkError
+abbrev pub before_null : Result (List (Dynamic ℕ)) LinkError → Result (List (Dynamic ℕ)) LinkError
 before_null (Ok entries) = Ok (until_null entries)
 before_null (Err error) = Err error
 
 -- the entries in a segment's data before the first with tag Null
-abbrev pub entries_in : ElfFile → Result (List ℕ) ElfError → Result (List (DynamicEntry ℕ)) LinkError
+abbrev pub entries_in : ElfFile → Result (List ℕ) ElfError → Result (List (Dynamic ℕ)) LinkError
 entries_in file (Ok bytes) = before_null (all_entries (file_class file.header) (file_order file.header) bytes)
 entries_in file (Err error) = Err (Elf error)
 
-abbrev pub entries_of_segment : ElfFile → Option ProgramHeader → Result (List (DynamicEntry ℕ)) LinkError
+-- the entries in a segment, if there is one
+abbrev pub entries_of_segment : ElfFile → Option ProgramHeader → Result (List (Dynamic ℕ)) LinkError
 entries_of_segment file None = Err NoDynamic
 entries_of_segment file (Some program) = entries_in file (segment_data_of file (program_fields program))
 
 -- the entries of a file, or why there are none
-unfoldable pub dynamic_entries_of : ElfFile → Result (List (DynamicEntry ℕ)) LinkError
+unfoldable pub dynamic_entries_of : ElfFile → Result (List (Dynamic ℕ)) LinkError
 dynamic_entries_of file = entries_of_segment file (dynamic_segment_of file)
 
 -- the bytes of a string table, by its address and its size
@@ -122,16 +127,17 @@ table_at file (Some address) (Some size) = bytes_at_of file address size
 table_at file _ _ = Err NoEntry
 
 -- the string table of the entries (DT_STRTAB and DT_STRSZ)
-abbrev pub strings_by : ElfFile → List (DynamicEntry ℕ) → Result (List ℕ) LinkError
+abbrev pub strings_by : ElfFile → List (Dynamic ℕ) → Result (List ℕ) LinkError
 strings_by file entries = table_at file (number_with DT_STRTAB entries) (number_with DT_STRSZ entries)
 
 -- the string table of a file's entries, or why there is none
-abbrev pub strings_of_entries : ElfFile → Result (List (DynamicEntry ℕ)) LinkError → Result (List ℕ) LinkError
+abbrev pub strings_of_entries : ElfFile → Result (List (Dynamic ℕ)) LinkError → Result (List ℕ) LinkError
 strings_of_entries file (Ok entries) = strings_by file entries
 strings_of_entries file (Err error) = Err error
 
-unfoldable pub strings_of : ElfFile → Result (List ℕ) LinkError
-strings_of file = strings_of_entries file (dynamic_entries_of file)
+-- the string table of a file, or why there is none
+unfoldable pub dynamic_strings_of : ElfFile → Result (List ℕ) LinkError
+dynamic_strings_of file = strings_of_entries file (dynamic_entries_of file)
 
 -- the place of a string table by its address and its size
 abbrev pub LiesByEntries : ElfFile → Option ℕ → Option ℕ → Bor (List ℕ) → Type 0
@@ -139,7 +145,7 @@ LiesByEntries file address size part =
     IsSomeAnd address (λ start. IsSomeAnd size (λ count. LiesAsLoaded file start count part))
 
 -- the place of the string table of the entries
-abbrev pub LiesAsStrings : ElfFile → List (DynamicEntry ℕ) → Bor (List ℕ) → Type 0
+abbrev pub LiesAsStrings : ElfFile → List (Dynamic ℕ) → Bor (List ℕ) → Type 0
 LiesAsStrings file entries =
     LiesByEntries file (number_with DT_STRTAB entries) (number_with DT_STRSZ entries)
 
@@ -147,10 +153,11 @@ LiesAsStrings file entries =
 abbrev pub LiesAsFileStrings : ElfFile → Bor (List ℕ) → Type 0
 LiesAsFileStrings file part = IsOkAnd (dynamic_entries_of file) (λ entries. LiesAsStrings file entries part)
 
--- the entries and the string table of a view
-abbrev pub view_entries : DynamicView → List (DynamicEntry ℕ)
+-- the entries of a view
+abbrev pub view_entries : DynamicView → List (Dynamic ℕ)
 view_entries view = until_null (pairs_of view.pairs)
 
+-- the bytes of the string table of a view, or why there is none
 abbrev pub view_strings : DynamicView → Result (List ℕ) LinkError
 view_strings view = lent view.strings
 
@@ -182,28 +189,32 @@ abbrev pub IsTextWith : DynamicView → ℕ → Option (Result (Bor (List ℕ)) 
 IsTextWith view tag found = option_map lent found ≡ text_with tag view
 
 -- what is at the offsets in the entries with tag Needed (DT_NEEDED)
-abbrev pub needed_by : (ℕ → Result (List ℕ) LinkError) → List (DynamicEntry ℕ) → List (Result (List ℕ) LinkError)
+abbrev pub needed_by : (ℕ → Result (List ℕ) LinkError) → List (Dynamic ℕ) → List (Result (List ℕ) LinkError)
 needed_by name_at [] = []
 needed_by name_at (entry ∷ entries) =
-    if entry.tag == DT_NEEDED then name_at entry.number ∷ needed_by name_at entries else needed_by name_at entries
+    if dynamic_tag entry == DT_NEEDED then name_at (dynamic_value entry) ∷ needed_by name_at entries else needed_by name_at entries
 
--- the texts there, and the bytes
-abbrev pub needed_in : Result (List ℕ) LinkError → List (DynamicEntry ℕ) → List (Result (List ℕ) LinkError)
+-- the texts there
+abbrev pub needed_in : Result (List ℕ) LinkError → List (Dynamic ℕ) → List (Result (List ℕ) LinkError)
 needed_in strings entries = needed_by (text_in_strings strings) entries
 
-abbrev pub needed_bytes_in : Result (List ℕ) LinkError → List (DynamicEntry ℕ) → List (Result (List ℕ) LinkError)
+-- the bytes there
+abbrev pub needed_bytes_in : Result (List ℕ) LinkError → List (Dynamic ℕ) → List (Result (List ℕ) LinkError)
 needed_bytes_in strings entries = needed_by (bytes_in_strings strings) entries
 
--- the needed libraries of a view, and those that an iterator has not yet returned
+-- the needed libraries of a view
 abbrev pub needed_of : DynamicView → List (Result (List ℕ) LinkError)
 needed_of view = needed_in (view_strings view) (view_entries view)
 
+-- their names as bytes
 abbrev pub needed_bytes_of : DynamicView → List (Result (List ℕ) LinkError)
 needed_bytes_of view = needed_bytes_in (view_strings view) (view_entries view)
 
+-- the needed libraries that an iterator has not yet returned
 abbrev pub needed_left : Needed → List (Result (List ℕ) LinkError)
 needed_left iter = needed_in (lent iter.strings) (entries_left iter.entries)
 
+-- the names that an iterator over bytes has not yet returned
 abbrev pub needed_bytes_left : NeededBytes → List (Result (List ℕ) LinkError)
 needed_bytes_left iter = needed_bytes_in (lent iter.strings) (entries_left iter.entries)
 
@@ -215,7 +226,7 @@ bytes_from_some file None = Err NoEntry
 bytes_from_some file (Some address) = bytes_from_of file address
 
 -- the bytes from the address in the first entry with a tag on
-abbrev pub bytes_with : ℕ → ElfFile → List (DynamicEntry ℕ) → Result (List ℕ) LinkError
+abbrev pub bytes_with : ℕ → ElfFile → List (Dynamic ℕ) → Result (List ℕ) LinkError
 bytes_with tag file entries = bytes_from_some file (number_with tag entries)
 
 -- the bytes, if their check succeeds
@@ -229,58 +240,14 @@ checked check (Ok bytes) = passed bytes (check bytes)
 checked check (Err error) = Err error
 
 -- the bytes of the ELF standard's hash table, at the address in the entry Hash (DT_HASH)
-abbrev pub hash_table_of : ElfFile → List (DynamicEntry ℕ) → Result (List ℕ) LinkError
+abbrev pub hash_table_of : ElfFile → List (Dynamic ℕ) → Result (List ℕ) LinkError
 hash_table_of file entries =
     checked (λ bytes. unless ((nat_lt (length bytes) 12, Elf ShortData) ∷ []) tt) (bytes_with DT_HASH file entries)
 
 -- the bytes of GNU's hash table, at the address in the entry GnuHash (DT_GNU_HASH)
-abbrev pub gnu_hash_table_of : ElfFile → List (DynamicEntry ℕ) → Result (List ℕ) LinkError
+abbrev pub gnu_hash_table_of : ElfFile → List (Dynamic ℕ) → Result (List ℕ) LinkError
 gnu_hash_table_of file entries =
     checked (gnu_table_of (class_of (file_class file.header)) (file_order file.header)) (bytes_with DT_GNU_HASH file entries)
-
--- The number of symbols of a GNU hash table, as a dynamic linker counts them from the table alone (the
--- convention of GNU binutils and glibc; the errors of the count are this project's own).
-
--- there are chain words from index `from` up to `last`, which is excluded, and none of them ends a run
-pub record GoesTo (table : GnuHashTable) (from last : ℕ) : Type 0 where
-  pub ordered : from ≤ last
-  pub words : (i : ℕ) → from ≤ i → i < last → HasChain table i
-  pub goes_on : (i : ℕ) → from ≤ i → i < last → EndsRun table i → ⊥
-
--- the run of some bucket reaches index i, which has a chain word
-pub record IsReachedByRun (table : GnuHashTable) (i : ℕ) : Type 0 where
-  pub bucket : ℕ
-  pub below : bucket < bucket_count_of table
-  pub begins : bucket_word table bucket ≢ 0
-  pub goes : GoesTo table (bucket_word table bucket) i
-  pub word : HasChain table i
-
--- `from` is the greatest index at which the run of a bucket begins; 0 if no bucket has a run
-pub record IsLastRun (table : GnuHashTable) (from : ℕ) : Type 0 where
-  pub each : (k : ℕ) → k < bucket_count_of table → bucket_word table k ≤ from
-  pub begins : from ≢ 0 → (k : ℕ) × (k < bucket_count_of table) × (bucket_word table k ≡ from)
-
--- a count stops at index i, with the next index at the end of the run, or with the error there
-pub data CountStops (table : GnuHashTable) (i : ℕ) : Result ℕ LinkError → Type 0 where
-  ended : i < 2 ^ 32 → HasChain table i → EndsRun table i → CountStops table i (Ok (i + 1))
-  refused : (error : LinkError) → i < 2 ^ 32 → chain_of table i ≡ Err error → CountStops table i (Err error)
-  too_long : i ≡ 2 ^ 32 → CountStops table i (Err SymbolIndex)
-
--- the result of a count from an index on: that of the stop that its run comes to
-pub record CountsFrom (table : GnuHashTable) (from : ℕ) (answer : Result ℕ LinkError) : Type 0 where
-  pub last : ℕ
-  pub goes : GoesTo table from last
-  pub stop : CountStops table last answer
-
--- the result of the count: the index after the last run, or the first index of the table if there is no run
-pub data IsGnuCount (table : GnuHashTable) : Result ℕ LinkError → Type 0 where
-  no_run : IsLastRun table 0 → IsGnuCount table (Ok (first_symbol_of table))
-  counted : (from : ℕ) (answer : Result ℕ LinkError) → 0 < from → IsLastRun table from
-      → CountsFrom table from answer → IsGnuCount table answer
-
--- each index that a run reaches is below the count
-abbrev pub IsAboveRuns : GnuHashTable → ℕ → Type 0
-IsAboveRuns table count = (i : ℕ) → IsReachedByRun table i → i < count
 
 -- The symbols of a dynamic segment, and their number (DT_SYMTAB, and gABI, "Hash Table", nchain; that the chain
 -- count of the standard's table has precedence is this project's own).
@@ -291,13 +258,13 @@ chain_count_in order (Ok bytes) = Ok (number order 4 4 bytes)
 chain_count_in order (Err error) = Err error
 
 -- the table is GNU's hash table of the entries
-pub record IsGnuTableBy (file : ElfFile) (entries : List (DynamicEntry ℕ)) (table : GnuHashTable) : Type 0 where
+pub record IsGnuTableBy (file : ElfFile) (entries : List (Dynamic ℕ)) (table : GnuHashTable) : Type 0 where
   pub bytes_are : gnu_hash_table_of file entries ≡ Ok (gnu_data table)
   pub class_is : gnu_class table ≡ class_of (file_class file.header)
   pub order_is : gnu_order table ≡ file_order file.header
 
 -- the number of symbols: by the standard's hash table if there is an entry for it, otherwise by GNU's
-pub data IsSymbolCount (file : ElfFile) (entries : List (DynamicEntry ℕ)) : Result ℕ LinkError → Type 0 where
+pub data IsSymbolCount (file : ElfFile) (entries : List (Dynamic ℕ)) : Result ℕ LinkError → Type 0 where
   by_hash : (address : ℕ) (answer : Result ℕ LinkError) → number_with DT_HASH entries ≡ Some address
       → answer ≡ chain_count_in (file_order file.header) (hash_table_of file entries)
       → IsSymbolCount file entries answer
@@ -313,32 +280,18 @@ symbol_bytes file size (Ok count) None = Err NoEntry
 symbol_bytes file size (Ok count) (Some address) = bytes_at_of file address (count * size)
 
 -- the bytes of the symbols, which have this size each, or why there are none
-pub record AreSymbols (file : ElfFile) (entries : List (DynamicEntry ℕ)) (size : ℕ) (answer : Result (List ℕ) LinkError) : Type 0 where
+pub record AreSymbols (file : ElfFile) (entries : List (Dynamic ℕ)) (size : ℕ) (answer : Result (List ℕ) LinkError) : Type 0 where
   pub count : Result ℕ LinkError
   pub counted : IsSymbolCount file entries count
   pub bytes_are : answer ≡ symbol_bytes file size count (number_with DT_SYMTAB entries)
 
+-- why there are no symbols with names: there are no symbols, or there is no string table
+pub data AreSymbolsRefused (file : ElfFile) (entries : List (Dynamic ℕ)) (strings : Result (List ℕ) LinkError) (size : ℕ) : LinkError → Type 0 where
+  no_records : (error : LinkError) → AreSymbols file entries size (Err error) → AreSymbolsRefused file entries strings size error
+  no_names : (bytes : List ℕ) (error : LinkError) → AreSymbols file entries size (Ok bytes) → strings ≡ Err error
+      → AreSymbolsRefused file entries strings size error
+
 -- the place of the symbols, at the address in the entry SymTab
-abbrev pub LieAsSymbols : ElfFile → List (DynamicEntry ℕ) → Bor (List ℕ) → Type 0
+abbrev pub LieAsSymbols : ElfFile → List (Dynamic ℕ) → Bor (List ℕ) → Type 0
 LieAsSymbols file entries part =
     IsSomeAnd (number_with DT_SYMTAB entries) (λ address. LiesAsLoaded file address (length part.now) part)
-
--- The names of symbols in the string table of the dynamic segment (gABI, "Symbol Table", st_name; DT_STRTAB).
-
--- an error as an `ElfError`: `NoDynstr` for those that are not `Elf`
-abbrev pub elf_error_of : LinkError → ElfError
-elf_error_of (Elf error) = error
-elf_error_of _ = NoDynstr
-
--- a table, or the error for it as an `ElfError`
-abbrev pub with_elf_error : Result (List ℕ) LinkError → Result (List ℕ) ElfError
-with_elf_error (Ok table) = Ok table
-with_elf_error (Err error) = Err (elf_error_of error)
-
--- the string table of the dynamic segment
-unfoldable pub linked_table_of : ElfFile → Result (List ℕ) ElfError
-linked_table_of file = with_elf_error (strings_of file)
-
--- the text at an index of that string table, or why there is none
-unfoldable pub linked_text_of : ElfFile → ℕ → Result (List ℕ) ElfError
-linked_text_of file index = and_then (linked_table_of file) (λ table. text_of table index)

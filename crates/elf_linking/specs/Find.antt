@@ -6,7 +6,7 @@ use Rattle.std.specs.Str.{bytes_eq}
 use Rattle.elf_base.specs.Refusal.{and_then}
 use Rattle.elf_records.specs.HashNumber.{hash_number}
 use Rattle.elf_linking.specs.AnyTable.{IsFor, IsIndexBy, LooksWhereBy}
-use Rattle.elf_linking.specs.VersionTables.{VersionTables, is_hidden, item_by, version_number}
+use Rattle.elf_linking.specs.VersionTables.{VersionTables, is_hidden, result_map, version_number}
 use Rattle.elf_linking.specs.Versions.{CanBeRead, NamedParts, VersionParts, named_hash, named_name, number_of, version_at}
 use Rattle.elf_linking.specs.declared.any_table.AnyTable.{AnyTable}
 use Rattle.elf_linking.specs.declared.error.LinkError.{LinkError}
@@ -40,6 +40,7 @@ is_defined_for Defined e = not (e.shndx == 0)
 is_defined_for Any e = true
 is_defined_for Copy e = true
 
+-- a symbol serves a use: by its type, its value and its section
 abbrev pub serves : uses.Use → SymbolFields → Bool
 serves purpose e = has_linked_type e && (has_place e && is_defined_for purpose e)
 
@@ -53,7 +54,7 @@ IsCandidate file name purpose e = (file.symbols.text e ≡ Some name) × (serves
 abbrev pub is_version : List ℕ → ℕ → Option NamedParts → Result Bool LinkError
 is_version name hash None = Ok false
 is_version name hash (Some named) = if named_hash named == hash
-    then item_by (λ other. bytes_eq other name) (named_name named) else Ok false
+    then result_map (λ other. bytes_eq other name) (named_name named) else Ok false
 
 -- a version by no hash number: nothing bears it, or what does has hash number 0
 abbrev pub has_no_hash : Option NamedParts → Bool
@@ -68,7 +69,7 @@ is_open hidden version = has_no_hash version.named && (not hidden && not version
 abbrev pub accepts_version : List ℕ → ℕ → Bool → Option VersionParts → Result Bool LinkError
 accepts_version name hash hidden None = Ok true
 accepts_version name hash hidden (Some version) =
-    item_by (λ same. same || is_open hidden version) (is_version name hash version.named)
+    result_map (λ same. same || is_open hidden version) (is_version name hash version.named)
 
 -- the version with a name, which isn't hidden
 abbrev pub version_wanted : Bor (List ℕ) → Wanted
@@ -84,8 +85,8 @@ is_below least (Some raw) = nat_lt (version_number raw) least
 abbrev pub accepted : VersionTables → Wanted → ℕ → Result Bool LinkError
 accepted tables (Version name hash hidden) index =
     and_then (version_at tables index) (accepts_version name.now hash hidden)
-accepted tables Unversioned index = item_by (is_below 3) (number_of tables index)
-accepted tables Newest index = item_by (is_below 2) (number_of tables index)
+accepted tables Unversioned index = result_map (is_below 3) (number_of tables index)
+accepted tables Newest index = result_map (is_below 2) (number_of tables index)
 
 -- a reference by a version accepts that of a symbol (the rule of glibc's linker): the file has no numbers of
 -- symbols; or the version has the hash number and the name; or it has no hash number, and neither it nor the
@@ -135,6 +136,7 @@ abbrev pub if_alone : {A : Type 0} → A → Option A → Option A
 if_alone found None = Some found
 if_alone found (Some other) = None
 
+-- what follows the first candidate that is not hidden: it is the default if there is no other
 abbrev pub IsAlone : {E : Type 0} → DynamicSymbols E → List ℕ → uses.Use → Option (ℕ × E) → Result (Option (ℕ × E)) LinkError → Type 0
 IsAlone file name purpose None answer = answer ≡ Ok None
 IsAlone {E} file name purpose (Some found) answer = (other : Result (Option (ℕ × E)) LinkError)
@@ -156,7 +158,7 @@ IsOtherwise file name Newest purpose answer = IsDefault file name purpose answer
 abbrev pub IsFirstOf : {E : Type 0} → DynamicSymbols E → List ℕ → Wanted → uses.Use → Option (ℕ × E) → Result (Option (ℕ × E)) LinkError → Type 0
 IsFirstOf file name wanted purpose None answer = IsOtherwise file name wanted purpose answer
 IsFirstOf file name wanted purpose (Some found) answer =
-    answer ≡ item_by (λ _. Some found) (accepted file.versions wanted found.0)
+    answer ≡ result_map (λ _. Some found) (accepted file.versions wanted found.0)
 
 -- the result of a search for the symbol that a reference gets
 abbrev pub IsFound : {E : Type 0} → DynamicSymbols E → List ℕ → Wanted → uses.Use → Result (Option (ℕ × E)) LinkError → Type 0

@@ -15,26 +15,31 @@ use Rattle.xmas_elf.specs.Symbol.{IsGlobal, Symbols}
 
 -- The words of a table, and the bucket where a look-up begins.
 
--- the bytes of a table, the class of its Bloom words, and its byte order
+-- the bytes of a table
 abbrev pub gnu_data : GnuHashTable → List ℕ
 gnu_data table = table.bytes.now
 
+-- the class of its Bloom words
 abbrev pub gnu_class : GnuHashTable → Class
 gnu_class table = table.class
 
+-- its byte order
 abbrev pub gnu_order : GnuHashTable → Order
 gnu_order table = table.order
 
--- the four words at the start of a table
+-- the number of buckets
 abbrev pub bucket_count_of : GnuHashTable → ℕ
 bucket_count_of table = bucket_count_in (gnu_order table) (gnu_data table)
 
+-- the index of the first symbol
 abbrev pub first_symbol_of : GnuHashTable → ℕ
 first_symbol_of table = first_symbol_in (gnu_order table) (gnu_data table)
 
+-- the number of Bloom words
 abbrev pub bloom_count_of : GnuHashTable → ℕ
 bloom_count_of table = bloom_count_in (gnu_order table) (gnu_data table)
 
+-- the shift of the hash number for the second bit
 abbrev pub bloom_shift_of : GnuHashTable → ℕ
 bloom_shift_of table = bloom_shift_in (gnu_order table) (gnu_data table)
 
@@ -62,15 +67,17 @@ abbrev pub HasChain : GnuHashTable → ℕ → Type 0
 HasChain table i =
     (first_symbol_of table ≤ i) × (chain_place table i + 4 ≤ length (gnu_data table))
 
--- Bloom word k, bucket k and the chain word of symbol i, or the first reason why there is none
+-- Bloom word k, or why there is none
 unfoldable pub bloom_of : GnuHashTable → ℕ → Result ℕ LinkError
 bloom_of table k =
     unless ((nat_le (bloom_count_of table) k, BucketIndex) ∷ []) (bloom_word table k)
 
+-- the word of bucket k, or why there is none
 unfoldable pub bucket_of : GnuHashTable → ℕ → Result ℕ LinkError
 bucket_of table k =
     unless ((nat_le (bucket_count_of table) k, BucketIndex) ∷ []) (bucket_word table k)
 
+-- the chain word of symbol i, or the first reason why there is none
 unfoldable pub chain_of : GnuHashTable → ℕ → Result ℕ LinkError
 chain_of table i = unless (
     (nat_lt i (first_symbol_of table), ChainIndex)

@@ -1,4 +1,3 @@
--- The layout of an entry of a dynamic segment (gABI, "Dynamic Section": Elf32_Dyn and Elf64_Dyn).
 -- The hash number of a name in GNU hash tables, and the layout of such a table (the convention of GNU binutils
 -- and glibc: sections of type 0x6ffffff6, SHT_GNU_HASH, and the dynamic entry DT_GNU_HASH).
 use Rattle.std.specs.Prelude.{ℕ, List, ◌+◌, ◌*◌, ◌≤◌, Bool, true, false, IsTrue, not, nat_lt, [], ◌∷◌, length, Result, ◌%◌, ◌^◌, fold}
@@ -8,16 +7,8 @@ use Rattle.elf_base.specs.declared.bytes.Order.{Order}
 use Rattle.elf_base.specs.declared.header.numbers.Class.{Class}
 use Rattle.elf_base.specs.declared.header.numbers.Class.TheVariants.{SixtyFour, ThirtyTwo}
 use Rattle.elf_base.specs.Refusal.{unless}
-use Rattle.elf_linking.specs.declared.view.entry.DynamicEntry.{DynamicEntry}
 use Rattle.elf_linking.specs.declared.error.LinkError.{LinkError}
 use Rattle.elf_linking.specs.declared.error.LinkError.TheVariants.{BloomCount, ShortTable, UnknownClass}
-
--- an entry of class 32, of 8 bytes, and of class 64, of 16
-abbrev pub dynamic_entry_32 : Order → List ℕ → DynamicEntry ℕ
-dynamic_entry_32 order bytes = record { tag = number order 4 0 bytes; number = number order 4 4 bytes }
-
-abbrev pub dynamic_entry_64 : Order → List ℕ → DynamicEntry ℕ
-dynamic_entry_64 order bytes = record { tag = number order 8 0 bytes; number = number order 8 8 bytes }
 
 -- the hash number after one more byte
 abbrev pub gnu_hash_step : ℕ → ℕ → ℕ
@@ -38,24 +29,27 @@ abbrev pub bloom_size : Class → ℕ
 bloom_size ThirtyTwo = 4
 bloom_size _ = 8
 
--- the four words at its start, of four bytes each: the number of buckets, the index of the first symbol, the
--- number of Bloom words, and the shift of the hash number for the second bit
+-- the first of the four words at its start, of four bytes each: the number of buckets
 abbrev pub bucket_count_in : Order → List ℕ → ℕ
 bucket_count_in order bytes = number order 4 0 bytes
 
+-- the second: the index of the first symbol
 abbrev pub first_symbol_in : Order → List ℕ → ℕ
 first_symbol_in order bytes = number order 4 4 bytes
 
+-- the third: the number of Bloom words
 abbrev pub bloom_count_in : Order → List ℕ → ℕ
 bloom_count_in order bytes = number order 4 8 bytes
 
+-- the fourth: the shift of the hash number for the second bit
 abbrev pub bloom_shift_in : Order → List ℕ → ℕ
 bloom_shift_in order bytes = number order 4 12 bytes
 
--- the offset of the buckets, after the Bloom words, and of the chain words, after the buckets
+-- the offset of the buckets, after the Bloom words
 abbrev pub buckets_in : Class → Order → List ℕ → ℕ
 buckets_in class order bytes = 16 + bloom_size class * bloom_count_in order bytes
 
+-- the offset of the chain words, after the buckets
 abbrev pub chains_in : Class → Order → List ℕ → ℕ
 chains_in class order bytes = buckets_in class order bytes + 4 * bucket_count_in order bytes
 

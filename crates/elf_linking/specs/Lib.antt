@@ -1,6 +1,7 @@
 pub mod Message
 pub mod Layouts
 pub mod GnuHash
+pub mod GnuCount
 pub mod Relr
 pub mod Notes
 pub mod Loaded

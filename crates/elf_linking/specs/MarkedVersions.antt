@@ -26,6 +26,7 @@ abbrev pub marked_with : ℕ → ℕ → ℕ → List ℕ → List ℕ
 marked_with n flags place marks =
     if nat_lt n 64 && (slice_index marks n == 0 && not (flags % 2 == 1)) then slice_set marks n (place + 1) else marks
 
+-- the marks with that of the definition at a place
 abbrev pub marked_at : Order → List ℕ → ℕ → List ℕ → List ℕ
 marked_at order bytes place marks =
     marked_with (number order 2 (place + 4) bytes) (number order 2 (place + 2) bytes) place marks

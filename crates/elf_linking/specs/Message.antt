@@ -25,8 +25,10 @@ link_row VersionCount = (115, codes "Version needs have more parts than bytes")
 link_row RelocationKind = (116, codes "Kind of relocations is neither Rel nor Rela")
 link_row ObjectIndex = (117, codes "Object index is out of range")
 
+-- the number of an error
 abbrev pub link_number : LinkError → ℕ
 link_number error = (link_row error).0
 
+-- the message of an error
 abbrev pub link_message : LinkError → List ℕ
 link_message error = (link_row error).1

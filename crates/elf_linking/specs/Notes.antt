@@ -13,24 +13,27 @@ use Rattle.elf_linking.specs.declared.notes.Notes.{Notes}
 unfoldable pub next_step : ℕ → ℕ → ℕ
 next_step align n = if align == 8 then (n + 7) / 8 * 8 else (n + 3) / 4 * 4
 
--- n_namesz, n_descsz and n_type: the three words at the start of a note
+-- n_namesz: the first word of a note
 abbrev pub name_size : Order → List ℕ → ℕ
 name_size order bytes = number order 4 0 bytes
 
+-- n_descsz: the second word
 abbrev pub desc_size : Order → List ℕ → ℕ
 desc_size order bytes = number order 4 4 bytes
 
+-- n_type: the third word
 abbrev pub type_word : Order → List ℕ → ℕ
 type_word order bytes = number order 4 8 bytes
 
--- the start and the end of the description in the note at the start of the bytes, and the start of the next
--- note
+-- the start of the description in the note at the start of the bytes
 abbrev pub desc_start : ℕ → Order → List ℕ → ℕ
 desc_start align order bytes = next_step align (12 + name_size order bytes)
 
+-- the end of the description
 abbrev pub desc_end : ℕ → Order → List ℕ → ℕ
 desc_end align order bytes = desc_start align order bytes + desc_size order bytes
 
+-- the start of the next note
 abbrev pub next_note : ℕ → Order → List ℕ → ℕ
 next_note align order bytes = next_step align (desc_end align order bytes)
 
@@ -72,10 +75,11 @@ pub data AreNotes (align : ℕ) (order : Order) : Bor (List ℕ) → List (Resul
       → BeginsWithNote align order bytes.now → AreNotes align order (after_note align order bytes) items
       → AreNotes align order bytes (Ok (first_note align order bytes) ∷ items)
 
--- the notes of the bytes as a function, at most `count`
+-- whether the bytes begin with a whole note
 abbrev pub begins_with_note : ℕ → Order → List ℕ → Bool
 begins_with_note align order bytes = nat_le 12 (length bytes) && nat_le (desc_end align order bytes) (length bytes)
 
+-- the notes of the bytes as a function, at most `count`
 unfoldable pub notes_within : ℕ → Order → ℕ → Bor (List ℕ) → List (Result NoteParts LinkError)
 notes_within align order zero bytes = []
 notes_within align order (suc count) bytes =
@@ -88,23 +92,27 @@ notes_within align order (suc count) bytes =
 abbrev pub notes_of : ℕ → Order → Bor (List ℕ) → List (Result NoteParts LinkError)
 notes_of align order bytes = notes_within align order (length bytes.now) bytes
 
--- the fields of a note, and of an item
+-- the fields of a note
 abbrev pub note_parts : Note → NoteParts
 note_parts note = record { type_ = note.type_; name = note.name; desc = note.desc }
 
+-- the fields of an item
 abbrev pub note_item : Result Note LinkError → Result NoteParts LinkError
 note_item (Ok note) = Ok (note_parts note)
 note_item (Err error) = Err error
 
--- the slice that an iterator has not yet read, its byte order and alignment, and the items in it
+-- the slice that an iterator has not yet read
 abbrev pub notes_bytes : Notes → Bor (List ℕ)
 notes_bytes notes = notes.rest
 
+-- its byte order
 abbrev pub notes_order : Notes → Order
 notes_order notes = notes.order
 
+-- its alignment
 abbrev pub notes_align : Notes → ℕ
 notes_align notes = notes.align
 
+-- the items in it
 abbrev pub notes_left : Notes → List (Result NoteParts LinkError)
 notes_left notes = notes_of (notes_align notes) (notes_order notes) (notes_bytes notes)

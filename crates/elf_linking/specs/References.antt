@@ -15,7 +15,7 @@ use Rattle.elf_linking.specs.declared.references.Reference.{Reference}
 use Rattle.elf_linking.specs.declared.references.References.{References}
 use Rattle.elf_linking.specs.declared.references.tables.Relocations.{Relocations}
 use Rattle.elf_linking.specs.declared.references.tables.Relocations.TheVariants.{Absent, Rel32, Rel64, Rela32, Rela64}
-use Rattle.elf_linking.specs.declared.view.entry.DynamicEntry.{DynamicEntry}
+use Rattle.elf_records.specs.declared.dynamic.Dynamic.{Dynamic}
 use Rattle.elf_linking.specs.declared.view.tags.TheConstants.{DT_JMPREL, DT_PLTREL, DT_PLTRELSZ, DT_REL, DT_RELA, DT_RELASZ, DT_RELSZ}
 use Rattle.elf_records.specs.Relocations.{rel_32, rel_64, rel_info, rel_offset, rela_32, rela_64, rela_addend, rela_info, rela_offset, symbol_in_32, symbol_in_64, type_in_32, type_in_64}
 use Rattle.elf_records.specs.declared.sections.relocations.Rel.{Rel}
@@ -80,15 +80,18 @@ relocations_by file None size kind = Ok []
 relocations_by file (Some address) (Some size) (Some kind) = relocations_at file address size kind
 relocations_by file (Some address) _ _ = Err NoEntry
 
-abbrev pub rela_table : ElfFile → List (DynamicEntry ℕ) → Result (List Reference) LinkError
+-- the relocations at the entries DT_RELA and DT_RELASZ
+abbrev pub rela_table : ElfFile → List (Dynamic ℕ) → Result (List Reference) LinkError
 rela_table file entries =
     relocations_by file (number_with DT_RELA entries) (number_with DT_RELASZ entries) (Some DT_RELA)
 
-abbrev pub rel_table : ElfFile → List (DynamicEntry ℕ) → Result (List Reference) LinkError
+-- the relocations at the entries DT_REL and DT_RELSZ
+abbrev pub rel_table : ElfFile → List (Dynamic ℕ) → Result (List Reference) LinkError
 rel_table file entries =
     relocations_by file (number_with DT_REL entries) (number_with DT_RELSZ entries) (Some DT_REL)
 
-abbrev pub plt_table : ElfFile → List (DynamicEntry ℕ) → Result (List Reference) LinkError
+-- the relocations at the entries DT_JMPREL and DT_PLTRELSZ, of the kind in DT_PLTREL
+abbrev pub plt_table : ElfFile → List (Dynamic ℕ) → Result (List Reference) LinkError
 plt_table file entries =
     relocations_by file (number_with DT_JMPREL entries) (number_with DT_PLTRELSZ entries) (number_with DT_PLTREL entries)
 
@@ -97,12 +100,12 @@ abbrev pub names_symbol : Reference → Bool
 names_symbol relocation = not (relocation.symbol == 0)
 
 -- the relocations that name a symbol, of the three tables in this order, or the first error
-unfoldable pub references_of : ElfFile → List (DynamicEntry ℕ) → Result (List Reference) LinkError
+unfoldable pub references_of : ElfFile → List (Dynamic ℕ) → Result (List Reference) LinkError
 references_of file entries = and_then (rela_table file entries) (λ rela.
     and_then (rel_table file entries) (λ rel.
     and_then (plt_table file entries) (λ plt. Ok (filter names_symbol (rela ++ (rel ++ plt))))))
 
--- the relocations that an iterator has not yet read, of one table and of all three
+-- the relocations that an iterator over one table has not yet read
 abbrev pub relocations_left : Relocations → List Reference
 relocations_left Absent = []
 relocations_left (Rela32 rest) = map (rela_reference symbol_in_32 type_in_32) (table_items (table_rest rest))
@@ -110,6 +113,7 @@ relocations_left (Rela64 rest) = map (rela_reference symbol_in_64 type_in_64) (t
 relocations_left (Rel32 rest) = map (rel_reference symbol_in_32 type_in_32) (table_items (table_rest rest))
 relocations_left (Rel64 rest) = map (rel_reference symbol_in_64 type_in_64) (table_items (table_rest rest))
 
+-- the relocations that an iterator over all three tables has not yet read
 abbrev pub tables_left : References → List Reference
 tables_left iter = relocations_left iter.rela ++ (relocations_left iter.rel ++ relocations_left iter.plt)
 
@@ -121,13 +125,13 @@ references_left iter = filter names_symbol (tables_left iter)
 -- ABI, tables of relocation types; that these types want a defined symbol is the rule of glibc's linker).
 
 -- whether a number is in a list
-abbrev pub is_among : ℕ → List ℕ → Bool
-is_among n [] = false
-is_among n (m ∷ ms) = n == m || is_among n ms
+abbrev pub is_listed : ℕ → List ℕ → Bool
+is_listed n [] = false
+is_listed n (m ∷ ms) = n == m || is_listed n ms
 
 -- the use by a relocation of a type, where one type copies a symbol's object, and others want a defined symbol
 abbrev pub use_among : ℕ → List ℕ → ℕ → Use
-use_among copy defined kind = if kind == copy then Copy else (if is_among kind defined then Defined else Any)
+use_among copy defined kind = if kind == copy then Copy else (if is_listed kind defined then Defined else Any)
 
 -- x86-64 (machine 62): R_X86_64_COPY; R_X86_64_JUMP_SLOT, R_X86_64_DTPMOD64, R_X86_64_DTPOFF64,
 -- R_X86_64_TPOFF64 and R_X86_64_TLSDESC

@@ -65,20 +65,22 @@ addresses_in (Err error) = Err error
 abbrev pub relr_of : Class → Order → List ℕ → Result (List ℕ) LinkError
 relr_of class order bytes = addresses_in (words_of class order bytes)
 
--- the size of a word in bytes, and the words that an iterator has not yet read
+-- the size of a word in bytes
 abbrev pub word_size : Words → ℕ
 word_size (Narrow words) = 4
 word_size (Wide words) = 8
 
+-- the words that an iterator has not yet read
 abbrev pub words_left : Words → List ℕ
 words_left (Narrow words) = table_items (table_rest words)
 words_left (Wide words) = table_items (table_rest words)
 
--- the remaining addresses: those in the rest of the current bitmap, and those of the remaining words
+-- the remaining addresses in the rest of the current bitmap
 abbrev pub marks_left : Relr → List ℕ
 marks_left iter = let size = word_size iter.words in
     marked size iter.base iter.bitmap iter.looked_at (marks size - iter.looked_at)
 
+-- all remaining addresses: those, and those of the remaining words
 abbrev pub relr_rest : Relr → List ℕ
 relr_rest iter = marks_left iter ++ addresses (word_size iter.words) iter.place (words_left iter.words)
 

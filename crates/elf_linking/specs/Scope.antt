@@ -9,7 +9,7 @@ use Rattle.elf_linking.specs.DynamicObject.{object_dynamic_symbols, object_machi
 use Rattle.elf_linking.specs.DynamicView.{is_symbolic, view_entries}
 use Rattle.elf_linking.specs.Find.{AreReadable, DynamicSymbols, FindsRight, IsFound}
 use Rattle.elf_linking.specs.References.{use_of}
-use Rattle.elf_linking.specs.VersionTables.{item_by, version_tables}
+use Rattle.elf_linking.specs.VersionTables.{result_map, version_tables}
 use Rattle.elf_linking.specs.Versions.{Defined, NamedParts, Needed, VersionParts, named_hash, named_name, version_at}
 use Rattle.elf_linking.specs.declared.error.LinkError.{LinkError}
 use Rattle.elf_linking.specs.declared.error.LinkError.TheVariants.{ObjectIndex, SymbolIndex}
@@ -24,7 +24,6 @@ use Rattle.elf_linking.specs.declared.scope.Scope.{Scope}
 use Rattle.elf_linking.specs.declared.scope.asking.Asked.{Asked}
 use Rattle.elf_linking.specs.declared.scope.asking.Asked.TheVariants.{Look, Own}
 use Rattle.xmas_elf.specs.Symbol.{SymbolFields}
-use Rattle.xmas_elf.specs.declared.ElfFile.{ElfFile}
 
 -- What a reference asks for.
 
@@ -37,12 +36,13 @@ binds_to_itself e = e.info / 16 == 0 || not (e.other % 4 == 0)
 abbrev pub text_alone : List ℕ → Bor (List ℕ)
 text_alone bytes = record { ref_ptr = (0, 0); now = bytes }
 
--- a version and a question with their texts alone
+-- a version that is wanted, with its text alone
 abbrev pub wanted_parts : Wanted → Wanted
 wanted_parts (Version name hash hidden) = Version (text_alone name.now) hash hidden
 wanted_parts Unversioned = Unversioned
 wanted_parts Newest = Newest
 
+-- a question with its texts alone
 abbrev pub asked_parts : {E : Type 0} → Asked E → Asked E
 asked_parts (Own symbol) = Own symbol
 asked_parts (Look name wanted purpose) = Look (text_alone name.now) (wanted_parts wanted) purpose
@@ -57,8 +57,9 @@ is_hidden_need (Needed need) = need.hidden
 abbrev pub wanted_by : Option NamedParts → Result Wanted LinkError
 wanted_by None = Ok Unversioned
 wanted_by (Some named) = if named_hash named == 0 then Ok Unversioned
-    else item_by (λ name. Version (text_alone name) (named_hash named) (is_hidden_need named)) (named_name named)
+    else result_map (λ name. Version (text_alone name) (named_hash named) (is_hidden_need named)) (named_name named)
 
+-- the version that is wanted, by the version of the symbol, if it has one
 abbrev pub wanted_of : Option VersionParts → Result Wanted LinkError
 wanted_of None = Ok Unversioned
 wanted_of (Some version) = wanted_by version.named
@@ -73,6 +74,7 @@ asked_with fields object reference (Some symbol) = if binds_to_itself (fields sy
     and_then (wanted_of version) (λ wanted.
     Ok (Look (text_alone name) wanted (use_of (object_machine object) reference.kind)))))
 
+-- what a reference asks for
 abbrev pub asked_of : {E : Type 0} → {r : _} → (E → SymbolFields) → DynamicObject E r → Reference → Result (Asked E) LinkError
 asked_of fields object reference =
     asked_with fields object reference (slice_get (table_items (object_records object)) reference.symbol)
@@ -114,8 +116,8 @@ is_passed_over Copy index = index == 0
 is_passed_over _ index = false
 
 -- the dynamic symbols of the object at an index
-abbrev pub symbols_at : {E : Type 0} → {r : _} → (E → SymbolFields) → (E → ElfFile → Option (List ℕ)) → List (DynamicObject E r) → ℕ → Option (DynamicSymbols E)
-symbols_at fields text_in objects index = option_map (object_dynamic_symbols fields text_in) (slice_get objects index)
+abbrev pub symbols_at : {E : Type 0} → {r : _} → (E → SymbolFields) → List (DynamicObject E r) → ℕ → Option (DynamicSymbols E)
+symbols_at fields objects index = option_map (object_dynamic_symbols fields) (slice_get objects index)
 
 -- what the object at an index gives: nothing if it is passed over
 pub data GivesAt {E : Type 0} (Finds : DynamicSymbols E → Result (Option (ℕ × E)) LinkError → Type 0) (objects : ℕ → Option (DynamicSymbols E)) (purpose : uses.Use) (index : ℕ) : Result (Option (ℕ × E)) LinkError → Type 0 where
@@ -139,14 +141,14 @@ pub data IsFirstGiven {E : Type 0} (AtIndex : ℕ → Result (Option (ℕ × E))
       → AtIndex index (Err error) → IsFirstGiven AtIndex count symbolic from (Err error)
 
 -- what the object at an index gives for a name, a version and a use, by a search in it
-abbrev pub FindsAt : {E : Type 0} → {r : _} → (E → SymbolFields) → (E → ElfFile → Option (List ℕ)) → List (DynamicObject E r) → List ℕ → Wanted → uses.Use → ℕ → Result (Option (ℕ × E)) LinkError → Type 0
-FindsAt fields text_in objects name wanted purpose =
-    GivesAt (λ file. IsFound file name wanted purpose) (symbols_at fields text_in objects) purpose
+abbrev pub FindsAt : {E : Type 0} → {r : _} → (E → SymbolFields) → List (DynamicObject E r) → List ℕ → Wanted → uses.Use → ℕ → Result (Option (ℕ × E)) LinkError → Type 0
+FindsAt fields objects name wanted purpose =
+    GivesAt (λ file. IsFound file name wanted purpose) (symbols_at fields objects) purpose
 
 -- the same by its list of symbols, whatever the hash table
-abbrev pub HasAt : {E : Type 0} → {r : _} → (E → SymbolFields) → (E → ElfFile → Option (List ℕ)) → List (DynamicObject E r) → List ℕ → Wanted → uses.Use → ℕ → Result (Option (ℕ × E)) LinkError → Type 0
-HasAt fields text_in objects name wanted purpose =
-    GivesAt (λ file. FindsRight file name wanted purpose) (symbols_at fields text_in objects) purpose
+abbrev pub HasAt : {E : Type 0} → {r : _} → (E → SymbolFields) → List (DynamicObject E r) → List ℕ → Wanted → uses.Use → ℕ → Result (Option (ℕ × E)) LinkError → Type 0
+HasAt fields objects name wanted purpose =
+    GivesAt (λ file. FindsRight file name wanted purpose) (symbols_at fields objects) purpose
 
 -- what the first object gives, for the one at index `from`, if there is such an object
 abbrev pub IsFirstFor : {E : Type 0} → {r : _} → (ℕ → Result (Option (ℕ × E)) LinkError → Type 0) → List (DynamicObject E r) → ℕ → Result (Option (Bound E)) LinkError → Type 0
@@ -154,20 +156,20 @@ IsFirstFor AtIndex objects from answer = MatchOption (slice_get objects from) (a
     (λ asking. IsFirstGiven AtIndex (length objects) (is_symbolic (view_entries (object_view asking))) from answer)
 
 -- the symbol that the objects give for a name, a version and a use
-abbrev pub IsBound : {E : Type 0} → {r : _} → (E → SymbolFields) → (E → ElfFile → Option (List ℕ)) → List (DynamicObject E r) → ℕ → List ℕ → Wanted → uses.Use → Result (Option (Bound E)) LinkError → Type 0
-IsBound fields text_in objects from name wanted purpose answer =
-    IsFirstFor (FindsAt fields text_in objects name wanted purpose) objects from answer
+abbrev pub IsBound : {E : Type 0} → {r : _} → (E → SymbolFields) → List (DynamicObject E r) → ℕ → List ℕ → Wanted → uses.Use → Result (Option (Bound E)) LinkError → Type 0
+IsBound fields objects from name wanted purpose answer =
+    IsFirstFor (FindsAt fields objects name wanted purpose) objects from answer
 
 -- look-ups in the objects find what they must, and their versions can be read
-abbrev pub AreGood : {E : Type 0} → {r : _} → (E → SymbolFields) → (E → ElfFile → Option (List ℕ)) → List (DynamicObject E r) → Type 0
-AreGood {E} fields text_in objects = (i : ℕ) (file : DynamicSymbols E) → symbols_at fields text_in objects i ≡ Some file
+abbrev pub AreGood : {E : Type 0} → {r : _} → (E → SymbolFields) → List (DynamicObject E r) → Type 0
+AreGood {E} fields objects = (i : ℕ) (file : DynamicSymbols E) → symbols_at fields objects i ≡ Some file
     → IsGoodBy file.table file.symbols × AreReadable file
 
 -- there is no error, and the symbol is that of the first object in whose list of symbols there is one; nothing only
 -- if there is none in any object
-abbrev pub BindsRight : {E : Type 0} → {r : _} → (E → SymbolFields) → (E → ElfFile → Option (List ℕ)) → List (DynamicObject E r) → ℕ → List ℕ → Wanted → uses.Use → Result (Option (Bound E)) LinkError → Type 0
-BindsRight fields text_in objects from name wanted purpose answer = IsOkAnd answer (λ bound.
-    IsFirstFor (HasAt fields text_in objects name wanted purpose) objects from (Ok bound))
+abbrev pub BindsRight : {E : Type 0} → {r : _} → (E → SymbolFields) → List (DynamicObject E r) → ℕ → List ℕ → Wanted → uses.Use → Result (Option (Bound E)) LinkError → Type 0
+BindsRight fields objects from name wanted purpose answer = IsOkAnd answer (λ bound.
+    IsFirstFor (HasAt fields objects name wanted purpose) objects from (Ok bound))
 
 -- the result of what a reference of the object at index `from` asks for, by what a search in the objects finds
 abbrev pub AnswersAsked : {E : Type 0} → (List ℕ → Wanted → uses.Use → Result (Option (Bound E)) LinkError → Type 0) → ℕ → ℕ → Asked E → Result (Option (Bound E)) LinkError → Type 0
@@ -176,10 +178,10 @@ AnswersAsked Finds from index (Own symbol) answer =
 AnswersAsked Finds from index (Look name wanted purpose) answer = Finds name.now wanted purpose answer
 
 -- the symbol that a reference of the object at index `from` gets, or why there is no answer
-abbrev pub IsReferenceBound : {E : Type 0} → {r : _} → (E → SymbolFields) → (E → ElfFile → Option (List ℕ)) → List (DynamicObject E r) → ℕ → Reference → Result (Option (Bound E)) LinkError → Type 0
-IsReferenceBound fields text_in objects from reference answer = MatchOption (slice_get objects from)
+abbrev pub IsReferenceBound : {E : Type 0} → {r : _} → (E → SymbolFields) → List (DynamicObject E r) → ℕ → Reference → Result (Option (Bound E)) LinkError → Type 0
+IsReferenceBound fields objects from reference answer = MatchOption (slice_get objects from)
     (answer ≡ Err ObjectIndex) (λ asking. MatchResult (asked_of fields asking reference)
-    (λ asked. AnswersAsked (IsBound fields text_in objects from) from reference.symbol asked answer)
+    (λ asked. AnswersAsked (IsBound fields objects from) from reference.symbol asked answer)
     (λ error. answer ≡ Err error))
 
 -- there is an object at index `from`, and the name of the reference's symbol can be read
@@ -188,7 +190,7 @@ HasNamedSymbol fields objects from reference =
     IsSomeAnd (slice_get objects from) (λ asking. IsOk (object_name fields asking reference.symbol))
 
 -- there is no error, and a reference that isn't to its own symbol gets the one that the lists of symbols say
-abbrev pub BindsReference : {E : Type 0} → {r : _} → (E → SymbolFields) → (E → ElfFile → Option (List ℕ)) → List (DynamicObject E r) → ℕ → Reference → Result (Option (Bound E)) LinkError → Type 0
-BindsReference fields text_in objects from reference answer = IsSomeAnd (slice_get objects from) (λ asking.
+abbrev pub BindsReference : {E : Type 0} → {r : _} → (E → SymbolFields) → List (DynamicObject E r) → ℕ → Reference → Result (Option (Bound E)) LinkError → Type 0
+BindsReference fields objects from reference answer = IsSomeAnd (slice_get objects from) (λ asking.
     IsOkAnd (asked_of fields asking reference) (λ asked. IsOkAnd answer (λ bound.
-    AnswersAsked (BindsRight fields text_in objects from) from reference.symbol asked (Ok bound))))
+    AnswersAsked (BindsRight fields objects from) from reference.symbol asked (Ok bound))))

@@ -17,7 +17,7 @@ use Rattle.elf_linking.specs.declared.versions.needs.Need.{Need}
 use Rattle.elf_linking.specs.declared.versions.needs.Needs.{Needs}
 use Rattle.elf_linking.specs.declared.versions.records.Chain.{Chain}
 use Rattle.elf_linking.specs.declared.versions.records.Records.{Records}
-use Rattle.elf_linking.specs.declared.view.entry.DynamicEntry.{DynamicEntry}
+use Rattle.elf_records.specs.declared.dynamic.Dynamic.{Dynamic}
 use Rattle.elf_linking.specs.declared.view.tags.TheConstants.{DT_VERDEF, DT_VERDEFNUM, DT_VERNEED, DT_VERNEEDNUM, DT_VERSYM}
 use Rattle.xmas_elf.specs.declared.ElfFile.{ElfFile}
 
@@ -89,9 +89,9 @@ places_of records offset start (suc count) = let next = field records 4 start of
     else Ok start ∷ (if next == 0 then [] else places_of records offset (start + next) count)
 
 -- what is made of an item, or the refusal
-abbrev pub item_by : {A B : Type 0} → (A → B) → Result A LinkError → Result B LinkError
-item_by make (Ok item) = Ok (make item)
-item_by make (Err error) = Err error
+abbrev pub result_map : {A B : Type 0} → (A → B) → Result A LinkError → Result B LinkError
+result_map make (Ok item) = Ok (make item)
+result_map make (Err error) = Err error
 
 -- a definition (Verdef): 2 bytes of version, flags, number and count each, then hash, aux and next of 4; its
 -- name begins at an offset in the string table
@@ -122,14 +122,27 @@ definition_at records place = record {
   name = text_at_offset records.strings (name_offset records (place + field records 4 place 12));
 }
 
--- the definitions in records: of those at the places of the longest list, whose `next` is at offset 16
+-- the offset of `next` in a definition (vd_next)
+abbrev pub definition_next : ℕ
+definition_next = 16
+
+-- the offset of `next` in a need (vn_next)
+abbrev pub need_next : ℕ
+need_next = 12
+
+-- the offset of `next` in a part of a need (vna_next)
+abbrev pub part_next : ℕ
+part_next = 12
+
+-- the definitions in records: those at the places of the longest list
 pub record AreDefinitions (records : VersionRecords) (items : List (Result DefinitionParts LinkError)) : Type 0 where
   pub places : List (Result ℕ LinkError)
-  pub are_places : ArePlaces records 16 0 records.count places
-  pub items_are : items ≡ map (item_by (definition_at records)) places
+  pub are_places : ArePlaces records definition_next 0 records.count places
+  pub items_are : items ≡ map (result_map (definition_at records)) places
 
+-- the same as a function
 abbrev pub definitions_in : VersionRecords → List (Result DefinitionParts LinkError)
-definitions_in records = map (item_by (definition_at records)) (places_of records 16 0 records.count)
+definitions_in records = map (result_map (definition_at records)) (places_of records definition_next 0 records.count)
 
 -- a part of a need (Vernaux): hash of 4 bytes, flags and other of 2, name and next of 4; the file is that of
 -- its need. The names of both begin at offsets in the string table.
@@ -143,10 +156,11 @@ pub record NeedParts : Type 0 where
   pub name_offset : ℕ
   pub name : Result (List ℕ) LinkError
 
--- the number of a version (bits 0 to 14), and whether it is hidden (bit 15), in a number of 16 bits
+-- the number of a version: bits 0 to 14 of a number of 16 bits
 abbrev pub version_number : ℕ → ℕ
 version_number raw = raw % 0x8000
 
+-- a version is hidden: bit 15 of such a number
 abbrev pub is_hidden : ℕ → Bool
 is_hidden raw = nat_le 0x8000 raw
 
@@ -163,14 +177,15 @@ need_at records file place = record {
   name = text_in_strings records.strings (field records 4 place 8);
 }
 
--- a need (Verneed): 2 bytes of version and count, then file, aux and next of 4: the number of its parts, the
--- offset of its file's name, and the place of its first part
+-- vn_cnt: the number of parts of a need (Verneed), of 2 bytes after 2 of version
 abbrev pub part_count : VersionRecords → ℕ → ℕ
 part_count records place = field records 2 place 2
 
+-- vn_file: the offset of the library's name, of 4 bytes
 abbrev pub file_offset : VersionRecords → ℕ → ℕ
 file_offset records place = field records 4 place 4
 
+-- the place of the first part of a need, by vn_aux
 abbrev pub first_part : VersionRecords → ℕ → ℕ
 first_part records place = place + field records 4 place 8
 
@@ -190,29 +205,31 @@ pub data AreParts (records : VersionRecords) : ℕ → List (Result ℕ LinkErro
       → AreParts records room (Ok place ∷ needs) (Err VersionCount ∷ [])
   enough : (room place : ℕ) (needs parts : List (Result ℕ LinkError)) (rest : List (Result NeedParts LinkError))
       → part_count records place ≤ room
-      → ArePlaces records 12 (first_part records place) (part_count records place) parts
+      → ArePlaces records part_next (first_part records place) (part_count records place) parts
       → AreParts records (room - part_count records place) needs rest
       → AreParts records room (Ok place ∷ needs)
-      (joined (map (item_by (need_at records (file_offset records place))) parts) rest)
+      (joined (map (result_map (need_at records (file_offset records place))) parts) rest)
 
 -- the number of parts for which the bytes have room
 abbrev pub room_of : VersionRecords → ℕ
 room_of records = length records.bytes / 16
 
--- the needs in records: the parts of those at the places of the longest list, whose `next` is at offset 12
+-- the needs in records: the parts of those at the places of the longest list, in order
 pub record AreNeeds (records : VersionRecords) (items : List (Result NeedParts LinkError)) : Type 0 where
   pub places : List (Result ℕ LinkError)
-  pub are_places : ArePlaces records 12 0 records.count places
+  pub are_places : ArePlaces records need_next 0 records.count places
   pub are_parts : AreParts records (room_of records) places items
 
--- the same items as a function: the parts at a place and from a place on, and those of needs
+-- the parts from a place on, as a function
 abbrev pub parts_from : VersionRecords → ℕ → ℕ → ℕ → List (Result NeedParts LinkError)
-parts_from records file start count = map (item_by (need_at records file)) (places_of records 12 start count)
+parts_from records file start count = map (result_map (need_at records file)) (places_of records part_next start count)
 
+-- the parts of the need at a place
 abbrev pub parts_at : VersionRecords → ℕ → List (Result NeedParts LinkError)
 parts_at records place =
     parts_from records (file_offset records place) (first_part records place) (part_count records place)
 
+-- the parts of needs, as long as there is room for them
 unfoldable pub parts_within : VersionRecords → ℕ → List (Result ℕ LinkError) → List (Result NeedParts LinkError)
 parts_within records room [] = []
 parts_within records room (Err error ∷ needs) = Err error ∷ []
@@ -220,8 +237,9 @@ parts_within records room (Ok place ∷ needs) = let count = part_count records 
     if nat_lt room count then Err VersionCount ∷ []
     else joined (parts_at records place) (parts_within records (room - count) needs)
 
+-- the needs in records, as a function
 abbrev pub needs_in : VersionRecords → List (Result NeedParts LinkError)
-needs_in records = parts_within records (room_of records) (places_of records 12 0 records.count)
+needs_in records = parts_within records (room_of records) (places_of records need_next 0 records.count)
 
 -- the numbers of symbols at the address in the entry VerSym (DT_VERSYM), of two bytes each, if there is one
 abbrev pub numbers_at : ElfFile → Option ℕ → ℕ → Result (Option (List ℕ)) LinkError
@@ -239,15 +257,14 @@ records_by file strings (Some address) (Some count) = and_then (bytes_from_of fi
 
 -- the tables of the entries, with the string table and the number of symbols, or the first refusal: of the
 -- numbers, of the definitions (DT_VERDEF and DT_VERDEFNUM), of the needs (DT_VERNEED and DT_VERNEEDNUM)
-unfoldable pub version_tables_of : ElfFile → List (DynamicEntry ℕ) → Result (List ℕ) LinkError → ℕ → Result VersionTables LinkError
+unfoldable pub version_tables_of : ElfFile → List (Dynamic ℕ) → Result (List ℕ) LinkError → ℕ → Result VersionTables LinkError
 version_tables_of file entries strings count =
     and_then (numbers_at file (number_with DT_VERSYM entries) count) (λ numbers.
     and_then (records_by file strings (number_with DT_VERDEF entries) (number_with DT_VERDEFNUM entries)) (λ definitions.
     and_then (records_by file strings (number_with DT_VERNEED entries) (number_with DT_VERNEEDNUM entries)) (λ needs.
     Ok (record { numbers = numbers; definitions = definitions; needs = needs }))))
 
--- the records and the tables of a value, the fields of an item, and the items that an iterator has not yet
--- returned
+-- the records of a value
 abbrev pub records_data : Records → VersionRecords
 records_data records = record {
   bytes = records.bytes.now;
@@ -256,6 +273,7 @@ records_data records = record {
   strings = lent records.strings;
 }
 
+-- the tables of a value
 abbrev pub version_tables : Versions → VersionTables
 version_tables versions = record {
   numbers = option_map (λ numbers. numbers.now) versions.numbers;
@@ -263,6 +281,7 @@ version_tables versions = record {
   needs = records_data versions.needs;
 }
 
+-- the fields of a definition
 abbrev pub definition_parts : Definition → DefinitionParts
 definition_parts d = record {
   flags = d.flags;
@@ -272,9 +291,11 @@ definition_parts d = record {
   name = text_at_offset (lent d.strings) d.name;
 }
 
+-- the fields of a definition, if it is one
 abbrev pub definition_item : Result Definition LinkError → Result DefinitionParts LinkError
-definition_item item = item_by definition_parts item
+definition_item item = result_map definition_parts item
 
+-- the fields of a need
 abbrev pub need_parts : Need → NeedParts
 need_parts need = record {
   file_offset = need.file;
@@ -287,17 +308,21 @@ need_parts need = record {
   name = text_in_strings (lent need.strings) need.name;
 }
 
+-- the fields of a need, if it is one
 abbrev pub need_item : Result Need LinkError → Result NeedParts LinkError
-need_item item = item_by need_parts item
+need_item item = result_map need_parts item
 
+-- the places that a chain has not yet passed
 abbrev pub places_left : VersionRecords → ℕ → Chain → List (Result ℕ LinkError)
 places_left records offset chain = places_of records offset chain.place chain.left
 
+-- the definitions that an iterator has not yet returned
 abbrev pub definitions_left : Definitions → List (Result DefinitionParts LinkError)
 definitions_left iter = let records = records_data iter.records in
-    map (item_by (definition_at records)) (places_left records 16 iter.chain)
+    map (result_map (definition_at records)) (places_left records definition_next iter.chain)
 
+-- the needs that an iterator has not yet returned
 abbrev pub needs_left : Needs → List (Result NeedParts LinkError)
 needs_left iter = let records = records_data iter.records in
-    joined (map (item_by (need_at records iter.file)) (places_left records 12 iter.parts))
-    (parts_within records iter.room (places_left records 12 iter.needs))
+    joined (map (result_map (need_at records iter.file)) (places_left records part_next iter.parts))
+    (parts_within records iter.room (places_left records need_next iter.needs))

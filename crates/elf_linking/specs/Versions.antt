@@ -3,7 +3,7 @@
 use Rattle.std.specs.Prelude.{All, IsOk, IsOkAnd, false, ◌≡◌, ◌≢◌, ℕ, ◌+◌, ◌*◌, ◌%◌, ◌<◌, ◌≤◌, ◌==◌, ◌&&◌, nat_lt, not, Bool, List, [], ◌∷◌, length, slice_get, Option, Some, None, option_map, Result, Ok, Err, if◌then◌else◌}
 use Rattle.elf_base.specs.Number.{number}
 use Rattle.elf_base.specs.Refusal.{and_then}
-use Rattle.elf_linking.specs.VersionTables.{DefinitionParts, NeedParts, VersionTables, definition_parts, definitions_in, is_hidden, item_by, need_parts, needs_in, version_number}
+use Rattle.elf_linking.specs.VersionTables.{DefinitionParts, NeedParts, VersionTables, definition_parts, definitions_in, is_hidden, result_map, need_parts, needs_in, version_number}
 use Rattle.elf_linking.specs.declared.error.LinkError.{LinkError}
 use Rattle.elf_linking.specs.declared.error.LinkError.TheVariants.{SymbolIndex}
 use Rattle.elf_linking.specs.declared.versions.symbol.NamedVersion as named_version
@@ -16,6 +16,7 @@ number_in tables None index = Ok None
 number_in tables (Some numbers) index = if nat_lt (length numbers) (index * 2 + 2) then Err SymbolIndex
     else Ok (Some (number tables.definitions.order 2 (index * 2) numbers))
 
+-- the number of the symbol at an index
 abbrev pub number_of : VersionTables → ℕ → Result (Option ℕ) LinkError
 number_of tables index = number_in tables tables.numbers index
 
@@ -42,16 +43,19 @@ first_item test (Ok item ∷ items) = if test item then Ok (Some item) else firs
 abbrev pub is_base : ℕ → Bool
 is_base flags = flags % 2 == 1
 
--- a definition that isn't the base bears a number; a part of a need bears it
+-- a definition that is not the base has a number
 abbrev pub BearsDefined : ℕ → DefinitionParts → Type 0
 BearsDefined n d = (d.number ≡ n) × (d.flags % 2 ≢ 1)
 
+-- a part of a need has a number
 abbrev pub BearsNeeded : ℕ → NeedParts → Type 0
 BearsNeeded n need = need.number ≡ n
 
+-- the first of these as a function
 abbrev pub bears_defined : ℕ → DefinitionParts → Bool
 bears_defined n d = d.number == n && not (is_base d.flags)
 
+-- the second as a function
 abbrev pub bears_needed : ℕ → NeedParts → Bool
 bears_needed n need = need.number == n
 
@@ -78,8 +82,9 @@ pub data IsNamed (tables : VersionTables) (n : ℕ) : Result (Option NamedParts)
 -- the same as a function
 abbrev pub or_needed : VersionTables → ℕ → Option DefinitionParts → Result (Option NamedParts) LinkError
 or_needed tables n (Some d) = Ok (Some (Defined d))
-or_needed tables n None = item_by (option_map Needed) (first_item (bears_needed n) (needs_in tables.needs))
+or_needed tables n None = result_map (option_map Needed) (first_item (bears_needed n) (needs_in tables.needs))
 
+-- what has the number n: nothing for 0 and 1
 abbrev pub named_of : VersionTables → ℕ → Result (Option NamedParts) LinkError
 named_of tables n = if nat_lt n 2 then Ok None
     else and_then (first_item (bears_defined n) (definitions_in tables.definitions)) (or_needed tables n)
@@ -106,29 +111,34 @@ pub data IsVersion (tables : VersionTables) (index : ℕ) : Result (Option Versi
 -- the same as a function
 abbrev pub version_with : VersionTables → Option ℕ → Result (Option VersionParts) LinkError
 version_with tables None = Ok None
-version_with tables (Some raw) = item_by (λ named. Some (version_by raw named)) (named_of tables (version_number raw))
+version_with tables (Some raw) = result_map (λ named. Some (version_by raw named)) (named_of tables (version_number raw))
 
+-- the version of the symbol at an index
 abbrev pub version_at : VersionTables → ℕ → Result (Option VersionParts) LinkError
 version_at tables index = and_then (number_of tables index) (version_with tables)
 
--- the fields of what bears a number, and of a version
+-- the fields of what has a number
 abbrev pub named_parts : named_version.NamedVersion → NamedParts
 named_parts (variants.Defined d) = Defined (definition_parts d)
 named_parts (variants.Needed need) = Needed (need_parts need)
 
+-- its hash number
 abbrev pub named_hash : NamedParts → ℕ
 named_hash (Defined d) = d.hash
 named_hash (Needed need) = need.hash
 
+-- its name
 abbrev pub named_name : NamedParts → Result (List ℕ) LinkError
 named_name (Defined d) = d.name
 named_name (Needed need) = need.name
 
+-- the fields of a version
 abbrev pub version_parts : SymbolVersion → VersionParts
 version_parts v = record { number = v.number; hidden = v.hidden; named = option_map named_parts v.named }
 
+-- the fields of the version of a symbol, if it has one
 abbrev pub version_item : Result (Option SymbolVersion) LinkError → Result (Option VersionParts) LinkError
-version_item answer = item_by (option_map version_parts) answer
+version_item answer = result_map (option_map version_parts) answer
 
 -- the versions of some symbols can be read: there is a number for each symbol, or there are no numbers, and each
 -- definition and each part of a need is whole and has a name

@@ -4,7 +4,7 @@
 ghost use Rattle.std.specs.Prelude.{◌≡◌, ◌↔◌, IfOk, IsTrue, option_map};
 ghost use Rattle.elf_linking.specs.Find.{IsAccepted, accepted, accepts_version, is_below, is_default};
 ghost use Rattle.elf_linking.specs.Find.{is_likely, is_near, is_open, is_version, serves};
-ghost use Rattle.elf_linking.specs.VersionTables.{item_by, version_tables};
+ghost use Rattle.elf_linking.specs.VersionTables.{result_map, version_tables};
 ghost use Rattle.elf_linking.specs.Versions.{named_parts, number_of, version_parts};
 
 mod early;
@@ -150,7 +150,7 @@ fn is_open(hidden: bool, version: &SymbolVersion<'_>) -> bool
 // Whether the number of a symbol's version is below the least that needs a name.
 #[inline(always)]
 fn number_below(versions: &Versions<'_>, index: u32, least: u16) -> Result<bool, LinkError>
-    ensures { result ≡ item_by (is_below least) (number_of (version_tables versions.now) index) }
+    ensures { result ≡ result_map (is_below least) (number_of (version_tables versions.now) index) }
 {
     match versions.number(index) {
         Ok(Some(raw)) => Ok(raw % 0x8000 < least),

@@ -9,7 +9,7 @@ ghost use Rattle.elf_base.specs.FileHeader.{file_order};
 ghost use Rattle.elf_base.specs.Lent.{LiesAt};
 ghost use Rattle.elf_base.specs.Table.{table_bytes, table_data, table_order};
 ghost use Rattle.elf_base.specs.Text.{TextIfUtf8};
-ghost use Rattle.elf_linking.specs.DynamicView.{LieAsSymbols, as_linked_text, is_symbolic, strings_of};
+ghost use Rattle.elf_linking.specs.DynamicView.{LieAsSymbols, as_linked_text, is_symbolic};
 ghost use Rattle.elf_linking.specs.DynamicView.{view_entries};
 ghost use Rattle.elf_linking.specs.Loaded.{lent};
 ghost use Rattle.elf_linking.specs.declared.error.LinkError.{LinkError};
@@ -37,7 +37,6 @@ pub struct DynamicObject<'a, E: Record> {
     versions: Versions<'a>,
     file: ElfFile<'a>,
     symbolic: bool,
-    ghost found: { strings_of file ≡ Ok strings.now },
     ghost symbolic_is: { symbolic ≡ is_symbolic (view_entries view) },
 }
 
@@ -64,7 +63,7 @@ impl<'a, E: LinkedSymbol> DynamicObject<'a, E> {
     /// Errors, the first of these: those of `DynamicView::read`; those of `AnyTable::read`;
     /// `UnknownClass` if the file has another class; those of `DynamicView::symbols`; those of
     /// `DynamicView::strings`; those of `Versions::read`.
-    #[tactic(auto, unfolding(crate::specs::DynamicView::strings_of))]
+    #[tactic(auto, unfolding(crate::specs::DynamicView::dynamic_strings_of))]
     pub fn read(file: &ElfFile<'a>) -> Result<Self, LinkError>
         ensures exact { MatchResult result (IsObject E.CLASS E.SIZE file.now)
             (IsObjectRefused E.CLASS E.SIZE file.now) }
@@ -142,23 +141,23 @@ impl<'a, E: LinkedSymbol> DynamicObject<'a, E> {
 
     /// The symbols with their names.
     pub fn symbols(&self) -> SymbolTable<'a, E>
-        ensures symbols { table_symbols result ≡ object_symbols E.fields E.text_in self.now }
+        ensures symbols { table_symbols result ≡ object_symbols E.fields self.now }
         ensures table { carried_table result ≡ object_records self.now }
         ensures strings { carried_strings result ≡ Some (Ok (object_strings self.now)) }
     {
-        SymbolTable::with_strings(self.symbols, self.strings, &self.file)
+        SymbolTable::with_strings(self.symbols, self.strings)
     }
 
     /// The number of symbols.
     pub fn symbol_count(&self) -> usize
-        ensures { result ≡ length (object_symbols E.fields E.text_in self.now).items }
+        ensures { result ≡ length (object_symbols E.fields self.now).items }
     {
         self.symbols.len()
     }
 
     /// The symbol at an index, or `None` if it is `symbol_count` or more.
     pub fn symbol(&self, index: u32) -> Option<E>
-        ensures { result ≡ slice_get (object_symbols E.fields E.text_in self.now).items index }
+        ensures { result ≡ slice_get (object_symbols E.fields self.now).items index }
     {
         self.symbols.get(index as usize)
     }
@@ -167,7 +166,7 @@ impl<'a, E: LinkedSymbol> DynamicObject<'a, E> {
     ///
     /// Errors: `SymbolIndex` if there is no such symbol; `Elf` with those of `bytes::text_at`.
     pub fn name(&self, index: u32) -> Result<&'a str, LinkError>
-        ensures text { let all = object_symbols E.fields E.text_in self.now in
+        ensures text { let all = object_symbols E.fields self.now in
             IsNameAt all.text (slice_get all.items index) result }
         ensures exact { lent result ≡ object_name E.fields self.now index }
     {
@@ -183,10 +182,10 @@ impl<'a, E: LinkedSymbol> DynamicObject<'a, E> {
     /// Errors: those of `name` except `TextUtf8`.
     #[tactic(auto, using(crate::proofs::NeededTexts::text_as_bytes))]
     pub fn name_bytes(&self, index: u32) -> Result<&'a [u8], LinkError>
-        ensures texts { let all = object_symbols E.fields E.text_in self.now in
+        ensures texts { let all = object_symbols E.fields self.now in
             MatchOption (slice_get all.items index) (result ≡ Err LinkError.SymbolIndex)
             (λ symbol. TextIfUtf8 (λ name. all.text symbol ≡ Some name) result) }
-        ensures place { let all = object_symbols E.fields E.text_in self.now in
+        ensures place { let all = object_symbols E.fields self.now in
             IfSome (slice_get all.items index) (λ symbol.
             IfOk result (LiesAt (object_strings self.now) (E.fields symbol).name)) }
         ensures as_text { object_name E.fields self.now index ≡ as_linked_text (lent result) }
@@ -228,9 +227,9 @@ impl<'a, E: LinkedSymbol> DynamicObject<'a, E> {
     /// `AnyTable::check`.
     pub fn check(&self) -> Result<(), LinkError>
         ensures accepts { IsOk result
-            ↔ IsGoodBy (object_table self.now) (object_symbols E.fields E.text_in self.now) }
+            ↔ IsGoodBy (object_table self.now) (object_symbols E.fields self.now) }
         ensures exact { IsCheckBy (object_table self.now)
-            (object_symbols E.fields E.text_in self.now) result }
+            (object_symbols E.fields self.now) result }
     {
         self.table.check(&self.symbols())
     }
@@ -239,9 +238,9 @@ impl<'a, E: LinkedSymbol> DynamicObject<'a, E> {
     /// their number.
     pub fn check_versions(&self) -> Result<(), LinkError>
         ensures accepts { IsOk result
-            ↔ AreReadable (object_dynamic_symbols E.fields E.text_in self.now) }
+            ↔ AreReadable (object_dynamic_symbols E.fields self.now) }
         ensures exact { result ≡ versions_error (version_tables (object_versions self.now))
-            (length (object_symbols E.fields E.text_in self.now).items) }
+            (length (object_symbols E.fields self.now).items) }
     {
         self.versions.check(self.symbols.len())
     }
@@ -249,16 +248,16 @@ impl<'a, E: LinkedSymbol> DynamicObject<'a, E> {
     /// The result of `AnyTable::lookup`, with the same contract.
     pub fn lookup<F: Fn(&E) -> bool>(&self, name: &str, f: F) -> Result<Option<(u32, E)>, LinkError>
         requires callable { (e : Bor E)
-            → Contains (object_symbols E.fields E.text_in self.now).items e.now → F.pre f e }
-        ensures answer { let all = object_symbols E.fields E.text_in self.now in
+            → Contains (object_symbols E.fields self.now).items e.now → F.pre f e }
+        ensures answer { let all = object_symbols E.fields self.now in
             Decides all F.Fn f → (count : ℕ)
             × LooksBy (IsMatch all F.Fn f name.now) (object_table self.now) all.items name.now
             result count }
-        ensures only { let all = object_symbols E.fields E.text_in self.now in
+        ensures only { let all = object_symbols E.fields self.now in
             Decides all F.Fn f → (other : Result (Option (ℕ × E)) LinkError) (count : ℕ)
             → LooksBy (IsMatch all F.Fn f name.now) (object_table self.now) all.items name.now
             other count → other ≡ result }
-        ensures good { let all = object_symbols E.fields E.text_in self.now in
+        ensures good { let all = object_symbols E.fields self.now in
             Decides all F.Fn f → IsGoodBy (object_table self.now) all
             → FindsAllBy (object_table self.now) all name.now (IsMatch all F.Fn f name.now) result }
     {
@@ -268,11 +267,11 @@ impl<'a, E: LinkedSymbol> DynamicObject<'a, E> {
     /// The result of `AnyTable::defined_symbol`, with the same contract.
     pub fn defined_symbol(&self, name: &str) -> Option<(u32, E)>
         requires good { IsGoodBy (object_table self.now)
-            (object_symbols E.fields E.text_in self.now) }
+            (object_symbols E.fields self.now) }
         ensures found { IsDefinedBy (object_table self.now)
-            (object_symbols E.fields E.text_in self.now) name.now result }
+            (object_symbols E.fields self.now) name.now result }
         ensures answer { LooksForDefined (object_table self.now)
-            (object_symbols E.fields E.text_in self.now) name.now result }
+            (object_symbols E.fields self.now) name.now result }
     {
         self.table.defined_symbol(name, &self.symbols())
     }
@@ -297,12 +296,12 @@ impl<'a, E: LinkedSymbol> DynamicObject<'a, E> {
         wanted: &Wanted<'_>,
         use_: Use,
     ) -> Result<Option<(u32, E)>, LinkError>
-        ensures answer { IsFound (object_dynamic_symbols E.fields E.text_in self.now) name.now
+        ensures answer { IsFound (object_dynamic_symbols E.fields self.now) name.now
             wanted.now use_ result }
         ensures only { (other : Result (Option (ℕ × E)) LinkError)
-            → IsFound (object_dynamic_symbols E.fields E.text_in self.now) name.now wanted.now use_
+            → IsFound (object_dynamic_symbols E.fields self.now) name.now wanted.now use_
             other → other ≡ result }
-        ensures good { let file = object_dynamic_symbols E.fields E.text_in self.now in
+        ensures good { let file = object_dynamic_symbols E.fields self.now in
             IsGoodBy file.table file.symbols → AreReadable file
             → FindsRight file name.now wanted.now use_ result }
     {
@@ -325,6 +324,6 @@ impl<'a, E: LinkedSymbol> DynamicObject<'a, E> {
         if file.header.pt1.class.raw() != E::CLASS {
             return Err(LinkError::UnknownClass);
         }
-        view.symbols(file)
+        view.records(file)
     }
 }

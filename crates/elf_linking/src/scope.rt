@@ -68,14 +68,14 @@ impl<'s, 'a, E: LinkedSymbol> Scope<'s, 'a, E> {
         wanted: &Wanted<'_>,
         use_: Use,
     ) -> Result<Option<Bound<E>>, LinkError>
-        ensures answer { IsBound E.fields E.text_in (scope_objects self.now).now from name.now
+        ensures answer { IsBound E.fields (scope_objects self.now).now from name.now
             wanted.now use_ result }
         ensures only { (other : Result (Option (Bound E)) LinkError)
-            → IsBound E.fields E.text_in (scope_objects self.now).now from name.now wanted.now use_
+            → IsBound E.fields (scope_objects self.now).now from name.now wanted.now use_
             other → other ≡ result }
         ensures good { let objects = (scope_objects self.now).now in
-            AreGood E.fields E.text_in objects → from < length objects
-            → BindsRight E.fields E.text_in objects from name.now wanted.now use_ result }
+            AreGood E.fields objects → from < length objects
+            → BindsRight E.fields objects from name.now wanted.now use_ result }
     {
         let Some(asking) = self.objects.get(from) else {
             return Err(LinkError::ObjectIndex);
@@ -91,14 +91,14 @@ impl<'s, 'a, E: LinkedSymbol> Scope<'s, 'a, E> {
     /// those of `find`. If `check` and `check_versions` are Ok for all objects, and the reference
     /// has a symbol whose name can be read, there is no error, and no symbol is missed.
     pub fn bind(&self, from: usize, reference: &Reference) -> Result<Option<Bound<E>>, LinkError>
-        ensures answer { IsReferenceBound E.fields E.text_in (scope_objects self.now).now from
+        ensures answer { IsReferenceBound E.fields (scope_objects self.now).now from
             reference.now result }
         ensures only { (other : Result (Option (Bound E)) LinkError)
-            → IsReferenceBound E.fields E.text_in (scope_objects self.now).now from reference.now
+            → IsReferenceBound E.fields (scope_objects self.now).now from reference.now
             other → other ≡ result }
         ensures good { let objects = (scope_objects self.now).now in
-            AreGood E.fields E.text_in objects → HasNamedSymbol E.fields objects from reference.now
-            → BindsReference E.fields E.text_in objects from reference.now result }
+            AreGood E.fields objects → HasNamedSymbol E.fields objects from reference.now
+            → BindsReference E.fields objects from reference.now result }
     {
         let Some(asking) = self.objects.get(from) else {
             return Err(LinkError::ObjectIndex);
@@ -126,15 +126,15 @@ impl<'s, 'a, E: LinkedSymbol> Scope<'s, 'a, E> {
     ) -> Result<Option<Bound<E>>, LinkError>
         requires { from < length (scope_objects self.now).now }
         ensures answer { let objects = (scope_objects self.now).now in IsFirstGiven
-            (FindsAt E.fields E.text_in objects name.now wanted.now use_)
+            (FindsAt E.fields objects name.now wanted.now use_)
             (length objects) symbolic from result }
         ensures only { let objects = (scope_objects self.now).now in
             (other : Result (Option (Bound E)) LinkError) → IsFirstGiven
-            (FindsAt E.fields E.text_in objects name.now wanted.now use_)
+            (FindsAt E.fields objects name.now wanted.now use_)
             (length objects) symbolic from other → other ≡ result }
         ensures good { let objects = (scope_objects self.now).now in
-            AreGood E.fields E.text_in objects → IsOkAnd result (λ bound. IsFirstGiven
-            (HasAt E.fields E.text_in objects name.now wanted.now use_)
+            AreGood E.fields objects → IsOkAnd result (λ bound. IsFirstGiven
+            (HasAt E.fields objects name.now wanted.now use_)
             (length objects) symbolic from (Ok bound)) }
     {
         if symbolic {
@@ -154,15 +154,15 @@ impl<'s, 'a, E: LinkedSymbol> Scope<'s, 'a, E> {
     ) -> Result<Option<Bound<E>>, LinkError>
         requires { from < length (scope_objects self.now).now }
         ensures answer { let objects = (scope_objects self.now).now in IsFirstGiven
-            (FindsAt E.fields E.text_in objects name.now wanted.now use_)
+            (FindsAt E.fields objects name.now wanted.now use_)
             (length objects) true from result }
         ensures only { let objects = (scope_objects self.now).now in
             (other : Result (Option (Bound E)) LinkError) → IsFirstGiven
-            (FindsAt E.fields E.text_in objects name.now wanted.now use_)
+            (FindsAt E.fields objects name.now wanted.now use_)
             (length objects) true from other → other ≡ result }
         ensures good { let objects = (scope_objects self.now).now in
-            AreGood E.fields E.text_in objects → IsOkAnd result (λ bound. IsFirstGiven
-            (HasAt E.fields E.text_in objects name.now wanted.now use_)
+            AreGood E.fields objects → IsOkAnd result (λ bound. IsFirstGiven
+            (HasAt E.fields objects name.now wanted.now use_)
             (length objects) true from (Ok bound)) }
     {
         match self.given(from, name, wanted, use_) {
@@ -185,15 +185,15 @@ impl<'s, 'a, E: LinkedSymbol> Scope<'s, 'a, E> {
         use_: Use,
     ) -> Result<Option<Bound<E>>, LinkError>
         ensures answer { let objects = (scope_objects self.now).now in IsFirstGiven
-            (FindsAt E.fields E.text_in objects name.now wanted.now use_)
+            (FindsAt E.fields objects name.now wanted.now use_)
             (length objects) false from result }
         ensures only { let objects = (scope_objects self.now).now in
             (other : Result (Option (Bound E)) LinkError) → IsFirstGiven
-            (FindsAt E.fields E.text_in objects name.now wanted.now use_)
+            (FindsAt E.fields objects name.now wanted.now use_)
             (length objects) false from other → other ≡ result }
         ensures good { let objects = (scope_objects self.now).now in
-            AreGood E.fields E.text_in objects → IsOkAnd result (λ bound. IsFirstGiven
-            (HasAt E.fields E.text_in objects name.now wanted.now use_)
+            AreGood E.fields objects → IsOkAnd result (λ bound. IsFirstGiven
+            (HasAt E.fields objects name.now wanted.now use_)
             (length objects) false from (Ok bound)) }
     {
         for place in 0..self.objects.len() {
@@ -223,13 +223,13 @@ impl<'s, 'a, E: LinkedSymbol> Scope<'s, 'a, E> {
     ) -> Result<Option<(u32, E)>, LinkError>
         requires { place < length (scope_objects self.now).now }
         ensures answer { let objects = (scope_objects self.now).now in
-            FindsAt E.fields E.text_in objects name.now wanted.now use_ place result }
+            FindsAt E.fields objects name.now wanted.now use_ place result }
         ensures only { let objects = (scope_objects self.now).now in
             (other : Result (Option (ℕ × E)) LinkError)
-            → FindsAt E.fields E.text_in objects name.now wanted.now use_ place other → other ≡ result }
+            → FindsAt E.fields objects name.now wanted.now use_ place other → other ≡ result }
         ensures good { let objects = (scope_objects self.now).now in
-            AreGood E.fields E.text_in objects
-            → HasAt E.fields E.text_in objects name.now wanted.now use_ place result }
+            AreGood E.fields objects
+            → HasAt E.fields objects name.now wanted.now use_ place result }
     {
         if is_passed_over(use_, place) {
             return Ok(None);

@@ -4,7 +4,7 @@
 
 ghost use Rattle.std.specs.Prelude.{◌≡◌, ◌<◌, ◌^◌, Ok, Err, MatchResult, Option, length, option_map};
 ghost use Rattle.elf_linking.specs.DynamicView.{number_with, view_entries, view_strings};
-ghost use Rattle.elf_linking.specs.VersionTables.{item_by, numbers_at, records_by, records_data};
+ghost use Rattle.elf_linking.specs.VersionTables.{result_map, numbers_at, records_by, records_data};
 ghost use Rattle.elf_linking.specs.declared.view.tags.TheConstants.{DT_VERSYM};
 
 mod check;
@@ -113,7 +113,7 @@ fn numbers_at<'a>(
     address: Option<u64>,
     count: u64,
 ) -> Result<Option<&'a [u8]>, LinkError>
-    ensures { item_by (option_map (λ numbers. numbers.now)) result
+    ensures { result_map (option_map (λ numbers. numbers.now)) result
         ≡ numbers_at file.now address count }
 {
     let Some(address) = address else {
@@ -135,7 +135,7 @@ fn records_by<'a>(
     at: u64,
     counted: u64,
 ) -> Result<Records<'a>, LinkError>
-    ensures { item_by records_data result ≡ records_by file.now (view_strings view.now)
+    ensures { result_map records_data result ≡ records_by file.now (view_strings view.now)
         (number_with at (view_entries view.now)) (number_with counted (view_entries view.now)) }
 {
     let order = file.byte_order();

@@ -3,8 +3,6 @@
 
 mod dynamic;
 mod entries;
-mod entry;
-mod linked_entry;
 mod linked_symbol;
 mod loaded;
 mod needed;
@@ -15,8 +13,6 @@ mod tags;
 
 pub use crate::view::dynamic::{DynamicView, strings};
 pub use crate::view::entries::DynamicEntries;
-pub use crate::view::entry::DynamicEntry;
-pub use crate::view::linked_entry::{Linked, LinkedEntry32, LinkedEntry64};
 pub use crate::view::linked_symbol::LinkedSymbol;
 pub use crate::view::loaded::{bytes_at, bytes_from, segment_at};
 pub use crate::view::needed::Needed;

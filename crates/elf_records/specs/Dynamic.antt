@@ -27,10 +27,11 @@ dynamic_64 order bytes = record {
   value = number order 8 8 bytes;
 }
 
--- d_tag and d_un of an entry
+-- d_tag of an entry
 abbrev pub dynamic_tag : {P : Type 0} → Dynamic P → P
 dynamic_tag entry = entry.tag.0
 
+-- d_un of an entry
 abbrev pub dynamic_value : {P : Type 0} → Dynamic P → P
 dynamic_value entry = entry.value
 
@@ -108,9 +109,10 @@ pointer_in value Pointer = Ok value
 pointer_in value Unspecified = Ok value
 pointer_in value _ = Err InvalidPtr
 
--- the value and the pointer of an entry, by its two numbers, or why it has none
+-- d_un of an entry as a value, by its tag and its number, or why it has none
 abbrev pub value_of : ℕ → ℕ → Result ℕ ElfError
 value_of n value = and_then (tag_row_of n n) (λ row. value_in value row.1)
 
+-- d_un of an entry as a pointer, by its tag and its number, or why it has none
 abbrev pub pointer_of : ℕ → ℕ → Result ℕ ElfError
 pointer_of n value = and_then (tag_row_of n n) (λ row. pointer_in value row.1)

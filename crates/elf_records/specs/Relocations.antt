@@ -35,33 +35,38 @@ rela_64 order bytes = record {
   addend = number order 8 16 bytes;
 }
 
--- r_offset and r_info of a relocation without an addend
+-- r_offset of a relocation without an addend
 abbrev pub rel_offset : {P : Type 0} → Rel P → P
 rel_offset rel = rel.offset
 
+-- r_info of a relocation without an addend
 abbrev pub rel_info : {P : Type 0} → Rel P → P
 rel_info rel = rel.info
 
--- r_offset, r_info and r_addend of a relocation with an addend
+-- r_offset of a relocation with an addend
 abbrev pub rela_offset : {P : Type 0} → Rela P → P
 rela_offset rela = rela.offset
 
+-- r_info of a relocation with an addend
 abbrev pub rela_info : {P : Type 0} → Rela P → P
 rela_info rela = rela.info
 
+-- r_addend of a relocation with an addend
 abbrev pub rela_addend : {P : Type 0} → Rela P → P
 rela_addend rela = rela.addend
 
--- the symbol and the type in the r_info of class 32 (ELF32_R_SYM and ELF32_R_TYPE)
+-- the index of the symbol in the r_info of class 32 (ELF32_R_SYM)
 abbrev pub symbol_in_32 : ℕ → ℕ
 symbol_in_32 info = info / 256
 
+-- the type in the r_info of class 32 (ELF32_R_TYPE)
 abbrev pub type_in_32 : ℕ → ℕ
 type_in_32 info = info % 256
 
--- the symbol and the type in the r_info of class 64 (ELF64_R_SYM and ELF64_R_TYPE)
+-- the index of the symbol in the r_info of class 64 (ELF64_R_SYM)
 abbrev pub symbol_in_64 : ℕ → ℕ
 symbol_in_64 info = info / 2 ^ 32
 
+-- the type in the r_info of class 64 (ELF64_R_TYPE)
 abbrev pub type_in_64 : ℕ → ℕ
 type_in_64 info = info % 2 ^ 32

@@ -14,22 +14,27 @@ use Rattle.elf_records.specs.declared.symbol_table.Type_.{Type_}
 use Rattle.elf_records.specs.declared.symbol_table.Type as the_type
 use Rattle.elf_records.specs.declared.symbol_table.Type.TheVariants as symbol_type
 
--- the number of a visibility, a binding and a type in the file, and the value of a number
+-- the number of a visibility in the file
 abbrev pub visibility_number : Visibility_ → ℕ
 visibility_number visibility = visibility.0
 
+-- the visibility with this number
 abbrev pub visibility_raw : ℕ → Visibility_
 visibility_raw n = record { 0 = n }
 
+-- the number of a binding in the file
 abbrev pub binding_number : Binding_ → ℕ
 binding_number binding = binding.0
 
+-- the binding with this number
 abbrev pub binding_raw : ℕ → Binding_
 binding_raw n = record { 0 = n }
 
+-- the number of a symbol type in the file
 abbrev pub symbol_type_number : Type_ → ℕ
 symbol_type_number type_ = type_.0
 
+-- the symbol type with this number
 abbrev pub symbol_type_raw : ℕ → Type_
 symbol_type_raw n = record { 0 = n }
 
@@ -76,13 +81,14 @@ symbol_type_of n = named_or symbol_type_in_range (
     ∷ (6, Ok symbol_type.Tls)
     ∷ []) n
 
--- the printed form of each
+-- the printed form of a visibility
 abbrev pub visibility_text : Visibility → List ℕ
 visibility_text visibility.Default = codes "Default"
 visibility_text visibility.Internal = codes "Internal"
 visibility_text visibility.Hidden = codes "Hidden"
 visibility_text visibility.Protected = codes "Protected"
 
+-- the printed form of a binding
 abbrev pub binding_text : Binding → List ℕ
 binding_text binding.Local = codes "Local"
 binding_text binding.Global = codes "Global"
@@ -90,6 +96,7 @@ binding_text binding.Weak = codes "Weak"
 binding_text (binding.OsSpecific n) = numbered (codes "OsSpecific") n
 binding_text (binding.ProcessorSpecific n) = numbered (codes "ProcessorSpecific") n
 
+-- the printed form of a symbol type
 abbrev pub symbol_type_text : the_type.Type → List ℕ
 symbol_type_text symbol_type.NoType = codes "NoType"
 symbol_type_text symbol_type.Object = codes "Object"

@@ -342,6 +342,17 @@ impl Tag_<P32> {
 }
 
 impl Dynamic<P32> {
+    /// The same entry with numbers of 64 bits.
+    #[inline(always)]
+    pub fn widened(&self) -> Dynamic<P64>
+        ensures { result ≡ self.now }
+    {
+        Dynamic {
+            tag: Tag_(u64::from(self.tag.0)),
+            value: u64::from(self.value),
+        }
+    }
+
     /// The number of the tag, whether it is known or not (d_tag).
     #[inline(always)]
     pub fn raw_tag(&self) -> u64

@@ -9,8 +9,6 @@ use Rattle.elf_records.specs.declared.sections.ShType.TheVariants.{Null}
 use Rattle.xmas_elf.specs.NameTable.{HasName, IsNameAt, LiesAsName, LiesAsNameTable, name_table_of, names_section_of}
 use Rattle.xmas_elf.specs.Prelude.{ElfError, ElfFile, SectionHeader, ShType}
 use Rattle.xmas_elf.specs.SectionHeader.{section_fields, section_type}
-use Rattle.xmas_elf.specs.Symbol.{SymbolFields}
-use Rattle.xmas_elf.specs.SymbolName.{HoldsNames}
 use Rattle.xmas_elf.proofs.FirstNamed.{name_at}
 use Rattle.xmas_elf.proofs.SymbolNames.{ok_of_some}
 
@@ -49,16 +47,11 @@ text_named table index name = (
   λ is. ap result_ok (is-text_of table index name is),
 )
 
-by_text : (table : List ℕ) (index : ℕ) (r : Result (Bor (List ℕ)) ElfError) → TextIfUtf8 (IsText table index) r → TextIfUtf8 (λ name. result_ok (text_of table index) ≡ Some name) r
+pub by_text : (table : List ℕ) (index : ℕ) (r : Result (Bor (List ℕ)) ElfError) → TextIfUtf8 (IsText table index) r → TextIfUtf8 (λ name. result_ok (text_of table index) ≡ Some name) r
 by_text table index r texts name = (
   λ same. (texts name).0 ((text_named table index name).0 same),
   λ lent. (text_named table index name).1 ((texts name).1 lent),
 )
-
-pub symbol_texts : {E : Type 0} (fields : E → SymbolFields) (text : E → Option (List ℕ)) (found : Result (Bor (List ℕ)) ElfError) (table : Bor (List ℕ)) (entry : E) (index : ℕ) (r : Result (Bor (List ℕ)) ElfError) → HoldsNames fields text found → found ≡ Ok table → index ≡ (fields entry).name → TextIfUtf8 (IsText table.now index) r → TextIfUtf8 (λ name. text entry ≡ Some name) r
-symbol_texts fields text found table entry index r holds ok at texts =
-    let named = rw ok at holds in
-    rw (named entry, ← at) (by_text table.now index r texts)
 
 -- the name of a symbol without a string table is its text
 pub own_texts : (text : Option (List ℕ)) (name_is r : Result (Bor (List ℕ)) ElfError) → MatchResult name_is (λ t. text ≡ Some t.now) (λ e. text ≡ None) → MatchResult name_is (λ t. IsOkAnd r (λ b. (b.now ≡ t.now) × IsUtf8 b.now)) (λ e. r ≡ Err e) → TextIfUtf8 (λ name. text ≡ Some name) r

@@ -13,23 +13,11 @@ pub ok_of_some : (answer : Result (List ℕ) ElfError) (text : List ℕ) → res
 ok_of_some (Ok one) text same = cc
 ok_of_some (Err error) text same = cc
 
-compared : (table : List ℕ) (index : ℕ) (wanted : List ℕ) (b : Bool) → (IsTrue b ↔ IsText table index wanted) → IsTrue b ↔ (result_ok (text_of table index) ≡ Some wanted)
+pub compared : (table : List ℕ) (index : ℕ) (wanted : List ℕ) (b : Bool) → (IsTrue b ↔ IsText table index wanted) → IsTrue b ↔ (result_ok (text_of table index) ≡ Some wanted)
 compared table index wanted b said = (
   λ yes. ap result_ok (is-text_of table index wanted (said.0 yes)),
   λ same. said.1 (text_of-is table index wanted (ok_of_some (text_of table index) wanted same)),
 )
-
--- a symbol has the text at its name in the string table
-pub named_at : {E : Type 0} (fields : E → SymbolFields) (text : E → Option (List ℕ)) (found : Result (Bor (List ℕ)) ElfError) (table : Bor (List ℕ)) (entry : E) (index : ℕ) (wanted : List ℕ) (b : Bool) → HoldsNames fields text found → found ≡ Ok table → index ≡ (fields entry).name → (IsTrue b ↔ IsText table.now index wanted) → IsTrue b ↔ (text entry ≡ Some wanted)
-named_at fields text found table entry index wanted b holds ok at said =
-    let named = rw ok at holds in
-    rw (named entry, ← at) (compared table.now index wanted b said)
-
--- a symbol has no name if there is no string table
-pub nameless : {E : Type 0} (fields : E → SymbolFields) (text : E → Option (List ℕ)) (found : Result (Bor (List ℕ)) ElfError) (error : ElfError) (entry : E) (wanted : List ℕ) → HoldsNames fields text found → found ≡ Err error → IsTrue false ↔ (text entry ≡ Some wanted)
-nameless fields text found error entry wanted holds refused =
-    let named = rw refused at holds in
-    rw (named entry) (search rules)
 
 -- the string table that was found contains the names of the symbols
 pub holds_found : (dynamic : Bool) (file : ElfFile) (found : Result (Bor (List ℕ)) ElfError) (index : ℕ) → Answers (symbol_strings_of dynamic file) found → result_ok (symbol_string_of dynamic file index) ≡ result_ok (name_in_table found index)

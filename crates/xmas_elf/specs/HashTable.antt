@@ -24,10 +24,11 @@ hash_data table = table.bytes.now
 abbrev pub hash_order : HashTable → Order
 hash_order table = table.order
 
--- nbucket and nchain: the number of buckets and the number of chains
+-- nbucket: the number of buckets
 abbrev pub bucket_count_of : HashTable → ℕ
 bucket_count_of table = number (hash_order table) 4 0 (hash_data table)
 
+-- nchain: the number of chains, which is the number of symbols
 abbrev pub chain_count_of : HashTable → ℕ
 chain_count_of table = number (hash_order table) 4 4 (hash_data table)
 

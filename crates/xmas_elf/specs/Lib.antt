@@ -57,6 +57,7 @@ pub mod Strings
 pub mod NameTable
 pub mod StringTables
 pub mod SymbolName
+pub mod NamedSymbols
 pub mod SymbolSection
 pub mod SymbolText
 pub mod SectionText

@@ -34,11 +34,12 @@ name_table_of file = and_then (names_section_of file) (λ section. unless (
     (nat_lt (length file.input.now) (section_fields section).offset, ShortSectionOffset)
     ∷ []) (drop (section_fields section).offset file.input.now))
 
--- the place of the name table in the input, and that of the name at an index of it
+-- the place of the name table in the input
 abbrev pub LiesAsNameTable : ElfFile → Bor (List ℕ) → Type 0
 LiesAsNameTable file table =
     IsOkAnd (names_section_of file) (λ section. LiesAt file.input (section_fields section).offset table)
 
+-- the place of the name at an index of the name table
 abbrev pub LiesAsName : ElfFile → ℕ → Bor (List ℕ) → Type 0
 LiesAsName file index name = IsOkAnd (names_section_of file)
     (λ section. LiesAt file.input ((section_fields section).offset + index) name)
@@ -88,10 +89,11 @@ abbrev pub named_by : (ℕ → Result (List ℕ) ElfError) → SectionHeader →
 named_by name_at section = and_then (section_type section)
     (λ kind. if is_sh_type Null kind then Err NullName else name_at (section_fields section).name)
 
--- the name of a section and its bytes, or why it has none, as functions
+-- the name of a section, or why it has none, as a function
 unfoldable pub name_of : ElfFile → SectionHeader → Result (List ℕ) ElfError
 name_of file section = named_by (shstr_of file) section
 
+-- the bytes of the name of a section, or why it has none, as a function
 unfoldable pub name_bytes_of : ElfFile → SectionHeader → Result (List ℕ) ElfError
 name_bytes_of file section = named_by (shstr_bytes_of file) section
 

@@ -111,6 +111,7 @@ program_entry input header count index = let part = header_fields header.pt2 in 
 abbrev pub HasProgramHeader : List ℕ → Header → ℕ → Type 0
 HasProgramHeader input header = HasProgramEntry input header (header_fields header.pt2).ph_count
 
+-- that program header, or why it cannot be read
 abbrev pub program_by_u16 : List ℕ → Header → ℕ → Result ProgramHeader ElfError
 program_by_u16 input header = program_entry input header (header_fields header.pt2).ph_count
 
@@ -118,6 +119,7 @@ program_by_u16 input header = program_entry input header (header_fields header.p
 abbrev pub HasProgram : ElfFile → ℕ → Type 0
 HasProgram file = HasProgramEntry file.input.now file.header (program_count_of file)
 
+-- that program header, or why it cannot be read
 abbrev pub program_of : ElfFile → ℕ → Result ProgramHeader ElfError
 program_of file = program_entry file.input.now file.header (program_count_of file)
 

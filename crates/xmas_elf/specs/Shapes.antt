@@ -16,6 +16,7 @@ pub data Shape : Type 0 where
   nothing bytes texts a_group a_note a_hash_table : Shape
   table : TableKind → Shape
 
+-- what some contents are
 abbrev pub shape : Content → Shape
 shape empty = nothing
 shape (undefined _) = bytes

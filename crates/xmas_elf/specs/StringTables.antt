@@ -24,23 +24,26 @@ pub record IsTextIn (IsTable : List ℕ → Type 0) (index : ℕ) (text : List �
   pub in_table : IsTable table
   pub is_text : IsText table index text
 
--- the text at an index of .strtab, and of .dynstr
+-- `text` is the text at an index of .strtab
 abbrev pub IsString : ElfFile → ℕ → List ℕ → Type 0
 IsString file = IsTextIn (IsStrtab file)
 
+-- `text` is the text at an index of .dynstr
 abbrev pub IsDynString : ElfFile → ℕ → List ℕ → Type 0
 IsDynString file = IsTextIn (IsDynstr file)
 
--- the data of .strtab and of .dynstr, or why there is none, as a function
+-- the data of .strtab, or why there is none, as a function
 unfoldable pub strtab_of : ElfFile → Result (List ℕ) ElfError
 strtab_of file = typed_data_of file (codes ".strtab") StrTab NoStrtab StrtabType
 
+-- the data of .dynstr, or why there is none, as a function
 unfoldable pub dynstr_of : ElfFile → Result (List ℕ) ElfError
 dynstr_of file = and_then (ok_or (section_named file (codes ".dynstr")) NoDynstr) (section_data_of file)
 
--- the text at an index of .strtab and of .dynstr, or why there is none, as a function
+-- the text at an index of .strtab, or why there is none, as a function
 unfoldable pub string_of : ElfFile → ℕ → Result (List ℕ) ElfError
 string_of file index = and_then (strtab_of file) (λ table. text_of table index)
 
+-- the text at an index of .dynstr, or why there is none, as a function
 unfoldable pub dyn_string_of : ElfFile → ℕ → Result (List ℕ) ElfError
 dyn_string_of file index = and_then (dynstr_of file) (λ table. text_of table index)

@@ -50,44 +50,51 @@ abbrev pub symbol_in : Layout → SymbolFields
 symbol_in (Narrow bytes order) = symbol_32 order bytes.now
 symbol_in (Wide bytes order) = symbol_64 order bytes.now
 
--- the entries that store these bytes
+-- the entry of class 32 that stores these bytes
 abbrev pub entry_32 : Order → List ℕ → Entry32
 entry_32 order bytes = record { bytes = bytes; order = order }
 
+-- the entry of class 64 that stores these bytes
 abbrev pub entry_64 : Order → List ℕ → Entry64
 entry_64 order bytes = record { bytes = bytes; order = order }
 
+-- the entry for dynamic linking of class 32 that stores these bytes
 abbrev pub dyn_entry_32 : Order → List ℕ → DynEntry32
 dyn_entry_32 order bytes = record { bytes = bytes; order = order }
 
+-- the entry for dynamic linking of class 64 that stores these bytes
 abbrev pub dyn_entry_64 : Order → List ℕ → DynEntry64
 dyn_entry_64 order bytes = record { bytes = bytes; order = order }
 
--- the fields of each type of entry
+-- the fields of an entry of class 32
 unfoldable pub entry_32_fields : Entry32 → SymbolFields
 entry_32_fields entry = symbol_32 entry.order entry.bytes
 
+-- the fields of an entry of class 64
 unfoldable pub entry_64_fields : Entry64 → SymbolFields
 entry_64_fields entry = symbol_64 entry.order entry.bytes
 
+-- the fields of an entry for dynamic linking of class 32
 unfoldable pub dyn_entry_32_fields : DynEntry32 → SymbolFields
 dyn_entry_32_fields entry = symbol_32 entry.order entry.bytes
 
+-- the fields of an entry for dynamic linking of class 64
 unfoldable pub dyn_entry_64_fields : DynEntry64 → SymbolFields
 dyn_entry_64_fields entry = symbol_64 entry.order entry.bytes
 
--- the binding, type and visibility of a symbol (gABI, "Symbol Table": ELF32_ST_BIND, ELF32_ST_TYPE and
--- ELF32_ST_VISIBILITY)
+-- the binding of a symbol (gABI, "Symbol Table": ELF32_ST_BIND)
 abbrev pub symbol_binding : SymbolFields → Result Binding ElfError
 symbol_binding symbol = binding_of (symbol.info / 16)
 
+-- the type of a symbol (gABI, "Symbol Table": ELF32_ST_TYPE)
 abbrev pub symbol_type : SymbolFields → Result symbol_types.Type ElfError
 symbol_type symbol = symbol_type_of (symbol.info % 16)
 
+-- the visibility of a symbol (gABI, "Symbol Table": ELF32_ST_VISIBILITY)
 abbrev pub symbol_visibility : SymbolFields → Visibility
 symbol_visibility symbol = visibility_of symbol.other
 
--- the symbols in order, their fields, and their names in the file, if any
+-- the symbols in order, their fields, and their names, if any
 pub record Symbols (E : Type 0) : Type 0 where
   pub items : List E
   pub fields : E → SymbolFields

@@ -8,16 +8,17 @@ use Rattle.xmas_elf.specs.Prelude.{ElfError, ElfFile}
 use Rattle.xmas_elf.specs.StringTables.{IsDynString, IsString, dyn_string_of, dynstr_of, string_of, strtab_of}
 use Rattle.xmas_elf.specs.Symbol.{SymbolFields}
 
--- the string table of symbols and the text at an index there: .dynstr for symbols for dynamic linking,
--- otherwise .strtab
+-- the string table of symbols: .dynstr for symbols for dynamic linking, otherwise .strtab
 abbrev pub symbol_strings_of : Bool → ElfFile → Result (List ℕ) ElfError
 symbol_strings_of true = dynstr_of
 symbol_strings_of false = strtab_of
 
+-- the text at an index of that string table, or why there is none
 abbrev pub symbol_string_of : Bool → ElfFile → ℕ → Result (List ℕ) ElfError
 symbol_string_of true = dyn_string_of
 symbol_string_of false = string_of
 
+-- a text is the one at an index of that string table
 abbrev pub IsSymbolString : Bool → ElfFile → ℕ → List ℕ → Type 0
 IsSymbolString true = IsDynString
 IsSymbolString false = IsString

@@ -4,6 +4,7 @@ use Rattle.std.specs.Borrow.{Bor}
 use Rattle.std.specs.Fn.{Shared, FnReturns, FnReturnsAt}
 use Rattle.std.specs.Result.{result_ok}
 use Rattle.elf_base.specs.Table.{records, table_items}
+use Rattle.elf_base.specs.Text.{text_of}
 use Rattle.xmas_elf.specs.Prelude.{DynEntry32, DynEntry64, ElfFile, Entry32, Entry64, Order, Table}
 use Rattle.xmas_elf.specs.Symbol.{SymbolFields, Symbols, dyn_entry_32, dyn_entry_32_fields, dyn_entry_64, dyn_entry_64_fields, entry_32, entry_32_fields, entry_64, entry_64_fields}
 use Rattle.xmas_elf.specs.SymbolName.{symbol_string_of}
@@ -13,6 +14,11 @@ abbrev pub symbols_of : {E : Type 0} → {r : _} → (E → SymbolFields) → (E
 symbols_of fields text_in table file =
     record { items = table_items table; fields = fields; text = λ e. text_in e file }
 
+-- the symbols of a table with their names in a string table
+abbrev pub named_symbols : {E : Type 0} → {r : _} → (E → SymbolFields) → List ℕ → Table E r → Symbols E
+named_symbols fields strings table =
+    record { items = table_items table; fields = fields; text = λ e. result_ok (text_of strings (fields e).name) }
+
 -- the symbols in bytes of a file, each of a size, with their names in `.strtab` or in `.dynstr`
 abbrev pub symbols_in : {E : Type 0} → ℕ → (List ℕ → E) → (E → SymbolFields) → Bool → ElfFile → List ℕ → Symbols E
 symbols_in size entry fields dynamic file bytes = record {
@@ -21,16 +27,19 @@ symbols_in size entry fields dynamic file bytes = record {
   text = λ e. result_ok (symbol_string_of dynamic file (fields e).name);
 }
 
--- the symbols of each of the four types
+-- the symbols of class 32 in bytes, with their names in .strtab
 abbrev pub symbols_in_32 : ElfFile → Order → List ℕ → Symbols Entry32
 symbols_in_32 file order bytes = symbols_in 16 (entry_32 order) entry_32_fields false file bytes
 
+-- the symbols of class 64 in bytes, with their names in .strtab
 abbrev pub symbols_in_64 : ElfFile → Order → List ℕ → Symbols Entry64
 symbols_in_64 file order bytes = symbols_in 24 (entry_64 order) entry_64_fields false file bytes
 
+-- the symbols for dynamic linking of class 32 in bytes, with their names in .dynstr
 abbrev pub dyn_symbols_in_32 : ElfFile → Order → List ℕ → Symbols DynEntry32
 dyn_symbols_in_32 file order bytes = symbols_in 16 (dyn_entry_32 order) dyn_entry_32_fields true file bytes
 
+-- the symbols for dynamic linking of class 64 in bytes, with their names in .dynstr
 abbrev pub dyn_symbols_in_64 : ElfFile → Order → List ℕ → Symbols DynEntry64
 dyn_symbols_in_64 file order bytes = symbols_in 24 (dyn_entry_64 order) dyn_entry_64_fields true file bytes
 

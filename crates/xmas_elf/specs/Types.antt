@@ -22,10 +22,11 @@ use Rattle.xmas_elf.specs.declared.extensions.TheConstants.{NT_GNU_BUILD_ID as t
 abbrev pub NT_GNU_BUILD_ID : ℕ
 NT_GNU_BUILD_ID = the_NT_GNU_BUILD_ID
 
--- the types of this crate
+-- an ELF file: its bytes and its header
 abbrev pub ElfFile : Type 0
 ElfFile = the_ElfFile
 
+-- a hash table of the ELF standard
 abbrev pub HashTable : Type 0
 HashTable = the_HashTable
 
@@ -33,59 +34,78 @@ HashTable = the_HashTable
 abbrev pub HashVerdict : Type 0
 HashVerdict = the_HashVerdict
 
+-- an iterator over program headers
 abbrev pub ProgramIter : Type 0
 ProgramIter = the_ProgramIter
 
+-- the program header table of a file
 abbrev pub ProgramTable : Type 0
 ProgramTable = the_ProgramTable
 
+-- an iterator over the program header table
 abbrev pub ProgramTableIter : Type 0
 ProgramTableIter = the_ProgramTableIter
 
+-- the data of a segment, by its type
 abbrev pub SegmentData : Type 0
 SegmentData = the_SegmentData
 
+-- a program header of either class
 abbrev pub ProgramHeader : Type 0
 ProgramHeader = the_ProgramHeader
 
+-- a program header of class 32
 abbrev pub ProgramHeader32 : Type 0
 ProgramHeader32 = the_ProgramHeader32
 
+-- a program header of class 64
 abbrev pub ProgramHeader64 : Type 0
 ProgramHeader64 = the_ProgramHeader64
 
+-- why a report was not written
 abbrev pub ReportFault : Type 0
 ReportFault = the_ReportFault
 
+-- an iterator over section headers
 abbrev pub SectionIter : Type 0
 SectionIter = the_SectionIter
 
+-- the section header table of a file
 abbrev pub SectionTable : Type 0
 SectionTable = the_SectionTable
 
+-- an iterator over the section header table
 abbrev pub SectionTableIter : Type 0
 SectionTableIter = the_SectionTableIter
 
+-- the data of a section, by its type
 abbrev pub SectionData : Type 0
 SectionData = the_SectionData
 
+-- a section header with addresses of a type
 abbrev pub SectionHeader_ : Type 0 → Type 0
 SectionHeader_ P = the_SectionHeader_ P
 
+-- a section header of either class
 abbrev pub SectionHeader : Type 0
 SectionHeader = the_SectionHeader
 
+-- an iterator over the texts of a string table
 abbrev pub SectionStrings : Type 0
 SectionStrings = the_SectionStrings
 
+-- a symbol for dynamic linking of class 32
 abbrev pub DynEntry32 : Type 0
 DynEntry32 = the_DynEntry32
 
+-- a symbol for dynamic linking of class 64
 abbrev pub DynEntry64 : Type 0
 DynEntry64 = the_DynEntry64
 
+-- a symbol of class 32
 abbrev pub Entry32 : Type 0
 Entry32 = the_Entry32
 
+-- a symbol of class 64
 abbrev pub Entry64 : Type 0
 Entry64 = the_Entry64

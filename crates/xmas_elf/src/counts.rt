@@ -11,12 +11,13 @@ ghost use Rattle.xmas_elf.specs.SectionHeader.{section_count_of, section_header_
 ghost use Rattle.xmas_elf.specs.SectionHeader.{shstr_index_of};
 ghost use Rattle.xmas_elf.specs.HeaderTable.{entry_place, is_known_class};
 
-use crate::bytes::{Order, Record};
-use crate::header::Class::{SixtyFour, ThirtyTwo};
+use crate::bytes::Order;
 use crate::header::Class_;
 use crate::ranges::entry_at;
-use crate::sections::{SHN_LORESERVE, SHN_XINDEX, SectionHeader, SectionHeader_, section_at_place};
-use crate::{ElfError, ElfFile, P32, P64};
+use crate::sections::{
+    SHN_LORESERVE, SHN_XINDEX, SectionHeader, check_entry_size, section_at_place,
+};
+use crate::{ElfError, ElfFile};
 
 // PN_XNUM: the number of program headers is in section header 0.
 const PN_XNUM: u16 = 0xffff;
@@ -106,13 +107,6 @@ fn first_at(
         return None;
     }
     let place = entry_at(input, offset, entry_size, 0)?;
-    let least = match class.as_class() {
-        ThirtyTwo => SectionHeader_::<P32>::SIZE,
-        SixtyFour => SectionHeader_::<P64>::SIZE,
-        _ => return None,
-    };
-    if usize::from(entry_size) < least {
-        return None;
-    }
+    check_entry_size(class, entry_size).ok()?;
     Some(section_at_place(input, place, class.raw(), order))
 }

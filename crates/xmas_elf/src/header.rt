@@ -21,6 +21,7 @@ pub use elf_base::header::{
 /// the two parts; `NoClass` for class 0; `ClassMismatch` if the class is not that of part 2;
 /// `NoVersion` and `NoDataFormat` for a 0 there; `PhTableRange` and `ShTableRange` if a header
 /// table extends past the end of the input.
+#[tactic(auto, unfolding(crate::specs::Checks::header_check))]
 pub fn sanity_check(file: &ElfFile<'_>) -> Result<(), ElfError>
     ensures exact { result ≡ header_check file.now }
 
@@ -36,46 +37,14 @@ pub fn sanity_check(file: &ElfFile<'_>) -> Result<(), ElfError>
         ≤ (header_fields file.now.header.pt2).ph_entry_size
         → length (program_list file.now) ≡ program_count_of file.now) }
 {
-    // The class is chosen once for all fields.
-    match file.header.pt2 {
-        HeaderPt2::Header32(part) => check(&with_part(file, HeaderPt2::Header32(part))),
-        HeaderPt2::Header64(part) => check(&with_part(file, HeaderPt2::Header64(part))),
-    }
-}
-
-// The file with this part 2: unchanged if that is its own.
-#[inline(always)]
-fn with_part<'a>(file: &ElfFile<'a>, pt2: HeaderPt2) -> ElfFile<'a>
-    ensures { pt2 ≡ file.now.header.pt2 → result ≡ file.now }
-{
-    let pt1 = file.header.pt1;
-    ElfFile {
-        input: file.input,
-        header: Header { pt1, pt2 },
-    }
-}
-
-// The check, compiled separately for each class.
-#[tactic(auto, unfolding(crate::specs::Checks::header_check))]
-#[inline(always)]
-fn check(file: &ElfFile<'_>) -> Result<(), ElfError>
-    ensures exact { result ≡ header_check file.now }
-    ensures sections { OnOk result (
-        section_header_size (file_class file.now.header)
-        ≤ (header_fields file.now.header.pt2).sh_entry_size
-        → length (section_list file.now) ≡ section_count_of file.now) }
-    ensures segments { OnOk result (
-        (header_fields file.now.header.pt2).ph_offset ≢ 0
-        → program_header_size (file_class file.now.header)
-        ≤ (header_fields file.now.header.pt2).ph_entry_size
-        → length (program_list file.now) ≡ program_count_of file.now) }
-{
     let pt1 = &file.header.pt1;
     let pt2 = &file.header.pt2;
+    // The class is chosen once for all fields.
+    let part = pt2.numbers();
     if pt1.magic != MAGIC {
         return Err(ElfError::BadMagic);
     }
-    if HeaderPt1::SIZE + pt2.size() != usize::from(pt2.header_size()) {
+    if HeaderPt1::SIZE + pt2.size() != usize::from(part.header_size) {
         return Err(ElfError::HeaderSize);
     }
     if pt1.class.is_none() {
@@ -92,11 +61,11 @@ fn check(file: &ElfFile<'_>) -> Result<(), ElfError>
         return Err(ElfError::NoDataFormat);
     }
     let ph_count = u64::from(file.program_count());
-    if !table_is_within(file.input, pt2.ph_offset(), pt2.ph_entry_size(), ph_count) {
+    if !table_is_within(file.input, part.ph_offset, part.ph_entry_size, ph_count) {
         return Err(ElfError::PhTableRange);
     }
     let sh_count = file.section_count();
-    if !table_is_within(file.input, pt2.sh_offset(), pt2.sh_entry_size(), sh_count) {
+    if !table_is_within(file.input, part.sh_offset, part.sh_entry_size, sh_count) {
         return Err(ElfError::ShTableRange);
     }
     Ok(())

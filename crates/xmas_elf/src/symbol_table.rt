@@ -2,6 +2,7 @@
 
 mod entries;
 mod entry;
+mod symbol_names;
 mod table;
 mod wide_index;
 

@@ -5,7 +5,7 @@
 ghost use Rattle.std.specs.Prelude.{◌≡◌, ◌↔◌, false, true, IfSome, IsTrue, Ok, Some};
 ghost use Rattle.elf_linking.specs.Find.{IsFound, IsLikely, Seeks, accepted, dynamic_symbols};
 ghost use Rattle.elf_linking.specs.Find.{is_likely, serves, symbol_at};
-ghost use Rattle.elf_linking.specs.VersionTables.{item_by, version_tables};
+ghost use Rattle.elf_linking.specs.VersionTables.{result_map, version_tables};
 ghost use Rattle.xmas_elf.specs.SymbolTable.{table_symbols};
 
 use crate::LinkError;
@@ -21,7 +21,7 @@ pub(crate) fn found_symbol<E: Entry + Record>(
     found: Result<Option<u32>, LinkError>,
     symbols: &SymbolTable<'_, E>,
 ) -> Result<Option<(u32, E)>, LinkError>
-    ensures { result ≡ item_by (symbol_at (table_symbols symbols.now).items) found }
+    ensures { result ≡ result_map (symbol_at (table_symbols symbols.now).items) found }
 {
     let index = match found {
         Ok(Some(index)) => index,
@@ -50,7 +50,7 @@ impl<'a> GnuHashTable<'a> {
     ) -> Option<Result<Option<u32>, LinkError>>
         ensures { let file = dynamic_symbols (Gnu self.now) (table_symbols symbols.now)
             (version_tables versions.now) in IfSome result (λ found.
-            IsFound file name.now wanted.now use_ (item_by (symbol_at file.symbols.items) found)) }
+            IsFound file name.now wanted.now use_ (result_map (symbol_at file.symbols.items) found)) }
     {
         let (index, _) = match self.first_likely(name, symbols, versions, wanted, use_) {
             Ok(Some(first)) => first,
@@ -81,7 +81,7 @@ impl<'a> GnuHashTable<'a> {
         requires refused { accepted (version_tables versions.now) wanted.now first ≡ Ok false }
         ensures { let file = dynamic_symbols (Gnu self.now) (table_symbols symbols.now)
             (version_tables versions.now) in IfSome result (λ found.
-            IsFound file name.now wanted.now use_ (item_by (symbol_at file.symbols.items) found)) }
+            IsFound file name.now wanted.now use_ (result_map (symbol_at file.symbols.items) found)) }
     {
         match self.next_likely(first, name, symbols, versions, wanted, use_) {
             Ok(None) => match wanted {

@@ -1,7 +1,7 @@
 //! The number of symbols of a GNU hash table (the convention of GNU binutils and glibc).
 
 ghost use Rattle.std.specs.Prelude.{◌≡◌, ◌^◌, ◌≤◌, IfOk, Result, ℕ};
-ghost use Rattle.elf_linking.specs.DynamicView.{CountsFrom, IsAboveRuns, IsGnuCount, IsLastRun};
+ghost use Rattle.elf_linking.specs.GnuCount.{CountsFrom, IsAboveRuns, IsGnuCount, IsLastRun};
 
 use crate::LinkError;
 use crate::gnu_hash::GnuHashTable;

@@ -4,7 +4,7 @@
 ghost use Rattle.std.specs.Prelude.{◌≡◌, option_map};
 ghost use Rattle.elf_linking.specs.Scope.{asked_of, asked_parts, binds_to_itself, wanted_by};
 ghost use Rattle.elf_linking.specs.Scope.{wanted_of, wanted_parts};
-ghost use Rattle.elf_linking.specs.VersionTables.{item_by};
+ghost use Rattle.elf_linking.specs.VersionTables.{result_map};
 ghost use Rattle.elf_linking.specs.Versions.{named_parts, version_parts};
 
 use crate::find::{Use, Wanted};
@@ -41,7 +41,7 @@ impl<'a, E: LinkedSymbol> DynamicObject<'a, E> {
     /// Errors: `SymbolIndex` if there is no such symbol; those of `name`; those of `version`; those
     /// of `NamedVersion::name`. A call goes through the definitions and the needs once at most.
     pub fn asked(&self, reference: &Reference) -> Result<Asked<'a, E>, LinkError>
-        ensures { item_by asked_parts result ≡ asked_of E.fields self.now reference.now }
+        ensures { result_map asked_parts result ≡ asked_of E.fields self.now reference.now }
     {
         let Some(symbol) = self.symbol(reference.symbol) else {
             return Err(LinkError::SymbolIndex);
@@ -77,7 +77,7 @@ fn binds_to_itself<E: Entry>(symbol: &E) -> bool
 
 // The version that a reference wants, by the version of its symbol.
 fn wanted_of<'a>(version: Option<SymbolVersion<'a>>) -> Result<Wanted<'a>, LinkError>
-    ensures { item_by wanted_parts result ≡ wanted_of (option_map version_parts version.entry) }
+    ensures { result_map wanted_parts result ≡ wanted_of (option_map version_parts version.entry) }
 {
     match version {
         Some(version) => wanted_by(version.named),
@@ -87,7 +87,7 @@ fn wanted_of<'a>(version: Option<SymbolVersion<'a>>) -> Result<Wanted<'a>, LinkE
 
 // The version that a reference wants, by what bears the version of its symbol.
 fn wanted_by<'a>(named: Option<NamedVersion<'a>>) -> Result<Wanted<'a>, LinkError>
-    ensures { item_by wanted_parts result ≡ wanted_by (option_map named_parts named.entry) }
+    ensures { result_map wanted_parts result ≡ wanted_by (option_map named_parts named.entry) }
 {
     let Some(named) = named else {
         return Ok(Wanted::Unversioned);

@@ -5,7 +5,7 @@ ghost use Rattle.std.specs.Str.{bytes_eq};
 ghost use Rattle.elf_linking.specs.Loaded.{lent};
 ghost use Rattle.elf_linking.specs.VersionTables.{AreDefinitions, definition_at, definition_item};
 ghost use Rattle.elf_linking.specs.VersionTables.{definition_parts, definitions_in};
-ghost use Rattle.elf_linking.specs.VersionTables.{definitions_left, item_by, name_offset};
+ghost use Rattle.elf_linking.specs.VersionTables.{definitions_left, result_map, name_offset};
 ghost use Rattle.elf_linking.specs.VersionTables.{records_data};
 ghost use Rattle.elf_linking.specs.Versions.{bears_defined, is_base};
 
@@ -68,7 +68,7 @@ impl<'a> Definition<'a> {
     #[inline(always)]
     pub(crate) fn has_name(&self, name: &str) -> Result<bool, LinkError>
         ensures { result
-            ≡ item_by (λ other. bytes_eq other name.now) (definition_parts self.now).name }
+            ≡ result_map (λ other. bytes_eq other name.now) (definition_parts self.now).name }
     {
         match self.name {
             Ok(offset) => is_text_by(self.strings, u64::from(offset), name),

@@ -4,7 +4,7 @@ ghost use Rattle.std.specs.Prelude.{◌≡◌, ◌+◌, ◌<◌, ◌≤◌, ◌^
 ghost use Rattle.std.specs.Str.{bytes_eq};
 ghost use Rattle.elf_linking.specs.Loaded.{lent};
 ghost use Rattle.elf_linking.specs.VersionTables.{AreNeeds, need_at, need_item, need_parts};
-ghost use Rattle.elf_linking.specs.VersionTables.{item_by, needs_in, needs_left, records_data};
+ghost use Rattle.elf_linking.specs.VersionTables.{result_map, needs_in, needs_left, records_data};
 ghost use Rattle.elf_linking.specs.Versions.{bears_needed};
 
 use crate::LinkError;
@@ -59,7 +59,7 @@ impl<'a> Need<'a> {
     // Whether this is the name; the errors are those of `name`.
     #[inline(always)]
     pub(crate) fn has_name(&self, name: &str) -> Result<bool, LinkError>
-        ensures { result ≡ item_by (λ other. bytes_eq other name.now) (need_parts self.now).name }
+        ensures { result ≡ result_map (λ other. bytes_eq other name.now) (need_parts self.now).name }
     {
         is_text_by(self.strings, u64::from(self.name), name)
     }

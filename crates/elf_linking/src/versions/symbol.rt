@@ -4,7 +4,7 @@ ghost use Rattle.std.specs.Prelude.{◌≡◌, Err, Ok, Option, option_map};
 ghost use Rattle.std.specs.Str.{bytes_eq};
 ghost use Rattle.elf_linking.specs.Loaded.{lent};
 ghost use Rattle.elf_linking.specs.VersionTables.{definition_parts, definitions_in};
-ghost use Rattle.elf_linking.specs.VersionTables.{item_by, need_parts, needs_in, version_tables};
+ghost use Rattle.elf_linking.specs.VersionTables.{result_map, need_parts, needs_in, version_tables};
 ghost use Rattle.elf_linking.specs.Versions.{IsVersion, bears_defined, bears_needed};
 ghost use Rattle.elf_linking.specs.Versions.{first_item, named_hash, named_name, named_of};
 ghost use Rattle.elf_linking.specs.Versions.{named_parts, number_of, version_at, version_item};
@@ -50,7 +50,7 @@ impl<'a> NamedVersion<'a> {
     #[inline(always)]
     pub(crate) fn has_name(&self, name: &str) -> Result<bool, LinkError>
         ensures { result
-            ≡ item_by (λ other. bytes_eq other name.now) (named_name (named_parts self.now)) }
+            ≡ result_map (λ other. bytes_eq other name.now) (named_name (named_parts self.now)) }
     {
         match self {
             NamedVersion::Defined(definition) => definition.has_name(name),
@@ -120,7 +120,7 @@ impl<'a> Versions<'a> {
 
     // What bears a number.
     fn named(&self, number: u16) -> Result<Option<NamedVersion<'a>>, LinkError>
-        ensures { item_by (option_map named_parts) result
+        ensures { result_map (option_map named_parts) result
             ≡ named_of (version_tables self.now) number }
     {
         if number < 2 {
@@ -140,7 +140,7 @@ impl<'a> Versions<'a> {
 
     // The first definition with a number that isn't the base.
     fn definition_with(&self, number: u16) -> Result<Option<Definition<'a>>, LinkError>
-        ensures { item_by (option_map definition_parts) result ≡ first_item (bears_defined number)
+        ensures { result_map (option_map definition_parts) result ≡ first_item (bears_defined number)
             (definitions_in (version_tables self.now).definitions) }
     {
         match self.definitions.place_of(number) {
@@ -152,7 +152,7 @@ impl<'a> Versions<'a> {
     // The first definition with a number that isn't the base, by a search of the list.
     #[tactic(auto, using(crate::proofs::lemmas::FirstItems::search_end, crate::proofs::lemmas::FirstItems::search_fault, crate::proofs::lemmas::FirstItems::search_found, crate::proofs::lemmas::FirstItems::search_other))]
     fn definition_listed(&self, number: u16) -> Result<Option<Definition<'a>>, LinkError>
-        ensures { item_by (option_map definition_parts) result ≡ first_item (bears_defined number)
+        ensures { result_map (option_map definition_parts) result ≡ first_item (bears_defined number)
             (definitions_in (version_tables self.now).definitions) }
     {
         for item in self.definitions() {
@@ -171,7 +171,7 @@ impl<'a> Versions<'a> {
     // The first need with a number.
     #[tactic(auto, using(crate::proofs::lemmas::FirstItems::search_end, crate::proofs::lemmas::FirstItems::search_fault, crate::proofs::lemmas::FirstItems::search_found, crate::proofs::lemmas::FirstItems::search_other))]
     fn need_with(&self, number: u16) -> Result<Option<Need<'a>>, LinkError>
-        ensures { item_by (option_map need_parts) result ≡ first_item (bears_needed number)
+        ensures { result_map (option_map need_parts) result ≡ first_item (bears_needed number)
             (needs_in (version_tables self.now).needs) }
     {
         for item in self.needs() {

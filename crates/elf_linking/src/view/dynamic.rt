@@ -3,7 +3,7 @@
 ghost use Rattle.std.specs.Prelude.{◌≡◌, ◌<◌, ◌^◌, Ok, Err, IfOk, MatchResult, length, map};
 ghost use Rattle.elf_linking.specs.DynamicView.{LiesAsFileStrings, LiesByEntries};
 ghost use Rattle.elf_linking.specs.DynamicView.{dynamic_segment_of, entries_left, is_dynamic};
-ghost use Rattle.elf_linking.specs.DynamicView.{number_with, pairs_of, strings_of, table_at};
+ghost use Rattle.elf_linking.specs.DynamicView.{number_with, pairs_of, dynamic_strings_of, table_at};
 ghost use Rattle.elf_linking.specs.DynamicView.{until_null};
 ghost use Rattle.elf_linking.specs.Loaded.{lent};
 ghost use Rattle.elf_linking.specs.declared.view.tags.TheConstants.{DT_RPATH};
@@ -176,8 +176,8 @@ fn first_number(pairs: &Pairs<'_>, tag: u64) -> Option<u64>
     ensures { result ≡ number_with tag (until_null (pairs_of pairs.now)) }
 {
     for entry in pairs.iter() {
-        if entry.tag == tag {
-            return Some(entry.number);
+        if entry.raw_tag() == tag {
+            return Some(entry.raw_val());
         }
     }
     None
@@ -202,9 +202,9 @@ fn strings_by<'a>(
 ///
 /// Errors: those of `DynamicView::read`; `NoEntry` if one of the two entries is missing; those of
 /// `bytes_at`.
-#[tactic(auto, unfolding(crate::specs::DynamicView::strings_of))]
+#[tactic(auto, unfolding(crate::specs::DynamicView::dynamic_strings_of))]
 pub fn strings<'a>(file: &ElfFile<'a>) -> Result<&'a [u8], LinkError>
-    ensures exact { lent result ≡ strings_of file.now }
+    ensures exact { lent result ≡ dynamic_strings_of file.now }
     ensures place { IfOk result (LiesAsFileStrings file.now) }
 {
     DynamicView::read(file)?.strings

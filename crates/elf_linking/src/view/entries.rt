@@ -7,18 +7,18 @@ ghost use Rattle.elf_linking.specs.DynamicView.{all_entries, entries_left};
 ghost use Rattle.elf_linking.specs.DynamicView.{pairs_left, pairs_of, until_null};
 
 use crate::LinkError;
-use crate::view::entry::DynamicEntry;
 use crate::view::tags::DT_NULL;
 use elf_base::ElfError;
 use elf_base::bytes::{Table, TableIter};
 use elf_base::header::Class;
-use xmas_elf::ElfFile;
+use xmas_elf::dynamic::Dynamic;
+use xmas_elf::{ElfFile, P32, P64};
 
 // The entries of a dynamic segment, by class.
 #[derive(Clone, Copy, Debug)]
 pub(crate) enum Pairs<'a> {
-    Narrow(Table<'a, DynamicEntry<u32>>),
-    Wide(Table<'a, DynamicEntry<u64>>),
+    Narrow(Table<'a, Dynamic<P32>>),
+    Wide(Table<'a, Dynamic<P64>>),
 }
 
 impl<'a> Pairs<'a> {
@@ -58,24 +58,17 @@ impl<'a> Pairs<'a> {
 // The remaining entries, by class.
 #[derive(Clone, Debug, Drop)]
 enum Rest<'a> {
-    Narrow(TableIter<'a, DynamicEntry<u32>>),
-    Wide(TableIter<'a, DynamicEntry<u64>>),
+    Narrow(TableIter<'a, Dynamic<P32>>),
+    Wide(TableIter<'a, Dynamic<P64>>),
 }
 
 impl Rest<'_> {
     // The first remaining entry.
-    #[tactic(auto, using(crate::proofs::EntryItems::widened))]
-    fn next(&mut self) -> Option<DynamicEntry<u64>>
+    fn next(&mut self) -> Option<Dynamic<P64>>
         ensures { YieldsFirst pairs_left self.old result self.new }
     {
         match self {
-            Rest::Narrow(rest) => {
-                let entry = rest.next()?;
-                Some(DynamicEntry {
-                    tag: u64::from(entry.tag),
-                    number: u64::from(entry.number),
-                })
-            }
+            Rest::Narrow(rest) => Some(rest.next()?.widened()),
             Rest::Wide(rest) => rest.next(),
         }
     }
@@ -102,19 +95,19 @@ impl<'a> DynamicEntries<'a> {
 }
 
 impl Iterator for DynamicEntries<'_> {
-    type Item = DynamicEntry<u64>;
+    type Item = Dynamic<P64>;
 
     ghost next_gives = { YieldsFirst entries_left };
 
     ghost remaining = { item_count entries_left };
 
     #[tactic(auto, using(crate::proofs::EntryItems::left_ended, crate::proofs::EntryItems::left_none, crate::proofs::EntryItems::left_null, crate::proofs::EntryItems::left_first, crate::proofs::EntryItems::left_going))]
-    fn next(&mut self) -> Option<DynamicEntry<u64>> {
+    fn next(&mut self) -> Option<Dynamic<P64>> {
         if self.ended {
             return None;
         }
         let entry = self.rest.next()?;
-        if entry.tag == DT_NULL {
+        if entry.raw_tag() == DT_NULL {
             self.ended = true;
             return None;
         }

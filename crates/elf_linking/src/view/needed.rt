@@ -6,7 +6,7 @@ ghost use Rattle.std.specs.Str.{bytes_eq};
 ghost use Rattle.elf_linking.specs.DynamicView.{entries_left, needed_in, needed_left};
 ghost use Rattle.elf_linking.specs.DynamicView.{text_in_strings};
 ghost use Rattle.elf_linking.specs.Loaded.{lent};
-ghost use Rattle.elf_linking.specs.VersionTables.{item_by};
+ghost use Rattle.elf_linking.specs.VersionTables.{result_map};
 
 use crate::LinkError;
 use crate::view::entries::DynamicEntries;
@@ -38,7 +38,7 @@ pub(crate) fn is_text_by(
     wanted: &str,
 ) -> Result<bool, LinkError>
     ensures { result
-        ≡ item_by (λ text. bytes_eq text wanted.now) (text_in_strings (lent strings.entry) place) }
+        ≡ result_map (λ text. bytes_eq text wanted.now) (text_in_strings (lent strings.entry) place) }
 {
     if let Ok(table) = strings {
         if stands_at(table, place as usize, wanted) {
@@ -88,8 +88,8 @@ impl<'a> Iterator for Needed<'a> {
     fn next(&mut self) -> Option<Result<&'a str, LinkError>> {
         loop {
             let entry = self.entries.next()?;
-            if entry.tag == DT_NEEDED {
-                return Some(text_by(self.strings, entry.number));
+            if entry.raw_tag() == DT_NEEDED {
+                return Some(text_by(self.strings, entry.raw_val()));
             }
         }
     }

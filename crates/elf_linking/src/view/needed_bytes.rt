@@ -11,7 +11,10 @@ use crate::view::tags::DT_NEEDED;
 use elf_base::bytes::bytes_up_to_zero;
 
 // The bytes at an offset in a string table up to the next zero byte, which may be an error.
-fn bytes_by<'a>(strings: Result<&'a [u8], LinkError>, place: u64) -> Result<&'a [u8], LinkError>
+fn bytes_at_offset<'a>(
+    strings: Result<&'a [u8], LinkError>,
+    place: u64,
+) -> Result<&'a [u8], LinkError>
     ensures { lent result ≡ bytes_in_strings (lent strings.entry) place }
 {
     match strings {
@@ -61,8 +64,8 @@ impl<'a> Iterator for NeededBytes<'a> {
     fn next(&mut self) -> Option<Result<&'a [u8], LinkError>> {
         loop {
             let entry = self.entries.next()?;
-            if entry.tag == DT_NEEDED {
-                return Some(bytes_by(self.strings, entry.number));
+            if entry.raw_tag() == DT_NEEDED {
+                return Some(bytes_at_offset(self.strings, entry.raw_val()));
             }
         }
     }

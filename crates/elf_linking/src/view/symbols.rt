@@ -1,21 +1,23 @@
 //! The symbols of a dynamic segment (gABI, "Dynamic Section": DT_SYMTAB).
 
 ghost use Rattle.std.specs.Prelude.{◌≡◌, ◌%◌, ◌^◌, ◌<◌, ◌≤◌};
-ghost use Rattle.std.specs.Prelude.{Ok, Err, IfOk, List, MatchResult, Result, length, ℕ};
-ghost use Rattle.elf_linking.specs.declared.error.LinkError.{LinkError};
+ghost use Rattle.std.specs.Prelude.{Ok, Err, IfOk, IsOkAnd, MatchResult, Some, length};
 ghost use Rattle.elf_base.specs.FileHeader.{file_order};
 ghost use Rattle.elf_base.specs.Table.{table_bytes, table_data, table_order};
-ghost use Rattle.elf_linking.specs.DynamicView.{AreSymbols, IsSymbolCount, LieAsSymbols};
+ghost use Rattle.elf_linking.specs.DynamicView.{AreSymbols, AreSymbolsRefused, IsSymbolCount};
+ghost use Rattle.elf_linking.specs.DynamicView.{LieAsSymbols, view_strings, view_table};
+ghost use Rattle.xmas_elf.specs.SymbolTable.{carried_strings, carried_table, table_symbols};
+ghost use Rattle.xmas_elf.specs.Symbols.{named_symbols};
 ghost use Rattle.elf_linking.specs.Loaded.{lent};
 
 use crate::LinkError;
 use crate::view::dynamic::DynamicView;
-use crate::view::linked_entry::{LinkedEntry32, LinkedEntry64};
 use crate::view::linked_symbol::LinkedSymbol;
 use crate::view::loaded::bytes_at;
 use crate::view::tags::{DT_HASH, DT_SYMTAB};
 use elf_base::bytes::{Record, Table};
 use xmas_elf::ElfFile;
+use xmas_elf::symbol_table::SymbolTable;
 
 impl<'a> DynamicView<'a> {
     ghost use Rattle.elf_linking.specs.DynamicView.{view_entries};
@@ -28,8 +30,6 @@ impl<'a> DynamicView<'a> {
     /// and of `GnuHashTable::symbol_count`.
     pub fn symbol_count(&self, file: &ElfFile<'a>) -> Result<u64, LinkError>
         ensures exact { IsSymbolCount file.now (view_entries self.now) result }
-        ensures only { (other : Result ℕ LinkError)
-            → IsSymbolCount file.now (view_entries self.now) other → other ≡ result }
         ensures bound { IfOk result (λ count. count ≤ 2 ^ 32) }
     {
         match self.entry(DT_HASH) {
@@ -44,60 +44,52 @@ impl<'a> DynamicView<'a> {
         }
     }
 
-    /// The symbols of a file of the class of `E`: `symbol_count` symbols at the address in the entry
-    /// SymTab. The class of the file is not compared.
+    /// The symbols of a file of the class of `E`, with their names: `symbol_count` symbols at the
+    /// address in the entry SymTab, and the string table. The class of the file is not compared.
+    ///
+    /// Errors: those of `symbol_count`; `NoEntry` if there is no entry SymTab; those of `bytes_at`;
+    /// those of `strings`.
+    pub fn symbols<E: LinkedSymbol>(
+        &self,
+        file: &ElfFile<'a>,
+    ) -> Result<SymbolTable<'a, E>, LinkError>
+        ensures exact { MatchResult result
+            (λ symbols. AreSymbols file.now (view_entries self.now) E.SIZE
+            (Ok (table_data (carried_table symbols)))
+            × (table_order (carried_table symbols) ≡ file_order file.now.header))
+            (AreSymbolsRefused file.now (view_entries self.now) (view_strings self.now) E.SIZE) }
+        ensures names { IfOk result (λ symbols. IsOkAnd (view_table self.now) (λ strings.
+            (carried_strings symbols ≡ Some (Ok strings)) × (table_symbols symbols
+            ≡ named_symbols E.fields strings.now (carried_table symbols)))) }
+        ensures place { IfOk result (λ symbols. LieAsSymbols
+            file.now (view_entries self.now) (table_bytes (carried_table symbols))) }
+    {
+        match self.records(file) {
+            Ok(symbols) => match self.strings() {
+                Ok(strings) => Ok(SymbolTable::with_strings(symbols, strings)),
+                Err(error) => Err(error),
+            },
+            Err(error) => Err(error),
+        }
+    }
+
+    /// The symbols of `symbols` without their names, which need no string table.
     ///
     /// Errors: those of `symbol_count`; `NoEntry` if there is no entry SymTab; those of `bytes_at`.
-    pub fn symbols<E: LinkedSymbol>(&self, file: &ElfFile<'a>) -> Result<Table<'a, E>, LinkError>
+    pub fn records<E: LinkedSymbol>(&self, file: &ElfFile<'a>) -> Result<Table<'a, E>, LinkError>
         ensures exact { let are = AreSymbols file.now (view_entries self.now) E.SIZE in
             MatchResult result
             (λ symbols. are (Ok (table_data symbols))
             × (table_order symbols ≡ file_order file.now.header))
             (λ error. are (Err error)) }
-        ensures only { (other : Result (List ℕ) LinkError)
-            → AreSymbols file.now (view_entries self.now) E.SIZE other → MatchResult result
-            (λ symbols. other ≡ Ok (table_data symbols)) (λ error. other ≡ Err error) }
         ensures place { IfOk result (λ symbols.
             LieAsSymbols file.now (view_entries self.now) (table_bytes symbols)) }
     {
-        let bytes = match self.symbol_bytes(file, E::SIZE as u64) {
-            Ok(bytes) => bytes,
-            Err(error) => return Err(error),
-        };
+        let bytes = self.symbol_bytes(file, E::SIZE as u64)?;
         match Table::new(bytes, file.byte_order()) {
             Ok(symbols) => Ok(symbols),
             Err(_) => unreachable!(),
         }
-    }
-
-    /// The symbols of a file of class 32, as `symbols` has them.
-    pub fn symbols_32(&self, file: &ElfFile<'a>) -> Result<Table<'a, LinkedEntry32>, LinkError>
-        ensures exact { let are = AreSymbols file.now (view_entries self.now) 16 in MatchResult result
-            (λ symbols. are (Ok (table_data symbols))
-            × (table_order symbols ≡ file_order file.now.header))
-            (λ error. are (Err error)) }
-        ensures only { (other : Result (List ℕ) LinkError)
-            → AreSymbols file.now (view_entries self.now) 16 other → MatchResult result
-            (λ symbols. other ≡ Ok (table_data symbols)) (λ error. other ≡ Err error) }
-        ensures place { IfOk result (λ symbols.
-            LieAsSymbols file.now (view_entries self.now) (table_bytes symbols)) }
-    {
-        self.symbols(file)
-    }
-
-    /// The symbols of a file of class 64, as `symbols` has them.
-    pub fn symbols_64(&self, file: &ElfFile<'a>) -> Result<Table<'a, LinkedEntry64>, LinkError>
-        ensures exact { let are = AreSymbols file.now (view_entries self.now) 24 in MatchResult result
-            (λ symbols. are (Ok (table_data symbols))
-            × (table_order symbols ≡ file_order file.now.header))
-            (λ error. are (Err error)) }
-        ensures only { (other : Result (List ℕ) LinkError)
-            → AreSymbols file.now (view_entries self.now) 24 other → MatchResult result
-            (λ symbols. other ≡ Ok (table_data symbols)) (λ error. other ≡ Err error) }
-        ensures place { IfOk result (λ symbols.
-            LieAsSymbols file.now (view_entries self.now) (table_bytes symbols)) }
-    {
-        self.symbols(file)
     }
 
     // The bytes of the symbols, where each has `size` bytes.
@@ -105,15 +97,10 @@ impl<'a> DynamicView<'a> {
         requires above { 0 < size }
         requires below { size ≤ 24 }
         ensures exact { AreSymbols file.now (view_entries self.now) size (lent result) }
-        ensures only { (other : Result (List ℕ) LinkError)
-            → AreSymbols file.now (view_entries self.now) size other → other ≡ lent result }
         ensures whole { IfOk result (λ bytes. length bytes.now % size ≡ 0) }
         ensures place { IfOk result (LieAsSymbols file.now (view_entries self.now)) }
     {
-        let count = match self.symbol_count(file) {
-            Ok(count) => count,
-            Err(error) => return Err(error),
-        };
+        let count = self.symbol_count(file)?;
         match self.entry(DT_SYMTAB) {
             Some(address) => bytes_at(file, address, count * size),
             None => Err(LinkError::NoEntry),

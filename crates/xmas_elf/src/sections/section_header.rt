@@ -4,7 +4,7 @@
 ghost use Rattle.std.specs.Prelude.{◌≡◌, ◌↔◌, ◌+◌, ◌≤◌, ◌<◌, [], ◌∷◌, Err, IfOk, IsOk, IsTrue};
 ghost use Rattle.std.specs.Prelude.{MatchResult, Ok, drop, length, nat_lt, not, take};
 ghost use Rattle.std.proofs.Common.{lit<};
-ghost use Rattle.elf_base.specs.FileHeader.{file_class, header_fields};
+ghost use Rattle.elf_base.specs.FileHeader.{class_number};
 ghost use Rattle.elf_base.specs.Lent.{Answers, Lends, LendsOnly};
 ghost use Rattle.elf_base.specs.Refusal.{unless};
 ghost use Rattle.elf_base.specs.Text.{TextIfUtf8, lent_text};
@@ -23,7 +23,7 @@ ghost use Rattle.xmas_elf.specs.declared.ElfFile.{ElfFile};
 
 use crate::bytes::{Order, Record, stands_at};
 use crate::header::Class::{SixtyFour, ThirtyTwo};
-use crate::header::Header;
+use crate::header::{Class_, Header};
 use crate::ranges::{entry_at, range_at};
 use crate::sections::{SHN_LORESERVE, ShType, ShType_};
 use crate::{ElfError, ElfFile, P32, P64};
@@ -397,49 +397,29 @@ pub(crate) fn section_entry(
     let Some(place) = entry_at(input, header.pt2.sh_offset(), entry_size, index) else {
         return Err(ElfError::ShortSectionHeader);
     };
-    // The byte order is chosen once for all fields.
-    match byte_order(header.pt1.encoding) {
-        Order::Little => read_at_place(input, place, header, Order::Little),
-        Order::Big => read_at_place(input, place, header, Order::Big),
-    }
+    check_entry_size(header.pt1.class, entry_size)?;
+    let order = byte_order(header.pt1.encoding);
+    Ok(section_at_place(input, place, header.pt1.class.raw(), order))
 }
 
-// The section header at `place`, in the layout of the class.
+// Whether a section header of this class can be read from an entry of this size: `UnknownClass` if
+// the class is neither 1 nor 2, `SmallEntry` if the entry is smaller than the header.
 #[inline(always)]
-fn read_at_place(
-    input: &[u8],
-    place: usize,
-    header: &Header,
-    order: Order,
-) -> Result<SectionHeader, ElfError>
-    requires { place + (header_fields header.now.pt2).sh_entry_size ≤ length input.now }
+pub(crate) fn check_entry_size(class: Class_, entry_size: u16) -> Result<(), ElfError>
     ensures { result ≡ unless (
-        (not (is_known_class (file_class header.now)), ElfError.UnknownClass)
-        ∷ (
-          nat_lt (header_fields header.now.pt2).sh_entry_size
-              (section_header_size (file_class header.now)),
-          ElfError.SmallEntry,
-        )
-        ∷ []) (section_at_place (file_class header.now) order place input.now) }
+        (not (is_known_class (class_number class)), ElfError.UnknownClass)
+        ∷ (nat_lt entry_size (section_header_size (class_number class)), ElfError.SmallEntry)
+        ∷ []) tt }
 {
-    let entry_size = usize::from(header.pt2.sh_entry_size());
-    match header.pt1.class() {
-        ThirtyTwo => {
-            if entry_size < SectionHeader_::<P32>::SIZE {
-                return Err(ElfError::SmallEntry);
-            }
-            let record = SectionHeader_::<P32>::read(input, place, order);
-            Ok(SectionHeader::Sh32(record))
-        }
-        SixtyFour => {
-            if entry_size < SectionHeader_::<P64>::SIZE {
-                return Err(ElfError::SmallEntry);
-            }
-            let record = SectionHeader_::<P64>::read(input, place, order);
-            Ok(SectionHeader::Sh64(record))
-        }
-        _ => Err(ElfError::UnknownClass),
+    let least = match class.as_class() {
+        ThirtyTwo => SectionHeader_::<P32>::SIZE,
+        SixtyFour => SectionHeader_::<P64>::SIZE,
+        _ => return Err(ElfError::UnknownClass),
+    };
+    if usize::from(entry_size) < least {
+        return Err(ElfError::SmallEntry);
     }
+    Ok(())
 }
 
 // The section header at `place`, in the layout of class 32 for class 1, otherwise of class 64.

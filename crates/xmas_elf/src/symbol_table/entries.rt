@@ -147,6 +147,8 @@ impl<K: Kept> Entry for K {
     ghost text_in = { λ entry file.
         result_ok (symbol_string_of K.DYNAMIC file (K.fields entry).name) };
 
+    ghost strings_in = { λ file. Some (symbol_strings_of K.DYNAMIC file) };
+
     #[inline(always)]
     fn name(&self) -> u32 {
         match self.layout() {

@@ -1,7 +1,7 @@
 //! The trait of the entries of all symbol tables (gABI, "Symbol Table").
 
-ghost use Rattle.std.specs.Prelude.{◌≡◌, ℕ, IfOk, IfSome, List};
-ghost use Rattle.std.specs.Prelude.{MatchResult, None, Ok, Option, Some};
+ghost use Rattle.std.specs.Prelude.{◌≡◌, ℕ, IfOk, IfSome, IsSomeAnd, List};
+ghost use Rattle.std.specs.Prelude.{MatchResult, None, Ok, Option, Result, Some};
 ghost use Rattle.std.proofs.Common.{rules};
 ghost use Rattle.elf_base.specs.Lent.{Answers};
 ghost use Rattle.elf_records.specs.SymbolNumbers.{visibility_raw};
@@ -11,6 +11,7 @@ ghost use Rattle.xmas_elf.specs.Symbol.{symbol_type, symbol_visibility};
 ghost use Rattle.xmas_elf.specs.SymbolName.{HoldsNames, name_in_table};
 ghost use Rattle.xmas_elf.specs.SymbolSection.{IsSectionIndex, symbol_section_of};
 ghost use Rattle.xmas_elf.specs.declared.ElfFile.{ElfFile};
+ghost use Rattle.elf_base.specs.declared.error.ElfError.{ElfError};
 
 use crate::bytes::text_at;
 use crate::sections::{SHN_ABS, SHN_COMMON, SHN_UNDEF, SHN_XINDEX, SectionHeader};
@@ -20,13 +21,18 @@ use crate::{ElfError, ElfFile};
 
 /// A symbol: an entry of a symbol table, of any type (gABI, "Symbol Table").
 ///
-/// The ghost members of an implementation say what its fields are, and its name in a file.
+/// The ghost members of an implementation say what its fields are, its name in a file, and in which
+/// string table of the file such names are, if it says that.
 pub trait Entry {
     /// The fields of the symbol, as numbers.
     ghost fields: { Self → SymbolFields };
 
     /// The name of the symbol in a file, if it has one.
     ghost text_in: { Self → ElfFile → Option (List ℕ) };
+
+    /// The bytes of the string table of such symbols in a file, or the error for it; `None`, the
+    /// default, if an implementation says nothing of it.
+    ghost strings_in: { ElfFile → Option (Result (List ℕ) ElfError) } = { λ file. None };
 
     /// The offset of the symbol's name in its string table, in bytes; 0 if it has none (st_name).
     fn name(&self) -> u32
@@ -64,14 +70,11 @@ pub trait Entry {
             (λ _. text_in self.now file.now ≡ None) };
 
     /// The string table with the names of such symbols of a file, by their `name`, or the error for
-    /// it; one call is enough for many symbols. `None`, the default, if names are not texts of one
-    /// table: `name_in` is then `get_name`.
+    /// it; one call is enough for many symbols. `None` if names are not texts of one table: `name_in`
+    /// is then `get_name`.
     fn string_table<'a>(file: &ElfFile<'a>) -> Option<Result<&'a [u8], ElfError>>
-        ensures { IfSome result (HoldsNames fields (λ entry. text_in entry file.now)) }
-    {
-        let _file = file;
-        None
-    }
+        ensures names { IfSome result (HoldsNames fields (λ entry. text_in entry file.now)) }
+        ensures says { IfSome (strings_in file.now) (λ table. IsSomeAnd result (Answers table)) };
 
     /// The name of the symbol in a file, by the result of `string_table` for that file.
     ///

@@ -1,33 +1,33 @@
 //! A symbol table with the names of its symbols (gABI, "Symbol Table" and "String Table").
 
-ghost use Rattle.std.specs.Option.{ForSome};
 ghost use Rattle.std.specs.Prelude.{◌≡◌, ◌↔◌, ◌<◌, ◌^◌, IfSome, IsNone, IsSomeAnd, IsTrue};
 ghost use Rattle.std.specs.Prelude.{Err, IsOkAnd, MatchOption, MatchResult, None, Ok, Some};
 ghost use Rattle.std.specs.Prelude.{length, slice_get};
+ghost use Rattle.std.specs.Result.{result_ok};
 ghost use Rattle.std.specs.Str.{IsUtf8};
-ghost use Rattle.xmas_elf.specs.SymbolName.{HoldsNames};
-ghost use Rattle.xmas_elf.specs.Symbols.{symbols_of};
+ghost use Rattle.elf_base.specs.Lent.{Answers};
+ghost use Rattle.xmas_elf.specs.NamedSymbols.{TextBy, TextBy-prop};
+ghost use Rattle.xmas_elf.specs.SymbolName.{name_in_table};
+ghost use Rattle.xmas_elf.specs.Symbols.{named_symbols, symbols_of};
 
-use crate::bytes::{Record, Table, TableIter, bytes_up_to_zero};
+use crate::bytes::{Record, Table, TableIter, bytes_up_to_zero, text_at};
 use crate::symbol_table::Entry;
+use crate::symbol_table::symbol_names::Names;
 use crate::{ElfError, ElfFile};
 use elf_base::bytes::stands_at;
 
-/// A symbol table that carries the names of its symbols: the table, the string table of the names,
-/// which is found once, and the file.
+/// A symbol table with the names of its symbols: the table, and the string table of the names, or
+/// the file if names are not texts of one table.
 #[derive(Drop)]
 pub struct SymbolTable<'a, E: Entry + Record> {
     table: Table<'a, E>,
-    strings: Option<Result<&'a [u8], ElfError>>,
-    file: ElfFile<'a>,
-    ghost named: { ForSome strings (HoldsNames E.fields (λ e. E.text_in e file)) },
+    names: Names<'a>,
+    ghost text: { TextBy E.fields E.text_in names } by { TextBy-prop E.fields E.text_in names },
 }
 
 impl<'a, E: Entry + Record> SymbolTable<'a, E> {
-    ghost use Rattle.elf_base.specs.Lent.{Answers};
     ghost use Rattle.elf_base.specs.Table.{table_items, table_rest};
     ghost use Rattle.elf_base.specs.Text.{TextIfUtf8, lent_text};
-    ghost use Rattle.xmas_elf.specs.SymbolName.{name_in_table};
     ghost use Rattle.xmas_elf.specs.SymbolTable.{AreNameBytes, LieAsNameBytes, carried_strings};
     ghost use Rattle.xmas_elf.specs.SymbolTable.{carried_table, table_symbols};
 
@@ -37,34 +37,27 @@ impl<'a, E: Entry + Record> SymbolTable<'a, E> {
         ensures symbols { table_symbols result
             ≡ symbols_of E.fields E.text_in table.entry file.now }
         ensures table { carried_table result ≡ table.entry }
+        ensures strings { IfSome (E.strings_in file.now)
+            (λ strings. IsSomeAnd (carried_strings result) (Answers strings)) }
     {
         Self {
             table,
-            strings: E::string_table(file),
-            file: ElfFile {
-                input: file.input,
-                header: file.header,
-            },
+            names: Names::of::<E>(file),
         }
     }
 
-    /// The symbols of a table of this file, with the names in a string table of theirs that was
-    /// found before.
+    /// The symbols of a table with their names in this string table, whatever string table
+    /// `Entry::get_name` reads.
     #[inline(always)]
-    pub fn with_strings(table: Table<'a, E>, strings: &'a [u8], file: &ElfFile<'a>) -> Self
-        requires names { HoldsNames E.fields (λ e. E.text_in e file.now) (Ok strings) }
+    pub fn with_strings(table: Table<'a, E>, strings: &'a [u8]) -> Self
         ensures symbols { table_symbols result
-            ≡ symbols_of E.fields E.text_in table.entry file.now }
+            ≡ named_symbols E.fields strings.now table.entry }
         ensures table { carried_table result ≡ table.entry }
         ensures strings { carried_strings result ≡ Some (Ok strings.entry) }
     {
         Self {
             table,
-            strings: Some(Ok(strings)),
-            file: ElfFile {
-                input: file.input,
-                header: file.header,
-            },
+            names: Names::Strings(Ok(strings)),
         }
     }
 
@@ -119,7 +112,10 @@ impl<'a, E: Entry + Record> SymbolTable<'a, E> {
         Some(self.name_of(&symbol))
     }
 
-    /// The name of a symbol of such a table. The errors are those of `Entry::name_in`.
+    /// The name of a symbol of such a table.
+    ///
+    /// Errors: that of the string table; those of `bytes::text_at` in it at `name`; those of
+    /// `Entry::get_name`, if names are not texts of one table.
     #[inline(always)]
     pub fn name_of(&self, symbol: &E) -> Result<&'a str, ElfError>
         ensures text { MatchResult result
@@ -128,7 +124,10 @@ impl<'a, E: Entry + Record> SymbolTable<'a, E> {
         ensures exact { IfSome (carried_strings self.now)
             (λ found. Answers (name_in_table found (E.fields symbol.now).name) result) }
     {
-        symbol.name_in(self.strings, &self.file)
+        match &self.names {
+            Names::Strings(found) => text_in(*found, symbol.name()),
+            Names::File(file) => symbol.get_name(file),
+        }
     }
 
     /// The bytes of the name of the symbol at an index, or `None` past the end of the table. The
@@ -153,7 +152,7 @@ impl<'a, E: Entry + Record> SymbolTable<'a, E> {
     /// `name_of`, where that is Ok.
     ///
     /// Errors: that of the string table; those of `bytes::bytes_up_to_zero` in it at `name`; those
-    /// of `Entry::get_name`, where the names are not texts of one table.
+    /// of `Entry::get_name`, if names are not texts of one table.
     #[inline(always)]
     pub fn name_bytes_of(&self, symbol: &E) -> Result<&'a [u8], ElfError>
         ensures texts { TextIfUtf8
@@ -163,12 +162,12 @@ impl<'a, E: Entry + Record> SymbolTable<'a, E> {
             name_in_table found (E.fields symbol.now).name ≡ lent_text result) }
         ensures exact { AreNameBytes self.now symbol.now result }
     {
-        match self.strings {
-            Some(found) => match found {
+        match &self.names {
+            Names::Strings(found) => match *found {
                 Ok(strings) => bytes_up_to_zero(strings, symbol.name() as usize),
                 Err(error) => Err(error),
             },
-            None => bytes_of(symbol.get_name(&self.file)),
+            Names::File(file) => bytes_of(symbol.get_name(file)),
         }
     }
 
@@ -177,14 +176,24 @@ impl<'a, E: Entry + Record> SymbolTable<'a, E> {
     pub fn has_name(&self, symbol: &E, name: &str) -> bool
         ensures { IsTrue result ↔ ((table_symbols self.now).text symbol.now ≡ Some name.now) }
     {
-        match self.strings {
-            Some(found) => match found {
+        match &self.names {
+            Names::Strings(found) => match *found {
                 Ok(strings) => stands_at(strings, symbol.name() as usize, name),
                 Err(_) => false,
             },
-            None => matches!(symbol.get_name(&self.file), Ok(text) if text == name),
+            Names::File(file) => matches!(symbol.get_name(file), Ok(text) if text == name),
         }
     }
+}
+
+// The text at an index of a string table, or the error for it.
+#[inline(always)]
+fn text_in<'a>(found: Result<&'a [u8], ElfError>, index: u32) -> Result<&'a str, ElfError>
+    ensures text { let text = result_ok (name_in_table found.entry index) in MatchResult result
+        (λ name. text ≡ Some name.now) (λ _. text ≡ None) }
+    ensures exact { Answers (name_in_table found.entry index) result }
+{
+    text_at(found?, index as usize)
 }
 
 // The bytes of a text, or the error for it.

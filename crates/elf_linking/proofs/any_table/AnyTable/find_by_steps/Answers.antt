@@ -2,7 +2,7 @@ use Rattle.std.proofs.Common.{◌≡◌, Some, Ok, false, ap, subst, sym, ◌∙
 use Rattle.std.proofs.Math.Logic.{⊎_elim}
 use Rattle.std.proofs.lemmas.Option.{slice_get_within}
 use Rattle.elf_linking.specs.Find.{IsAsked, IsOtherwise, dynamic_symbols, is_by_version, no_version}
-use Rattle.elf_linking.specs.VersionTables.{item_by, version_tables}
+use Rattle.elf_linking.specs.VersionTables.{result_map, version_tables}
 use Rattle.elf_linking.proofs.Finds.{accepted_stands, asked_stands, default_right, none_accepted, of_result, then_err, then_ok}
 use Rattle.elf_linking.proofs.VersionsRead.{accepted_read, not_refused}
 use Rattle.elf_linking.proofs.any_table.AnyTable.find_by_steps.Goals as goal
@@ -11,12 +11,12 @@ use Rattle.xmas_elf.specs.SymbolTable.{table_symbols}
 pub returns-in-Ok-clause-only : goal.returns-in-Ok-clause-only
 returns-in-Ok-clause-only g c = λ other h.
     then_ok _ _ _ c.first_asked.ensures.only _ (c.in-Ok-Some.is ∙ ap (λ x. Ok x) c.in-Ok-Some.field-0-is) other h
-    ∙ ap (item_by (λ _. Some (c.in-Ok-Some.index, c.in-Ok-Some.symbol))) (sym c.accepts.ensures.exact ∙ c.in-Ok.is)
+    ∙ ap (result_map (λ _. Some (c.in-Ok-Some.index, c.in-Ok-Some.symbol))) (sym c.accepts.ensures.exact ∙ c.in-Ok.is)
 
 pub returns-in-Err-accepts-clause-only : goal.returns-in-Err-accepts-clause-only
 returns-in-Err-accepts-clause-only g c = λ other h.
     then_ok _ _ _ c.first_asked.ensures.only _ (c.in-Ok-Some.is ∙ ap (λ x. Ok x) c.in-Ok-Some.field-0-is) other h
-    ∙ ap (item_by (λ _. Some (c.in-Ok-Some.index, c.in-Ok-Some.symbol))) (sym c.accepts.ensures.exact ∙ c.in-Err-accepts.is)
+    ∙ ap (result_map (λ _. Some (c.in-Ok-Some.index, c.in-Ok-Some.symbol))) (sym c.accepts.ensures.exact ∙ c.in-Err-accepts.is)
 
 pub returns-in-Version-clause-only : goal.returns-in-Version-clause-only
 returns-in-Version-clause-only g c = λ other h.

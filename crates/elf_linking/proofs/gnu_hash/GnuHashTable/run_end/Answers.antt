@@ -1,5 +1,5 @@
 use Rattle.std.proofs.Common.{◌≡◌, ◌%◌, refl, sym, subst, arith}
-use Rattle.elf_linking.specs.DynamicView.{ended, refused, too_long}
+use Rattle.elf_linking.specs.GnuCount.{ended, refused, too_long}
 use Rattle.elf_linking.proofs.gnu_hash.GnuHashTable.run_end.Goals as goal
 
 pub returns-then-word-eq1-clause-exact : goal.returns-then-word-eq1-clause-exact

@@ -1,4 +1,4 @@
-use Rattle.elf_linking.specs.DynamicView.{GoesTo}
+use Rattle.elf_linking.specs.GnuCount.{GoesTo}
 use Rattle.elf_linking.proofs.gnu_hash.GnuHashTable.run_end.Given as goal
 
 abbrev pub invariant-loop-index : goal.invariant-loop-index

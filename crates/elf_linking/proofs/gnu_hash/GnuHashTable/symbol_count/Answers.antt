@@ -1,5 +1,5 @@
 use Rattle.std.proofs.Common.{◌≡◌, Ok, sym, subst, arith}
-use Rattle.elf_linking.specs.DynamicView.{IsGnuCount, IsLastRun, counted, no_run}
+use Rattle.elf_linking.specs.GnuCount.{IsGnuCount, IsLastRun, counted, no_run}
 use Rattle.elf_linking.specs.GnuHash.{first_symbol_of}
 use Rattle.elf_linking.proofs.GnuCounts.{count_above, count_once}
 use Rattle.elf_linking.proofs.gnu_hash.GnuHashTable.symbol_count.Goals as goal

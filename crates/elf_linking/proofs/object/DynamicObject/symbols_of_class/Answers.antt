@@ -8,4 +8,4 @@ pub returns-then-raw-CLASS-clause-exact : goal.returns-then-raw-CLASS-clause-exa
 returns-then-raw-CLASS-clause-exact g c = other_class (search rules)
 
 pub returns-clause-exact : goal.returns-clause-exact
-returns-clause-exact g c = of_class _ _ c.args.file.now (view_entries c.args.view.now) c.symbols.result (search rules) c.symbols.ensures.exact
+returns-clause-exact g c = of_class _ _ c.args.file.now (view_entries c.args.view.now) c.records.result (search rules) c.records.ensures.exact

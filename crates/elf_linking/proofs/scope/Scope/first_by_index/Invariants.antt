@@ -8,6 +8,6 @@ abbrev pub invariant-loop-place : goal.invariant-loop-place
 invariant-loop-place g l =
     let objects = (scope_objects l.fn.self).now in
     (i : ℕ) → i < l.place → GivesNothing
-    (FindsAt g.E.Entry.fields g.E.Entry.text_in objects l.fn.name l.fn.wanted l.fn.use_)
-    (HasAt g.E.Entry.fields g.E.Entry.text_in objects l.fn.name l.fn.wanted l.fn.use_)
-    (AreGood g.E.Entry.fields g.E.Entry.text_in objects) i
+    (FindsAt g.E.Entry.fields objects l.fn.name l.fn.wanted l.fn.use_)
+    (HasAt g.E.Entry.fields objects l.fn.name l.fn.wanted l.fn.use_)
+    (AreGood g.E.Entry.fields objects) i

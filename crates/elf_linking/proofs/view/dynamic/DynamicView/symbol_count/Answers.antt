@@ -1,7 +1,6 @@
 use Rattle.std.proofs.Common.{sym, ap}
 use Rattle.elf_base.specs.FileHeader.{file_order}
 use Rattle.elf_linking.specs.DynamicView.{by_gnu, by_hash, chain_count_in, no_table, view_entries}
-use Rattle.elf_linking.proofs.SymbolCounts.{symbol_count_once}
 use Rattle.elf_linking.proofs.ViewTables.{count_read}
 use Rattle.elf_linking.proofs.view.dynamic.DynamicView.symbol_count.Goals as goal
 
@@ -20,15 +19,3 @@ returns-in-Ok-gnu_hash_table-clause-exact c =
 
 pub returns-in-Err-gnu_hash_table-clause-exact : goal.returns-in-Err-gnu_hash_table-clause-exact
 returns-in-Err-gnu_hash_table-clause-exact c = no_table c.in-Err-gnu_hash_table.error (sym c.in-None.ensures) c.in-Err-gnu_hash_table.ensures
-
-pub returns-in-Ok-clause-only : goal.returns-in-Ok-clause-only
-returns-in-Ok-clause-only c = λ other is. symbol_count_once c.args.file.now (view_entries c.args.self.now) other _ is (returns-in-Ok-clause-exact c)
-
-pub returns-in-Err-clause-only : goal.returns-in-Err-clause-only
-returns-in-Err-clause-only c = λ other is. symbol_count_once c.args.file.now (view_entries c.args.self.now) other _ is (returns-in-Err-clause-exact c)
-
-pub returns-in-Ok-gnu_hash_table-clause-only : goal.returns-in-Ok-gnu_hash_table-clause-only
-returns-in-Ok-gnu_hash_table-clause-only c = λ other is. symbol_count_once c.args.file.now (view_entries c.args.self.now) other _ is (returns-in-Ok-gnu_hash_table-clause-exact c)
-
-pub returns-in-Err-gnu_hash_table-clause-only : goal.returns-in-Err-gnu_hash_table-clause-only
-returns-in-Err-gnu_hash_table-clause-only c = λ other is. symbol_count_once c.args.file.now (view_entries c.args.self.now) other _ is (returns-in-Err-gnu_hash_table-clause-exact c)

@@ -1,13 +1,10 @@
-use Rattle.std.proofs.Common.{Ok, ap, subst, sym, ◌∙◌}
-use Rattle.elf_linking.specs.DynamicView.{AreSymbols, view_entries}
+use Rattle.std.proofs.Common.{sym, ◌∙◌}
+use Rattle.elf_base.specs.Table.{table_data}
+use Rattle.elf_linking.specs.DynamicView.{no_names, no_records}
 use Rattle.elf_linking.proofs.view.dynamic.DynamicView.symbols.Goals as goal
 
-pub returns-clause-only : goal.returns-clause-only
-returns-clause-only g c = λ other is.
-    let sized = subst (λ size. AreSymbols c.args.file.now (view_entries c.args.self.now) size other) (sym c.SIZE.ensures) is in
-    c.in-Ok.ensures.only other sized ∙ ap (λ bytes. Ok bytes) (sym c.in-Ok-new.ensures.1)
+pub returns-in-Err-clause-exact : goal.returns-in-Err-clause-exact
+returns-in-Err-clause-exact g c = no_records c.in-Err.error c.in-Err.ensures.exact
 
-pub returns-in-Err-clause-only : goal.returns-in-Err-clause-only
-returns-in-Err-clause-only g c = λ other is.
-    let sized = subst (λ size. AreSymbols c.args.file.now (view_entries c.args.self.now) size other) (sym c.SIZE.ensures) is in
-    c.in-Err.ensures.only other sized
+pub returns-in-Err-strings-clause-exact : goal.returns-in-Err-strings-clause-exact
+returns-in-Err-strings-clause-exact g c = no_names (table_data c.in-Ok.symbols) c.in-Err-strings.error c.in-Ok.ensures.exact.0 (sym c.in-Err-strings.ensures.value)

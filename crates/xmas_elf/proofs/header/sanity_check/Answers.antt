@@ -1,7 +1,7 @@
 use Rattle.std.proofs.Common.{arith}
 use Rattle.xmas_elf.proofs.SectionLists.{length-section_list}
 use Rattle.xmas_elf.proofs.ProgramLists.{length-program_list}
-use Rattle.xmas_elf.proofs.header.check.Goals as goal
+use Rattle.xmas_elf.proofs.header.sanity_check.Goals as goal
 
 pub returns-clause-sections : goal.returns-clause-sections
 returns-clause-sections c =

@@ -1,0 +1,30 @@
+-- Where the names of the symbols of a table are read, and what they are (gABI, "Symbol Table", st_name, and
+-- "String Table").
+use Rattle.std.specs.Prelude.{◌≡◌, ℕ, List, Option, None, Some, Result}
+use Rattle.std.specs.Borrow.{Bor}
+use Rattle.std.specs.Result.{result_ok}
+use Rattle.std.proofs.Math.Path.{Singl, contract}
+use Rattle.std.proofs.Common.{sym, ◌∙◌}
+use Rattle.xmas_elf.specs.Prelude.{ElfError, ElfFile}
+use Rattle.xmas_elf.specs.Symbol.{SymbolFields}
+use Rattle.xmas_elf.specs.SymbolName.{name_in_table}
+use Rattle.xmas_elf.specs.declared.symbol_table.symbol_names.Names.{Names}
+use Rattle.xmas_elf.specs.declared.symbol_table.symbol_names.Names.TheVariants.{File, Strings}
+
+-- the name of each symbol: the text in the string table, or that in the file
+abbrev pub text_by : {E : Type 0} → (E → SymbolFields) → (E → ElfFile → Option (List ℕ)) → Names → E → Option (List ℕ)
+text_by fields text_in (Strings found) = λ entry. result_ok (name_in_table found (fields entry).name)
+text_by fields text_in (File file) = λ entry. text_in entry file
+
+-- the string table, or the error for it; None if names are not texts of one table
+abbrev pub strings_by : Names → Option (Result (Bor (List ℕ)) ElfError)
+strings_by (Strings found) = Some found
+strings_by (File file) = None
+
+-- these names in one value: a ghost field holds no function, but may hold one that has a single value
+abbrev pub TextBy : {E : Type 0} → (E → SymbolFields) → (E → ElfFile → Option (List ℕ)) → Names → Type 0
+TextBy fields text_in names = Singl (text_by fields text_in names)
+
+-- that there is one only, which a ghost field asks for
+pub TextBy-prop : {E : Type 0} (fields : E → SymbolFields) (text_in : E → ElfFile → Option (List ℕ)) (names : Names) → IsProp (TextBy fields text_in names)
+TextBy-prop fields text_in names = λ one other. sym (contract one.1) ∙ contract other.1
