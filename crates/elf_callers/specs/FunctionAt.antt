@@ -1,12 +1,13 @@
 -- The function that an address of memory lies in (gABI, "Symbol Table": STT_FUNC, st_value and st_size;
 -- that the first one counts is this project's own).
-use Rattle.std.specs.Prelude.{◌≡◌, ℕ, ◌+◌, ◌≤◌, ◌<◌, List, Option, None, Some, MatchOption, MatchResult, Ok, IsOkAnd, IsSomeAnd, IsTrue, false, codes, length, slice_get}
+use Rattle.std.specs.Prelude.{◌≡◌, ℕ, ◌+◌, ◌≤◌, ◌<◌, List, Option, None, Some, MatchOption, MatchResult, Result, Ok, Err, IsOkAnd, IsSomeAnd, IsTrue, false, codes, length, slice_get}
 use Rattle.std.specs.Borrow.{Bor}
 use Rattle.std.specs.List.{AllWithin}
 use Rattle.xmas_elf.specs.Content.{Content, symbols_32, symbols_64, table_of}
 use Rattle.xmas_elf.specs.NameTable.{section_named}
 use Rattle.xmas_elf.specs.SectionContent.{section_content_of}
 use Rattle.xmas_elf.specs.Symbol.{SymbolFields, Symbols, symbol_type}
+use Rattle.xmas_elf.specs.SymbolName.{name_in_table}
 use Rattle.xmas_elf.specs.SymbolType.TheVariants.{Func}
 use Rattle.xmas_elf.specs.Symbols.{symbols_in_32, symbols_in_64}
 use Rattle.xmas_elf.specs.Types.{ElfError, ElfFile}
@@ -50,7 +51,13 @@ abbrev pub HasNoName : {E : Type 0} → Symbols E → ℕ → Type 0
 HasNoName {E} symbols address = (index : ℕ) × (symbol : E)
     × IsFunctionAt symbols.fields symbols.items address index symbol × (symbols.text symbol ≡ None)
 
--- the same for what the data of a section is taken for
+-- the address lies in a function whose name cannot be read in the string table, for this error
+abbrev pub IsNameError : {E : Type 0} → Symbols E → Result (Bor (List ℕ)) ElfError → ℕ → ElfError → Type 0
+IsNameError {E} symbols strings address error = (index : ℕ) × (symbol : E)
+    × IsFunctionAt symbols.fields symbols.items address index symbol
+    × (name_in_table strings (symbols.fields symbol).name ≡ Err error)
+
+-- the address lies in a function that has no name, of what the data of a section is taken for
 abbrev pub HasNoNameIn : ElfFile → Content → ℕ → Type 0
 HasNoNameIn file (table_of symbols_32 order bytes) = HasNoName (symbols_in_32 file order bytes)
 HasNoNameIn file (table_of symbols_64 order bytes) = HasNoName (symbols_in_64 file order bytes)

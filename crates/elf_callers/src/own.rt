@@ -62,6 +62,10 @@ impl Entry for Numbered {
         0
     }
 
+    fn string_table<'a>(_file: &ElfFile<'a>) -> Option<Result<&'a [u8], ElfError>> {
+        None
+    }
+
     /// The name of this number, in every file; `TextEnd` for one that has none.
     fn get_name<'a>(&self, _file: &ElfFile<'a>) -> Result<&'a str, ElfError> {
         match self.number {

@@ -20,18 +20,18 @@ use Rattle.xmas_elf.specs.declared.ElfFile.{ElfFile}
 abbrev pub IsGood : {E : Type 0} → DynamicSymbols E → Type 0
 IsGood file = IsGoodBy file.table file.symbols × AreReadable file
 
-abbrev pub IsGoodAt : {E : Type 0} → {r : _} → (E → SymbolFields) → (E → ElfFile → Option (List ℕ)) → List (DynamicObject E r) → ℕ → Type 0
-IsGoodAt {E} fields text_in objects i = (file : DynamicSymbols E) → symbols_at fields text_in objects i ≡ Some file → IsGood file
+abbrev pub IsGoodAt : {E : Type 0} → {r : _} → (E → SymbolFields) → List (DynamicObject E r) → ℕ → Type 0
+IsGoodAt {E} fields objects i = (file : DynamicSymbols E) → symbols_at fields objects i ≡ Some file → IsGood file
 
 -- a property of what is read at an index
 pub at_index : {A : Type 0} (P : A → Type 0) (items : List A) (index : ℕ) (item : A) → index < length items → item ≡ get_or items index item → P item → IsSomeAnd (slice_get items index) P
 at_index P items index item below is holds =
     subst (λ found. IsSomeAnd found P) (sym (slice_get_read items (length items) index item refl below is)) holds
 
-pub good_at : {E : Type 0} {r : _} (fields : E → SymbolFields) (text_in : E → ElfFile → Option (List ℕ)) (objects : List (DynamicObject E r)) (index : ℕ) (object : DynamicObject E r) → index < length objects → object ≡ get_or objects index object → IsGood (object_dynamic_symbols fields text_in object) → IsGoodAt fields text_in objects index
-good_at fields text_in objects index object below is good file found =
+pub good_at : {E : Type 0} {r : _} (fields : E → SymbolFields) (objects : List (DynamicObject E r)) (index : ℕ) (object : DynamicObject E r) → index < length objects → object ≡ get_or objects index object → IsGood (object_dynamic_symbols fields object) → IsGoodAt fields objects index
+good_at fields objects index object below is good file found =
     let at = slice_get_read objects (length objects) index object refl below is in
-    subst IsGood (same_Some _ _ (sym (ap (option_map (object_dynamic_symbols fields text_in)) at) ∙ found)) good
+    subst IsGood (same_Some _ _ (sym (ap (option_map (object_dynamic_symbols fields)) at) ∙ found)) good
 
 -- what is found in a list through a function lies in the list
 pub map_within : {A B : Type 0} (f : A → B) (items : List A) (index : ℕ) (item : B) → option_map f (slice_get items index) ≡ Some item → index < length items

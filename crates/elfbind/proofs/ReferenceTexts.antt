@@ -22,34 +22,33 @@ use Rattle.elfbind.proofs.Bounds.{first_below}
 use Rattle.elfbind.proofs.Steps.{AreWrittenSoFar, next_more, none_so_far}
 use Rattle.program_ends.specs.Appended.{AppendsSome}
 use Rattle.xmas_elf.specs.Symbol.{SymbolFields}
-use Rattle.xmas_elf.specs.declared.ElfFile.{ElfFile}
 
-module _ {E : Type 0} {r : _} (fields : E → SymbolFields) (text_in : E → ElfFile → Option (List ℕ)) where
+module _ {E : Type 0} {r : _} (fields : E → SymbolFields) where
   -- the object of what a look-up gets is one of the scope
-  pub bound_object : (kept objects : Bor (List (DynamicObject E r))) (count from : ℕ) (name : List ℕ) (wanted : Wanted) (purpose : uses.Use) (bound : Option (Bound E)) → kept ≡ objects → length objects.now ≡ count → IsBound fields text_in kept.now from name wanted purpose (Ok bound) → IfSome bound (λ at. at.object < count)
+  pub bound_object : (kept objects : Bor (List (DynamicObject E r))) (count from : ℕ) (name : List ℕ) (wanted : Wanted) (purpose : uses.Use) (bound : Option (Bound E)) → kept ≡ objects → length objects.now ≡ count → IsBound fields kept.now from name wanted purpose (Ok bound) → IfSome bound (λ at. at.object < count)
   bound_object kept objects count from name wanted purpose bound same counted answer =
       subst (λ n. IfSome bound (λ at. at.object < n)) (ap (λ (o : Bor (List (DynamicObject E r))). length o.now) same ∙ counted) (go (slice_get kept.now from) answer)
     where
-      go : (found : Option (DynamicObject E r)) → MatchOption found (◌≡◌ {A = Result (Option (Bound E)) LinkError} (Ok bound) (Err ObjectIndex)) (λ asking. IsFirstGiven (FindsAt fields text_in kept.now name wanted purpose) (length kept.now) (is_symbolic (view_entries (object_view asking))) from (Ok bound)) → IfSome bound (λ at. at.object < length kept.now)
+      go : (found : Option (DynamicObject E r)) → MatchOption found (◌≡◌ {A = Result (Option (Bound E)) LinkError} (Ok bound) (Err ObjectIndex)) (λ asking. IsFirstGiven (FindsAt fields kept.now name wanted purpose) (length kept.now) (is_symbolic (view_entries (object_view asking))) from (Ok bound)) → IfSome bound (λ at. at.object < length kept.now)
       go None never = absurd (let no : ◌≡◌ {A = Result (Option (Bound E)) LinkError} (Ok bound) (Err ObjectIndex) = never in cc)
       go (Some asking) first = first_below _ _ _ _ (Ok bound) first
 
   -- the line of a reference that is looked up, by the objects that the scope keeps
   pub line_text_is : (inputs : List Input) (kept objects : Bor (List (DynamicObject E r))) (from : ℕ) (asking : DynamicObject E r) (reference : Reference) (name : Bor (List ℕ)) (wanted : Wanted) (purpose : uses.Use) (bound : Option (Bound E)) (missing : Bool) (line : List ℕ) → kept ≡ objects
       → asked_of fields asking reference ≡ Ok (asked_parts (Look name wanted purpose))
-      → IsBound fields text_in kept.now from name.now wanted purpose (Ok bound)
-      → (AreGood fields text_in kept.now → from < length kept.now → BindsRight fields text_in kept.now from name.now wanted purpose (Ok bound))
-      → AreGood fields text_in objects.now → from < length objects.now → IsLineBy fields inputs from name.now wanted bound line
+      → IsBound fields kept.now from name.now wanted purpose (Ok bound)
+      → (AreGood fields kept.now → from < length kept.now → BindsRight fields kept.now from name.now wanted purpose (Ok bound))
+      → AreGood fields objects.now → from < length objects.now → IsLineBy fields inputs from name.now wanted bound line
       → missing ≡ is_missing fields (slice_get (table_items (object_records asking)) reference.symbol) bound
-      → IsReferenceText fields text_in inputs objects.now from asking reference missing line
+      → IsReferenceText fields inputs objects.now from asking reference missing line
   line_text_is inputs kept objects from asking reference name wanted purpose bound missing line same asked answer right good below line_is missing_is = looked_up missing line (record {
     name = name;
     wanted = wanted;
     purpose = purpose;
     asked = asked;
     bound = bound;
-    answer = subst (λ (o : Bor (List (DynamicObject E r))). IsBound fields text_in o.now from name.now wanted purpose (Ok bound)) same answer;
-    right = subst (λ (o : Bor (List (DynamicObject E r))). AreGood fields text_in o.now → from < length o.now → BindsRight fields text_in o.now from name.now wanted purpose (Ok bound)) same right good below;
+    answer = subst (λ (o : Bor (List (DynamicObject E r))). IsBound fields o.now from name.now wanted purpose (Ok bound)) same answer;
+    right = subst (λ (o : Bor (List (DynamicObject E r))). AreGood fields o.now → from < length o.now → BindsRight fields o.now from name.now wanted purpose (Ok bound)) same right good below;
     line_is = line_is;
     missing_is = missing_is;
   })
@@ -59,22 +58,22 @@ module _ {E : Type 0} {r : _} (fields : E → SymbolFields) (text_in : E → Elf
     pub record AreReferencesSoFar (asking : DynamicObject E r) (rest : List Reference) (missing : Bool) (text : List ℕ) : Type 0 where
       pub all : List Reference
       pub all_are : references_of (object_file asking) (view_entries (object_view asking)) ≡ Ok all
-      pub so_far : AreWrittenSoFar (λ _ reference. IsReferenceText fields text_in inputs objects from asking reference) all rest missing text
+      pub so_far : AreWrittenSoFar (λ _ reference. IsReferenceText fields inputs objects from asking reference) all rest missing text
 
     pub references_begin : (asking : DynamicObject E r) (all : List Reference) (old : Option (List ℕ)) → references_of (object_file asking) (view_entries (object_view asking)) ≡ Ok all → AppendsSome (AreReferencesSoFar asking all false) old old
     references_begin asking all old are =
-        let (text, so_far, grown) = none_so_far (λ _ reference. IsReferenceText fields text_in inputs objects from asking reference) all all old refl in
+        let (text, so_far, grown) = none_so_far (λ _ reference. IsReferenceText fields inputs objects from asking reference) all all old refl in
         (text, record { all = all; all_are = are; so_far = so_far }, grown)
 
-    pub references_more : (found : Option (DynamicObject E r)) (rest others : List Reference) (item : Reference) (wrong own : Bool) (old before after : Option (List ℕ)) → rest ≡ item ∷ others → IsSomeAnd found (λ asking. AppendsSome (AreReferencesSoFar asking rest wrong) old before) → IsSomeAnd found (λ asking. AppendsSome (IsReferenceText fields text_in inputs objects from asking item own) before after) → IsSomeAnd found (λ asking. AppendsSome (AreReferencesSoFar asking others (wrong || own)) old after)
+    pub references_more : (found : Option (DynamicObject E r)) (rest others : List Reference) (item : Reference) (wrong own : Bool) (old before after : Option (List ℕ)) → rest ≡ item ∷ others → IsSomeAnd found (λ asking. AppendsSome (AreReferencesSoFar asking rest wrong) old before) → IsSomeAnd found (λ asking. AppendsSome (IsReferenceText fields inputs objects from asking item own) before after) → IsSomeAnd found (λ asking. AppendsSome (AreReferencesSoFar asking others (wrong || own)) old after)
     references_more None rest others item wrong own old before after is so_far more = absurd so_far
     references_more (Some asking) rest others item wrong own old before after is (text, so_far, grown) more =
-        let (longer, written, all_grown) = next_more (λ _ reference. IsReferenceText fields text_in inputs objects from asking reference) so_far.all rest others item wrong own old before after is (text, so_far.so_far, grown) (λ index. more) in
+        let (longer, written, all_grown) = next_more (λ _ reference. IsReferenceText fields inputs objects from asking reference) so_far.all rest others item wrong own old before after is (text, so_far.so_far, grown) (λ index. more) in
         (longer, record { all = so_far.all; all_are = so_far.all_are; so_far = written }, all_grown)
 
-    pub references_end : (found : Option (DynamicObject E r)) (rest : List Reference) (missing : Bool) (old new : Option (List ℕ)) → rest ≡ [] → IsSomeAnd found (λ asking. AppendsSome (AreReferencesSoFar asking rest missing) old new) → IsSomeAnd found (λ asking. AppendsSome (IsObjectText fields text_in inputs objects from asking missing) old new)
+    pub references_end : (found : Option (DynamicObject E r)) (rest : List Reference) (missing : Bool) (old new : Option (List ℕ)) → rest ≡ [] → IsSomeAnd found (λ asking. AppendsSome (AreReferencesSoFar asking rest missing) old new) → IsSomeAnd found (λ asking. AppendsSome (IsObjectText fields inputs objects from asking missing) old new)
     references_end None rest missing old new end so_far = absurd so_far
     references_end (Some asking) rest missing old new end (text, so_far, grown) =
         let before = so_far.so_far in
         let all_of : before.earlier ≡ so_far.all = sym (append-nil before.earlier) ∙ ap (λ left. before.earlier ++ left) (sym end) ∙ before.split in
-        (text, record { references = so_far.all; references_are = so_far.all_are; texts = subst (λ (items : List Reference). AreWritten (λ _ reference. IsReferenceText fields text_in inputs objects from asking reference) items missing text) all_of before.so_far }, grown)
+        (text, record { references = so_far.all; references_are = so_far.all_are; texts = subst (λ (items : List Reference). AreWritten (λ _ reference. IsReferenceText fields inputs objects from asking reference) items missing text) all_of before.so_far }, grown)

@@ -18,7 +18,6 @@ use Rattle.elf_linking.specs.declared.scope.asking.Asked.TheVariants.{Look, Own}
 use Rattle.elfbind.specs.Files.{AreWritten}
 use Rattle.elfbind.specs.declared.files.Input.{Input}
 use Rattle.xmas_elf.specs.Symbol.{SymbolFields}
-use Rattle.xmas_elf.specs.declared.ElfFile.{ElfFile}
 
 -- The text of a line.
 
@@ -64,27 +63,27 @@ is_missing fields symbol (Some bound) = false
 
 -- the line of a reference of the object at an index, and whether it is missing its symbol. What the reference gets
 -- is that of the first object with a symbol to bind to, by the hash tables and by the lists of symbols alone.
-pub record IsLine {E : Type 0} {r : _} (fields : E → SymbolFields) (text_in : E → ElfFile → Option (List ℕ)) (inputs : List Input) (objects : List (DynamicObject E r)) (from : ℕ) (asking : DynamicObject E r) (reference : Reference) (missing : Bool) (line : List ℕ) : Type 0 where
+pub record IsLine {E : Type 0} {r : _} (fields : E → SymbolFields) (inputs : List Input) (objects : List (DynamicObject E r)) (from : ℕ) (asking : DynamicObject E r) (reference : Reference) (missing : Bool) (line : List ℕ) : Type 0 where
   pub name : Bor (List ℕ)
   pub wanted : Wanted
   pub purpose : uses.Use
   pub asked : asked_of fields asking reference ≡ Ok (asked_parts (Look name wanted purpose))
   pub bound : Option (Bound E)
-  pub answer : IsBound fields text_in objects from name.now wanted purpose (Ok bound)
-  pub right : BindsRight fields text_in objects from name.now wanted purpose (Ok bound)
+  pub answer : IsBound fields objects from name.now wanted purpose (Ok bound)
+  pub right : BindsRight fields objects from name.now wanted purpose (Ok bound)
   pub line_is : IsLineBy fields inputs from name.now wanted bound line
   pub missing_is : missing ≡ is_missing fields (slice_get (table_items (object_records asking)) reference.symbol) bound
 
 -- what is written of a reference: nothing if it gets the symbol that it names without a look-up, otherwise its line
-pub data IsReferenceText {E : Type 0} {r : _} (fields : E → SymbolFields) (text_in : E → ElfFile → Option (List ℕ)) (inputs : List Input) (objects : List (DynamicObject E r)) (from : ℕ) (asking : DynamicObject E r) (reference : Reference) : Bool → List ℕ → Type 0 where
+pub data IsReferenceText {E : Type 0} {r : _} (fields : E → SymbolFields) (inputs : List Input) (objects : List (DynamicObject E r)) (from : ℕ) (asking : DynamicObject E r) (reference : Reference) : Bool → List ℕ → Type 0 where
   own : (symbol : E) → asked_of fields asking reference ≡ Ok (Own symbol)
-      → IsReferenceText fields text_in inputs objects from asking reference false []
+      → IsReferenceText fields inputs objects from asking reference false []
   looked_up : (missing : Bool) (line : List ℕ)
-      → IsLine fields text_in inputs objects from asking reference missing line
-      → IsReferenceText fields text_in inputs objects from asking reference missing line
+      → IsLine fields inputs objects from asking reference missing line
+      → IsReferenceText fields inputs objects from asking reference missing line
 
 -- what is written of the object at an index: the texts of its references, in order
-pub record IsObjectText {E : Type 0} {r : _} (fields : E → SymbolFields) (text_in : E → ElfFile → Option (List ℕ)) (inputs : List Input) (objects : List (DynamicObject E r)) (from : ℕ) (asking : DynamicObject E r) (missing : Bool) (text : List ℕ) : Type 0 where
+pub record IsObjectText {E : Type 0} {r : _} (fields : E → SymbolFields) (inputs : List Input) (objects : List (DynamicObject E r)) (from : ℕ) (asking : DynamicObject E r) (missing : Bool) (text : List ℕ) : Type 0 where
   pub references : List Reference
   pub references_are : references_of (object_file asking) (view_entries (object_view asking)) ≡ Ok references
-  pub texts : AreWritten (λ _ reference. IsReferenceText fields text_in inputs objects from asking reference) references missing text
+  pub texts : AreWritten (λ _ reference. IsReferenceText fields inputs objects from asking reference) references missing text

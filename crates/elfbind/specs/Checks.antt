@@ -1,5 +1,5 @@
 -- What the program writes of the checks of some files (this project's own): a line for each.
-use Rattle.std.specs.Prelude.{◌≡◌, ℕ, ◌++◌, Bool, List, Option, Result, Ok, Err, codes, is_err, slice_get, IsSomeAnd, length}
+use Rattle.std.specs.Prelude.{◌≡◌, ℕ, ◌++◌, Bool, List, Result, Ok, Err, codes, is_err, slice_get, IsSomeAnd, length}
 use Rattle.elf_base.specs.Refusal.{and_then}
 use Rattle.elf_linking.specs.AnyTable.{IsCheckBy}
 use Rattle.elf_linking.specs.DynamicObject.{object_dynamic_symbols}
@@ -10,7 +10,6 @@ use Rattle.elf_linking.specs.declared.error.LinkError.{LinkError}
 use Rattle.elf_linking.specs.declared.object.DynamicObject.{DynamicObject}
 use Rattle.elfbind.specs.declared.files.Input.{Input}
 use Rattle.xmas_elf.specs.Symbol.{SymbolFields}
-use Rattle.xmas_elf.specs.declared.ElfFile.{ElfFile}
 
 -- the result of the checks of a file: that of its hash table and, if that passes, of its versions
 pub record AreChecked {E : Type 0} (file : DynamicSymbols E) (result : Result (Unit {0}) LinkError) : Type 0 where
@@ -24,8 +23,8 @@ check_text path (Ok _) = path ++ codes ": ok\n"
 check_text path (Err error) = path ++ (codes ": " ++ (link_message error ++ codes "\n"))
 
 -- the line of the object at an index, and whether its checks fail
-pub record IsCheckLine {E : Type 0} {r : _} (fields : E → SymbolFields) (text_in : E → ElfFile → Option (List ℕ)) (inputs : List Input) (index : ℕ) (object : DynamicObject E r) (failing : Bool) (line : List ℕ) : Type 0 where
+pub record IsCheckLine {E : Type 0} {r : _} (fields : E → SymbolFields) (inputs : List Input) (index : ℕ) (object : DynamicObject E r) (failing : Bool) (line : List ℕ) : Type 0 where
   pub result : Result (Unit {0}) LinkError
-  pub checked : AreChecked (object_dynamic_symbols fields text_in object) result
+  pub checked : AreChecked (object_dynamic_symbols fields object) result
   pub line_is : IsSomeAnd (slice_get inputs index) (λ input. line ≡ check_text input.path.now result)
   pub failing_is : failing ≡ is_err result

@@ -27,9 +27,9 @@ pub(crate) fn write_bindings<'s, E: LinkedSymbol, W: Write>(
     out: &mut W,
 ) -> Result<bool, Stop<Refused<'s>>>
     requires same { length objects.now ≡ length inputs.now }
-    requires good { AreGood E.fields E.text_in objects.now }
+    requires good { AreGood E.fields objects.now }
     ensures { IfOk result (λ missing. AppendsSome
-        (AreWritten (IsObjectText E.fields E.text_in inputs.now objects.now) objects.now missing)
+        (AreWritten (IsObjectText E.fields inputs.now objects.now) objects.now missing)
         (W.contents out.old) (W.contents out.new)) }
 {
     let mut missing = false;
@@ -51,10 +51,10 @@ fn write_object<E: LinkedSymbol, W: Write>(
     out: &mut W,
 ) -> Result<bool, Stop<LinkError>>
     requires same { length objects.now ≡ length inputs.now }
-    requires good { AreGood E.fields E.text_in objects.now }
+    requires good { AreGood E.fields objects.now }
     requires below { from < length objects.now }
     ensures { IsSomeAnd (slice_get objects.now from) (λ asking. IfOk result (λ missing. AppendsSome
-        (IsObjectText E.fields E.text_in inputs.now objects.now from asking missing)
+        (IsObjectText E.fields inputs.now objects.now from asking missing)
         (W.contents out.old) (W.contents out.new))) }
 {
     let references = match objects[from].references() {
@@ -79,10 +79,10 @@ fn write_reference<E: LinkedSymbol, W: Write>(
     out: &mut W,
 ) -> Result<bool, Stop<LinkError>>
     requires same { length objects.now ≡ length inputs.now }
-    requires good { AreGood E.fields E.text_in objects.now }
+    requires good { AreGood E.fields objects.now }
     requires below { from < length objects.now }
     ensures { IsSomeAnd (slice_get objects.now from) (λ asking. IfOk result (λ missing. AppendsSome
-        (IsReferenceText E.fields E.text_in inputs.now objects.now from asking reference.now missing)
+        (IsReferenceText E.fields inputs.now objects.now from asking reference.now missing)
         (W.contents out.old) (W.contents out.new))) }
 {
     let asking = &objects[from];

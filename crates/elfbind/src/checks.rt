@@ -21,7 +21,7 @@ pub(crate) fn write_checks<'s, E: LinkedSymbol, W: Write>(
 ) -> Result<bool, Stop<Refused<'s>>>
     requires same { length objects.now ≡ length inputs.now }
     ensures { IfOk result (λ failing. AppendsSome
-        (AreWritten (IsCheckLine E.fields E.text_in inputs.now) objects.now failing)
+        (AreWritten (IsCheckLine E.fields inputs.now) objects.now failing)
         (W.contents out.old) (W.contents out.new)) }
 {
     let mut failing = false;
@@ -42,7 +42,7 @@ fn write_check<'s, E: LinkedSymbol, W: Write>(
     requires same { length objects.now ≡ length inputs.now }
     requires below { index < length objects.now }
     ensures { IsSomeAnd (slice_get objects.now index) (λ object. IfOk result (λ failing. AppendsSome
-        (IsCheckLine E.fields E.text_in inputs.now index object failing)
+        (IsCheckLine E.fields inputs.now index object failing)
         (W.contents out.old) (W.contents out.new))) }
 {
     let result = check_object(&objects[index]);

@@ -75,7 +75,7 @@ pub(crate) fn check_objects<'a, E: LinkedSymbol>(
     objects: &[DynamicObject<'_, E>],
 ) -> Result<(), Stop<Refused<'a>>>
     requires { length objects.now ≡ length inputs.now }
-    ensures { OnOk result (AreGood E.fields E.text_in objects.now) }
+    ensures { OnOk result (AreGood E.fields objects.now) }
 {
     for index in 0..objects.len() {
         match check_object(&objects[index]) {
@@ -89,9 +89,9 @@ pub(crate) fn check_objects<'a, E: LinkedSymbol>(
 // The result of the checks of an object: that of its hash table and, if that passes, of its
 // versions.
 pub(crate) fn check_object<E: LinkedSymbol>(object: &DynamicObject<'_, E>) -> Result<(), LinkError>
-    ensures accepts { let file = object_dynamic_symbols E.fields E.text_in object.now in
+    ensures accepts { let file = object_dynamic_symbols E.fields object.now in
         IsOk result ↔ (IsGoodBy file.table file.symbols × AreReadable file) }
-    ensures exact { AreChecked (object_dynamic_symbols E.fields E.text_in object.now) result }
+    ensures exact { AreChecked (object_dynamic_symbols E.fields object.now) result }
 {
     match object.check() {
         Ok(()) => object.check_versions(),

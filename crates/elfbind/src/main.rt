@@ -18,7 +18,7 @@ use crate::checks::write_checks;
 use crate::files::{Input, Refused, check_objects, read_objects};
 use elf_base::bytes::Record;
 use elf_base::header::Class;
-use elf_linking::view::{LinkedEntry32, LinkedEntry64, LinkedSymbol};
+use elf_linking::view::LinkedSymbol;
 use elf_linking::{DynamicObject, LinkError};
 use program_ends::{Stop, read_whole, say};
 use std::alloc::Global;
@@ -29,6 +29,7 @@ use std::process::ExitCode;
 use std::{env, io};
 use thiserror::Error;
 use xmas_elf::ElfFile;
+use xmas_elf::symbol_table::{DynEntry32, DynEntry64};
 
 mod bindings;
 mod checks;
@@ -73,8 +74,8 @@ pub fn run<W: Write, E: Write>(
 ) -> u8
     ensures bound { result ≤ 1 }
     ensures accepted { result ≡ 0 → AreAccepted inputs.now }
-    ensures right { result ≡ 0 → IsAnswerByClass ⟦<LinkedEntry32 as Record>⟧
-        ⟦<LinkedEntry64 as Record>⟧ inputs.now question false }
+    ensures right { result ≡ 0 → IsAnswerByClass ⟦<DynEntry32 as Record>⟧
+        ⟦<DynEntry64 as Record>⟧ inputs.now question false }
 {
     match answer(alloc, question, inputs, out) {
         Ok(false) => 0,
@@ -91,13 +92,13 @@ fn answer<'a, W: Write>(
     out: &mut W,
 ) -> Result<bool, Fault<'a>>
     ensures accepted { OnOk result (AreAccepted inputs.now) }
-    ensures answered { IfOk result (IsAnswerByClass ⟦<LinkedEntry32 as Record>⟧
-        ⟦<LinkedEntry64 as Record>⟧ inputs.now question) }
+    ensures answered { IfOk result (IsAnswerByClass ⟦<DynEntry32 as Record>⟧
+        ⟦<DynEntry64 as Record>⟧ inputs.now question) }
 {
     let written = match class_of_first(inputs) {
-        Class::ThirtyTwo => print::<LinkedEntry32, _>(alloc, question, inputs, &mut *out),
+        Class::ThirtyTwo => print::<DynEntry32, _>(alloc, question, inputs, &mut *out),
         // Other classes are refused there.
-        _ => print::<LinkedEntry64, _>(alloc, question, inputs, &mut *out),
+        _ => print::<DynEntry64, _>(alloc, question, inputs, &mut *out),
     };
     match written {
         Ok((_, wrong)) => Ok(wrong),
@@ -131,7 +132,7 @@ fn print<'a, E: LinkedSymbol, W: Write + Drop>(
     ensures accepted { OnOk result (AreAccepted inputs.now) }
     ensures written { IfOk result (λ back. (objects : List (DynamicObject E E.Record))
         × AreObjectsOf E.CLASS E.SIZE inputs.now objects
-        × AppendsSome (IsAnswer E.fields E.text_in inputs.now objects question back.1)
+        × AppendsSome (IsAnswer E.fields inputs.now objects question back.1)
         (W.contents out) (W.contents back.0)) }
 {
     let objects = read_objects::<E>(alloc, inputs)?;
@@ -149,7 +150,7 @@ fn print_objects<'a, E: LinkedSymbol, W: Write + Drop>(
 ) -> Result<(W, bool), Stop<Refused<'a>>>
     requires same { length objects.now ≡ length inputs.now }
     ensures { IfOk result (λ back. AppendsSome
-        (IsAnswer E.fields E.text_in inputs.now objects.now question back.1)
+        (IsAnswer E.fields inputs.now objects.now question back.1)
         (W.contents out) (W.contents back.0)) }
 {
     let mut buffered = match BufWriter::new(alloc, out) {
@@ -175,7 +176,7 @@ fn write_flushed<'s, E: LinkedSymbol, W: Write + Drop>(
     requires same { length objects.now ≡ length inputs.now }
     requires empty { writer_buffer buffered.old ≡ [] }
     ensures { IfOk result (λ wrong. AppendsSome
-        (IsAnswer E.fields E.text_in inputs.now objects.now question wrong)
+        (IsAnswer E.fields inputs.now objects.now question wrong)
         (W.contents (writer_inner buffered.old)) (W.contents (writer_inner buffered.new))) }
 {
     let wrong = write_answer(question, inputs, objects, buffered)?;
@@ -192,7 +193,7 @@ fn write_answer<'s, E: LinkedSymbol, W: Write>(
 ) -> Result<bool, Stop<Refused<'s>>>
     requires same { length objects.now ≡ length inputs.now }
     ensures { IfOk result (λ wrong. AppendsSome
-        (IsAnswer E.fields E.text_in inputs.now objects.now question wrong)
+        (IsAnswer E.fields inputs.now objects.now question wrong)
         (W.contents out.old) (W.contents out.new)) }
 {
     match question {

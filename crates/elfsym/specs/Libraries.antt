@@ -6,8 +6,8 @@ use Rattle.std.specs.List.{AllZip, concat}
 use Rattle.elf_base.specs.FileHeader.{header_of}
 use Rattle.elf_linking.specs.DynamicView.{dynamic_entries_of, needed_bytes_in, strings_by}
 use Rattle.elf_linking.specs.declared.error.LinkError.{LinkError}
-use Rattle.elf_linking.specs.declared.view.entry.DynamicEntry.{DynamicEntry}
 use Rattle.program_ends.specs.Names.{escaped}
+use Rattle.xmas_elf.specs.Prelude.{Dynamic}
 use Rattle.xmas_elf.specs.Types.{ElfFile}
 
 -- the line of a library: its name, which can be read, with its control characters escaped
@@ -22,7 +22,7 @@ pub record AreLibraryLines (libraries : List (Result (List ℕ) LinkError)) (tex
 
 -- the lines for a file: those of the libraries that its dynamic segment names
 pub record AreFileLibraries (file : ElfFile) (text : List ℕ) : Type 0 where
-  pub entries : List (DynamicEntry ℕ)
+  pub entries : List (Dynamic ℕ)
   pub entries_are : dynamic_entries_of file ≡ Ok entries
   pub lines : AreLibraryLines (needed_bytes_in (strings_by file entries) entries) text
 

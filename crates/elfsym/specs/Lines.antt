@@ -4,20 +4,16 @@ use Rattle.std.specs.Prelude.{◌≡◌, ◌<◌, ◌==◌, ℕ, ◌++◌, Bool,
 use Rattle.std.specs.Borrow.{Bor}
 use Rattle.std.specs.Fmt.{digits}
 use Rattle.std.specs.List.{AllZip, after_first, before_first, concat, position_or_len}
-use Rattle.elf_base.specs.FileHeader.{file_order, header_of}
-use Rattle.elf_linking.specs.AnyTable.{IsGoodBy, IsLinkedTable, linked_symbols_32, linked_symbols_64}
-use Rattle.elf_linking.specs.DynamicObject.{AreOfClass}
-use Rattle.elf_linking.specs.DynamicView.{dynamic_entries_of, strings_of}
-use Rattle.elf_linking.specs.Find.{AreReadable, DynamicSymbols, FindsRight, IsFound, dynamic_symbols, version_wanted}
-use Rattle.elf_linking.specs.VersionTables.{VersionTables, version_tables_of}
-use Rattle.elf_linking.specs.declared.any_table.AnyTable.{AnyTable}
+use Rattle.elf_base.specs.FileHeader.{header_of}
+use Rattle.elf_linking.specs.AnyTable.{IsGoodBy}
+use Rattle.elf_linking.specs.DynamicObject.{AreDynamicSymbols}
+use Rattle.elf_linking.specs.Find.{AreReadable, DynamicSymbols, FindsRight, IsFound, version_wanted}
 use Rattle.elf_linking.specs.declared.error.LinkError.{LinkError}
 use Rattle.elf_linking.specs.declared.find.Use.TheVariants.{Any}
 use Rattle.elf_linking.specs.declared.find.Wanted.{Wanted}
 use Rattle.elf_linking.specs.declared.find.Wanted.TheVariants.{Newest}
-use Rattle.elf_linking.specs.declared.view.entry.DynamicEntry.{DynamicEntry}
-use Rattle.xmas_elf.specs.Symbol.{Symbols}
-use Rattle.xmas_elf.specs.Types.{ElfFile}
+use Rattle.xmas_elf.specs.Symbol.{dyn_entry_32, dyn_entry_32_fields, dyn_entry_64, dyn_entry_64_fields}
+use Rattle.xmas_elf.specs.Types.{DynEntry32, DynEntry64, ElfFile}
 
 -- the line of a reference: the value and the size of its symbol in hexadecimal, or that there is none
 abbrev pub line_text : List ℕ → Option (ℕ × ℕ) → List ℕ
@@ -68,30 +64,12 @@ pub record AreLines {E S : Type 0} (text_of : S → List ℕ) (file : DynamicSym
   pub each : AllZip (λ reference line. IsLine file (text_of reference) line) references lines
   pub text_is : text ≡ concat lines
 
--- the lines by some symbols of a file, with the version tables for their number
-pub record AreLinesOf {E S : Type 0} (text_of : S → List ℕ) (file : ElfFile) (entries : List (DynamicEntry ℕ)) (table : AnyTable) (strings : List ℕ) (symbols : Symbols E) (references : List S) (text : List ℕ) : Type 0 where
-  pub versions : VersionTables
-  pub versions_are : version_tables_of file entries (Ok strings) (length symbols.items) ≡ Ok versions
-  pub lines : AreLines text_of (dynamic_symbols table symbols versions) references text
-
--- the lines for a hash table and a string table, by the class of the file
-pub data AreLinesByClass {S : Type 0} (text_of : S → List ℕ) (file : ElfFile) (entries : List (DynamicEntry ℕ)) (table : AnyTable) (strings : List ℕ) (references : List S) (text : List ℕ) : Type 0 where
-  narrow : (bytes : List ℕ) → AreOfClass 1 16 file entries bytes
-      → AreLinesOf text_of file entries table strings (linked_symbols_32 file (file_order file.header) bytes) references text
-      → AreLinesByClass text_of file entries table strings references text
-  wide : (bytes : List ℕ) → AreOfClass 2 24 file entries bytes
-      → AreLinesOf text_of file entries table strings (linked_symbols_64 file (file_order file.header) bytes) references text
-      → AreLinesByClass text_of file entries table strings references text
-
--- the lines for a file: the entries of its dynamic segment, then the hash table, the string table, and the symbols
-pub record AreFileLines {S : Type 0} (text_of : S → List ℕ) (file : ElfFile) (references : List S) (text : List ℕ) : Type 0 where
-  pub entries : List (DynamicEntry ℕ)
-  pub table : AnyTable
-  pub strings : List ℕ
-  pub entries_are : dynamic_entries_of file ≡ Ok entries
-  pub linked : IsLinkedTable file entries table
-  pub strings_are : strings_of file ≡ Ok strings
-  pub by_class : AreLinesByClass text_of file entries table strings references text
+-- the lines for a file: those by its dynamic symbols, of either class
+pub data AreFileLines {S : Type 0} (text_of : S → List ℕ) (file : ElfFile) (references : List S) (text : List ℕ) : Type 0 where
+  narrow : (all : DynamicSymbols DynEntry32) → AreDynamicSymbols 1 16 dyn_entry_32 dyn_entry_32_fields file all
+      → AreLines text_of all references text → AreFileLines text_of file references text
+  wide : (all : DynamicSymbols DynEntry64) → AreDynamicSymbols 2 24 dyn_entry_64 dyn_entry_64_fields file all
+      → AreLines text_of all references text → AreFileLines text_of file references text
 
 -- the lines for an input that is accepted
 abbrev pub AreInputLines : {S : Type 0} → (S → List ℕ) → Bor (List ℕ) → List S → List ℕ → Type 0

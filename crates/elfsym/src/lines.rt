@@ -11,7 +11,7 @@ ghost use Rattle.program_ends.specs.Appended.{AppendsSome};
 
 use elf_base::header::Class;
 use elf_linking::find::{Use, Wanted};
-use elf_linking::view::{LinkedEntry32, LinkedEntry64, LinkedSymbol};
+use elf_linking::view::LinkedSymbol;
 use elf_linking::{DynamicObject, LinkError};
 use program_ends::{Output, Stop};
 use std::convert::AsStr;
@@ -19,6 +19,7 @@ use std::fmt;
 use std::fmt::Display;
 use std::io::Write;
 use xmas_elf::ElfFile;
+use xmas_elf::symbol_table::{DynEntry32, DynEntry64};
 
 // A line for each reference in the file that these bytes are.
 #[derive(Clone, Copy)]
@@ -53,12 +54,12 @@ fn write_lines<S: AsStr, W: Write>(
         (W.contents out.old) (W.contents out.new)) }
 {
     match file.header.pt1.class() {
-        Class::ThirtyTwo => match DynamicObject::<LinkedEntry32>::read(file) {
+        Class::ThirtyTwo => match DynamicObject::<DynEntry32>::read(file) {
             Ok(object) => write_checked(&object, references, out),
             Err(error) => Err(Stop::Refused(error)),
         },
         // An object has one of these two classes.
-        _ => match DynamicObject::<LinkedEntry64>::read(file) {
+        _ => match DynamicObject::<DynEntry64>::read(file) {
             Ok(object) => write_checked(&object, references, out),
             Err(error) => Err(Stop::Refused(error)),
         },
@@ -72,7 +73,7 @@ fn write_checked<E: LinkedSymbol, S: AsStr, W: Write>(
     out: &mut W,
 ) -> Result<(), Stop<LinkError>>
     ensures { OnOk result (AppendsSome
-        (AreLines S.text (object_dynamic_symbols E.fields E.text_in object.now) references.now)
+        (AreLines S.text (object_dynamic_symbols E.fields object.now) references.now)
         (W.contents out.old) (W.contents out.new)) }
 {
     match object.check() {
@@ -88,9 +89,9 @@ fn write_each<E: LinkedSymbol, S: AsStr, W: Write>(
     out: &mut W,
 ) -> Result<(), Stop<LinkError>>
     requires good { IsGoodBy (object_table object.now)
-        (object_symbols E.fields E.text_in object.now) }
+        (object_symbols E.fields object.now) }
     ensures { OnOk result (AppendsSome
-        (AreLines S.text (object_dynamic_symbols E.fields E.text_in object.now) references.now)
+        (AreLines S.text (object_dynamic_symbols E.fields object.now) references.now)
         (W.contents out.old) (W.contents out.new)) }
 {
     for reference in references {
@@ -106,9 +107,9 @@ fn write_line<E: LinkedSymbol, W: Write>(
     out: &mut W,
 ) -> Result<(), Stop<LinkError>>
     requires good { IsGoodBy (object_table object.now)
-        (object_symbols E.fields E.text_in object.now) }
+        (object_symbols E.fields object.now) }
     ensures { OnOk result (AppendsSome
-        (IsLine (object_dynamic_symbols E.fields E.text_in object.now) reference.now)
+        (IsLine (object_dynamic_symbols E.fields object.now) reference.now)
         (W.contents out.old) (W.contents out.new)) }
 {
     match numbers_of(object, reference) {
@@ -123,8 +124,8 @@ fn numbers_of<E: LinkedSymbol>(
     reference: &str,
 ) -> Result<Option<(u64, u64)>, LinkError>
     requires good { IsGoodBy (object_table object.now)
-        (object_symbols E.fields E.text_in object.now) }
-    ensures { let file = object_dynamic_symbols E.fields E.text_in object.now in
+        (object_symbols E.fields object.now) }
+    ensures { let file = object_dynamic_symbols E.fields object.now in
         MatchResult result (AreNumbers file reference.now) (IsSearchError file reference.now) }
 {
     let (name, wanted) = asked(reference);

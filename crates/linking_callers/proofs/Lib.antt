@@ -1,7 +1,7 @@
 mod Early
 mod FirstNotes
 mod FoundValues
-mod NamedSymbols
+mod FunctionNames
 mod SecondFiles
 mod SecondObjects
 mod VersionNames

@@ -15,7 +15,6 @@ use Rattle.elf_linking.specs.declared.scope.Bound.{Bound}
 use Rattle.linking_callers.specs.SecondFile.{FindsReference, IsChecked, IsLoaded, IsSecond, IsTo, is_of_second, passed}
 use Rattle.xmas_elf.specs.First.{FindsFirst}
 use Rattle.xmas_elf.specs.Symbol.{SymbolFields}
-use Rattle.xmas_elf.specs.Types.{ElfFile}
 
 -- what `find` of std returns is the first item with a property
 pub first_found : {A : Type 0} (P : A → Type 0) (items : List A) (found : Option A) → MatchOption found (AllWithin (λ item. ¬ P item) items 0 (length items)) (λ x. P x × (i : ℕ) × (i < length items) × HoldsAt (λ item. item ≡ x) items i × AllWithin (λ item. ¬ P item) items 0 i) → FindsFirst P items found
@@ -37,32 +36,32 @@ module _ {E : Type 0} {r : _} (fields : E → SymbolFields) (program : DynamicOb
   named objects reference first finds = subst (λ object. IsSomeAnd object (λ asking. IsOk (object_name fields asking reference.symbol))) (sym first)
       (subst (λ text. IsOk text) (sym (found_is reference (references_of (object_file program) (view_entries (object_view program))) finds)) refl)
 
-  module _ (text_in : E → ElfFile → Option (List ℕ)) (objects : List (DynamicObject E r)) where
+  module _ (objects : List (DynamicObject E r)) where
     -- the answer, by what is found
-    pub second_bound : (reference : Reference) (bound : Option (Bound E)) → FindsReference fields program name (Ok (Some reference)) → BindsReference fields text_in objects 0 reference (Ok bound) → IsSecond fields text_in objects program name (Ok (is_of_second bound))
+    pub second_bound : (reference : Reference) (bound : Option (Bound E)) → FindsReference fields program name (Ok (Some reference)) → BindsReference fields objects 0 reference (Ok bound) → IsSecond fields objects program name (Ok (is_of_second bound))
     second_bound reference bound finds binds = (Ok (Some reference), finds, (bound, binds, refl))
 
-    pub second_none : FindsReference fields program name (Ok None) → IsSecond fields text_in objects program name (Ok false)
+    pub second_none : FindsReference fields program name (Ok None) → IsSecond fields objects program name (Ok false)
     second_none finds = (Ok None, finds, refl)
 
-    pub second_error : (error : LinkError) → FindsReference fields program name (Err error) → IsSecond fields text_in objects program name (Err error)
+    pub second_error : (error : LinkError) → FindsReference fields program name (Err error) → IsSecond fields objects program name (Err error)
     second_error error finds = (Err error, finds, refl)
 
 -- look-ups in an object find what they must, and its versions can be read
 abbrev pub IsGood : {E : Type 0} → DynamicSymbols E → Type 0
 IsGood file = IsGoodBy file.table file.symbols × AreReadable file
 
-module _ {E : Type 0} {r : _} (fields : E → SymbolFields) (text_in : E → ElfFile → Option (List ℕ)) where
-  checked_good : (read : Result (DynamicObject E r) LinkError) (object : DynamicObject E r) → IsChecked fields text_in read (Ok object) → IsGood (object_dynamic_symbols fields text_in object)
+module _ {E : Type 0} {r : _} (fields : E → SymbolFields) where
+  checked_good : (read : Result (DynamicObject E r) LinkError) (object : DynamicObject E r) → IsChecked fields read (Ok object) → IsGood (object_dynamic_symbols fields object)
   checked_good read object (passed _ good readable) = (good, readable)
 
-  pub loaded_good : (class size : ℕ) (bytes : Bor (List ℕ)) (object : DynamicObject E r) → IsLoaded fields text_in class size bytes (Ok object) → IsGood (object_dynamic_symbols fields text_in object)
+  pub loaded_good : (class size : ℕ) (bytes : Bor (List ℕ)) (object : DynamicObject E r) → IsLoaded fields class size bytes (Ok object) → IsGood (object_dynamic_symbols fields object)
   loaded_good class size bytes object loaded = checked_good loaded.0 object loaded.2
 
-  good_more : (object : DynamicObject E r) (objects : List (DynamicObject E r)) → IsGood (object_dynamic_symbols fields text_in object) → AreGood fields text_in objects → AreGood fields text_in (object ∷ objects)
+  good_more : (object : DynamicObject E r) (objects : List (DynamicObject E r)) → IsGood (object_dynamic_symbols fields object) → AreGood fields objects → AreGood fields (object ∷ objects)
   good_more object objects good rest zero file is = subst (λ file. IfSome file IsGood) is good
   good_more object objects good rest (suc i) file is = rest i file is
 
   -- three loaded objects are good
-  pub three_good : (one two three : DynamicObject E r) → IsGood (object_dynamic_symbols fields text_in one) → IsGood (object_dynamic_symbols fields text_in two) → IsGood (object_dynamic_symbols fields text_in three) → AreGood fields text_in (one ∷ two ∷ three ∷ [])
+  pub three_good : (one two three : DynamicObject E r) → IsGood (object_dynamic_symbols fields one) → IsGood (object_dynamic_symbols fields two) → IsGood (object_dynamic_symbols fields three) → AreGood fields (one ∷ two ∷ three ∷ [])
   three_good one two three good-one good-two good-three = good_more one (two ∷ three ∷ []) good-one (good_more two (three ∷ []) good-two (good_more three [] good-three (λ i file is. absurd cc)))

@@ -12,7 +12,6 @@ use Rattle.elf_linking.specs.declared.object.DynamicObject.{DynamicObject}
 use Rattle.elf_linking.specs.declared.scope.Bound.{Bound}
 use Rattle.linking_callers.specs.SecondObject.{HasNone, HasSymbol, IsElsewhere, IsOfSecond}
 use Rattle.xmas_elf.specs.Symbol.{SymbolFields}
-use Rattle.xmas_elf.specs.Types.{ElfFile}
 
 program_before : (symbolic : Bool) → ComesBefore symbolic 0 0 1
 program_before false = lit< tt
@@ -35,22 +34,22 @@ module _ {E : Type 0} (name : List ℕ) (wanted : Wanted) where
     none_at (asked file _ not there gives) = subst (λ o. IsSomeAnd o (HasNone name wanted)) (sym there) (has_none file gives)
 
 -- a symbol of the second object
-pub of_second : {E : Type 0} → {r : _} → (fields : E → SymbolFields) (text_in : E → ElfFile → Option (List ℕ)) (objects : List (DynamicObject E r)) (name : List ℕ) (wanted : Wanted) (bound : Bound E) → bound.object ≡ 1 → BindsRight fields text_in objects 0 name wanted Any (Ok (Some bound)) → IsOfSecond fields text_in objects name wanted bound.symbol
-of_second {E} {r} fields text_in objects name wanted bound second right = by_program (slice_get objects 0) right
+pub of_second : {E : Type 0} → {r : _} → (fields : E → SymbolFields) (objects : List (DynamicObject E r)) (name : List ℕ) (wanted : Wanted) (bound : Bound E) → bound.object ≡ 1 → BindsRight fields objects 0 name wanted Any (Ok (Some bound)) → IsOfSecond fields objects name wanted bound.symbol
+of_second {E} {r} fields objects name wanted bound second right = by_program (slice_get objects 0) right
   where
     at : ℕ → Option (DynamicSymbols E)
-    at = symbols_at fields text_in objects
+    at = symbols_at fields objects
 
-    by_first : (symbolic : Bool) → IsFirstGiven (GivesAt (λ file. FindsRight file name wanted Any) at Any) (length objects) symbolic 0 (Ok (Some bound)) → IsOfSecond fields text_in objects name wanted bound.symbol
+    by_first : (symbolic : Bool) → IsFirstGiven (GivesAt (λ file. FindsRight file name wanted Any) at Any) (length objects) symbolic 0 (Ok (Some bound)) → IsOfSecond fields objects name wanted bound.symbol
     by_first symbolic (given _ below before gives) = (
       none_at name wanted at 0 (before 0 (subst (ComesBefore symbolic 0 0) (sym second) (program_before symbolic))),
       symbol_at name wanted at 1 (bound.index, bound.symbol) (subst (λ i. GivesAt (λ file. FindsRight file name wanted Any) at Any i (Ok (Some (bound.index, bound.symbol)))) second gives),
     )
 
-    by_program : (asking : Option (DynamicObject E r)) → MatchOption asking (◌≡◌ {A = Result (Option (Bound E)) LinkError} (Ok (Some bound)) (Err ObjectIndex)) (λ asking. IsFirstGiven (GivesAt (λ file. FindsRight file name wanted Any) at Any) (length objects) (is_symbolic (view_entries (object_view asking))) 0 (Ok (Some bound))) → IsOfSecond fields text_in objects name wanted bound.symbol
+    by_program : (asking : Option (DynamicObject E r)) → MatchOption asking (◌≡◌ {A = Result (Option (Bound E)) LinkError} (Ok (Some bound)) (Err ObjectIndex)) (λ asking. IsFirstGiven (GivesAt (λ file. FindsRight file name wanted Any) at Any) (length objects) (is_symbolic (view_entries (object_view asking))) 0 (Ok (Some bound))) → IsOfSecond fields objects name wanted bound.symbol
     by_program None never = absurd cc
     by_program (Some asking) first = by_first (is_symbolic (view_entries (object_view asking))) first
 
 -- a symbol of another object, or none
-pub elsewhere : {E : Type 0} → {r : _} → (fields : E → SymbolFields) (text_in : E → ElfFile → Option (List ℕ)) (objects : List (DynamicObject E r)) (name : List ℕ) (wanted : Wanted) (bound : Option (Bound E)) → IfSome bound (λ b. b.object ≢ 1) → BindsRight fields text_in objects 0 name wanted Any (Ok bound) → IsElsewhere fields text_in objects name wanted
-elsewhere fields text_in objects name wanted bound other right = (bound, right, other)
+pub elsewhere : {E : Type 0} → {r : _} → (fields : E → SymbolFields) (objects : List (DynamicObject E r)) (name : List ℕ) (wanted : Wanted) (bound : Option (Bound E)) → IfSome bound (λ b. b.object ≢ 1) → BindsRight fields objects 0 name wanted Any (Ok bound) → IsElsewhere fields objects name wanted
+elsewhere fields objects name wanted bound other right = (bound, right, other)

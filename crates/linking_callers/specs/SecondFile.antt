@@ -29,22 +29,22 @@ IsRead class size bytes answer = MatchResult (header_of bytes.now) (λ header.
     (λ error. answer ≡ Err (Elf error))
 
 -- they are checked: look-ups in them find what they must, and their versions can be read; or the first error
-pub data IsChecked {E : Type 0} {r : _} (fields : E → SymbolFields) (text_in : E → ElfFile → Option (List ℕ)) : Result (DynamicObject E r) LinkError → Result (DynamicObject E r) LinkError → Type 0 where
-  unread : (error : LinkError) → IsChecked fields text_in (Err error) (Err error)
+pub data IsChecked {E : Type 0} {r : _} (fields : E → SymbolFields) : Result (DynamicObject E r) LinkError → Result (DynamicObject E r) LinkError → Type 0 where
+  unread : (error : LinkError) → IsChecked fields (Err error) (Err error)
   faulty : (object : DynamicObject E r) (error : LinkError)
-      → IsCheckBy (object_table object) (object_symbols fields text_in object) (Err error)
-      → IsChecked fields text_in (Ok object) (Err error)
+      → IsCheckBy (object_table object) (object_symbols fields object) (Err error)
+      → IsChecked fields (Ok object) (Err error)
   unversioned : (object : DynamicObject E r) (error : LinkError)
-      → IsGoodBy (object_table object) (object_symbols fields text_in object)
-      → versions_error (version_tables (object_versions object)) (length (object_symbols fields text_in object).items) ≡ Err error
-      → IsChecked fields text_in (Ok object) (Err error)
-  passed : (object : DynamicObject E r) → IsGoodBy (object_table object) (object_symbols fields text_in object)
-      → AreReadable (object_dynamic_symbols fields text_in object) → IsChecked fields text_in (Ok object) (Ok object)
+      → IsGoodBy (object_table object) (object_symbols fields object)
+      → versions_error (version_tables (object_versions object)) (length (object_symbols fields object).items) ≡ Err error
+      → IsChecked fields (Ok object) (Err error)
+  passed : (object : DynamicObject E r) → IsGoodBy (object_table object) (object_symbols fields object)
+      → AreReadable (object_dynamic_symbols fields object) → IsChecked fields (Ok object) (Ok object)
 
 -- the checked symbols of a file, by its bytes, or the first error
-abbrev pub IsLoaded : {E : Type 0} → {r : _} → (E → SymbolFields) → (E → ElfFile → Option (List ℕ)) → ℕ → ℕ → Bor (List ℕ) → Result (DynamicObject E r) LinkError → Type 0
-IsLoaded {E} {r} fields text_in class size bytes answer = (read : Result (DynamicObject E r) LinkError)
-    × IsRead class size bytes read × IsChecked fields text_in read answer
+abbrev pub IsLoaded : {E : Type 0} → {r : _} → (E → SymbolFields) → ℕ → ℕ → Bor (List ℕ) → Result (DynamicObject E r) LinkError → Type 0
+IsLoaded {E} {r} fields class size bytes answer = (read : Result (DynamicObject E r) LinkError)
+    × IsRead class size bytes read × IsChecked fields read answer
 
 -- a reference is to a symbol with this name
 abbrev pub IsTo : {E : Type 0} → {r : _} → (E → SymbolFields) → DynamicObject E r → List ℕ → Reference → Type 0
@@ -63,21 +63,21 @@ is_of_second (Some bound) = bound.object == 1
 
 -- the answer for the reference that was found in the program: whether the symbol that it gets, by the lists of
 -- symbols of all objects, is one of the second
-abbrev pub IsAnswerTo : {E : Type 0} → {r : _} → (E → SymbolFields) → (E → ElfFile → Option (List ℕ)) → List (DynamicObject E r) → Result (Option Reference) LinkError → Result Bool LinkError → Type 0
-IsAnswerTo fields text_in objects (Err error) answer = answer ≡ Err error
-IsAnswerTo fields text_in objects (Ok None) answer = answer ≡ Ok false
-IsAnswerTo {E} fields text_in objects (Ok (Some reference)) answer = (bound : Option (Bound E))
-    × BindsReference fields text_in objects 0 reference (Ok bound) × (answer ≡ Ok (is_of_second bound))
+abbrev pub IsAnswerTo : {E : Type 0} → {r : _} → (E → SymbolFields) → List (DynamicObject E r) → Result (Option Reference) LinkError → Result Bool LinkError → Type 0
+IsAnswerTo fields objects (Err error) answer = answer ≡ Err error
+IsAnswerTo fields objects (Ok None) answer = answer ≡ Ok false
+IsAnswerTo {E} fields objects (Ok (Some reference)) answer = (bound : Option (Bound E))
+    × BindsReference fields objects 0 reference (Ok bound) × (answer ≡ Ok (is_of_second bound))
 
 -- the answer for the program among its objects, and a name
-abbrev pub IsSecond : {E : Type 0} → {r : _} → (E → SymbolFields) → (E → ElfFile → Option (List ℕ)) → List (DynamicObject E r) → DynamicObject E r → List ℕ → Result Bool LinkError → Type 0
-IsSecond fields text_in objects program name answer = (found : Result (Option Reference) LinkError)
-    × FindsReference fields program name found × IsAnswerTo fields text_in objects found answer
+abbrev pub IsSecond : {E : Type 0} → {r : _} → (E → SymbolFields) → List (DynamicObject E r) → DynamicObject E r → List ℕ → Result Bool LinkError → Type 0
+IsSecond fields objects program name answer = (found : Result (Option Reference) LinkError)
+    × FindsReference fields program name found × IsAnswerTo fields objects found answer
 
 -- the answer for three files, or the first error
-abbrev pub IsSecondOf : {E : Type 0} → {r : _} → (E → SymbolFields) → (E → ElfFile → Option (List ℕ)) → Result (DynamicObject E r) LinkError → Result (DynamicObject E r) LinkError → Result (DynamicObject E r) LinkError → List ℕ → Result Bool LinkError → Type 0
-IsSecondOf fields text_in (Err error) second third name answer = answer ≡ Err error
-IsSecondOf fields text_in (Ok program) (Err error) third name answer = answer ≡ Err error
-IsSecondOf fields text_in (Ok program) (Ok second) (Err error) name answer = answer ≡ Err error
-IsSecondOf fields text_in (Ok program) (Ok second) (Ok third) name answer =
-    IsSecond fields text_in (program ∷ second ∷ third ∷ []) program name answer
+abbrev pub IsSecondOf : {E : Type 0} → {r : _} → (E → SymbolFields) → Result (DynamicObject E r) LinkError → Result (DynamicObject E r) LinkError → Result (DynamicObject E r) LinkError → List ℕ → Result Bool LinkError → Type 0
+IsSecondOf fields (Err error) second third name answer = answer ≡ Err error
+IsSecondOf fields (Ok program) (Err error) third name answer = answer ≡ Err error
+IsSecondOf fields (Ok program) (Ok second) (Err error) name answer = answer ≡ Err error
+IsSecondOf fields (Ok program) (Ok second) (Ok third) name answer =
+    IsSecond fields (program ∷ second ∷ third ∷ []) program name answer

@@ -7,7 +7,6 @@ use Rattle.elf_linking.specs.declared.find.Wanted.{Wanted}
 use Rattle.elf_linking.specs.declared.object.DynamicObject.{DynamicObject}
 use Rattle.elf_linking.specs.declared.scope.Bound.{Bound}
 use Rattle.xmas_elf.specs.Symbol.{SymbolFields}
-use Rattle.xmas_elf.specs.Types.{ElfFile}
 
 -- an object has a symbol for the name and the version, at some index, that serves other objects
 abbrev pub HasSymbol : {E : Type 0} → List ℕ → Wanted → DynamicSymbols E → E → Type 0
@@ -21,11 +20,11 @@ HasNone {E} name wanted file =
     × IfSome found (λ at. can_bind (file.symbols.fields at.1) ≡ false)
 
 -- the symbol is one of the second object, and the first object, the program, has none
-abbrev pub IsOfSecond : {E : Type 0} → {r : _} → (E → SymbolFields) → (E → ElfFile → Option (List ℕ)) → List (DynamicObject E r) → List ℕ → Wanted → E → Type 0
-IsOfSecond fields text_in objects name wanted symbol = IsSomeAnd (symbols_at fields text_in objects 0) (HasNone name wanted)
-    × IsSomeAnd (symbols_at fields text_in objects 1) (λ file. HasSymbol name wanted file symbol)
+abbrev pub IsOfSecond : {E : Type 0} → {r : _} → (E → SymbolFields) → List (DynamicObject E r) → List ℕ → Wanted → E → Type 0
+IsOfSecond fields objects name wanted symbol = IsSomeAnd (symbols_at fields objects 0) (HasNone name wanted)
+    × IsSomeAnd (symbols_at fields objects 1) (λ file. HasSymbol name wanted file symbol)
 
 -- the program's reference gets a symbol of another object than the second, or none
-abbrev pub IsElsewhere : {E : Type 0} → {r : _} → (E → SymbolFields) → (E → ElfFile → Option (List ℕ)) → List (DynamicObject E r) → List ℕ → Wanted → Type 0
-IsElsewhere {E} fields text_in objects name wanted = (bound : Option (Bound E))
-    × BindsRight fields text_in objects 0 name wanted Any (Ok bound) × IfSome bound (λ b. b.object ≢ 1)
+abbrev pub IsElsewhere : {E : Type 0} → {r : _} → (E → SymbolFields) → List (DynamicObject E r) → List ℕ → Wanted → Type 0
+IsElsewhere {E} fields objects name wanted = (bound : Option (Bound E))
+    × BindsRight fields objects 0 name wanted Any (Ok bound) × IfSome bound (λ b. b.object ≢ 1)

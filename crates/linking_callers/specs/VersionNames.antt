@@ -14,29 +14,34 @@ Defines name d = (d.flags % 2 ≢ 1) × (d.name ≡ Ok name)
 abbrev pub NeedsOf : List ℕ → NeedParts → Type 0
 NeedsOf library need = need.file ≡ Ok library
 
--- the same as tests
+-- a name that can be read is this one, as a test
 abbrev pub is_name : Result (List ℕ) LinkError → List ℕ → Bool
 is_name (Ok found) name = bytes_eq found name
 is_name (Err error) name = false
 
+-- a definition is no base, and has the name, as a test
 abbrev pub defines : List ℕ → DefinitionParts → Bool
 defines name d = not (is_base d.flags) && is_name d.name name
 
+-- a version is needed of the library with the name, as a test
 abbrev pub needs_of : List ℕ → NeedParts → Bool
 needs_of library need = is_name need.file library
 
--- the library that a version is needed of, if it is needed of one
+-- the name of a library that there is, or why it can't be read
 abbrev pub library_by : Result (List ℕ) LinkError → Result (Option (List ℕ)) LinkError
 library_by (Ok name) = Ok (Some name)
 library_by (Err error) = Err error
 
+-- the library that a version is needed of, by what bears the version; none if a definition does, or nothing
 abbrev pub library_named : Option NamedParts → Result (Option (List ℕ)) LinkError
 library_named (Some (Needed need)) = library_by need.file
 library_named _ = Ok None
 
+-- the library that a version is needed of, if there is a version and it is needed of one
 abbrev pub library_at : Option VersionParts → Result (Option (List ℕ)) LinkError
 library_at (Some version) = library_named version.named
 library_at None = Ok None
 
+-- the same, where the version may be refused
 abbrev pub library_in : Result (Option VersionParts) LinkError → Result (Option (List ℕ)) LinkError
 library_in answer = and_then answer library_at

@@ -3,20 +3,20 @@
 //! An address is what the values of the symbols are: one of memory in a program, and an offset in
 //! some section in an object file.
 
-ghost use Rattle.std.specs.Prelude.{◌≡◌, ◌↔◌, ℕ, None, IfErr, IfOk, IsOkAnd, IsTrue};
+ghost use Rattle.std.specs.Prelude.{◌≡◌, ◌↔◌, ℕ, None, IfErr, IfOk, IfSome, IsOkAnd, IsTrue};
 ghost use Rattle.std.specs.Prelude.{MatchOption, MatchResult, length};
 ghost use Rattle.elf_callers.specs.FunctionAt.{HasNoName, HoldsAddress, IsFunctionAt};
 ghost use Rattle.elf_callers.specs.FunctionAt.{IsFunctionName, IsFunctionNameOf};
-ghost use Rattle.elf_callers.specs.FunctionAt.{IsNameRefused, NoneHolds};
+ghost use Rattle.elf_callers.specs.FunctionAt.{IsNameError, IsNameRefused, NoneHolds};
 ghost use Rattle.xmas_elf.specs.FileHeader.{header_of};
 ghost use Rattle.xmas_elf.specs.First.{FindsFirstAt};
-ghost use Rattle.xmas_elf.specs.Symbols.{symbols_of};
+ghost use Rattle.xmas_elf.specs.SymbolTable.{carried_strings, table_symbols};
 ghost use Rattle.xmas_elf.specs.Table.{table_items};
 ghost use Rattle.xmas_elf.specs.Types.{ElfFile};
 
 use xmas_elf::bytes::{Record, Table};
 use xmas_elf::sections::SectionData;
-use xmas_elf::symbol_table::{Entry, Type};
+use xmas_elf::symbol_table::{Entry, SymbolTable, Type};
 use xmas_elf::{ElfError, ElfFile};
 
 /// Whether a symbol is a function that the address lies in.
@@ -54,27 +54,26 @@ pub fn function_at<E: Entry + Record>(symbols: &Table<'_, E>, address: u64) -> O
     }
 }
 
-/// The name of that function, or none where the address lies in none; refused as `Entry::get_name`
-/// is, where the function has no name.
+/// The name of that function, or none where the address lies in none; refused as
+/// `SymbolTable::name_of` is, where the function has no name.
 pub fn function_name_at<'a, E: Entry + Record>(
-    file: &ElfFile<'a>,
-    symbols: &Table<'_, E>,
+    symbols: &SymbolTable<'a, E>,
     address: u64,
 ) -> Result<Option<&'a str>, ElfError>
-    ensures found { IfOk result
-        (IsFunctionName (symbols_of E.fields E.text_in symbols.now file.now) address) }
-    ensures nameless { IfErr result (λ _.
-        HasNoName (symbols_of E.fields E.text_in symbols.now file.now) address) }
+    ensures found { IfOk result (IsFunctionName (table_symbols symbols.now) address) }
+    ensures nameless { IfErr result (λ _. HasNoName (table_symbols symbols.now) address) }
+    ensures exact { IfSome (carried_strings symbols.now) (λ strings.
+        IfErr result (IsNameError (table_symbols symbols.now) strings address)) }
 {
-    match function_at(symbols, address) {
-        Some((_index, symbol)) => Ok(Some(symbol.get_name(file)?)),
+    match function_at(&symbols.table(), address) {
+        Some((_index, symbol)) => Ok(Some(symbols.name_of(&symbol)?)),
         None => Ok(None),
     }
 }
 
 /// The name of the function that the address lies in, by the symbols of the file, in either class.
 ///
-/// Refused as `SectionHeader::get_data` is for `.symtab`, and as `Entry::get_name` is.
+/// Refused as `SectionHeader::get_data` is for `.symtab`, and as `function_name_at` is.
 pub fn function_name<'a>(file: &ElfFile<'a>, address: u64) -> Result<Option<&'a str>, ElfError>
     ensures name { IfOk result (IsFunctionNameOf file.now address) }
     ensures refused { IfErr result (IsNameRefused file.now address) }
@@ -83,8 +82,8 @@ pub fn function_name<'a>(file: &ElfFile<'a>, address: u64) -> Result<Option<&'a 
         return Ok(None);
     };
     match section.get_data(file)? {
-        SectionData::SymbolTable32(symbols) => function_name_at(file, &symbols, address),
-        SectionData::SymbolTable64(symbols) => function_name_at(file, &symbols, address),
+        SectionData::SymbolTable32(all) => function_name_at(&SymbolTable::new(all, file), address),
+        SectionData::SymbolTable64(all) => function_name_at(&SymbolTable::new(all, file), address),
         _ => Ok(None),
     }
 }

@@ -1,8 +1,9 @@
 //! Callers of symbols, of a known type and of any.
 
 ghost use Rattle.std.specs.Prelude.{◌≡◌, ◌↔◌, ◌*◌, ◌<◌, ◌≤◌};
-ghost use Rattle.std.specs.Prelude.{IfErr, IfOk, IfSome, IsTrue, MatchOption, MatchResult, None};
-ghost use Rattle.std.specs.Prelude.{Ok, Some, codes, drop, length, take, ℕ};
+ghost use Rattle.std.specs.Prelude.{IfErr, IfOk, IfSome, IsNone, IsSomeAnd, IsTrue, MatchOption};
+ghost use Rattle.std.specs.Prelude.{MatchResult, None, Ok, Some, codes, drop, length, slice_get};
+ghost use Rattle.std.specs.Prelude.{take, ℕ};
 ghost use Rattle.elf_callers.specs.Names.{HasText, IsNameTotal, first_name_of};
 ghost use Rattle.elf_callers.specs.Numbered.{numbered_name};
 ghost use Rattle.elf_callers.specs.Totals.{IsFirstWithout};
@@ -15,14 +16,14 @@ ghost use Rattle.xmas_elf.specs.StringTables.{dyn_string_of, string_of, strtab_o
 ghost use Rattle.xmas_elf.specs.Symbol.{dyn_entry_32_fields, entry_64_fields};
 ghost use Rattle.xmas_elf.specs.SymbolSection.{IsSectionIndex, symbol_section_of};
 ghost use Rattle.xmas_elf.specs.Symbols.{symbols_of};
-ghost use Rattle.xmas_elf.specs.Table.{table_data, table_order};
+ghost use Rattle.xmas_elf.specs.Table.{table_data, table_items, table_order};
 ghost use Rattle.xmas_elf.specs.Text.{text_of};
 ghost use Rattle.xmas_elf.specs.Types.{ElfFile, SectionHeader};
 
 use crate::own::Numbered;
 use xmas_elf::bytes::{Order, Record, Table, text_at};
 use xmas_elf::sections::SectionHeader;
-use xmas_elf::symbol_table::{DynEntry32, Entry, Entry64};
+use xmas_elf::symbol_table::{DynEntry32, Entry, Entry64, SymbolTable};
 use xmas_elf::{ElfError, ElfFile};
 
 /// The name of a symbol of class 64, or the very refusal.
@@ -99,6 +100,19 @@ pub fn name_in<'a>(strings: &'a [u8], symbol: &Entry64) -> Result<&'a str, ElfEr
     text_at(strings, symbol.name() as usize)
 }
 
+/// The name of the symbol at an index by a string table of one's own, as the one that the section of
+/// the symbols is linked to; `None` past the end of the symbols.
+pub fn name_at<'a>(
+    symbols: Table<'a, Entry64>,
+    strings: &'a [u8],
+    index: usize,
+) -> Option<Result<&'a str, ElfError>>
+    ensures { MatchOption (slice_get (table_items symbols.entry) index) (IsNone result)
+        (λ symbol. IsSomeAnd result (Answers (text_of strings.now (entry_64_fields symbol).name))) }
+{
+    SymbolTable::with_strings(symbols, strings).name(index)
+}
+
 /// The name of a symbol by the string table that is taken once for many: what `get_name` answers.
 #[tactic(auto, unfolding(xmas_elf::specs::StringTables::string_of))]
 pub fn name_by_table<'a>(file: &ElfFile<'a>, symbol: &Entry64) -> Result<&'a str, ElfError>
@@ -128,10 +142,10 @@ pub fn name_bytes<E: Entry + Record>(
     ensures refused { let all = symbols_of E.fields E.text_in symbols.entry file.now in
         IfErr result (λ _. (symbol : E) × IsFirstWithout (HasText all) all.items symbol) }
 {
-    let strings = E::string_table(file);
+    let named = SymbolTable::new(symbols, file);
     let mut total = 0u64;
     for symbol in symbols {
-        total = total.saturating_add(symbol.name_in(strings, file)?.len() as u64);
+        total = total.saturating_add(named.name_of(&symbol)?.len() as u64);
     }
     Ok(total)
 }

@@ -5,9 +5,7 @@ ghost use Rattle.std.specs.Prelude.{◌≡◌, IsOkAnd};
 use elf_linking::gnu_hash::GnuHashTable;
 use elf_linking::notes::{Note, Notes};
 use elf_linking::relr::Relr;
-use elf_linking::view::{
-    DynamicEntries, DynamicEntry, DynamicView, LinkedEntry32, LinkedEntry64, Needed,
-};
+use elf_linking::view::{DynamicEntries, DynamicView, Needed};
 use elf_linking::{AnyTable, LinkError};
 use std::alloc::AllocError;
 
@@ -21,31 +19,16 @@ pub fn clone_tables<'a>(
     Ok((any.clone()?, gnu.clone()?))
 }
 
-/// A dynamic segment, one of its entries, and the iterators over its entries and over the needed
-/// libraries.
+/// A dynamic segment, and the iterators over its entries and over the needed libraries.
 pub fn clone_view<'a>(
     view: &DynamicView<'a>,
-    entry: &DynamicEntry<u64>,
     entries: &DynamicEntries<'a>,
     needed: &Needed<'a>,
-) -> Result<
-    (
-        DynamicView<'a>,
-        DynamicEntry<u64>,
-        DynamicEntries<'a>,
-        Needed<'a>,
-    ),
-    AllocError,
->
-    ensures { IsOkAnd result (λ copies. (copies.0 ≡ view.now) × (copies.1 ≡ entry.now)
-        × (copies.2 ≡ entries.now) × (copies.3 ≡ needed.now)) }
+) -> Result<(DynamicView<'a>, DynamicEntries<'a>, Needed<'a>), AllocError>
+    ensures { IsOkAnd result (λ copies. (copies.0 ≡ view.now) × (copies.1 ≡ entries.now)
+        × (copies.2 ≡ needed.now)) }
 {
-    Ok((
-        view.clone()?,
-        entry.clone()?,
-        entries.clone()?,
-        needed.clone()?,
-    ))
+    Ok((view.clone()?, entries.clone()?, needed.clone()?))
 }
 
 /// A note, and the iterators over notes and over packed relocations.
@@ -60,14 +43,9 @@ pub fn clone_lists<'a>(
     Ok((note.clone()?, notes.clone()?, relr.clone()?))
 }
 
-/// The symbols of either class, and a refusal.
-pub fn clone_symbols(
-    narrow: &LinkedEntry32,
-    wide: &LinkedEntry64,
-    error: &LinkError,
-) -> Result<(LinkedEntry32, LinkedEntry64, LinkError), AllocError>
-    ensures { IsOkAnd result (λ copies. (copies.0 ≡ narrow.now) × (copies.1 ≡ wide.now)
-        × (copies.2 ≡ error.now)) }
+/// An error.
+pub fn clone_error(error: &LinkError) -> Result<LinkError, AllocError>
+    ensures { IsOkAnd result (λ copy. copy ≡ error.now) }
 {
-    Ok((narrow.clone()?, wide.clone()?, error.clone()?))
+    error.clone()
 }

@@ -17,10 +17,10 @@ use elf_linking::view::LinkedSymbol;
 /// whose version has a number below 2, or the only one that isn't hidden; `None` if there is
 /// neither among the symbols that look-ups must find, or if several aren't hidden.
 pub fn default_value<E: LinkedSymbol>(object: &DynamicObject<'_, E>, name: &str) -> Option<u64>
-    requires good { let file = object_dynamic_symbols E.fields E.text_in object.now in
+    requires good { let file = object_dynamic_symbols E.fields object.now in
         IsGoodBy file.table file.symbols }
-    requires readable { AreReadable (object_dynamic_symbols E.fields E.text_in object.now) }
-    ensures { let file = object_dynamic_symbols E.fields E.text_in object.now in MatchOption result
+    requires readable { AreReadable (object_dynamic_symbols E.fields object.now) }
+    ensures { let file = object_dynamic_symbols E.fields object.now in MatchOption result
         (IsRight file name.now Newest Any None)
         (λ value. (i : ℕ) × (e : E) × IsRight file name.now Newest Any (Some (i, e))
         × (value ≡ (E.fields e).value)) }
@@ -40,10 +40,10 @@ pub fn versioned_value<E: LinkedSymbol>(
     name: &str,
     version: &str,
 ) -> Option<u64>
-    requires good { let file = object_dynamic_symbols E.fields E.text_in object.now in
+    requires good { let file = object_dynamic_symbols E.fields object.now in
         IsGoodBy file.table file.symbols }
-    requires readable { AreReadable (object_dynamic_symbols E.fields E.text_in object.now) }
-    ensures { let file = object_dynamic_symbols E.fields E.text_in object.now in MatchOption result
+    requires readable { AreReadable (object_dynamic_symbols E.fields object.now) }
+    ensures { let file = object_dynamic_symbols E.fields object.now in MatchOption result
         (NoneAccepted file name.now (version_wanted version.entry) Any)
         (λ value. (i : ℕ) × (e : E) × Stands file name.now Any (i, e)
         × (accepted file.versions (version_wanted version.entry) i ≡ Ok true)

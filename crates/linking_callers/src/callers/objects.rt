@@ -10,16 +10,17 @@ ghost use Rattle.elf_linking.specs.declared.error.LinkError.{LinkError};
 ghost use Rattle.linking_callers.specs.LinkedName.{IsLinkedName, named_version, with_version};
 
 use elf_linking::versions::SymbolVersion;
-use elf_linking::view::{LinkedEntry32, LinkedEntry64, LinkedSymbol};
+use elf_linking::view::LinkedSymbol;
 use elf_linking::{DynamicObject, LinkError};
 use xmas_elf::ElfFile;
+use xmas_elf::symbol_table::{DynEntry32, DynEntry64};
 
 /// The value of the symbol that is defined and has this name, by an object whose check passed; `None`
 /// if each symbol with the name that look-ups must find is undefined.
 pub fn defined_value<E: LinkedSymbol>(object: &DynamicObject<'_, E>, name: &str) -> Option<u64>
     requires good { IsGoodBy (object_table object.now)
-        (object_symbols E.fields E.text_in object.now) }
-    ensures { let all = object_symbols E.fields E.text_in object.now in MatchOption result
+        (object_symbols E.fields object.now) }
+    ensures { let all = object_symbols E.fields object.now in MatchOption result
         (NoneDefined (object_table object.now) all name.now)
         (λ value. (i : ℕ) × (e : E) × IsDefined (object_table object.now) all i e name.now
         × (value ≡ (E.fields e).value)) }
@@ -49,7 +50,7 @@ pub fn name_and_version<'a, E: LinkedSymbol>(
 pub fn symbol_name<'a>(file: &ElfFile<'a>, index: u32) -> Result<&'a str, LinkError>
     ensures { IsLinkedName file.now index result }
 {
-    match DynamicObject::<LinkedEntry64>::read(file) {
+    match DynamicObject::<DynEntry64>::read(file) {
         Ok(object) => object.name(index),
         Err(error) => Err(error),
     }
@@ -62,7 +63,7 @@ pub fn narrow_refusal(file: &ElfFile<'_>) -> Option<LinkError>
         ((error : LinkError) → IsObjectRefused 1 16 file.now error → ⊥)
         (IsObjectRefused 1 16 file.now) }
 {
-    match DynamicObject::<LinkedEntry32>::read(file) {
+    match DynamicObject::<DynEntry32>::read(file) {
         Ok(_object) => None,
         Err(error) => Some(error),
     }

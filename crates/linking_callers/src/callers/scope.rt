@@ -18,11 +18,11 @@ pub fn symbol_of_second<E: LinkedSymbol>(
     name: &str,
     wanted: &Wanted<'_>,
 ) -> Option<E>
-    requires good { AreGood E.fields E.text_in (scope_objects scope.now).now }
+    requires good { AreGood E.fields (scope_objects scope.now).now }
     requires program { 0 < length (scope_objects scope.now).now }
     ensures { let objects = (scope_objects scope.now).now in MatchOption result
-        (IsElsewhere E.fields E.text_in objects name.now wanted.now)
-        (IsOfSecond E.fields E.text_in objects name.now wanted.now) }
+        (IsElsewhere E.fields objects name.now wanted.now)
+        (IsOfSecond E.fields objects name.now wanted.now) }
 {
     match scope.find(0, name, wanted, Use::Any) {
         Ok(Some(bound)) => {

@@ -30,7 +30,7 @@ fn read_object<E: LinkedSymbol>(bytes: &[u8]) -> Result<DynamicObject<'_, E>, Li
 fn checked<'a, E: LinkedSymbol>(
     read: Result<DynamicObject<'a, E>, LinkError>,
 ) -> Result<DynamicObject<'a, E>, LinkError>
-    ensures { IsChecked E.fields E.text_in read.entry result }
+    ensures { IsChecked E.fields read.entry result }
 {
     let object = match read {
         Ok(object) => object,
@@ -51,7 +51,7 @@ fn checked<'a, E: LinkedSymbol>(
 /// Errors, the first of these: those of `ElfFile::new`; those of `DynamicObject::read`; that of
 /// `check`; that of `check_versions`.
 pub fn loaded_object<E: LinkedSymbol>(bytes: &[u8]) -> Result<DynamicObject<'_, E>, LinkError>
-    ensures { IsLoaded E.fields E.text_in E.CLASS E.SIZE bytes.entry result }
+    ensures { IsLoaded E.fields E.CLASS E.SIZE bytes.entry result }
 {
     checked(read_object(bytes))
 }
@@ -96,9 +96,9 @@ pub fn first_reference<E: LinkedSymbol>(
 
 // The symbol that a reference of the program, which is the first object, gets.
 fn bound_by<E: LinkedSymbol>(scope: &Scope<'_, '_, E>, reference: &Reference) -> Option<Bound<E>>
-    requires good { AreGood E.fields E.text_in (scope_objects scope.now).now }
+    requires good { AreGood E.fields (scope_objects scope.now).now }
     requires named { HasNamedSymbol E.fields (scope_objects scope.now).now 0 reference.now }
-    ensures { BindsReference E.fields E.text_in (scope_objects scope.now).now 0 reference.now
+    ensures { BindsReference E.fields (scope_objects scope.now).now 0 reference.now
         (Ok result) }
 {
     match scope.bind(0, reference) {
@@ -127,9 +127,9 @@ pub fn is_second<E: LinkedSymbol>(
     scope: &Scope<'_, '_, E>,
     name: &str,
 ) -> Result<bool, LinkError>
-    requires good { AreGood E.fields E.text_in (scope_objects scope.now).now }
+    requires good { AreGood E.fields (scope_objects scope.now).now }
     requires first { slice_get (scope_objects scope.now).now 0 ≡ Some program.now }
-    ensures { IsSecond E.fields E.text_in (scope_objects scope.now).now program.now name.now
+    ensures { IsSecond E.fields (scope_objects scope.now).now program.now name.now
         result }
 {
     match first_reference(program, name) {
@@ -153,10 +153,10 @@ pub fn is_of_second_file<E: LinkedSymbol>(
     ensures { (one : Result (DynamicObject E E.Record) LinkError)
         × (two : Result (DynamicObject E E.Record) LinkError)
         × (three : Result (DynamicObject E E.Record) LinkError)
-        × IsLoaded E.fields E.text_in E.CLASS E.SIZE program.entry one
-        × IsLoaded E.fields E.text_in E.CLASS E.SIZE second.entry two
-        × IsLoaded E.fields E.text_in E.CLASS E.SIZE third.entry three
-        × IsSecondOf E.fields E.text_in one two three name.now result }
+        × IsLoaded E.fields E.CLASS E.SIZE program.entry one
+        × IsLoaded E.fields E.CLASS E.SIZE second.entry two
+        × IsLoaded E.fields E.CLASS E.SIZE third.entry three
+        × IsSecondOf E.fields one two three name.now result }
 {
     let one = loaded_object::<E>(program);
     let two = loaded_object::<E>(second);

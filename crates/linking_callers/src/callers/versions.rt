@@ -2,7 +2,7 @@
 
 ghost use Rattle.std.specs.Prelude.{◌≡◌, Option, length, option_map};
 ghost use Rattle.elf_linking.specs.Loaded.{lent};
-ghost use Rattle.elf_linking.specs.VersionTables.{definition_parts, definitions_in, item_by};
+ghost use Rattle.elf_linking.specs.VersionTables.{definition_parts, definitions_in, result_map};
 ghost use Rattle.elf_linking.specs.VersionTables.{need_parts, needs_in, version_tables};
 ghost use Rattle.elf_linking.specs.Versions.{IsFirst, first_item, version_at};
 ghost use Rattle.linking_callers.specs.VersionNames.{Defines, NeedsOf, defines, is_name};
@@ -43,7 +43,7 @@ pub fn definition_of<'a>(
     name: &str,
 ) -> Result<Option<Definition<'a>>, LinkError>
     ensures { IsFirst (Defines name.now) (definitions_in (version_tables versions.now).definitions)
-        (item_by (option_map definition_parts) result) }
+        (result_map (option_map definition_parts) result) }
 {
     search_definitions(versions, name)
 }
@@ -54,7 +54,7 @@ fn search_definitions<'a>(
     versions: &Versions<'a>,
     name: &str,
 ) -> Result<Option<Definition<'a>>, LinkError>
-    ensures { item_by (option_map definition_parts) result ≡ first_item (defines name.now)
+    ensures { result_map (option_map definition_parts) result ≡ first_item (defines name.now)
         (definitions_in (version_tables versions.now).definitions) }
 {
     for item in versions.definitions() {
@@ -78,7 +78,7 @@ pub fn first_need_of<'a>(
     library: &str,
 ) -> Result<Option<Need<'a>>, LinkError>
     ensures { IsFirst (NeedsOf library.now) (needs_in (version_tables versions.now).needs)
-        (item_by (option_map need_parts) result) }
+        (result_map (option_map need_parts) result) }
 {
     search_needs(versions, library)
 }
@@ -86,7 +86,7 @@ pub fn first_need_of<'a>(
 // The first version that is needed of the library with this name, as a computed answer.
 #[tactic(auto, using(elf_linking::proofs::lemmas::FirstItems::search_end, elf_linking::proofs::lemmas::FirstItems::search_fault, elf_linking::proofs::lemmas::FirstItems::search_found, elf_linking::proofs::lemmas::FirstItems::search_other))]
 fn search_needs<'a>(versions: &Versions<'a>, library: &str) -> Result<Option<Need<'a>>, LinkError>
-    ensures { item_by (option_map need_parts) result ≡ first_item (needs_of library.now)
+    ensures { result_map (option_map need_parts) result ≡ first_item (needs_of library.now)
         (needs_in (version_tables versions.now).needs) }
 {
     for item in versions.needs() {
@@ -105,7 +105,7 @@ fn search_needs<'a>(versions: &Versions<'a>, library: &str) -> Result<Option<Nee
 /// The library that a symbol's version is needed of, if it is needed of one. Refused as
 /// `version_of` and `Need::file` are.
 pub fn library_of<'a>(versions: &Versions<'a>, index: u32) -> Result<Option<&'a str>, LinkError>
-    ensures { item_by (option_map (λ name. name.now)) result
+    ensures { result_map (option_map (λ name. name.now)) result
         ≡ library_in (version_at (version_tables versions.now) index) }
 {
     let version = match versions.version_of(index) {

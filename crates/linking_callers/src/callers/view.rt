@@ -7,12 +7,12 @@ ghost use Rattle.std.specs.Prelude.{MatchResult, Some, length};
 ghost use Rattle.elf_base.specs.FileHeader.{file_order};
 ghost use Rattle.elf_base.specs.Number.{number};
 ghost use Rattle.elf_linking.specs.DynamicView.{LiesAsFileStrings, dynamic_entries_of, needed_of};
-ghost use Rattle.elf_linking.specs.DynamicView.{number_with, strings_of, text_with, view_entries};
+ghost use Rattle.elf_linking.specs.DynamicView.{number_with, dynamic_strings_of, text_with, view_entries};
 ghost use Rattle.elf_linking.specs.Loaded.{IsAt, IsFirstWithBytes, LiesAsLoaded, NoneHasFileBytes};
 ghost use Rattle.elf_linking.specs.Loaded.{bytes_at_of, bytes_from_of, lent};
 ghost use Rattle.elf_linking.specs.declared.error.LinkError.TheVariants.{Address};
-ghost use Rattle.elf_linking.specs.declared.view.entry.DynamicEntry.{DynamicEntry};
 ghost use Rattle.elf_linking.specs.declared.view.tags.TheConstants.{DT_SONAME};
+ghost use Rattle.xmas_elf.specs.Prelude.{Dynamic};
 ghost use Rattle.xmas_elf.specs.ProgramHeader.{program_fields, program_list};
 ghost use Rattle.xmas_elf.specs.Types.{ProgramHeader};
 
@@ -40,7 +40,7 @@ pub fn word_at(file: &ElfFile<'_>, address: u64) -> Result<u32, LinkError>
 /// The number of the first entry with this tag in the dynamic segment of a file.
 pub fn dynamic_number(file: &ElfFile<'_>, tag: u64) -> Result<Option<u64>, LinkError>
     ensures { MatchResult result
-        (λ found. (entries : List (DynamicEntry ℕ)) × (dynamic_entries_of file.now ≡ Ok entries)
+        (λ found. (entries : List (Dynamic ℕ)) × (dynamic_entries_of file.now ≡ Ok entries)
         × (found ≡ number_with tag entries))
         (λ error. dynamic_entries_of file.now ≡ Err error) }
 {
@@ -102,8 +102,8 @@ pub fn library_name<'a>(view: &DynamicView<'a>) -> Option<&'a str>
 /// The string table of the dynamic segment, and its size.
 pub fn string_table<'a>(file: &ElfFile<'a>) -> Result<(&'a [u8], usize), LinkError>
     ensures bytes { MatchResult result
-        (λ table. (strings_of file.now ≡ Ok table.0.now) × (table.1 ≡ length table.0.now))
-        (λ error. strings_of file.now ≡ Err error) }
+        (λ table. (dynamic_strings_of file.now ≡ Ok table.0.now) × (table.1 ≡ length table.0.now))
+        (λ error. dynamic_strings_of file.now ≡ Err error) }
     ensures place { IfOk result (λ table. LiesAsFileStrings file.now table.0) }
 {
     let table = strings(file)?;

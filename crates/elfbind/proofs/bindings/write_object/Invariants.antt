@@ -7,5 +7,5 @@ use Rattle.elfbind.proofs.bindings.write_object.Given as goal
 -- the texts of the references so far
 abbrev pub invariant-loop-reference : goal.invariant-loop-reference
 invariant-loop-reference g l = IsSomeAnd (slice_get l.fn.objects l.fn.from) (λ asking. AppendsSome
-    (AreReferencesSoFar g.E.Entry.fields g.E.Entry.text_in l.fn.inputs l.fn.objects l.fn.from asking (references_left l.reference-iterator) l.missing)
+    (AreReferencesSoFar g.E.Entry.fields l.fn.inputs l.fn.objects l.fn.from asking (references_left l.reference-iterator) l.missing)
     (g.W.Write.contents l.fn.out) (g.W.Write.contents l.out))

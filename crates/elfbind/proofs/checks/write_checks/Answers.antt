@@ -6,11 +6,11 @@ use Rattle.elfbind.proofs.Steps.{none_written, one_more}
 use Rattle.elfbind.proofs.checks.write_checks.Goals as goal
 
 pub loop-index-init : goal.loop-index-init
-loop-index-init g c = none_written (IsCheckLine g.E.Entry.fields g.E.Entry.text_in c.args.inputs.now) _
+loop-index-init g c = none_written (IsCheckLine g.E.Entry.fields c.args.inputs.now) _
 
 pub loop-index-preserved : goal.loop-index-preserved
 loop-index-preserved g c =
     let objects = c.args.objects.now in
-    let Is = IsCheckLine g.E.Entry.fields g.E.Entry.text_in c.args.inputs.now in
+    let Is = IsCheckLine g.E.Entry.fields c.args.inputs.now in
     subst (λ (wrong : Bool). AppendsSome (AreWritten Is (take (c.loop-index.index + 1) objects) wrong) (g.W.Write.contents c.args.out.now) (g.W.Write.contents c.write_check.new.out)) (sym c.either-failing.ensures)
     (one_more Is objects c.loop-index.index c.loop-index.failing c.in_ok-other.other _ _ _ c.loop-index.invariant c.in_ok-other.ensures)

@@ -8,8 +8,8 @@ loop-index-preserved g c =
     let objects = c.args.objects.now in
     let index = c.loop-index.index in
     let below : index < length objects = omega (arith, c.loop-index-test.true) in
-    below_more (IsGoodAt g.E.Entry.fields g.E.Entry.text_in objects) index c.loop-index.invariant
-    (good_at g.E.Entry.fields g.E.Entry.text_in objects index c.index-objects-index.result below c.index-objects-index.is (c.in-Ok.ensures.accepts.0 refl))
+    below_more (IsGoodAt g.E.Entry.fields objects) index c.loop-index.invariant
+    (good_at g.E.Entry.fields objects index c.index-objects-index.result below c.index-objects-index.is (c.in-Ok.ensures.accepts.0 refl))
 
 pub returns : goal.returns
-returns g c = λ i file is. c.loop-index.invariant i (let below : i < length c.args.objects.now = map_within (object_dynamic_symbols g.E.Entry.fields g.E.Entry.text_in) c.args.objects.now i file is in omega (arith, below)) file is
+returns g c = λ i file is. c.loop-index.invariant i (let below : i < length c.args.objects.now = map_within (object_dynamic_symbols g.E.Entry.fields) c.args.objects.now i file is in omega (arith, below)) file is

@@ -4,4 +4,4 @@ use Rattle.elfbind.proofs.files.check_objects.Given as goal
 
 -- the objects so far are good
 abbrev pub invariant-loop-index : goal.invariant-loop-index
-invariant-loop-index g l = (i : ℕ) → i < l.index → IsGoodAt g.E.Entry.fields g.E.Entry.text_in l.fn.objects i
+invariant-loop-index g l = (i : ℕ) → i < l.index → IsGoodAt g.E.Entry.fields l.fn.objects i

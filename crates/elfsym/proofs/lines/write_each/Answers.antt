@@ -13,7 +13,7 @@ loop-reference-init g c = ([], tt, Appends-nil _)
 
 pub loop-reference-preserved : goal.loop-reference-preserved
 loop-reference-preserved g c =
-    let file = object_dynamic_symbols g.E.Entry.fields g.E.Entry.text_in c.args.object.now in
+    let file = object_dynamic_symbols g.E.Entry.fields c.args.object.now in
     let references = c.args.references.now in
     let index = c.loop-reference.reference-index in
     let item = c.reference-item.result in

@@ -6,4 +6,4 @@ use Rattle.linking_callers.proofs.FoundValues.{none_found}
 use Rattle.linking_callers.proofs.callers.find.versioned_value.Goals as goal
 
 pub returns-in-Ok-None : goal.returns-in-Ok-None
-returns-in-Ok-None g c = none_found (object_dynamic_symbols g.E.Entry.fields g.E.Entry.text_in c.args.object.now) c.args.name.now (version_wanted c.args.version) Any refl c.in-Ok-None.field-0 c.in-Ok-None.field-0-is (rw (← c.version.ensures) (c.in-Ok-None.ensures.good c.requires.good c.requires.readable))
+returns-in-Ok-None g c = none_found (object_dynamic_symbols g.E.Entry.fields c.args.object.now) c.args.name.now (version_wanted c.args.version) Any refl c.in-Ok-None.field-0 c.in-Ok-None.field-0-is (rw (← c.version.ensures) (c.in-Ok-None.ensures.good c.requires.good c.requires.readable))

@@ -8,5 +8,5 @@ pub returns-then-bound-eq1 : goal.returns-then-bound-eq1
 returns-then-bound-eq1 g c =
     let objects = (scope_objects c.args.scope.now).now in
     let second : c.in-Ok-Some.bound.object ≡ 1 = search rules in
-    of_second g.E.Entry.fields g.E.Entry.text_in objects c.args.name.now c.args.wanted.now c.in-Ok-Some.bound second
-    (subst (BindsRight g.E.Entry.fields g.E.Entry.text_in objects 0 c.args.name.now c.args.wanted.now Any) (c.in-Ok-Some.is ∙ ap (λ x. Ok x) c.in-Ok-Some.field-0-is) (c.find.ensures.good c.requires.good c.requires.program))
+    of_second g.E.Entry.fields objects c.args.name.now c.args.wanted.now c.in-Ok-Some.bound second
+    (subst (BindsRight g.E.Entry.fields objects 0 c.args.name.now c.args.wanted.now Any) (c.in-Ok-Some.is ∙ ap (λ x. Ok x) c.in-Ok-Some.field-0-is) (c.find.ensures.good c.requires.good c.requires.program))

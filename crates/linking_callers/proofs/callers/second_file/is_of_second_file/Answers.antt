@@ -7,11 +7,11 @@ use Rattle.linking_callers.proofs.SecondFiles.{loaded_good, three_good}
 use Rattle.linking_callers.proofs.callers.second_file.is_of_second_file.Goals as goal
 
 pub is_second-requires-clause-good : goal.is_second-requires-clause-good
-is_second-requires-clause-good g c = subst (λ (objects : Bor (List (DynamicObject g.row.E.Denot g.E.Record))). AreGood g.E.Entry.fields g.E.Entry.text_in objects.now) (sym c.new.ensures)
-    (three_good g.E.Entry.fields g.E.Entry.text_in c.in-Ok.object c.in-Ok-two.object c.in-Ok-three.object
-    (loaded_good g.E.Entry.fields g.E.Entry.text_in g.E.LinkedSymbol.CLASS g.E.Record.SIZE c.args.program c.in-Ok.object c.in-Ok.ensures)
-    (loaded_good g.E.Entry.fields g.E.Entry.text_in g.E.LinkedSymbol.CLASS g.E.Record.SIZE c.args.second c.in-Ok-two.object c.in-Ok-two.ensures)
-    (loaded_good g.E.Entry.fields g.E.Entry.text_in g.E.LinkedSymbol.CLASS g.E.Record.SIZE c.args.third c.in-Ok-three.object c.in-Ok-three.ensures))
+is_second-requires-clause-good g c = subst (λ (objects : Bor (List (DynamicObject g.row.E.Denot g.E.Record))). AreGood g.E.Entry.fields objects.now) (sym c.new.ensures)
+    (three_good g.E.Entry.fields c.in-Ok.object c.in-Ok-two.object c.in-Ok-three.object
+    (loaded_good g.E.Entry.fields g.E.LinkedSymbol.CLASS g.E.Record.SIZE c.args.program c.in-Ok.object c.in-Ok.ensures)
+    (loaded_good g.E.Entry.fields g.E.LinkedSymbol.CLASS g.E.Record.SIZE c.args.second c.in-Ok-two.object c.in-Ok-two.ensures)
+    (loaded_good g.E.Entry.fields g.E.LinkedSymbol.CLASS g.E.Record.SIZE c.args.third c.in-Ok-three.object c.in-Ok-three.ensures))
 
 pub returns : goal.returns
 returns g c = (
@@ -21,5 +21,5 @@ returns g c = (
   c.in-Ok.ensures,
   c.in-Ok-two.ensures,
   c.in-Ok-three.ensures,
-  subst (λ (objects : Bor (List (DynamicObject g.row.E.Denot g.E.Record))). IsSecond g.E.Entry.fields g.E.Entry.text_in objects.now c.in-Ok.object c.args.name.now c.is_second.result) c.new.ensures c.is_second.ensures,
+  subst (λ (objects : Bor (List (DynamicObject g.row.E.Denot g.E.Record))). IsSecond g.E.Entry.fields objects.now c.in-Ok.object c.args.name.now c.is_second.result) c.new.ensures c.is_second.ensures,
 )
