@@ -11,12 +11,7 @@ pub mod Opened
 pub mod StoredNames
 pub mod GivenRanges
 pub mod VersionRecords
-pub mod FoundSymbols
 pub mod OpenedSymbols
-pub mod Alike
-pub mod RenamedRuns
-pub mod RenamedChains
-pub mod RenamedLooks
 pub mod OpenedTables
 pub mod OpenedDynamics
 pub mod OpenedFound

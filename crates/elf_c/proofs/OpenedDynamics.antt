@@ -14,8 +14,7 @@ use Rattle.elf_linking.proofs.SymbolCounts.{symbol_count_once}
 use Rattle.elf_linking.specs.DynamicView.{AreSymbols, IsSymbolCount, dynamic_entries_of, number_with, symbol_bytes}
 use Rattle.elf_linking.specs.Loaded.{bytes_at_of, bytes_of_segment, part_of, segment_at_of}
 use Rattle.elf_linking.specs.declared.error.LinkError.{LinkError}
-use Rattle.elf_linking.specs.declared.view.entry.DynamicEntry.{DynamicEntry}
-use Rattle.elf_linking.specs.declared.view.linked_entry.Linked.{Linked}
+use Rattle.elf_records.specs.declared.dynamic.Dynamic.{Dynamic}
 use Rattle.elf_linking.specs.declared.view.tags.TheConstants.{DT_SYMTAB}
 use Rattle.elf_records.specs.ProgramNumbers.{is_ph_type}
 use Rattle.elf_records.specs.declared.program.Type as the_type
@@ -23,9 +22,9 @@ use Rattle.elf_records.specs.declared.program.Type.TheVariants.{Null}
 use Rattle.xmas_elf.specs.ProgramHeader.{IsSegmentData, program_fields, segment_data_of, segment_type}
 use Rattle.xmas_elf.specs.Ranges.{IsRange, range_of}
 use Rattle.xmas_elf.specs.Symbol.{SymbolFields, dyn_entry_32, dyn_entry_32_fields, dyn_entry_64, dyn_entry_64_fields, entry_32, entry_32_fields, entry_64, entry_64_fields, symbol_32, symbol_64}
-use Rattle.xmas_elf.specs.Types.{DynEntry32, DynEntry64, ElfFile, ProgramHeader, ProgramHeader64}
+use Rattle.xmas_elf.specs.Types.{ElfFile, ProgramHeader, ProgramHeader64}
 use Rattle.elf_c.specs.Addresses.{range_at_address, range_in_segment}
-use Rattle.elf_c.specs.DynamicSymbols.{AreDynamicSymbols, AreSymbolsBy, IsCountBy, IsDynamicCount, IsSegmentTable, dynamic_symbol_at, dynamic_symbol_name, linked_32, linked_64, linked_symbol_in, segment_table, strings_by, symbol_size, table_at_address, table_by, table_in_range}
+use Rattle.elf_c.specs.DynamicSymbols.{AreDynamicSymbols, AreSymbolsBy, IsCountBy, IsDynamicCount, IsSegmentTable, dynamic_symbol_at, dynamic_symbol_name, linked_symbol_in, segment_table, strings_by, symbol_size, table_at_address, table_by, table_in_range}
 use Rattle.elf_c.specs.DynamicTexts.{linked_name, range_in_strings, strings_range}
 use Rattle.elf_c.specs.Records.{LiesIn, found_in, name_answer, range_at, text_range}
 use Rattle.elf_c.specs.Status.{and_so, refusal_number}
@@ -133,27 +132,23 @@ are_at file address count range is = by_segment (segment_at_of file address coun
 module _ {T : Type 0} (value wanted : SymbolFields → T) (same : (fields : SymbolFields) → value fields ≡ wanted fields) (order : Order) (bytes : List ℕ) (index : ℕ) where
   as_linked : (narrow : Bool) → (if narrow then found_in (λ e. value (entry_32_fields e)) (records 16 (entry_32 order) bytes) index
       else found_in (λ e. value (entry_64_fields e)) (records 24 (entry_64 order) bytes) index)
-      ≡ (if narrow then found_in (λ e. wanted (dyn_entry_32_fields e.0)) (linked_32 order bytes) index
-      else found_in (λ e. wanted (dyn_entry_64_fields e.0)) (linked_64 order bytes) index)
+      ≡ (if narrow then found_in (λ e. wanted (dyn_entry_32_fields e)) (records 16 (dyn_entry_32 order) bytes) index
+      else found_in (λ e. wanted (dyn_entry_64_fields e)) (records 24 (dyn_entry_64 order) bytes) index)
   unfolding entry_32_fields entry_64_fields dyn_entry_32_fields dyn_entry_64_fields
   as_linked true =
-      let keep : List ℕ → Linked DynEntry32 = λ part. record { 0 = dyn_entry_32 order part } in
-      found_as 16 (entry_32 order) keep (λ e. value (entry_32_fields e)) (λ e. wanted (dyn_entry_32_fields e.0)) (λ part. same (symbol_32 order part)) bytes index
+      found_as 16 (entry_32 order) (dyn_entry_32 order) (λ e. value (entry_32_fields e)) (λ e. wanted (dyn_entry_32_fields e)) (λ part. same (symbol_32 order part)) bytes index
   as_linked false =
-      let keep : List ℕ → Linked DynEntry64 = λ part. record { 0 = dyn_entry_64 order part } in
-      found_as 24 (entry_64 order) keep (λ e. value (entry_64_fields e)) (λ e. wanted (dyn_entry_64_fields e.0)) (λ part. same (symbol_64 order part)) bytes index
+      found_as 24 (entry_64 order) (dyn_entry_64 order) (λ e. value (entry_64_fields e)) (λ e. wanted (dyn_entry_64_fields e)) (λ part. same (symbol_64 order part)) bytes index
 
 -- there are as many symbols as the bytes are long
-counted_in : (order : Order) (bytes : List ℕ) (count index : ℕ) (narrow : Bool) → length bytes ≡ count * (if narrow then 16 else 24) → IsOk (if narrow then found_in (λ e. symbol_record (dyn_entry_32_fields e.0)) (linked_32 order bytes) index
-    else found_in (λ e. symbol_record (dyn_entry_64_fields e.0)) (linked_64 order bytes) index) ↔ (index < count)
+counted_in : (order : Order) (bytes : List ℕ) (count index : ℕ) (narrow : Bool) → length bytes ≡ count * (if narrow then 16 else 24) → IsOk (if narrow then found_in (λ e. symbol_record (dyn_entry_32_fields e)) (records 16 (dyn_entry_32 order) bytes) index
+    else found_in (λ e. symbol_record (dyn_entry_64_fields e)) (records 24 (dyn_entry_64 order) bytes) index) ↔ (index < count)
 counted_in order bytes count index true long =
-    let keep : List ℕ → Linked DynEntry32 = λ part. record { 0 = dyn_entry_32 order part } in
-    let number : length (records 16 keep bytes) ≡ count = length-records 16 keep bytes ∙ ap (λ n. n / 16) long ∙ mul-div_cancel count (lit< tt) in
-    subst (λ n. IsOk (found_in (λ e. symbol_record (dyn_entry_32_fields e.0)) (linked_32 order bytes) index) ↔ (index < n)) number (found_below (λ e. symbol_record (dyn_entry_32_fields e.0)) (linked_32 order bytes) index)
+    let number : length (records 16 (dyn_entry_32 order) bytes) ≡ count = length-records 16 (dyn_entry_32 order) bytes ∙ ap (λ n. n / 16) long ∙ mul-div_cancel count (lit< tt) in
+    subst (λ n. IsOk (found_in (λ e. symbol_record (dyn_entry_32_fields e)) (records 16 (dyn_entry_32 order) bytes) index) ↔ (index < n)) number (found_below (λ e. symbol_record (dyn_entry_32_fields e)) (records 16 (dyn_entry_32 order) bytes) index)
 counted_in order bytes count index false long =
-    let keep : List ℕ → Linked DynEntry64 = λ part. record { 0 = dyn_entry_64 order part } in
-    let number : length (records 24 keep bytes) ≡ count = length-records 24 keep bytes ∙ ap (λ n. n / 24) long ∙ mul-div_cancel count (lit< tt) in
-    subst (λ n. IsOk (found_in (λ e. symbol_record (dyn_entry_64_fields e.0)) (linked_64 order bytes) index) ↔ (index < n)) number (found_below (λ e. symbol_record (dyn_entry_64_fields e.0)) (linked_64 order bytes) index)
+    let number : length (records 24 (dyn_entry_64 order) bytes) ≡ count = length-records 24 (dyn_entry_64 order) bytes ∙ ap (λ n. n / 24) long ∙ mul-div_cancel count (lit< tt) in
+    subst (λ n. IsOk (found_in (λ e. symbol_record (dyn_entry_64_fields e)) (records 24 (dyn_entry_64 order) bytes) index) ↔ (index < n)) number (found_below (λ e. symbol_record (dyn_entry_64_fields e)) (records 24 (dyn_entry_64 order) bytes) index)
 
 -- the string table of a record has the names that the dynamic segment has
 same_name : (input : List ℕ) (strings : Result Range Refusal) (place : ℕ) → (if (linked_name strings).status == 0 then name_answer (text_range input (linked_name strings).range place) else record { range = range_at 0 0; status = (linked_name strings).status }) ≡ linked_name (range_in_strings input strings place)
@@ -170,7 +165,7 @@ same_name input (Err why) place = by_test (refusal_number why == 0) refl
 
 -- a number of symbols of the entries, which lie in a range
 record AreOpened (file : ElfFile) (table : SymbolTable) : Type 0 where
-  pub entries : List (DynamicEntry ℕ)
+  pub entries : List (Dynamic ℕ)
   pub count : ℕ
   pub range : Range
   pub bytes : List ℕ
@@ -184,7 +179,7 @@ record AreOpened (file : ElfFile) (table : SymbolTable) : Type 0 where
 are_opened : (file : ElfFile) (table : SymbolTable) → IsSegmentTable file (Ok table) → AreOpened file table
 are_opened file table is = by_entries (dynamic_entries_of file) refl is.0 is.1 is.2
   where
-    only_one : (entries : List (DynamicEntry ℕ)) (count address : ℕ) (bytes : List ℕ) → dynamic_entries_of file ≡ Ok entries → IsSymbolCount file entries (Ok count) → number_with DT_SYMTAB entries ≡ Some address → bytes_at_of file address (count * symbol_size file) ≡ Ok bytes → (other : Result (List ℕ) LinkError) → AreDynamicSymbols file other → other ≡ Ok bytes
+    only_one : (entries : List (Dynamic ℕ)) (count address : ℕ) (bytes : List ℕ) → dynamic_entries_of file ≡ Ok entries → IsSymbolCount file entries (Ok count) → number_with DT_SYMTAB entries ≡ Some address → bytes_at_of file address (count * symbol_size file) ≡ Ok bytes → (other : Result (List ℕ) LinkError) → AreDynamicSymbols file other → other ≡ Ok bytes
     only_one entries count address bytes at counted addressed there other are =
         let here : AreSymbols file entries (symbol_size file) other = subst (λ found. AreSymbolsBy file found other) at are in
         here.bytes_are
@@ -192,7 +187,7 @@ are_opened file table is = by_entries (dynamic_entries_of file) refl is.0 is.1 i
         ∙ ap (λ place. symbol_bytes file (symbol_size file) (Ok count) place) addressed
         ∙ there
 
-    by_range : (entries : List (DynamicEntry ℕ)) (count address : ℕ) (range : Result Range Refusal) → dynamic_entries_of file ≡ Ok entries → IsSymbolCount file entries (Ok count) → number_with DT_SYMTAB entries ≡ Some address → range_at_address file address (count * symbol_size file) ≡ range → Ok table ≡ table_in_range file (strings_range file entries) count range → AreOpened file table
+    by_range : (entries : List (Dynamic ℕ)) (count address : ℕ) (range : Result Range Refusal) → dynamic_entries_of file ≡ Ok entries → IsSymbolCount file entries (Ok count) → number_with DT_SYMTAB entries ≡ Some address → range_at_address file address (count * symbol_size file) ≡ range → Ok table ≡ table_in_range file (strings_range file entries) count range → AreOpened file table
     by_range entries count address (Err why) at counted addressed ranged made = absurd (cc)
     by_range entries count address (Ok range) at counted addressed ranged made =
         let there = are_at file address (count * symbol_size file) range ranged in
@@ -209,15 +204,15 @@ are_opened file table is = by_entries (dynamic_entries_of file) refl is.0 is.1 i
           only = only_one entries count address there.bytes at counted addressed there.at;
         }
 
-    by_address : (entries : List (DynamicEntry ℕ)) (count : ℕ) (address : Option ℕ) → dynamic_entries_of file ≡ Ok entries → IsSymbolCount file entries (Ok count) → number_with DT_SYMTAB entries ≡ address → Ok table ≡ table_at_address file (strings_range file entries) (Ok count) address → AreOpened file table
+    by_address : (entries : List (Dynamic ℕ)) (count : ℕ) (address : Option ℕ) → dynamic_entries_of file ≡ Ok entries → IsSymbolCount file entries (Ok count) → number_with DT_SYMTAB entries ≡ address → Ok table ≡ table_at_address file (strings_range file entries) (Ok count) address → AreOpened file table
     by_address entries count None at counted addressed made = absurd (cc)
     by_address entries count (Some address) at counted addressed made = by_range entries count address (range_at_address file address (count * symbol_size file)) at counted addressed refl made
 
-    by_count : (entries : List (DynamicEntry ℕ)) (count : Result ℕ LinkError) → dynamic_entries_of file ≡ Ok entries → IsSymbolCount file entries count → Ok table ≡ table_at_address file (strings_range file entries) count (number_with DT_SYMTAB entries) → AreOpened file table
+    by_count : (entries : List (Dynamic ℕ)) (count : Result ℕ LinkError) → dynamic_entries_of file ≡ Ok entries → IsSymbolCount file entries count → Ok table ≡ table_at_address file (strings_range file entries) count (number_with DT_SYMTAB entries) → AreOpened file table
     by_count entries (Err error) at counted made = absurd (cc)
     by_count entries (Ok count) at counted made = by_address entries count (number_with DT_SYMTAB entries) at counted refl made
 
-    by_entries : (found : Result (List (DynamicEntry ℕ)) LinkError) → dynamic_entries_of file ≡ found → (count : Result ℕ LinkError) → IsCountBy file found count → Ok table ≡ table_by file found count → AreOpened file table
+    by_entries : (found : Result (List (Dynamic ℕ)) LinkError) → dynamic_entries_of file ≡ found → (count : Result ℕ LinkError) → IsCountBy file found count → Ok table ≡ table_by file found count → AreOpened file table
     by_entries (Err error) at count counted made = absurd (cc)
     by_entries (Ok entries) at count counted made = by_count entries count at counted made
 
@@ -261,5 +256,5 @@ opened_count file table is index =
 pub no_entries : (file : ElfFile) (error : LinkError) → dynamic_entries_of file ≡ Err error → IsSegmentTable file (Err (Link error))
 no_entries file error is = subst (λ found. (count : Result ℕ LinkError) × IsCountBy file found count × (Err (Link error) ≡ table_by file found count)) (sym is) (Err error, refl, refl)
 
-pub of_entries : (file : ElfFile) (entries : List (DynamicEntry ℕ)) (count : Result ℕ LinkError) (answer : Result SymbolTable Refusal) → dynamic_entries_of file ≡ Ok entries → IsSymbolCount file entries count → answer ≡ table_at_address file (strings_range file entries) count (number_with DT_SYMTAB entries) → IsSegmentTable file answer
+pub of_entries : (file : ElfFile) (entries : List (Dynamic ℕ)) (count : Result ℕ LinkError) (answer : Result SymbolTable Refusal) → dynamic_entries_of file ≡ Ok entries → IsSymbolCount file entries count → answer ≡ table_at_address file (strings_range file entries) count (number_with DT_SYMTAB entries) → IsSegmentTable file answer
 of_entries file entries count answer is counted made = subst (λ found. (other : Result ℕ LinkError) × IsCountBy file found other × (answer ≡ table_by file found other)) (sym is) (count, counted, made)

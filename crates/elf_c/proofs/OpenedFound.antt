@@ -4,11 +4,12 @@ use Rattle.std.proofs.lemmas.Str.{IsUtf8-from_is_utf8, is_utf8-from_IsUtf8}
 use Rattle.std.specs.Prelude.{slice_get}
 use Rattle.std.specs.Str.{is_utf8}
 use Rattle.elf_base.specs.FileHeader.{file_class, file_order}
+use Rattle.elf_base.specs.Table.{records}
 use Rattle.elf_linking.specs.AnyTable.{LooksWhereBy}
 use Rattle.elf_linking.specs.DynamicView.{AreSymbols, as_link_error, dynamic_entries_of}
 use Rattle.elf_linking.specs.Find.{DynamicSymbols, IsAlone, IsAsked, IsFirstOf, IsFound, IsOtherwise, IsShown, Seeks, Then, accepted, if_alone}
 use Rattle.elf_linking.specs.GnuHash as gnu
-use Rattle.elf_linking.specs.VersionTables.{item_by}
+use Rattle.elf_linking.specs.VersionTables.{result_map}
 use Rattle.elf_linking.specs.declared.any_table.AnyTable.{AnyTable}
 use Rattle.elf_linking.specs.declared.any_table.AnyTable.TheVariants.{Gnu, Sysv}
 use Rattle.elf_linking.specs.declared.error.LinkError.{LinkError}
@@ -16,11 +17,11 @@ use Rattle.elf_linking.specs.declared.find.Use.TheVariants.{Any}
 use Rattle.elf_linking.specs.declared.find.Wanted.{Wanted}
 use Rattle.elf_linking.specs.declared.find.Wanted.TheVariants.{Newest, Unversioned, Version}
 use Rattle.elf_linking.specs.declared.gnu_hash.GnuHashTable.{GnuHashTable}
-use Rattle.elf_linking.specs.declared.view.entry.DynamicEntry.{DynamicEntry}
+use Rattle.elf_records.specs.declared.dynamic.Dynamic.{Dynamic}
 use Rattle.xmas_elf.specs.HashTable as gabi
-use Rattle.xmas_elf.specs.Symbol.{dyn_entry_32_fields, dyn_entry_64_fields}
+use Rattle.xmas_elf.specs.Symbol.{dyn_entry_32, dyn_entry_32_fields, dyn_entry_64, dyn_entry_64_fields}
 use Rattle.xmas_elf.specs.Types.{ElfError, ElfFile, HashTable}
-use Rattle.elf_c.specs.DynamicSymbols.{AreDynamicSymbols, AreSymbolsBy, IsSegmentTable, linked_32, linked_64}
+use Rattle.elf_c.specs.DynamicSymbols.{AreDynamicSymbols, AreSymbolsBy, IsSegmentTable}
 use Rattle.elf_c.specs.FoundSymbols.{IsByClass, IsFoundBy, IsFoundSymbol, IsSearched, found_answer, found_symbol, refused, searched}
 use Rattle.elf_c.specs.LookUps.{IfUtf8}
 use Rattle.elf_c.specs.Records.{found_in, taken_for}
@@ -89,7 +90,7 @@ module _ {E : Type 0} (file : DynamicSymbols E) (name : List ℕ) (at : ℕ × E
   otherwise_stands Unversioned is = default_stands is.0 is.1 is.2
   otherwise_stands Newest is = default_stands is.0 is.1 is.2
 
-  first_stands : (one : ℕ × E) (version : Result Bool LinkError) → Stands one → Ok (Some at) ≡ item_by (λ _. Some one) version → Stands at
+  first_stands : (one : ℕ × E) (version : Result Bool LinkError) → Stands one → Ok (Some at) ≡ result_map (λ _. Some one) version → Stands at
   first_stands one (Ok b) stands is = is_one one stands (cc)
   first_stands one (Err error) stands is = absurd (cc)
 
@@ -113,15 +114,15 @@ found_there {E} all name version said is one = by_found is.found is.is_found is.
 
 module _ (file : ElfFile) (table : SymbolTable) (made : IsSegmentTable file (Ok table)) (said : FoundSymbol) (one : said.found ≡ 1) where
   -- by the bytes of the symbols
-  by_bytes : (entries : List (DynamicEntry ℕ)) (bytes : List ℕ) (narrow : Bool) → (file_class file.header == 1) ≡ narrow → dynamic_entries_of file ≡ Ok entries → AreSymbols file entries (if narrow then 16 else 24) (Ok bytes)
-      → (if narrow then found_in (λ e. symbol_record (dyn_entry_32_fields e.0)) (linked_32 (file_order file.header) bytes) said.index
-      else found_in (λ e. symbol_record (dyn_entry_64_fields e.0)) (linked_64 (file_order file.header) bytes) said.index) ≡ Ok said.symbol
+  by_bytes : (entries : List (Dynamic ℕ)) (bytes : List ℕ) (narrow : Bool) → (file_class file.header == 1) ≡ narrow → dynamic_entries_of file ≡ Ok entries → AreSymbols file entries (if narrow then 16 else 24) (Ok bytes)
+      → (if narrow then found_in (λ e. symbol_record (dyn_entry_32_fields e)) (records 16 (dyn_entry_32 (file_order file.header)) bytes) said.index
+      else found_in (λ e. symbol_record (dyn_entry_64_fields e)) (records 24 (dyn_entry_64 (file_order file.header)) bytes) said.index) ≡ Ok said.symbol
       → symbol_by symbol_record file.input.now table said.index ≡ Ok said.symbol
   by_bytes entries bytes narrow class at are found =
       let here : AreDynamicSymbols file (Ok bytes) = subst (λ r. AreSymbolsBy file r (Ok bytes)) (sym at) (subst (λ (b : Bool). AreSymbols file entries (if b then 16 else 24) (Ok bytes)) (sym class) are) in
       opened_symbols file table made (Ok bytes) here said.index
-      ∙ subst (λ (b : Bool). (if b then found_in (λ e. symbol_record (dyn_entry_32_fields e.0)) (linked_32 (file_order file.header) bytes) said.index
-      else found_in (λ e. symbol_record (dyn_entry_64_fields e.0)) (linked_64 (file_order file.header) bytes) said.index) ≡ Ok said.symbol) (sym class) found
+      ∙ subst (λ (b : Bool). (if b then found_in (λ e. symbol_record (dyn_entry_32_fields e)) (records 16 (dyn_entry_32 (file_order file.header)) bytes) said.index
+      else found_in (λ e. symbol_record (dyn_entry_64_fields e)) (records 24 (dyn_entry_64 (file_order file.header)) bytes) said.index) ≡ Ok said.symbol) (sym class) found
 
   by_class : (name version : List ℕ) (narrow : Bool) → (file_class file.header == 1) ≡ narrow → (answer : Result FoundSymbol Refusal) → answer ≡ Ok said → IsByClass narrow file name version answer → symbol_by symbol_record file.input.now table said.index ≡ Ok said.symbol
   by_class name version true class _ is (refused error why) = absurd (cc)

@@ -1,18 +1,19 @@
 -- A look-up by the record of a hash table is one in the section that it was read from.
 use Rattle.std.proofs.Common.{◌≡◌, ◌<◌, ◌≤◌, ◌==◌, ◌⊎◌, inl, inr, ℕ, Bool, true, false, List, [], ◌∷◌, ◌++◌, length, codes, Option, None, Some, Result, Ok, Err, MatchResult, eqb-true, le-ltb, if◌then◌else◌, refl, sym, ap, subst, ◌∙◌, arith}
 use Rattle.std.specs.Option.{ok_or}
+use Rattle.std.proofs.Math.Path.{fun_ext}
 use Rattle.std.proofs.lemmas.Bool.{lt-ltb}
 use Rattle.std.proofs.lemmas.List.{drop_all}
-use Rattle.std.specs.Prelude.{option_map}
 use Rattle.std.specs.Result.{result_ok}
-use Rattle.elf_base.proofs.lemmas.RecordLemmas.{length-records}
 use Rattle.elf_base.proofs.lemmas.TextLemmas.{text_of-is}
 use Rattle.elf_base.specs.FileHeader.{class_of, file_class, file_order}
 use Rattle.elf_base.specs.Refusal.{and_then}
+use Rattle.elf_base.specs.Table.{records}
 use Rattle.elf_base.specs.Text.{text_of}
 use Rattle.elf_base.specs.declared.bytes.Order.{Order}
 use Rattle.elf_base.specs.declared.error.ElfError.{ElfError}
 use Rattle.elf_base.specs.declared.error.ElfError.TheVariants.{DataRange, NoDynstr, NullData, ShortData}
+use Rattle.elf_linking.specs.DynamicObject.{symbols_with}
 use Rattle.elf_linking.specs.DynamicView.{as_link_error, checked, passed}
 use Rattle.elf_linking.specs.GnuHash.{gnu_data}
 use Rattle.elf_linking.specs.Layouts.{gnu_table_of}
@@ -31,14 +32,14 @@ use Rattle.xmas_elf.specs.SectionContent.{section_content_of}
 use Rattle.xmas_elf.specs.SectionData.{section_data_of}
 use Rattle.xmas_elf.specs.SectionHeader.{section_fields, section_of, section_type}
 use Rattle.xmas_elf.specs.StringTables.{dyn_string_of, dynstr_of}
-use Rattle.xmas_elf.specs.Symbol.{SymbolFields, dyn_entry_32, dyn_entry_32_fields, dyn_entry_64, dyn_entry_64_fields, entry_32, entry_32_fields, entry_64, entry_64_fields}
-use Rattle.xmas_elf.specs.Symbols.{dyn_symbols_in_32, dyn_symbols_in_64}
-use Rattle.xmas_elf.specs.Types.{DynEntry32, DynEntry64, ElfFile, Entry32, Entry64, HashTable, SectionHeader}
+use Rattle.xmas_elf.specs.Symbol.{SymbolFields, dyn_entry_32, dyn_entry_32_fields, dyn_entry_64, dyn_entry_64_fields}
+use Rattle.xmas_elf.specs.Symbols.{dyn_symbols_in_32, dyn_symbols_in_64, symbols_in}
+use Rattle.xmas_elf.specs.Types.{ElfFile, HashTable, SectionHeader}
 use Rattle.elf_c.specs.HashTables.{IsGnuTable, IsSysvTable, IsTableOf, OfSymbols, WithTable}
 use Rattle.elf_c.specs.LookUps.{IfUtf8}
 use Rattle.elf_c.specs.Lookup.{IsLookUp, IsLookUpBy, LooksAmong}
 use Rattle.elf_c.specs.OpenedTables as by_record
-use Rattle.elf_c.specs.OpenedTables.{IsGnuOf, IsOpened, IsTableBy, IsTableIn, LooksBy, LooksByClass, LooksStored, class_by, dynamic_count_in, dynamic_if, dynamic_strings, dynamic_table, dynamic_with, opened_with, stored}
+use Rattle.elf_c.specs.OpenedTables.{IsGnuOf, IsOpened, IsTableBy, IsTableIn, LooksBy, LooksByClass, LooksWithin, class_by, dynamic_count_in, dynamic_if, dynamic_strings, dynamic_table, dynamic_with, opened_with}
 use Rattle.elf_c.specs.Records.{name_answer, range_at, section_range}
 use Rattle.elf_c.specs.Status.{and_so}
 use Rattle.elf_c.specs.SymbolTables.{count_in}
@@ -49,46 +50,14 @@ use Rattle.elf_c.specs.declared.names.Range.{Range}
 use Rattle.elf_c.specs.declared.opened_tables.OpenedTable.{OpenedTable}
 use Rattle.elf_c.specs.declared.status.Refusal.{Refusal}
 use Rattle.elf_c.specs.declared.status.Refusal.TheVariants.{Elf, Link}
-use Rattle.elf_c.specs.declared.stored.Stored.{Stored}
 use Rattle.elf_c.specs.declared.symbol_tables.SymbolTable.{SymbolTable}
-use Rattle.elf_c.proofs.Alike.{AreAlike, records_of}
 use Rattle.elf_c.proofs.OpenedSymbols.{AreRead, content_read, section_read}
-use Rattle.elf_c.proofs.RenamedLooks.{looks_alike}
 
--- the symbols of a record and those of the section
-stored_32 : (file : ElfFile) (order : Order) (strings bytes name : List ℕ) (table : AnyTable) (answer : Result LookUp Refusal) → ((n : ℕ) → result_ok (text_of strings n) ≡ result_ok (dyn_string_of file n)) → IsLookUp table name (stored 16 entry_32 entry_32_fields order strings bytes) answer → IsLookUp table name (dyn_symbols_in_32 file order bytes) answer
-unfolding entry_32_fields dyn_entry_32_fields
-stored_32 file order strings bytes name table answer texts =
-    let g : Stored Entry32 → DynEntry32 = λ e. dyn_entry_32 e.0.order e.0.bytes in
-    let back : DynEntry32 → Stored Entry32 = λ e. record { 0 = entry_32 e.order e.bytes } in
-    let keep : List ℕ → Stored Entry32 = λ part. record { 0 = entry_32 order part } in
-    let are : AreAlike (stored 16 entry_32 entry_32_fields order strings bytes) (dyn_symbols_in_32 file order bytes) g back = record {
-      long = length-records 16 keep bytes ∙ sym (length-records 16 (dyn_entry_32 order) bytes);
-      to = λ i e at. records_of 16 keep (dyn_entry_32 order) g (λ part. refl) bytes i ∙ ap (option_map g) at;
-      from = λ i e at. records_of 16 (dyn_entry_32 order) keep back (λ part. refl) bytes i ∙ ap (option_map back) at;
-      fields = λ e. refl;
-      text = λ e. sym (texts (entry_32_fields e.0).name);
-      fields_back = λ e. refl;
-      text_back = λ e. texts (dyn_entry_32_fields e).name;
-    } in
-    looks_alike (stored 16 entry_32 entry_32_fields order strings bytes) (dyn_symbols_in_32 file order bytes) g back are name table answer
-
-stored_64 : (file : ElfFile) (order : Order) (strings bytes name : List ℕ) (table : AnyTable) (answer : Result LookUp Refusal) → ((n : ℕ) → result_ok (text_of strings n) ≡ result_ok (dyn_string_of file n)) → IsLookUp table name (stored 24 entry_64 entry_64_fields order strings bytes) answer → IsLookUp table name (dyn_symbols_in_64 file order bytes) answer
-unfolding entry_64_fields dyn_entry_64_fields
-stored_64 file order strings bytes name table answer texts =
-    let g : Stored Entry64 → DynEntry64 = λ e. dyn_entry_64 e.0.order e.0.bytes in
-    let back : DynEntry64 → Stored Entry64 = λ e. record { 0 = entry_64 e.order e.bytes } in
-    let keep : List ℕ → Stored Entry64 = λ part. record { 0 = entry_64 order part } in
-    let are : AreAlike (stored 24 entry_64 entry_64_fields order strings bytes) (dyn_symbols_in_64 file order bytes) g back = record {
-      long = length-records 24 keep bytes ∙ sym (length-records 24 (dyn_entry_64 order) bytes);
-      to = λ i e at. records_of 24 keep (dyn_entry_64 order) g (λ part. refl) bytes i ∙ ap (option_map g) at;
-      from = λ i e at. records_of 24 (dyn_entry_64 order) keep back (λ part. refl) bytes i ∙ ap (option_map back) at;
-      fields = λ e. refl;
-      text = λ e. sym (texts (entry_64_fields e.0).name);
-      fields_back = λ e. refl;
-      text_back = λ e. texts (dyn_entry_64_fields e).name;
-    } in
-    looks_alike (stored 24 entry_64 entry_64_fields order strings bytes) (dyn_symbols_in_64 file order bytes) g back are name table answer
+-- the symbols of a record, with their names in a string table that has the texts of `.dynstr`, are those of the section
+module _ (file : ElfFile) (strings name : List ℕ) (table : AnyTable) (answer : Result LookUp Refusal) (texts : (n : ℕ) → result_ok (text_of strings n) ≡ result_ok (dyn_string_of file n)) where
+  in_section : {E : Type 0} (size : ℕ) (entry : List ℕ → E) (fields : E → SymbolFields) (bytes : List ℕ) → IsLookUp table name (symbols_with size entry fields strings bytes) answer → IsLookUp table name (symbols_in size entry fields true file bytes) answer
+  in_section size entry fields bytes looks =
+      subst (λ text. IsLookUp table name (record { items = records size entry bytes; fields = fields; text = text }) answer) (fun_ext (λ e. texts (fields e).name)) looks
 
 -- no bytes contain a text
 no_text : (n : ℕ) → result_ok (text_of [] n) ≡ None
@@ -251,15 +220,15 @@ module _ (kind : Kind) (file : ElfFile) (index : ℕ) (header linked : SectionHe
   -- a look-up among the symbols, by the contents that they are
   among : (table : AnyTable) (strings part : List ℕ) → ((n : ℕ) → result_ok (text_of strings n) ≡ result_ok (dyn_string_of file n)) → (holding : Content) → dynamic_count_in holding ≡ Ok count → AreRead (file_class file.header) (file_order file.header) part holding → LooksByClass (file_class file.header == 1) (file_order file.header) strings part table name answer → OfSymbols file (λ E symbols. IsLookUp table name symbols) (Ok holding) answer
   among table strings part texts (table_of dyn_symbols_32 own all) is read looks =
-      let here : LooksStored 16 (stored 16 entry_32 entry_32_fields (file_order file.header) strings part) part table name answer =
+      let here : LooksWithin 16 (symbols_with 16 (dyn_entry_32 (file_order file.header)) dyn_entry_32_fields strings part) part table name answer =
       subst (λ b. LooksByClass b (file_order file.header) strings part table name answer) read.0 looks in
-      let found = stored_32 file (file_order file.header) strings part name table answer texts (here.whole (eqb-true _ _ read.3)) in
+      let found = in_section file strings name table answer texts 16 (dyn_entry_32 (file_order file.header)) dyn_entry_32_fields part (here.whole (eqb-true _ _ read.3)) in
       subst (λ b. IsLookUp table name (dyn_symbols_in_32 file own b) answer) (sym read.2)
       (subst (λ o. IsLookUp table name (dyn_symbols_in_32 file o part) answer) (sym read.1) found)
   among table strings part texts (table_of dyn_symbols_64 own all) is read looks =
-      let here : LooksStored 24 (stored 24 entry_64 entry_64_fields (file_order file.header) strings part) part table name answer =
+      let here : LooksWithin 24 (symbols_with 24 (dyn_entry_64 (file_order file.header)) dyn_entry_64_fields strings part) part table name answer =
       subst (λ b. LooksByClass b (file_order file.header) strings part table name answer) read.0 looks in
-      let found = stored_64 file (file_order file.header) strings part name table answer texts (here.whole (eqb-true _ _ read.3)) in
+      let found = in_section file strings name table answer texts 24 (dyn_entry_64 (file_order file.header)) dyn_entry_64_fields part (here.whole (eqb-true _ _ read.3)) in
       subst (λ b. IsLookUp table name (dyn_symbols_in_64 file own b) answer) (sym read.2)
       (subst (λ o. IsLookUp table name (dyn_symbols_in_64 file o part) answer) (sym read.1) found)
   among table strings part texts _ is read looks = absurd (cc)
@@ -347,9 +316,3 @@ module _ (kind : Kind) (file : ElfFile) (index : ℕ) (opened : OpenedTable) (na
 -- the result for the header at an index
 pub opened_at : (kind : Kind) (file : ElfFile) (index : ℕ) (header : SectionHeader) (answer : Result OpenedTable Refusal) → section_of file index ≡ Ok header → (found : Result AnyTable Refusal) × IsTableOf kind file header found × MatchResult found (λ _. answer ≡ opened_with header (dynamic_table file (section_fields header).link)) (λ why. answer ≡ Err why) → IsOpened kind file index answer
 opened_at kind file index header answer at is = rw at is
-
--- the symbols in bytes of a table whose names are in the input of a file
-pub looks_stored : {E : Type 0} (fields : E → SymbolFields) (table : AnyTable) (name : List ℕ) (items all : List (Stored E)) (file known : ElfFile) (answer : Result LookUp Refusal) → items ≡ all → file ≡ known → IsLookUp table name (record { items = items; fields = λ e. fields e.0; text = λ e. result_ok (text_of file.input.now (fields e.0).name) }) answer → IsLookUp table name (record { items = all; fields = λ e. fields e.0; text = λ e. result_ok (text_of known.input.now (fields e.0).name) }) answer
-looks_stored fields table name items all file known answer same is looks =
-    subst (λ f. IsLookUp table name (record { items = all; fields = λ e. fields e.0; text = λ e. result_ok (text_of f.input.now (fields e.0).name) }) answer) is
-    (subst (λ i. IsLookUp table name (record { items = i; fields = λ e. fields e.0; text = λ e. result_ok (text_of file.input.now (fields e.0).name) }) answer) same looks)

@@ -7,7 +7,8 @@ use Rattle.elf_base.specs.Refusal.{and_then}
 use Rattle.elf_base.specs.Text.{text_of}
 use Rattle.elf_base.specs.declared.error.ElfError.{ElfError}
 use Rattle.elf_base.specs.declared.error.ElfError.TheVariants.{DataRange, NullName}
-use Rattle.elf_linking.specs.declared.view.entry.DynamicEntry.{DynamicEntry}
+use Rattle.elf_records.specs.Dynamic.{dynamic_tag, dynamic_value}
+use Rattle.elf_records.specs.declared.dynamic.Dynamic.{Dynamic}
 use Rattle.elf_linking.specs.declared.view.tags.TheConstants.{DT_NEEDED}
 use Rattle.elf_records.specs.SectionNumbers.{is_sh_type}
 use Rattle.elf_records.specs.declared.sections.ShType.TheVariants.{Null}
@@ -105,13 +106,13 @@ one_more input false one others has rest i x at = rest i x at
 one_more input true one others has rest zero x at = let same : one ≡ x = cc in subst (λ name. LiesIn input name.range) same has
 one_more input true one others has rest (suc i) x at = rest i x at
 
-needed_lie : (input : List ℕ) (strings : Result Range Refusal) (entries : List (DynamicEntry ℕ)) (i : ℕ) (x : Name) → slice_get (needed_names input strings entries) i ≡ Some x → LiesIn input x.range
+needed_lie : (input : List ℕ) (strings : Result Range Refusal) (entries : List (Dynamic ℕ)) (i : ℕ) (x : Name) → slice_get (needed_names input strings entries) i ≡ Some x → LiesIn input x.range
 needed_lie input strings [] i x is = absurd (cc)
 needed_lie input strings (entry ∷ entries) i x is =
-    one_more input (entry.tag == DT_NEEDED) (linked_name (range_in_strings input strings entry.number)) (needed_names input strings entries)
-    (linked_name_lies input strings entry.number) (λ k name at. needed_lie input strings entries k name at) i x is
+    one_more input (dynamic_tag entry == DT_NEEDED) (linked_name (range_in_strings input strings (dynamic_value entry))) (needed_names input strings entries)
+    (linked_name_lies input strings (dynamic_value entry)) (λ k name at. needed_lie input strings entries k name at) i x is
 
-pub stored_needed_lie : (input : List ℕ) (strings : Result Range Refusal) (entries : List (DynamicEntry ℕ)) (first : ℕ) (old : List Name) (answer : Result ℕ Refusal) (new : List Name) → Fills (found_in (λ name. name) (needed_names input strings entries)) first old answer new → IfOk answer (λ count. AllLieIn input count new)
+pub stored_needed_lie : (input : List ℕ) (strings : Result Range Refusal) (entries : List (Dynamic ℕ)) (first : ℕ) (old : List Name) (answer : Result ℕ Refusal) (new : List Name) → Fills (found_in (λ name. name) (needed_names input strings entries)) first old answer new → IfOk answer (λ count. AllLieIn input count new)
 stored_needed_lie input strings entries first old answer new fills =
     stored (λ name. LiesIn input name.range) (found_in (λ name. name) (needed_names input strings entries)) first old answer new
     (λ i x is. found_some (slice_get (needed_names input strings entries) i) x (λ found. needed_lie input strings entries i x found) is) fills

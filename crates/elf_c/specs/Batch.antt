@@ -13,11 +13,13 @@ pub record IsBatch {T : Type 0} (item : ℕ → Result T Refusal) (first : ℕ) 
   pub rest : (k : ℕ) → count ≤ k → slice_get new k ≡ slice_get old k
   pub full : (count ≡ length old) ⊎ (item (first + count) ≡ Err NoRecord)
 
--- the result of a call for many records: if there is none at `first`, the error for it, and nothing is stored
+-- the result of a call for many records, by the record at `first`: if there is none, the error for it, and nothing
+-- is stored
 abbrev pub FillsBy : {T : Type 0} → (ℕ → Result T Refusal) → ℕ → List T → Result T Refusal → Result ℕ Refusal → List T → Type 0
 FillsBy item first old (Err why) (Err error) new = (error ≡ why) × (new ≡ old)
 FillsBy item first old (Ok _) (Ok count) new = IsBatch item first old count new
 FillsBy item first old _ _ new = ⊥
 
+-- the result of a call for many records
 abbrev pub Fills : {T : Type 0} → (ℕ → Result T Refusal) → ℕ → List T → Result ℕ Refusal → List T → Type 0
 Fills item first old answer new = FillsBy item first old (item first) answer new

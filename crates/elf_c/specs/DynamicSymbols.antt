@@ -4,17 +4,13 @@
 use Rattle.std.specs.Prelude.{◌≡◌, ℕ, ◌*◌, ◌==◌, List, Option, None, Some, Result, Ok, Err, if◌then◌else◌}
 use Rattle.elf_base.specs.FileHeader.{encoding_number, file_class, file_order}
 use Rattle.elf_base.specs.Table.{records}
-use Rattle.elf_base.specs.declared.bytes.Order.{Order}
 use Rattle.elf_linking.specs.DynamicView.{AreSymbols, IsSymbolCount, dynamic_entries_of, number_with}
 use Rattle.elf_linking.specs.declared.error.LinkError.{LinkError}
 use Rattle.elf_linking.specs.declared.error.LinkError.TheVariants.{NoEntry}
-use Rattle.elf_linking.specs.declared.view.entry.DynamicEntry.{DynamicEntry}
-use Rattle.elf_linking.specs.declared.view.linked_entry.Linked.{Linked}
+use Rattle.elf_records.specs.declared.dynamic.Dynamic.{Dynamic}
 use Rattle.elf_linking.specs.declared.view.tags.TheConstants.{DT_SYMTAB}
 use Rattle.xmas_elf.specs.Symbol.{SymbolFields, dyn_entry_32, dyn_entry_32_fields, dyn_entry_64, dyn_entry_64_fields}
 use Rattle.xmas_elf.specs.declared.ElfFile.{ElfFile}
-use Rattle.xmas_elf.specs.declared.symbol_table.entries.DynEntry32.{DynEntry32}
-use Rattle.xmas_elf.specs.declared.symbol_table.entries.DynEntry64.{DynEntry64}
 use Rattle.elf_c.specs.Addresses.{range_at_address}
 use Rattle.elf_c.specs.Batch.{Fills}
 use Rattle.elf_c.specs.DynamicTexts.{linked_name, range_in_strings, strings_range}
@@ -26,7 +22,7 @@ use Rattle.elf_c.specs.declared.status.Refusal.TheVariants.{Link}
 use Rattle.elf_c.specs.declared.symbol_tables.SymbolTable.{SymbolTable}
 
 -- the number of symbols by the entries, or why there is none
-abbrev pub IsCountBy : ElfFile → Result (List (DynamicEntry ℕ)) LinkError → Result ℕ LinkError → Type 0
+abbrev pub IsCountBy : ElfFile → Result (List (Dynamic ℕ)) LinkError → Result ℕ LinkError → Type 0
 IsCountBy file (Ok entries) count = IsSymbolCount file entries count
 IsCountBy file (Err error) count = count ≡ Err error
 
@@ -39,7 +35,7 @@ abbrev pub symbol_size : ElfFile → ℕ
 symbol_size file = if file_class file.header == 1 then 16 else 24
 
 -- the bytes of the symbols by the entries, or why there are none
-abbrev pub AreSymbolsBy : ElfFile → Result (List (DynamicEntry ℕ)) LinkError → Result (List ℕ) LinkError → Type 0
+abbrev pub AreSymbolsBy : ElfFile → Result (List (Dynamic ℕ)) LinkError → Result (List ℕ) LinkError → Type 0
 AreSymbolsBy file (Ok entries) bytes = AreSymbols file entries (symbol_size file) bytes
 AreSymbolsBy file (Err error) bytes = bytes ≡ Err error
 
@@ -47,19 +43,12 @@ AreSymbolsBy file (Err error) bytes = bytes ≡ Err error
 abbrev pub AreDynamicSymbols : ElfFile → Result (List ℕ) LinkError → Type 0
 AreDynamicSymbols file bytes = AreSymbolsBy file (dynamic_entries_of file) bytes
 
--- the symbols in bytes, in the layout of each class
-abbrev pub linked_32 : Order → List ℕ → List (Linked DynEntry32)
-linked_32 order bytes = records 16 (λ part. record { 0 = dyn_entry_32 order part }) bytes
-
-abbrev pub linked_64 : Order → List ℕ → List (Linked DynEntry64)
-linked_64 order bytes = records 24 (λ part. record { 0 = dyn_entry_64 order part }) bytes
-
 -- the value of the symbol at an index of these bytes, by the class, or that there is none
 abbrev pub linked_symbol_in : {T : Type 0} → (SymbolFields → T) → ElfFile → List ℕ → ℕ → Result T Refusal
 linked_symbol_in value file bytes index = let order = file_order file.header in
     if file_class file.header == 1
-    then found_in (λ e. value (dyn_entry_32_fields e.0)) (linked_32 order bytes) index
-    else found_in (λ e. value (dyn_entry_64_fields e.0)) (linked_64 order bytes) index
+    then found_in (λ e. value (dyn_entry_32_fields e)) (records 16 (dyn_entry_32 order) bytes) index
+    else found_in (λ e. value (dyn_entry_64_fields e)) (records 24 (dyn_entry_64 order) bytes) index
 
 -- the value of the symbol at an index, if there are symbols
 abbrev pub dynamic_symbol_at : {T : Type 0} → (SymbolFields → T) → ElfFile → Result (List ℕ) LinkError → ℕ → Result T Refusal
@@ -72,7 +61,7 @@ FillsFromDynamic value file first old answer new = (bytes : Result (List ℕ) Li
     × AreDynamicSymbols file bytes × Fills (dynamic_symbol_at value file bytes) first old answer new
 
 -- the input range of the string table of the entries, or why there is none
-abbrev pub strings_by : ElfFile → Result (List (DynamicEntry ℕ)) LinkError → Result Range Refusal
+abbrev pub strings_by : ElfFile → Result (List (Dynamic ℕ)) LinkError → Result Range Refusal
 strings_by file (Ok entries) = strings_range file entries
 strings_by file (Err error) = Err (Link error)
 
@@ -105,7 +94,7 @@ table_at_address file strings (Ok count) (Some address) =
     table_in_range file strings count (range_at_address file address (count * symbol_size file))
 
 -- the record of the symbols of the entries, with their number
-abbrev pub table_by : ElfFile → Result (List (DynamicEntry ℕ)) LinkError → Result ℕ LinkError → Result SymbolTable Refusal
+abbrev pub table_by : ElfFile → Result (List (Dynamic ℕ)) LinkError → Result ℕ LinkError → Result SymbolTable Refusal
 table_by file (Ok entries) count =
     table_at_address file (strings_range file entries) count (number_with DT_SYMTAB entries)
 table_by file (Err error) count = Err (Link error)

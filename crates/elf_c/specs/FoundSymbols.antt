@@ -1,21 +1,17 @@
 -- The symbol that a reference gets by its name and version, as numbers (gABI, "Dynamic Section"; LSB, "Symbol
 -- Versioning").
-use Rattle.std.specs.Prelude.{◌≡◌, ◌≢◌, ◌==◌, ℕ, Bool, true, false, List, [], length, Option, None, Some, Result, Ok, Err}
-use Rattle.elf_base.specs.FileHeader.{file_class, file_order}
-use Rattle.elf_base.specs.Table.{records}
+use Rattle.std.specs.Prelude.{◌≡◌, ◌≢◌, ◌==◌, ℕ, Bool, true, false, List, [], Option, None, Some, Result, Ok, Err}
+use Rattle.elf_base.specs.FileHeader.{file_class}
 use Rattle.elf_base.specs.declared.bytes.Order.{Order}
 use Rattle.elf_records.specs.HashNumber.{hash_number}
-use Rattle.elf_linking.specs.AnyTable.{IsGoodBy, IsLinkedTable, linked_symbols_32, linked_symbols_64}
-use Rattle.elf_linking.specs.DynamicObject.{AreOfClass, IsObjectRefused}
-use Rattle.elf_linking.specs.DynamicView.{dynamic_entries_of, strings_of}
+use Rattle.elf_linking.specs.AnyTable.{IsGoodBy}
+use Rattle.elf_linking.specs.DynamicObject.{AreDynamicSymbols, IsObjectRefused}
 use Rattle.elf_linking.specs.Find.{AreReadable, DynamicSymbols, FindsRight, IsFound}
-use Rattle.elf_linking.specs.VersionTables.{version_tables_of}
 use Rattle.elf_linking.specs.declared.error.LinkError.{LinkError}
 use Rattle.elf_linking.specs.declared.find.Use.TheVariants.{Any}
 use Rattle.elf_linking.specs.declared.find.Wanted.{Wanted}
 use Rattle.elf_linking.specs.declared.find.Wanted.TheVariants.{Newest, Unversioned, Version}
-use Rattle.elf_linking.specs.declared.view.entry.DynamicEntry.{DynamicEntry}
-use Rattle.xmas_elf.specs.Symbol.{SymbolFields, Symbols}
+use Rattle.xmas_elf.specs.Symbol.{SymbolFields, dyn_entry_32, dyn_entry_32_fields, dyn_entry_64, dyn_entry_64_fields}
 use Rattle.xmas_elf.specs.declared.ElfFile.{ElfFile}
 use Rattle.elf_c.specs.LookUps.{IfUtf8}
 use Rattle.elf_c.specs.Symbols.{symbol_record}
@@ -28,11 +24,12 @@ use Rattle.elf_c.specs.declared.symbols.Symbol.{Symbol}
 abbrev pub no_symbol : Symbol
 no_symbol = record { value = 0; size = 0; name = 0; shndx = 0; info = 0; other = 0 }
 
--- the numbers of the symbol that a search found, if any, and of its result
+-- the numbers of the symbol that a search found, if any
 abbrev pub found_symbol : {E : Type 0} → (E → SymbolFields) → Option (ℕ × E) → FoundSymbol
 found_symbol fields None = record { symbol = no_symbol; found = 0; index = 0 }
 found_symbol fields (Some at) = record { symbol = symbol_record (fields at.1); found = 1; index = at.0 }
 
+-- the numbers of the result of a search
 abbrev pub found_answer : {E : Type 0} → (E → SymbolFields) → Result (Option (ℕ × E)) LinkError → Result FoundSymbol Refusal
 found_answer fields (Ok found) = Ok (found_symbol fields found)
 found_answer fields (Err error) = Err (Link error)
@@ -44,22 +41,6 @@ IsWanted version Unversioned = ⊥
 IsWanted version (Version name hash hidden) =
     (version ≢ []) × (name.now ≡ version) × (hash ≡ hash_number version) × (hidden ≡ false)
 
--- the symbols in bytes, by the layout of one
-abbrev pub symbols_by : {E : Type 0} → ℕ → (Order → List ℕ → E) → (E → SymbolFields) → (E → ElfFile → Option (List ℕ)) → ElfFile → Order → List ℕ → Symbols E
-symbols_by size value fields text_in file order bytes =
-    record { items = records size (value order) bytes; fields = fields; text = λ e. text_in e file }
-
--- the dynamic symbols of a file of this class, with symbols of this size: its hash table, the symbols, and the
--- version tables, by the entries of its dynamic segment
-pub record AreDynamic {E : Type 0} (class size : ℕ) (symbols_in : ElfFile → Order → List ℕ → Symbols E) (file : ElfFile) (all : DynamicSymbols E) : Type 0 where
-  pub entries : List (DynamicEntry ℕ)
-  pub bytes : List ℕ
-  pub entries_are : dynamic_entries_of file ≡ Ok entries
-  pub table_is : IsLinkedTable file entries all.table
-  pub bytes_are : AreOfClass class size file entries bytes
-  pub symbols_are : all.symbols ≡ symbols_in file (file_order file.header) bytes
-  pub versions_are : version_tables_of file entries (strings_of file) (length all.symbols.items) ≡ Ok all.versions
-
 -- the result of a search among dynamic symbols for a name and a version; if look-ups find all that they must
 -- and the versions can be read, the right one
 pub record IsSearched {E : Type 0} (all : DynamicSymbols E) (name version : List ℕ) (answer : Result FoundSymbol Refusal) : Type 0 where
@@ -70,18 +51,21 @@ pub record IsSearched {E : Type 0} (all : DynamicSymbols E) (name version : List
   pub is_right : IsGoodBy all.table all.symbols → AreReadable all → FindsRight all name wanted Any found
   pub numbers : answer ≡ found_answer all.symbols.fields found
 
--- the result of such a search in a file of this class, or why the file has no dynamic symbols
-pub data IsSearch {E : Type 0} (class size : ℕ) (symbols_in : ElfFile → Order → List ℕ → Symbols E) (file : ElfFile) (name version : List ℕ) : Result FoundSymbol Refusal → Type 0 where
-  searched : (all : DynamicSymbols E) (answer : Result FoundSymbol Refusal) → AreDynamic class size symbols_in file all
-      → IsSearched all name version answer → IsSearch class size symbols_in file name version answer
+-- the result of such a search in a file of this class, with symbols of this size, or why the file has no dynamic
+-- symbols
+pub data IsSearch {E : Type 0} (class size : ℕ) (entry : Order → List ℕ → E) (fields : E → SymbolFields) (file : ElfFile) (name version : List ℕ) : Result FoundSymbol Refusal → Type 0 where
+  searched : (all : DynamicSymbols E) (answer : Result FoundSymbol Refusal)
+      → AreDynamicSymbols class size entry fields file all → IsSearched all name version answer
+      → IsSearch class size entry fields file name version answer
   refused : (error : LinkError) → IsObjectRefused class size file error
-      → IsSearch class size symbols_in file name version (Err (Link error))
+      → IsSearch class size entry fields file name version (Err (Link error))
 
--- the result of such a search in a file, by its class: 32 or another one
+-- the result of such a search in a file that is of class 32, or of another one
 abbrev pub IsByClass : Bool → ElfFile → List ℕ → List ℕ → Result FoundSymbol Refusal → Type 0
-IsByClass true file name version answer = IsSearch 1 16 linked_symbols_32 file name version answer
-IsByClass false file name version answer = IsSearch 2 24 linked_symbols_64 file name version answer
+IsByClass true file name version answer = IsSearch 1 16 dyn_entry_32 dyn_entry_32_fields file name version answer
+IsByClass false file name version answer = IsSearch 2 24 dyn_entry_64 dyn_entry_64_fields file name version answer
 
+-- the result of such a search in a file
 abbrev pub IsFoundSymbol : ElfFile → List ℕ → List ℕ → Result FoundSymbol Refusal → Type 0
 IsFoundSymbol file name version answer = IsByClass (file_class file.header == 1) file name version answer
 

@@ -16,11 +16,12 @@ use Rattle.elf_c.specs.declared.hash_tables.Kind.{Kind}
 use Rattle.elf_c.specs.declared.status.Refusal.{Refusal}
 use Rattle.elf_c.specs.declared.status.Refusal.TheVariants.{Elf, Link}
 
--- the numbers of a look-up: whether it finds a symbol, its index, and the number of entries it visited
+-- the numbers of the symbol that a look-up finds, if any: its index, and the number of entries that it visited
 abbrev pub looked_up : {E : Type 0} → Option (ℕ × E) → ℕ → LookUp
 looked_up None count = record { found = 0; index = 0; looked_at = count }
 looked_up (Some entry) count = record { found = 1; index = entry.0; looked_at = count }
 
+-- the result of a look-up as numbers
 abbrev pub look_up_answer : {E : Type 0} → Result (Option (ℕ × E)) LinkError → ℕ → Result LookUp Refusal
 look_up_answer (Ok found) count = Ok (looked_up found count)
 look_up_answer (Err error) count = Err (Link error)
@@ -38,11 +39,12 @@ IsLookUp {E} table name symbols answer = (found : Result (Option (ℕ × E)) Lin
 abbrev pub LooksAmong : ElfFile → List ℕ → AnyTable → Result Content ElfError → Result LookUp Refusal → Type 0
 LooksAmong file name table = OfSymbols file (λ E symbols. IsLookUp table name symbols)
 
--- the result is that of the check of the table with symbols
+-- the result of a check, as a call gives it
 abbrev pub check_answer : Result (Unit {0}) LinkError → Result (Unit {0}) Refusal
 check_answer (Ok _) = Ok tt
 check_answer (Err error) = Err (Link error)
 
+-- the result is that of the check of the table with symbols
 abbrev pub IsChecked : {E : Type 0} → AnyTable → Symbols E → Result (Unit {0}) Refusal → Type 0
 IsChecked table symbols answer =
     (verdict : Result (Unit {0}) LinkError) × IsCheckBy table symbols verdict × (answer ≡ check_answer verdict)

@@ -2,16 +2,15 @@
 -- "Hash Table"; the convention of GNU binutils and glibc).
 use Rattle.std.specs.Prelude.{◌≡◌, ◌≢◌, ℕ, ◌%◌, ◌==◌, Bool, true, false, List, codes, length, Result, Ok, Err, MatchResult, if◌then◌else◌}
 use Rattle.std.specs.Option.{ok_or}
-use Rattle.std.specs.Result.{result_ok}
 use Rattle.elf_base.specs.FileHeader.{encoding_number, file_class, order_of}
 use Rattle.elf_base.specs.Refusal.{and_then}
 use Rattle.elf_base.specs.Table.{records}
-use Rattle.elf_base.specs.Text.{text_of}
 use Rattle.elf_base.specs.declared.bytes.Order.{Order}
 use Rattle.elf_base.specs.declared.header.numbers.Class.{Class}
 use Rattle.elf_base.specs.declared.header.numbers.Class.TheVariants.{SixtyFour, ThirtyTwo}
 use Rattle.elf_base.specs.declared.error.ElfError.{ElfError}
 use Rattle.elf_base.specs.declared.error.ElfError.TheVariants.{NoDynstr, NotMultiple}
+use Rattle.elf_linking.specs.DynamicObject.{symbols_with}
 use Rattle.elf_linking.specs.GnuHash.{gnu_class, gnu_data, gnu_order}
 use Rattle.elf_linking.specs.Layouts.{gnu_table_of}
 use Rattle.elf_linking.specs.declared.any_table.AnyTable.{AnyTable}
@@ -21,7 +20,7 @@ use Rattle.xmas_elf.specs.NameTable.{section_named}
 use Rattle.xmas_elf.specs.Ranges.{range_of}
 use Rattle.xmas_elf.specs.SectionContent.{section_content_of}
 use Rattle.xmas_elf.specs.SectionHeader.{section_fields, section_of}
-use Rattle.xmas_elf.specs.Symbol.{SymbolFields, Symbols, dyn_entry_32, dyn_entry_64, entry_32, entry_32_fields, entry_64, entry_64_fields}
+use Rattle.xmas_elf.specs.Symbol.{Symbols, dyn_entry_32, dyn_entry_32_fields, dyn_entry_64, dyn_entry_64_fields}
 use Rattle.xmas_elf.specs.declared.ElfFile.{ElfFile}
 use Rattle.xmas_elf.specs.declared.sections.section_header.SectionHeader.{SectionHeader}
 use Rattle.elf_c.specs.HashTables.{IsSysvTable, IsTableOf}
@@ -35,7 +34,6 @@ use Rattle.elf_c.specs.declared.names.Range.{Range}
 use Rattle.elf_c.specs.declared.opened_tables.OpenedTable.{OpenedTable}
 use Rattle.elf_c.specs.declared.status.Refusal.{Refusal}
 use Rattle.elf_c.specs.declared.status.Refusal.TheVariants.{Elf, Link, OtherData}
-use Rattle.elf_c.specs.declared.stored.Stored.{Stored}
 use Rattle.elf_c.specs.declared.symbol_tables.SymbolTable.{SymbolTable}
 
 -- the class of a number: 1 for class 32, any other number for class 64
@@ -59,23 +57,16 @@ IsTableBy kind input opened answer = MatchResult (range_of input opened.table.of
     (λ bytes. IsTableIn kind (class_by opened.symbols.class) (order_of opened.symbols.encoding) bytes answer)
     (λ error. answer ≡ Err (Elf error))
 
--- the symbols in bytes, by the layout of one, with their names in a string table
-abbrev pub stored : {E : Type 0} → ℕ → (Order → List ℕ → E) → (E → SymbolFields) → Order → List ℕ → List ℕ → Symbols (Stored E)
-stored size value fields order strings bytes = record {
-  items = records size (λ part. record { 0 = value order part }) bytes;
-  fields = λ e. fields e.0;
-  text = λ e. result_ok (text_of strings (fields e.0).name);
-}
-
 -- the result is that of a look-up for the name among these symbols, if the bytes are a whole number of them
-pub record LooksStored {E : Type 0} (size : ℕ) (all : Symbols (Stored E)) (bytes : List ℕ) (table : AnyTable) (name : List ℕ) (answer : Result LookUp Refusal) : Type 0 where
+pub record LooksWithin {E : Type 0} (size : ℕ) (all : Symbols E) (bytes : List ℕ) (table : AnyTable) (name : List ℕ) (answer : Result LookUp Refusal) : Type 0 where
   pub whole : length bytes % size ≡ 0 → IsLookUp table name all answer
   pub not_whole : length bytes % size ≢ 0 → answer ≡ Err (Elf NotMultiple)
 
--- the symbols are of class 32, or of class 64
+-- the result is that of a look-up among the symbols in bytes, of class 32 or of class 64, with their names in a
+-- string table
 abbrev pub LooksByClass : Bool → Order → List ℕ → List ℕ → AnyTable → List ℕ → Result LookUp Refusal → Type 0
-LooksByClass true order strings bytes = LooksStored 16 (stored 16 entry_32 entry_32_fields order strings bytes) bytes
-LooksByClass false order strings bytes = LooksStored 24 (stored 24 entry_64 entry_64_fields order strings bytes) bytes
+LooksByClass true order strings bytes = LooksWithin 16 (symbols_with 16 (dyn_entry_32 order) dyn_entry_32_fields strings bytes) bytes
+LooksByClass false order strings bytes = LooksWithin 24 (symbols_with 24 (dyn_entry_64 order) dyn_entry_64_fields strings bytes) bytes
 
 -- the result is that of a look-up for the name among the symbols of a record
 abbrev pub LooksAmong : List ℕ → OpenedTable → AnyTable → List ℕ → Result LookUp Refusal → Type 0
@@ -112,10 +103,12 @@ dynamic_with file header count = let strings = name_answer (dynamic_strings file
   encoding = encoding_number file.header.pt1.encoding;
 }
 
+-- that record, if the section has such symbols
 abbrev pub dynamic_if : ElfFile → SectionHeader → Result ℕ Refusal → Result SymbolTable Refusal
 dynamic_if file header (Ok count) = Ok (dynamic_with file header count)
 dynamic_if file header (Err why) = Err why
 
+-- the record of the symbols of the section at an index, if it has such symbols
 abbrev pub dynamic_table : ElfFile → ℕ → Result SymbolTable Refusal
 dynamic_table file section = and_so (section_of file section) (λ header.
     and_so (section_content_of file header) (λ content. dynamic_if file header (dynamic_count_in content)))

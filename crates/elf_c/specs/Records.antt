@@ -24,11 +24,12 @@ use Rattle.elf_c.specs.declared.segments.Segment.{Segment}
 use Rattle.elf_c.specs.declared.status.Refusal.{Refusal}
 use Rattle.elf_c.specs.declared.status.Refusal.TheVariants.{NoRecord, NotFound}
 
--- the record of the item at an index, or that there is none
+-- the record of an item, or that there is none
 abbrev pub taken_for : {A T : Type 0} → (A → T) → Option A → Result T Refusal
 taken_for value None = Err NoRecord
 taken_for value (Some item) = Ok (value item)
 
+-- the record of the item at an index, or that there is none
 abbrev pub found_in : {A T : Type 0} → (A → T) → List A → ℕ → Result T Refusal
 found_in value items index = taken_for value (slice_get items index)
 

@@ -15,9 +15,11 @@ refusal_row OtherData = (201, codes "A section holds other data than what is ask
 refusal_row NoRecord = (202, codes "A table has no record with this index")
 refusal_row NotFound = (203, codes "Nothing has this name")
 
+-- the number of an error of an export
 abbrev pub refusal_number : Refusal → ℕ
 refusal_number refusal = (refusal_row refusal).0
 
+-- the text of an error of an export
 abbrev pub refusal_message : Refusal → List ℕ
 refusal_message refusal = (refusal_row refusal).1
 
@@ -31,8 +33,10 @@ abbrev pub GivesBy : {T E : Type 0} → (E → ℕ) → Result T E → T → ℕ
 GivesBy number_of (Ok value) old status new = (status ≡ 0) × (new ≡ value)
 GivesBy number_of (Err error) old status new = (status ≡ number_of error) × (new ≡ old)
 
+-- the same for a call whose errors are those of the library
 abbrev pub Gives : {T : Type 0} → Result T ElfError → T → ℕ → T → Type 0
 Gives answer old status new = GivesBy error_number answer old status new
 
+-- the same for a call whose errors are those of an export
 abbrev pub GivesHere : {T : Type 0} → Result T Refusal → T → ℕ → T → Type 0
 GivesHere answer old status new = GivesBy refusal_number answer old status new

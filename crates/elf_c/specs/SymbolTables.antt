@@ -44,6 +44,7 @@ abbrev pub table_if : ElfFile → SectionHeader → Result ℕ Refusal → Resul
 table_if file header (Ok count) = Ok (table_with file header count)
 table_if file header (Err why) = Err why
 
+-- the record of the section at an index, if it has symbols
 abbrev pub table_of_section : ElfFile → ℕ → Result SymbolTable Refusal
 table_of_section file section = and_so (section_of file section) (λ header.
     and_so (section_content_of file header) (λ content. table_if file header (count_in content)))

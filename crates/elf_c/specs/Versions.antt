@@ -7,7 +7,7 @@ use Rattle.elf_linking.specs.DynamicView.{dynamic_entries_of}
 use Rattle.elf_linking.specs.VersionTables.{DefinitionParts, NeedParts, VersionTables, definitions_in, needs_in, version_tables_of}
 use Rattle.elf_linking.specs.Versions.{Defined, NamedParts, Needed, VersionParts, version_at}
 use Rattle.elf_linking.specs.declared.error.LinkError.{LinkError}
-use Rattle.elf_linking.specs.declared.view.entry.DynamicEntry.{DynamicEntry}
+use Rattle.elf_records.specs.declared.dynamic.Dynamic.{Dynamic}
 use Rattle.xmas_elf.specs.declared.ElfFile.{ElfFile}
 use Rattle.elf_c.specs.Batch.{Fills}
 use Rattle.elf_c.specs.DynamicSymbols.{IsDynamicCount, strings_by}
@@ -22,7 +22,7 @@ use Rattle.elf_c.specs.declared.versions.Version.{Version}
 use Rattle.elf_c.specs.declared.versions.TheConstants.{DEFINED, NEEDED, UNNAMED}
 
 -- the version tables by the entries, for this number of symbols, or why there are none
-abbrev pub tables_by : ElfFile → ℕ → Result (List (DynamicEntry ℕ)) LinkError → Result VersionTables LinkError
+abbrev pub tables_by : ElfFile → ℕ → Result (List (Dynamic ℕ)) LinkError → Result VersionTables LinkError
 tables_by file count (Ok entries) = version_tables_of file entries (view.strings_by file entries) count
 tables_by file count (Err error) = Err error
 
@@ -115,10 +115,11 @@ abbrev pub need_item : List ℕ → Result Range Refusal → Result NeedParts Li
 need_item input strings (Ok need) = needed_as input strings need.number need.hidden need
 need_item input strings (Err error) = unreadable error
 
--- the definitions and the needs of a file, in order
+-- the definitions of a file, in order
 abbrev pub definition_items : List ℕ → Result Range Refusal → List (Result DefinitionParts LinkError) → List Version
 definition_items input strings items = map (definition_item input strings) items
 
+-- the needs of a file, in order
 abbrev pub need_items : List ℕ → Result Range Refusal → List (Result NeedParts LinkError) → List Version
 need_items input strings items = map (need_item input strings) items
 
@@ -172,10 +173,11 @@ abbrev pub FillsVersions : ElfFile → ℕ → List Version → Result ℕ Refus
 FillsVersions file first old answer new = (count : Result ℕ LinkError) × IsDynamicCount file count
     × Fills (symbol_version_at file count) first old answer new
 
--- the ranges of a version's names lie in the input, and those of the first `count` versions do
+-- the ranges of a version's names lie in the input
 abbrev pub NamesLieIn : List ℕ → Version → Type 0
 NamesLieIn input version = LiesIn input version.name × LiesIn input version.file
 
+-- the ranges of the names of the first `count` versions lie in the input
 abbrev pub AllNamesLieIn : List ℕ → ℕ → List Version → Type 0
 AllNamesLieIn input count versions =
     (k : ℕ) (version : Version) → k < count → slice_get versions k ≡ Some version → NamesLieIn input version

@@ -35,7 +35,7 @@ use elf_linking::LinkError;
 use elf_linking::view::{DT_SYMTAB, DynamicView};
 use xmas_elf::ElfFile;
 use xmas_elf::bytes::{Record, Table};
-use xmas_elf::symbol_table::Entry;
+use xmas_elf::symbol_table::{DynEntry32, DynEntry64, Entry};
 
 // Whether a file is of class 32.
 pub(crate) fn is_narrow(file: &ElfFile<'_>) -> bool
@@ -48,10 +48,7 @@ pub(crate) fn is_narrow(file: &ElfFile<'_>) -> bool
 pub(crate) fn symbol_count(file: &ElfFile<'_>) -> Result<u64, LinkError>
     ensures { IsDynamicCount file.now result }
 {
-    match DynamicView::read(file) {
-        Ok(view) => view.symbol_count(file),
-        Err(error) => Err(error),
-    }
+    DynamicView::read(file)?.symbol_count(file)
 }
 
 /// The number of symbols of the dynamic segment: that of `DynamicView::symbol_count`, by the hash
@@ -70,29 +67,22 @@ pub extern "C" fn xmas_elf_dynamic_symbol_count(input: &[u8], header: &Parsed, o
 fn fill_symbols(file: &ElfFile<'_>, first: u64, out: &mut [Symbol]) -> Result<u64, Refusal>
     ensures { FillsFromDynamic symbol_record file.now first out.old result out.new }
 {
-    let view = match DynamicView::read(file) {
-        Ok(view) => view,
-        Err(error) => return Err(Refusal::Link(error)),
-    };
+    let view = DynamicView::read(file)?;
     if is_narrow(file) {
-        match view.symbols_32(file) {
-            Ok(symbols) => fill(symbols, first, out),
-            Err(error) => Err(Refusal::Link(error)),
-        }
+        let narrow = view.records::<DynEntry32>(file)?;
+        fill(narrow, first, out)
     } else {
-        match view.symbols_64(file) {
-            Ok(symbols) => fill(symbols, first, out),
-            Err(error) => Err(Refusal::Link(error)),
-        }
+        let wide = view.records::<DynEntry64>(file)?;
+        fill(wide, first, out)
     }
 }
 
-/// The symbols of the dynamic segment from index `first` on, those of `DynamicView::symbols_32` or
-/// `DynamicView::symbols_64` by the class: as many as fit in `out`, or all. `count` is set to their
-/// number; the rest of `out` is unchanged. It needs no section headers.
+/// The symbols of the dynamic segment from index `first` on, those of `DynamicView::records` for
+/// the class: as many as fit in `out`, or all. `count` is set to their number; the rest of `out` is
+/// unchanged. It needs no section headers.
 ///
-/// Errors: those of `DynamicView::read` and `DynamicView::symbols_32`; `NoRecord` if there are no
-/// more than `first` symbols; `out` and `count` are then unchanged.
+/// Errors: those of `DynamicView::read` and `DynamicView::records`; `NoRecord` if there are no more
+/// than `first` symbols; `out` and `count` are then unchanged.
 #[unsafe(no_mangle)]
 pub extern "C" fn xmas_elf_dynamic_symbols(
     input: &[u8],
@@ -169,21 +159,14 @@ fn fill_names(file: &ElfFile<'_>, first: u64, out: &mut [Name]) -> Result<u64, R
         first out.old result out.new }
     ensures within { IfOk result (λ count. AllLieIn file.now.input.now count out.new) }
 {
-    let view = match DynamicView::read(file) {
-        Ok(view) => view,
-        Err(error) => return Err(Refusal::Link(error)),
-    };
+    let view = DynamicView::read(file)?;
     let strings = strings_of(file, &view);
     if is_narrow(file) {
-        match view.symbols_32(file) {
-            Ok(symbols) => names(&symbols, strings, file.input, first, out),
-            Err(error) => Err(Refusal::Link(error)),
-        }
+        let narrow = view.records::<DynEntry32>(file)?;
+        names(&narrow, strings, file.input, first, out)
     } else {
-        match view.symbols_64(file) {
-            Ok(symbols) => names(&symbols, strings, file.input, first, out),
-            Err(error) => Err(Refusal::Link(error)),
-        }
+        let wide = view.records::<DynEntry64>(file)?;
+        names(&wide, strings, file.input, first, out)
     }
 }
 
@@ -252,14 +235,9 @@ fn table_of_view(
 fn table_of_segment(file: &ElfFile<'_>) -> Result<SymbolTable, Refusal>
     ensures { IsSegmentTable file.now result }
 {
-    let view = match DynamicView::read(file) {
-        Ok(view) => view,
-        Err(error) => return Err(Refusal::Link(error)),
-    };
-    match view.symbol_count(file) {
-        Ok(count) => table_of_view(file, &view, count),
-        Err(error) => Err(Refusal::Link(error)),
-    }
+    let view = DynamicView::read(file)?;
+    let count = view.symbol_count(file)?;
+    table_of_view(file, &view, count)
 }
 
 /// The symbols of the dynamic segment and the string table of their names, found once, for

@@ -39,10 +39,7 @@ pub(crate) fn text_by(
     ensures exact { result ≡ range_in_strings input.now strings place }
     ensures within { IfOk result (LiesIn input.now) }
 {
-    match strings {
-        Ok(part) => Ok(text_in(input, &part, place)?),
-        Err(error) => Err(error),
-    }
+    Ok(text_in(input, &strings?, place)?)
 }
 
 // The range of the text at the offset in the first entry with a tag.
@@ -50,10 +47,7 @@ fn text_with(file: &ElfFile<'_>, tag: u64) -> Result<Range, Refusal>
     ensures exact { result ≡ dynamic_text_of file.now tag }
     ensures within { IfOk result (LiesIn file.now.input.now) }
 {
-    let view = match DynamicView::read(file) {
-        Ok(view) => view,
-        Err(error) => return Err(Refusal::Link(error)),
-    };
+    let view = DynamicView::read(file)?;
     match view.entry(tag) {
         Some(place) => text_by(file.input, strings_of(file, &view), place),
         None => Err(Refusal::NotFound),
@@ -112,8 +106,8 @@ impl Sequence for NeededNames<'_> {
     fn next(&mut self) -> Option<Name> {
         loop {
             let entry = self.entries.next()?;
-            if entry.tag == DT_NEEDED {
-                return Some(name_of(text_by(self.input, self.strings, entry.number)));
+            if entry.raw_tag() == DT_NEEDED {
+                return Some(name_of(text_by(self.input, self.strings, entry.raw_val())));
             }
         }
     }
@@ -124,10 +118,7 @@ fn fill_needed(file: &ElfFile<'_>, first: u64, out: &mut [Name]) -> Result<u64, 
     ensures exact { Fills (needed_at file.now) first out.old result out.new }
     ensures within { IfOk result (λ count. AllLieIn file.now.input.now count out.new) }
 {
-    let view = match DynamicView::read(file) {
-        Ok(view) => view,
-        Err(error) => return Err(Refusal::Link(error)),
-    };
+    let view = DynamicView::read(file)?;
     let names = NeededNames {
         entries: view.entries(),
         strings: strings_of(file, &view),

@@ -3,7 +3,7 @@
 
 ghost use Rattle.std.specs.Prelude.{◌≡◌, Result};
 ghost use Rattle.elf_c.specs.FoundSymbols.{IsFoundBy, IsFoundSymbol, IsSearch, IsWanted};
-ghost use Rattle.elf_c.specs.FoundSymbols.{found_answer, found_symbol, symbols_by};
+ghost use Rattle.elf_c.specs.FoundSymbols.{found_answer, found_symbol};
 ghost use Rattle.elf_c.specs.LookUps.{IfUtf8, IsNamed};
 ghost use Rattle.elf_c.specs.Parsed.{file_of};
 ghost use Rattle.elf_c.specs.Status.{GivesHere};
@@ -16,12 +16,12 @@ use crate::status::{Refusal, give};
 use crate::symbols::Symbol;
 use elf_base::ElfError;
 use elf_linking::find::{Use, Wanted};
-use elf_linking::view::{LinkedEntry32, LinkedEntry64, LinkedSymbol};
+use elf_linking::view::LinkedSymbol;
 use elf_linking::{DynamicObject, LinkError};
 use std::str::from_utf8;
 use xmas_elf::ElfFile;
 use xmas_elf::bytes::Record;
-use xmas_elf::symbol_table::Entry;
+use xmas_elf::symbol_table::{DynEntry32, DynEntry64, Entry};
 
 // The numbers of no symbol.
 const NO_SYMBOL: Symbol = Symbol {
@@ -71,10 +71,7 @@ fn said<E: Entry + Record>(
 ) -> Result<FoundSymbol, Refusal>
     ensures { result ≡ found_answer E.fields found }
 {
-    match found {
-        Ok(found) => Ok(FoundSymbol::of(found)),
-        Err(error) => Err(Refusal::Link(error)),
-    }
+    Ok(FoundSymbol::of(found?))
 }
 
 // What is asked for: the version with a name, and with an empty one what `dlsym` asks for.
@@ -94,13 +91,10 @@ fn search<E: LinkedSymbol>(
     name: &str,
     version: &str,
 ) -> Result<FoundSymbol, Refusal>
-    ensures { IsSearch E.CLASS E.SIZE (symbols_by E.SIZE E.value E.fields E.text_in) file.now
-        name.now version.now result }
+    ensures { IsSearch E.CLASS E.SIZE E.value E.fields file.now name.now version.now result }
 {
-    match DynamicObject::<E>::read(file) {
-        Ok(object) => said(object.find(name, &wanted_of(version), Use::Any)),
-        Err(error) => Err(Refusal::Link(error)),
-    }
+    let object = DynamicObject::<E>::read(file)?;
+    said(object.find(name, &wanted_of(version), Use::Any))
 }
 
 // Searches the dynamic symbols of a file, by its class.
@@ -108,9 +102,9 @@ fn search_by_class(file: &ElfFile<'_>, name: &str, version: &str) -> Result<Foun
     ensures { IsFoundSymbol file.now name.now version.now result }
 {
     if is_narrow(file) {
-        search::<LinkedEntry32>(file, name, version)
+        search::<DynEntry32>(file, name, version)
     } else {
-        search::<LinkedEntry64>(file, name, version)
+        search::<DynEntry64>(file, name, version)
     }
 }
 
@@ -128,14 +122,8 @@ fn text_of(bytes: &[u8]) -> Result<&str, Refusal>
 fn search_by(file: &ElfFile<'_>, name: &[u8], version: &[u8]) -> Result<FoundSymbol, Refusal>
     ensures { IsFoundBy file.now name.now version.now result }
 {
-    let name = match text_of(name) {
-        Ok(name) => name,
-        Err(error) => return Err(error),
-    };
-    match text_of(version) {
-        Ok(version) => search_by_class(file, name, version),
-        Err(error) => Err(error),
-    }
+    let name = text_of(name)?;
+    search_by_class(file, name, text_of(version)?)
 }
 
 /// The symbol that a reference gets by a name and the name of a version: the result of

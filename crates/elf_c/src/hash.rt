@@ -69,14 +69,11 @@ fn said<E: Copy>(
 ) -> Result<LookUp, Refusal>
     ensures { result ≡ look_up_answer found looked_at }
 {
-    match found {
-        Ok(found) => Ok(LookUp::of(found, looked_at)),
-        Err(error) => Err(Refusal::Link(error)),
-    }
+    Ok(LookUp::of(found?, looked_at))
 }
 
 // Looks a name up among symbols.
-fn look_up<E: Entry + Record>(
+pub(crate) fn look_up<E: Entry + Record>(
     table: &AnyTable<'_>,
     name: &str,
     symbols: &SymbolTable<'_, E>,
@@ -94,7 +91,7 @@ fn look_up<E: Entry + Record>(
 }
 
 // Looks a name up among the symbols of a table of this file.
-pub(crate) fn look_up_of<E: Entry + Record>(
+fn look_up_of<E: Entry + Record>(
     table: &AnyTable<'_>,
     name: &str,
     symbols: &Table<'_, E>,
@@ -128,10 +125,8 @@ fn look_up_among(
 fn look_up_in(kind: Kind, file: &ElfFile<'_>, section: u64, name: &str) -> Result<LookUp, Refusal>
     ensures { WithTable kind file.now section (LooksAmong file.now name.now) result }
 {
-    match table_at(kind, file, section) {
-        Ok((table, linked)) => look_up_among(&table, name, &linked, file),
-        Err(refusal) => Err(refusal),
-    }
+    let (table, linked) = table_at(kind, file, section)?;
+    look_up_among(&table, name, &linked, file)
 }
 
 // Looks up a name in bytes, which may not be UTF-8.
@@ -336,10 +331,8 @@ fn check_of<E: Entry + Record>(
 ) -> Result<(), Refusal>
     ensures { IsChecked table.now (symbols_of E.fields E.text_in symbols.now file.now) result }
 {
-    match table.check(&SymbolTable::new(*symbols, file)) {
-        Ok(()) => Ok(()),
-        Err(error) => Err(Refusal::Link(error)),
-    }
+    table.check(&SymbolTable::new(*symbols, file))?;
+    Ok(())
 }
 
 // Checks a table with the symbols in the data of a section.
@@ -363,10 +356,8 @@ fn check_with(
 fn check_in(kind: Kind, file: &ElfFile<'_>, section: u64) -> Result<(), Refusal>
     ensures { WithTable kind file.now section (ChecksWith file.now) result }
 {
-    match table_at(kind, file, section) {
-        Ok((table, linked)) => check_with(&table, &linked, file),
-        Err(refusal) => Err(refusal),
-    }
+    let (table, linked) = table_at(kind, file, section)?;
+    check_with(&table, &linked, file)
 }
 
 /// Whether look-ups in the hash table of the ELF standard in the section at an index find each

@@ -27,7 +27,6 @@ pub mod relocations;
 pub mod sections;
 pub mod segments;
 pub mod status;
-pub mod stored;
 pub mod symbol_tables;
 pub mod symbols;
 pub mod versions;

@@ -7,25 +7,25 @@ ghost use Rattle.elf_c.specs.HashTables.{IsSysvTable};
 ghost use Rattle.elf_c.specs.LookUps.{IfUtf8};
 ghost use Rattle.elf_c.specs.Lookup.{IsLookUpBy};
 ghost use Rattle.elf_c.specs.OpenedTables.{IsGnuOf, IsOpened, IsTableBy, IsTableIn, LooksAmong};
-ghost use Rattle.elf_c.specs.OpenedTables.{LooksBy, LooksByClass, LooksStored, class_by};
+ghost use Rattle.elf_c.specs.OpenedTables.{LooksBy, LooksByClass, LooksWithin, class_by};
 ghost use Rattle.elf_c.specs.OpenedTables.{dynamic_count_in, dynamic_strings, dynamic_table};
-ghost use Rattle.elf_c.specs.OpenedTables.{opened_with, stored};
+ghost use Rattle.elf_c.specs.OpenedTables.{opened_with};
 ghost use Rattle.elf_c.specs.Parsed.{file_of};
 ghost use Rattle.elf_c.specs.Status.{GivesHere};
 ghost use Rattle.elf_c.specs.declared.hash.LookUp.{LookUp};
 ghost use Rattle.elf_c.specs.declared.hash_tables.Kind.TheVariants.{Gnu, Sysv};
 ghost use Rattle.elf_c.specs.declared.opened_tables.OpenedTable.{OpenedTable};
 ghost use Rattle.elf_c.specs.declared.status.Refusal.{Refusal};
+ghost use Rattle.elf_linking.specs.DynamicObject.{symbols_with};
 ghost use Rattle.xmas_elf.specs.Content.{hash_table_content};
 ghost use Rattle.xmas_elf.specs.SectionContent.{section_content};
 ghost use Rattle.xmas_elf.specs.SectionHeader.{section_fields};
 
 use crate::file::Parsed;
-use crate::hash::{LookUp, look_up_of};
+use crate::hash::{LookUp, look_up};
 use crate::hash_tables::{Kind, table_of};
 use crate::names::{Name, Range, bytes_in};
 use crate::status::{Refusal, give};
-use crate::stored::Stored;
 use crate::symbol_tables::{SymbolTable, order_of};
 use elf_base::ElfError;
 use elf_base::bytes::Order;
@@ -37,30 +37,7 @@ use xmas_elf::ElfFile;
 use xmas_elf::bytes::{Record, Table};
 use xmas_elf::hash::HashTable;
 use xmas_elf::sections::{SectionData, SectionHeader};
-use xmas_elf::symbol_table::{Entry, Entry32, Entry64};
-
-// The numbers of no header.
-const NO_HEADER: Parsed = Parsed {
-    entry_point: 0,
-    ph_offset: 0,
-    sh_offset: 0,
-    version: 0,
-    flags: 0,
-    type_: 0,
-    machine: 0,
-    header_size: 0,
-    ph_entry_size: 0,
-    ph_count: 0,
-    sh_entry_size: 0,
-    sh_count: 0,
-    sh_str_index: 0,
-    class: 0,
-    encoding: 0,
-    header_version: 0,
-    os_abi: 0,
-    abi_version: 0,
-    padding: [0; 7],
-};
+use xmas_elf::symbol_table::{DynEntry32, DynEntry64, Entry, SymbolTable as NamedTable};
 
 /// The hash table of a section with its symbols, found once: numbers that other calls take back.
 #[repr(C)]
@@ -138,10 +115,8 @@ fn opened_of(kind: Kind, file: &ElfFile<'_>, section: u64) -> Result<OpenedTable
     ensures { IsOpened kind file.now section result }
 {
     let header = file.section_header_at(section)?;
-    match table_of(kind, file, &header) {
-        Ok(_table) => opened_with(file, &header),
-        Err(why) => Err(why),
-    }
+    let _table = table_of(kind, file, &header)?;
+    opened_with(file, &header)
 }
 
 /// The hash table of the ELF standard in the section at an index, and the symbols for dynamic linking
@@ -209,10 +184,8 @@ fn class_by(class: u16) -> Class
 fn sysv_table_in<'a>(bytes: &'a [u8], order: Order) -> Result<AnyTable<'a>, Refusal>
     ensures { IsSysvTable (hash_table_content order bytes.now) result }
 {
-    match HashTable::read(bytes, order) {
-        Ok(table) => Ok(AnyTable::Sysv(table)),
-        Err(short) => Err(Refusal::Elf(short)),
-    }
+    let table = HashTable::read(bytes, order)?;
+    Ok(AnyTable::Sysv(table))
 }
 
 // The GNU hash table in bytes.
@@ -220,10 +193,7 @@ fn sysv_table_in<'a>(bytes: &'a [u8], order: Order) -> Result<AnyTable<'a>, Refu
 fn gnu_table_in<'a>(bytes: &'a [u8], class: Class, order: Order) -> Result<AnyTable<'a>, Refusal>
     ensures { IsGnuOf class order bytes.now result }
 {
-    match GnuHashTable::read(bytes, class, order) {
-        Ok(table) => Ok(AnyTable::Gnu(table)),
-        Err(error) => Err(Refusal::Link(error)),
-    }
+    Ok(AnyTable::Gnu(GnuHashTable::read(bytes, class, order)?))
 }
 
 // The hash table of a kind in bytes.
@@ -254,20 +224,18 @@ fn table_by<'a>(kind: Kind, input: &'a [u8], opened: &OpenedTable) -> Result<Any
 
 // Looks a name up among the symbols in bytes, with their names in a string table.
 #[inline(always)]
-fn look_up_stored<E: Entry + Record>(
+fn look_up_within<E: Entry + Record>(
     table: &AnyTable<'_>,
     name: &str,
     bytes: &[u8],
     strings: &[u8],
     order: Order,
 ) -> Result<LookUp, Refusal>
-    ensures { LooksStored E.SIZE (stored E.SIZE E.value E.fields order strings.now bytes.now)
+    ensures { LooksWithin E.SIZE (symbols_with E.SIZE (E.value order) E.fields strings.now bytes.now)
         bytes.now table.now name.now result }
 {
-    match Table::<Stored<E>>::new(bytes, order) {
-        Ok(symbols) => look_up_of(table, name, &symbols, &NO_HEADER.file(strings)),
-        Err(error) => Err(Refusal::Elf(error)),
-    }
+    let symbols = Table::<E>::new(bytes, order)?;
+    look_up(table, name, &NamedTable::with_strings(symbols, strings))
 }
 
 // Looks a name up among the symbols in bytes, by the class of a record.
@@ -284,9 +252,9 @@ fn look_up_by_class(
 {
     let order = order_of(opened.symbols.encoding);
     if opened.symbols.class == 1 {
-        look_up_stored::<Entry32>(table, name, bytes, strings, order)
+        look_up_within::<DynEntry32>(table, name, bytes, strings, order)
     } else {
-        look_up_stored::<Entry64>(table, name, bytes, strings, order)
+        look_up_within::<DynEntry64>(table, name, bytes, strings, order)
     }
 }
 
@@ -310,10 +278,8 @@ fn look_up_among(
 fn look_up_by(kind: Kind, input: &[u8], opened: &OpenedTable, name: &str) -> Result<LookUp, Refusal>
     ensures { LooksBy kind input.now opened.now name.now result }
 {
-    match table_by(kind, input, opened) {
-        Ok(table) => look_up_among(input, &table, name, opened),
-        Err(why) => Err(why),
-    }
+    let table = table_by(kind, input, opened)?;
+    look_up_among(input, &table, name, opened)
 }
 
 // Looks up a name in bytes, which may not be UTF-8. Inlined, so that each export has the code of its

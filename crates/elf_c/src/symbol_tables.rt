@@ -124,10 +124,7 @@ fn symbol_among<E: Entry + Record>(
     ensures { result ≡ found_in (λ e. symbol_record (E.fields e))
         (records E.SIZE (E.value order) bytes.now) index }
 {
-    match entry_at::<E>(bytes, order, index) {
-        Ok(entry) => Ok(Symbol::of(&entry)),
-        Err(why) => Err(why),
-    }
+    Ok(Symbol::of(&entry_at::<E>(bytes, order, index)?))
 }
 
 // The byte order of a number for it.

@@ -172,17 +172,11 @@ fn tables_of<'a>(file: &ElfFile<'a>, count: u64) -> Result<Tables<'a>, Refusal>
         × (it.strings ≡ strings_range_of file.now))
         (λ why. (error : LinkError) × (why ≡ Link error) × (tables_of file.now count ≡ Err error)) }
 {
-    let view = match DynamicView::read(file) {
-        Ok(view) => view,
-        Err(error) => return Err(Refusal::Link(error)),
-    };
-    match Versions::read(&view, file, count) {
-        Ok(versions) => Ok(Tables {
-            versions,
-            strings: strings_of(file, &view),
-        }),
-        Err(error) => Err(Refusal::Link(error)),
-    }
+    let view = DynamicView::read(file)?;
+    Ok(Tables {
+        versions: Versions::read(&view, file, count)?,
+        strings: strings_of(file, &view),
+    })
 }
 
 // The remaining definitions.
@@ -239,10 +233,7 @@ fn fill_definitions(file: &ElfFile<'_>, first: u64, out: &mut [Version]) -> Resu
     ensures exact { Fills (definition_at file.now) first out.old result out.new }
     ensures within { IfOk result (λ count. AllNamesLieIn file.now.input.now count out.new) }
 {
-    let tables = match tables_of(file, 0) {
-        Ok(tables) => tables,
-        Err(error) => return Err(error),
-    };
+    let tables = tables_of(file, 0)?;
     let list = DefinitionList {
         definitions: tables.versions.definitions(),
         strings: tables.strings,
@@ -256,10 +247,7 @@ fn fill_needs(file: &ElfFile<'_>, first: u64, out: &mut [Version]) -> Result<u64
     ensures exact { Fills (need_at file.now) first out.old result out.new }
     ensures within { IfOk result (λ count. AllNamesLieIn file.now.input.now count out.new) }
 {
-    let tables = match tables_of(file, 0) {
-        Ok(tables) => tables,
-        Err(error) => return Err(error),
-    };
+    let tables = tables_of(file, 0)?;
     let list = NeedList {
         needs: tables.versions.needs(),
         strings: tables.strings,
@@ -384,14 +372,8 @@ fn fill_versions(file: &ElfFile<'_>, first: u64, out: &mut [Version]) -> Result<
     ensures exact { FillsVersions file.now first out.old result out.new }
     ensures within { IfOk result (λ count. AllNamesLieIn file.now.input.now count out.new) }
 {
-    let count = match symbol_count(file) {
-        Ok(count) => count,
-        Err(error) => return Err(Refusal::Link(error)),
-    };
-    let tables = match tables_of(file, count) {
-        Ok(tables) => tables,
-        Err(error) => return Err(error),
-    };
+    let count = symbol_count(file)?;
+    let tables = tables_of(file, count)?;
     if !has_numbers(&tables.versions) {
         return Err(Refusal::NotFound);
     }

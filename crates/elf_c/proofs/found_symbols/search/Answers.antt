@@ -1,9 +1,10 @@
+use Rattle.std.proofs.lemmas.Result.{err_from_is_err_and}
+use Rattle.elf_linking.proofs.lemmas.Objects.{symbols_of_object}
 use Rattle.elf_c.specs.FoundSymbols.{refused, searched}
-use Rattle.elf_c.proofs.FoundSymbols.{dynamic_of}
 use Rattle.elf_c.proofs.found_symbols.search.Goals as goal
 
-pub returns-in-Ok : goal.returns-in-Ok
-returns-in-Ok g c = searched _ _ (dynamic_of c.in-Ok.object _ _ _ c.args.file.now c.in-Ok.ensures.exact) (record {
+pub returns : goal.returns
+returns g c = searched _ _ (symbols_of_object c.in_ok-object.object _ g.E.Entry.fields c.args.file.now c.in_ok-object.ensures.exact) (record {
   wanted = c.wanted_of.result;
   found = c.find.result;
   is_wanted = c.wanted_of.ensures;
@@ -12,5 +13,7 @@ returns-in-Ok g c = searched _ _ (dynamic_of c.in-Ok.object _ _ _ c.args.file.no
   numbers = c.said.ensures;
 })
 
-pub returns-in-Err : goal.returns-in-Err
-returns-in-Err g c = refused _ c.in-Err.ensures.exact
+pub returns-in_err-object : goal.returns-in_err-object
+returns-in_err-object g c =
+    let p = err_from_is_err_and c.from_residual.result c.from_residual.ensures.1 in
+    rw (p.1, p.2) (refused _ c.in_err-object.ensures.exact)

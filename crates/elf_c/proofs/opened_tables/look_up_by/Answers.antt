@@ -1,8 +1,11 @@
 use Rattle.std.proofs.Common.{Ok, Err, refl}
+use Rattle.std.proofs.lemmas.Result.{err_from_is_err_and}
 use Rattle.elf_c.proofs.opened_tables.look_up_by.Goals as goal
 
-pub returns-in-Ok : goal.returns-in-Ok
-returns-in-Ok c = record { table = Ok c.in-Ok.table; is_table = c.in-Ok.ensures; looks = c.look_up_among.ensures }
+pub returns : goal.returns
+returns c = record { table = Ok c.in_ok-table.table; is_table = c.in_ok-table.ensures; looks = c.look_up_among.ensures }
 
-pub returns-in-Err : goal.returns-in-Err
-returns-in-Err c = record { table = Err c.in-Err.why; is_table = c.in-Err.ensures; looks = refl }
+pub returns-in_err-table : goal.returns-in_err-table
+returns-in_err-table c =
+    let p = err_from_is_err_and c.from_residual.result c.from_residual.ensures.1 in
+    rw (p.1, p.2) (record { table = Err _; is_table = c.in_err-table.ensures; looks = refl })

@@ -7,12 +7,12 @@ use Rattle.elf_c.specs.Versions.{definition_items}
 use Rattle.elf_c.proofs.versions.fill_definitions.Goals as goal
 
 pub returns-clause-exact : goal.returns-clause-exact
-returns-clause-exact c = let tables = c.in-Ok.tables in
+returns-clause-exact c = let tables = c.in_ok-tables.tables in
     definitions_filled c.args.file.now tables.strings (version_tables tables.versions) c.args.first c.args.out.now
-    c.fill_in_order.new.out c.fill_in_order.result c.in-Ok.ensures.0 c.in-Ok.ensures.1
+    c.fill_in_order.new.out c.fill_in_order.result c.in_ok-tables.ensures.0 c.in_ok-tables.ensures.1
     (subst (λ items. Fills (found_in (λ one. one) (definition_items c.args.file.now.input.now tables.strings items)) c.args.first
     c.args.out.now c.fill_in_order.result c.fill_in_order.new.out) c.definitions.ensures.exact c.fill_in_order.ensures)
 
 pub returns-clause-within : goal.returns-clause-within
-returns-clause-within c = stored_definitions_lie c.args.file.now.input.now c.in-Ok.tables.strings c.args.first
+returns-clause-within c = stored_definitions_lie c.args.file.now.input.now c.in_ok-tables.tables.strings c.args.first
     c.args.out.now c.fill_in_order.result c.fill_in_order.new.out (definitions_left c.definitions.result) c.fill_in_order.ensures
