@@ -2,7 +2,9 @@
 """Writes the lists of docs/READING.md: the definitions that must be believed for a headline, callees first.
 
     tools/reading.py            writes the lists and the bytes into the page
-    tools/reading.py --check    fails where they aren't what the sources give; writes nothing
+    tools/reading.py --check    fails where they aren't what the sources give, or where a call needs more definitions
+                                than its bound; writes nothing
+    tools/reading.py --closures prints how many definitions the contracts of some calls lead to, beside their bounds
 
 The page is written by hand but for two kinds of rooms. One names calls, by `<!-- read CRATE::MODULE CALL .. -->`,
 and takes a row for each definition that their clauses lead to (tools/reading_sources.py), but for those that stand
@@ -16,6 +18,16 @@ import reading_sources
 from api_sources import ROOT
 
 PAGE = ROOT / "docs" / "READING.md"
+
+# How many definitions the contract of a call may lead to.
+BOUNDS = {
+    "xmas_elf::hash::lookup HashTable::lookup_in": 90,
+    "xmas_elf::hash::check HashTable::check_in": 85,
+    "elf_linking::gnu_hash::lookup GnuHashTable::lookup_in": 105,
+    "elf_linking::object DynamicObject::find": 192,
+    "elf_linking::scope Scope::bind": 254,
+    "elf_linking::values value_by_name": 340,
+}
 ROOM = re.compile(r"(<!-- (read|bytes) ([^>]*) -->\n).*?(<!-- end -->)", re.S)
 
 
@@ -74,7 +86,21 @@ def bytes_of(named: str) -> str:
     return "\n".join(["```text", *rows, "```", ""])
 
 
+def closures() -> int:
+    """Prints the number of definitions of each call beside its bound; how many are above theirs."""
+    reader, above = reading_sources.Reader(), 0
+    for named, bound in BOUNDS.items():
+        whole, call = named.split()
+        crate, _, module = whole.partition("::")
+        found = reader.reached([reader.contract(crate, module, call)])
+        above += len(found) > bound
+        print(f"{crate} {call}: {Lists.sizes(found)}, of at most {bound}{'' if len(found) <= bound else ': TOO MANY'}")
+    return above
+
+
 def main() -> int:
+    if sys.argv[1:] == ["--closures"]:
+        return min(closures(), 1)
     lists, text = Lists(), PAGE.read_text(encoding="utf-8")
     wanted = ROOM.sub(lambda room: room[1] + (lists.read(room[3]) if room[2] == "read" else bytes_of(room[3])) + room[4], text)
     is_same = wanted == text
@@ -82,7 +108,7 @@ def main() -> int:
         PAGE.write_text(wanted, encoding="utf-8")
         is_same = True
     print(f"docs/READING.md {'is' if is_same else 'IS NOT'} what the sources give: {len(ROOM.findall(text))} rooms, {len(lists.above)} definitions")
-    return 0 if is_same else 1
+    return 1 if closures() or not is_same else 0
 
 
 if __name__ == "__main__":

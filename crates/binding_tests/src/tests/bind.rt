@@ -14,10 +14,11 @@ use crate::tests::want::{open, want_at};
 use elf_base::ElfError;
 use elf_linking::references::Reference;
 use elf_linking::scope::Scope;
-use elf_linking::view::{LinkedEntry32, LinkedEntry64, LinkedSymbol};
+use elf_linking::view::LinkedSymbol;
 use elf_linking::{DynamicObject, LinkError};
 use std::process::Abort;
 use worked_files::places::{header_64, set};
+use xmas_elf::symbol_table::{DynEntry32, DynEntry64};
 
 // The index of the file and that of its symbol.
 type Answer = Result<Option<(usize, u32)>, LinkError>;
@@ -416,9 +417,9 @@ fn answer(rt: &impl Abort, kind: Kind, row: Row) -> Answer {
         addend: 0,
     };
     if kind.0 == 1 {
-        bound_of::<LinkedEntry32>(rt, &program, &library, row.3.0, &reference)
+        bound_of::<DynEntry32>(rt, &program, &library, row.3.0, &reference)
     } else {
-        bound_of::<LinkedEntry64>(rt, &program, &library, row.3.0, &reference)
+        bound_of::<DynEntry64>(rt, &program, &library, row.3.0, &reference)
     }
 }
 

@@ -13,9 +13,10 @@ use crate::tests::versions::file::{Field, set_fields};
 use crate::tests::want::{open, want, want_at};
 use elf_base::ElfError;
 use elf_linking::find::{Use, Wanted};
-use elf_linking::view::{LinkedEntry32, LinkedEntry64, LinkedSymbol};
+use elf_linking::view::LinkedSymbol;
 use elf_linking::{DynamicObject, LinkError};
 use std::process::Abort;
+use xmas_elf::symbol_table::{DynEntry32, DynEntry64};
 
 const SHORT: LinkError = LinkError::ShortVersion;
 
@@ -91,9 +92,9 @@ fn found_in(
     use_: Use,
 ) -> Found {
     if class == 1 {
-        found_of::<LinkedEntry32>(rt, bytes, name, wanted, use_)
+        found_of::<DynEntry32>(rt, bytes, name, wanted, use_)
     } else {
-        found_of::<LinkedEntry64>(rt, bytes, name, wanted, use_)
+        found_of::<DynEntry64>(rt, bytes, name, wanted, use_)
     }
 }
 
@@ -394,9 +395,9 @@ fn accepts_a_symbol_by_its_index(rt: HostRuntime) -> Result<(), LinkError> {
         let bytes = find_file(kind, &[2, 0x8003, 9]);
         let file = open(&rt, &bytes);
         let versions = if kind.0 == 1 {
-            DynamicObject::<LinkedEntry32>::read(&file)?.versions()
+            DynamicObject::<DynEntry32>::read(&file)?.versions()
         } else {
-            DynamicObject::<LinkedEntry64>::read(&file)?.versions()
+            DynamicObject::<DynEntry64>::read(&file)?.versions()
         };
         for &(index, asked, accepted) in ACCEPTED {
             want_at(
@@ -428,9 +429,9 @@ fn checks_that_versions_can_be_read(rt: HostRuntime) -> Result<(), LinkError> {
             set_fields(&mut bytes, DEFINITIONS, fields, kind.1);
             let file = open(&rt, &bytes);
             let checked = if kind.0 == 1 {
-                DynamicObject::<LinkedEntry32>::read(&file)?.check_versions()
+                DynamicObject::<DynEntry32>::read(&file)?.check_versions()
             } else {
-                DynamicObject::<LinkedEntry64>::read(&file)?.check_versions()
+                DynamicObject::<DynEntry64>::read(&file)?.check_versions()
             };
             want_at(&rt, (row, kind), checked, answer);
         }

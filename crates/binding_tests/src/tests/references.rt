@@ -9,12 +9,13 @@ use elf_base::ElfError;
 use elf_base::bytes::Order;
 use elf_linking::find::Use;
 use elf_linking::references::{Reference, use_of};
-use elf_linking::view::{DynamicView, LinkedEntry64};
+use elf_linking::view::DynamicView;
 use elf_linking::{DynamicObject, LinkError};
 use linked_files::small::SMALL;
 use std::process::Abort;
 use worked_files::files::with_class;
 use worked_files::places::{Place, set};
+use xmas_elf::symbol_table::DynEntry64;
 
 // Where the dynamic entries are, the relocations with and without addends, and those of the
 // procedure linkage table, which have addends.
@@ -227,7 +228,7 @@ fn refuses_relocations_of_another_class(rt: HostRuntime) -> Result<(), LinkError
 #[test]
 fn lists_a_jump_slot_of_a_shared_object(rt: HostRuntime) -> Result<(), LinkError> {
     let file = open(&rt, SMALL);
-    let object = DynamicObject::<LinkedEntry64>::read(&file)?;
+    let object = DynamicObject::<DynEntry64>::read(&file)?;
     let mut found = object.references()?;
     let slot = (0x388, 7, 3, 0, 0);
     want(&rt, found.next(), Some(reference(slot, 2)));

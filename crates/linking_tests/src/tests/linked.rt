@@ -5,19 +5,18 @@
 use crate::tests::shared_object::{NAMES, NARROW, NARROW_VALUES, WIDE, WIDE_VALUES};
 use crate::tests::want::{open, want, want_at};
 use elf_base::ElfError;
-use elf_base::bytes::{Order, Record, Table};
+use elf_base::bytes::{Order, Record, text_at};
 use elf_base::header::Class;
-use elf_linking::LinkError;
 use elf_linking::gnu_hash::GnuHashTable;
 use elf_linking::values::value_by_name;
-use elf_linking::view::{DynamicView, LinkedEntry32, LinkedEntry64, bytes_at, bytes_from};
+use elf_linking::view::{DynamicView, bytes_at, bytes_from};
+use elf_linking::{DynamicObject, LinkError};
 use linked_files::small::SMALL;
 use linking_callers::callers::backtrace::function_name;
 use std::process::Abort;
 use std::test::Fail;
 use worked_files::places::{WORD, put, set};
-use xmas_elf::ElfFile;
-use xmas_elf::symbol_table::Entry;
+use xmas_elf::symbol_table::{DynEntry32, DynEntry64, Entry, SymbolTable};
 
 const LITTLE: Order = Order::Little;
 
@@ -36,26 +35,30 @@ fn wide_stripped() -> [u8; 1928] {
     bytes
 }
 
-// Whether a symbol has this name, by itself and by the string table that is looked up
-// for many, and this value.
-fn is_symbol<E: Entry>(symbol: &E, file: &ElfFile<'_>, name: &str, value: u64) -> bool {
-    let strings = E::string_table(file);
+// Whether a symbol of a table has this name, by the table and in these strings, and this value.
+fn is_symbol<E: Entry + Record>(
+    symbols: &SymbolTable<'_, E>,
+    symbol: &E,
+    strings: &[u8],
+    name: &str,
+    value: u64,
+) -> bool {
     symbol.value() == value
-        && matches!(symbol.get_name(file), Ok(text) if text == name)
-        && matches!(symbol.name_in(strings, file), Ok(text) if text == name)
+        && matches!(symbols.name_of(symbol), Ok(text) if text == name)
+        && matches!(text_at(strings, symbol.name() as usize), Ok(text) if text == name)
 }
 
 // Wants these names and values of symbols, from index 2 on.
 fn check_symbols<E: Entry + Record>(
     rt: &impl Abort,
-    symbols: &Table<'_, E>,
-    file: &ElfFile<'_>,
+    symbols: &SymbolTable<'_, E>,
+    strings: &[u8],
     values: [u64; 7],
 ) {
     want(rt, symbols.len(), 9);
     for (index, (name, value)) in NAMES.iter().zip(values).enumerate() {
         let is_there = match symbols.get(index.wrapping_add(2)) {
-            Some(symbol) => is_symbol(&symbol, file, name, value),
+            Some(symbol) => is_symbol(symbols, &symbol, strings, name, value),
             None => false,
         };
         want_at(rt, name, is_there, true);
@@ -69,11 +72,11 @@ fn reads_narrow_symbols_without_section_headers(rt: HostRuntime) -> Result<(), L
     want(&rt, file.section_count(), 0);
     let view = DynamicView::read(&file)?;
     want(&rt, view.symbol_count(&file), Ok(9));
-    let symbols: Table<'_, LinkedEntry32> = view.symbols_32(&file)?;
-    check_symbols(&rt, &symbols, &file, NARROW_VALUES);
+    let symbols = view.symbols::<DynEntry32>(&file)?;
+    check_symbols(&rt, &symbols, view.strings()?, NARROW_VALUES);
     let table = view.gnu_hash_table(&file)?;
     want(&rt, table.first_symbol(), 2);
-    want(&rt, table.check(&symbols, &file), Ok(()));
+    want(&rt, table.check_in(&symbols), Ok(()));
     want(&rt, view.hash_table(&file).is_err(), true);
     Ok(())
 }
@@ -83,10 +86,86 @@ fn reads_wide_symbols_without_section_headers(rt: HostRuntime) -> Result<(), Lin
     let bytes = wide_stripped();
     let file = open(&rt, &bytes);
     let view = DynamicView::read(&file)?;
-    let symbols: Table<'_, LinkedEntry64> = view.symbols_64(&file)?;
-    check_symbols(&rt, &symbols, &file, WIDE_VALUES);
+    let symbols = view.symbols::<DynEntry64>(&file)?;
+    check_symbols(&rt, &symbols, view.strings()?, WIDE_VALUES);
     want(&rt, view.soname().is_none(), true);
     want(&rt, view.needed().next().is_none(), true);
+    Ok(())
+}
+
+// Without section headers there is no `.dynstr`.
+#[test]
+fn names_by_section_headers_are_not_those_of_the_segment(rt: HostRuntime) -> Result<(), LinkError> {
+    let bytes = wide_stripped();
+    let file = open(&rt, &bytes);
+    let symbols = DynamicView::read(&file)?.symbols::<DynEntry64>(&file)?;
+    let in_file = SymbolTable::new(symbols.table(), &file);
+    want(&rt, in_file.len(), 9);
+    want(&rt, in_file.name(2), Some(Err(ElfError::NoDynstr)));
+    want(&rt, symbols.name(2), Some(Ok("third")));
+    Ok(())
+}
+
+// The index of a symbol, and its name where `.dynstr` begins one byte late.
+const CUT_NAMES: &[(usize, &str)] = &[(2, "hird"), (6, "irst"), (8, "eventh")];
+
+// sh_offset of `.dynstr` is changed, and no dynamic entry.
+#[test]
+fn names_symbols_by_the_dynamic_segment(rt: HostRuntime) -> Result<(), LinkError> {
+    let mut bytes = *WIDE;
+    put(&mut bytes, 0x520, &[0x39]);
+    let file = open(&rt, &bytes);
+    let view = DynamicView::read(&file)?;
+    let symbols = view.symbols::<DynEntry64>(&file)?;
+    check_symbols(&rt, &symbols, view.strings()?, WIDE_VALUES);
+    let in_file = SymbolTable::new(symbols.table(), &file);
+    let object = DynamicObject::<DynEntry64>::read(&file)?.symbols();
+    for &(index, name) in CUT_NAMES {
+        want_at(&rt, index, in_file.name(index), Some(Ok(name)));
+        want_at(&rt, index, object.name(index), symbols.name(index));
+    }
+    check_values(&rt, &bytes, WIDE_VALUES);
+    Ok(())
+}
+
+// Changes of the file of class 64 with a table of the standard, whose dynamic entries begin at
+// 0x250; then why it has no symbols without names, and why none with them.
+type SymbolRefusal<'a> = (&'a [(usize, u8)], Option<LinkError>, Option<LinkError>);
+
+const NO_ENTRY: Option<LinkError> = Some(LinkError::NoEntry);
+
+const ADDRESS: Option<LinkError> = Some(LinkError::Address);
+
+const SYMBOL_REFUSALS: &[SymbolRefusal<'static>] = &[
+    (&[], None, None),
+    // d_tag and d_un of the entry SymTab
+    (&[(0x2a0, 0x15)], NO_ENTRY, NO_ENTRY),
+    (&[(0x2a9, 0xff)], ADDRESS, ADDRESS),
+    // d_tag of the entry StrTab, and d_un of StrSize
+    (&[(0x290, 0x15)], None, NO_ENTRY),
+    (&[(0x2b9, 0xff)], None, ADDRESS),
+    // the symbols before the strings
+    (&[(0x2a0, 0x15), (0x2b9, 0xff)], NO_ENTRY, NO_ENTRY),
+    (&[(0x2a9, 0xff), (0x290, 0x15)], ADDRESS, ADDRESS),
+    // d_tag and d_un of the entry Hash before the symbols
+    (&[(0x280, 0x15), (0x2a9, 0xff)], NO_ENTRY, NO_ENTRY),
+    (&[(0x289, 0xff), (0x2a0, 0x15)], ADDRESS, ADDRESS),
+];
+
+#[test]
+fn tells_why_there_are_no_symbols(rt: HostRuntime) -> Result<(), LinkError> {
+    for (row, &(changes, nameless, named)) in SYMBOL_REFUSALS.iter().enumerate() {
+        let mut bytes = *SMALL;
+        for &(place, byte) in changes {
+            put(&mut bytes, place, &[byte]);
+        }
+        let file = open(&rt, &bytes);
+        let view = DynamicView::read(&file)?;
+        let refused = view.records::<DynEntry64>(&file).err();
+        want_at(&rt, row, refused, nameless);
+        let refused = view.symbols::<DynEntry64>(&file).err();
+        want_at(&rt, row, refused, named);
+    }
     Ok(())
 }
 
@@ -125,10 +204,11 @@ fn reads_a_table_of_the_standard(rt: HostRuntime) -> Result<(), LinkError> {
     let file = open(&rt, SMALL);
     let view = DynamicView::read(&file)?;
     want(&rt, view.symbol_count(&file), Ok(5));
-    let symbols = view.symbols_64(&file)?;
+    let symbols = view.symbols::<DynEntry64>(&file)?;
+    want(&rt, view.records::<DynEntry64>(&file)?.len(), 5);
     let table = view.hash_table(&file)?;
     want(&rt, table.chain_count(), 5);
-    want(&rt, table.check(&symbols, &file), Ok(()));
+    want(&rt, table.check_in(&symbols), Ok(()));
     let refused = view.gnu_hash_table(&file).err();
     want(&rt, refused, Some(LinkError::NoEntry));
     Ok(())

@@ -4,8 +4,9 @@
 use crate::tests::shared_object;
 use crate::tests::want::{open, want, want_at};
 use elf_base::ElfError;
+use elf_linking::values::value_by_name;
 use elf_linking::versions::Versions;
-use elf_linking::view::{DynamicView, LinkedEntry32, LinkedEntry64, LinkedSymbol};
+use elf_linking::view::{DynamicView, LinkedSymbol};
 use elf_linking::{AnyTable, DynamicObject, LinkError};
 use linked_files::small::SMALL;
 use linked_files::versions::{NARROW, WIDE, parts};
@@ -14,7 +15,7 @@ use linking_callers::callers::objects::{
 };
 use std::process::Abort;
 use worked_files::places::put;
-use xmas_elf::symbol_table::SymbolTable;
+use xmas_elf::symbol_table::{DynEntry32, DynEntry64};
 
 // The name of each symbol, its values in class 32 and 64, and the name of its version.
 const SYMBOLS: &[(u32, &str, u64, u64, Option<&str>)] = &[
@@ -93,12 +94,15 @@ fn check_indices<E: LinkedSymbol>(rt: &impl Abort, object: &DynamicObject<'_, E>
 #[test]
 fn answers_about_each_symbol(rt: HostRuntime) -> Result<(), LinkError> {
     let (narrow, wide) = (open(&rt, NARROW), open(&rt, WIDE));
-    let narrow = DynamicObject::<LinkedEntry32>::read(&narrow)?;
-    let wide = DynamicObject::<LinkedEntry64>::read(&wide)?;
+    let narrow = DynamicObject::<DynEntry32>::read(&narrow)?;
+    let wide = DynamicObject::<DynEntry64>::read(&wide)?;
     check_symbols(&rt, &narrow)?;
     check_symbols(&rt, &wide)?;
     check_indices(&rt, &narrow);
     check_indices(&rt, &wide);
+    want(&rt, narrow.newest_value("ab"), Ok(Some(0x246)));
+    want(&rt, wide.newest_value("ab"), Ok(Some(0x2f6)));
+    want(&rt, wide.newest_value("outer"), Ok(None));
     Ok(())
 }
 
@@ -130,9 +134,9 @@ fn finds_values_by_an_object(rt: HostRuntime) -> Result<(), LinkError> {
         open(&rt, shared_object::NARROW),
         open(&rt, shared_object::WIDE),
     );
-    let narrow = DynamicObject::<LinkedEntry32>::read(&narrow)?;
+    let narrow = DynamicObject::<DynEntry32>::read(&narrow)?;
     check_values(&rt, &narrow, &shared_object::NARROW_VALUES);
-    let wide = DynamicObject::<LinkedEntry64>::read(&wide)?;
+    let wide = DynamicObject::<DynEntry64>::read(&wide)?;
     check_values(&rt, &wide, &shared_object::WIDE_VALUES);
     Ok(())
 }
@@ -140,7 +144,7 @@ fn finds_values_by_an_object(rt: HostRuntime) -> Result<(), LinkError> {
 #[test]
 fn finds_a_value_in_a_file_without_versions(rt: HostRuntime) -> Result<(), LinkError> {
     let file = open(&rt, SMALL);
-    let object = DynamicObject::<LinkedEntry64>::read(&file)?;
+    let object = DynamicObject::<DynEntry64>::read(&file)?;
     want(&rt, value_of(&object, "ef"), Ok(Some(0x23a)));
     want(&rt, version_name(&object, 1), Ok(None));
     Ok(())
@@ -152,7 +156,7 @@ fn check_parts<E: LinkedSymbol>(rt: &impl Abort, bytes: &[u8]) -> Result<(), Lin
     let file = open(rt, bytes);
     let object = DynamicObject::<E>::read(&file)?;
     let view = DynamicView::read(&file)?;
-    let symbols = SymbolTable::new(view.symbols::<E>(&file)?, &file);
+    let symbols = view.symbols::<E>(&file)?;
     let versions = Versions::read(&view, &file, symbols.len() as u64)?;
     let table = AnyTable::read(&view, &file)?;
     want(rt, object.check(), table.check(&symbols));
@@ -187,11 +191,11 @@ fn linked(name: Option<Result<&str, ElfError>>) -> Result<&str, LinkError> {
 
 #[test]
 fn has_the_parts_of_the_dynamic_segment(rt: HostRuntime) -> Result<(), LinkError> {
-    check_parts::<LinkedEntry32>(&rt, NARROW)?;
-    check_parts::<LinkedEntry32>(&rt, shared_object::NARROW)?;
-    check_parts::<LinkedEntry64>(&rt, WIDE)?;
-    check_parts::<LinkedEntry64>(&rt, shared_object::WIDE)?;
-    check_parts::<LinkedEntry64>(&rt, SMALL)
+    check_parts::<DynEntry32>(&rt, NARROW)?;
+    check_parts::<DynEntry32>(&rt, shared_object::NARROW)?;
+    check_parts::<DynEntry64>(&rt, WIDE)?;
+    check_parts::<DynEntry64>(&rt, shared_object::WIDE)?;
+    check_parts::<DynEntry64>(&rt, SMALL)
 }
 
 // The error with which a file is refused, by the class that it is read as.
@@ -200,7 +204,7 @@ fn refusal(rt: &impl Abort, bytes: &[u8], class: u8) -> Option<LinkError> {
     if class == 1 {
         narrow_refusal(&file)
     } else {
-        DynamicObject::<LinkedEntry64>::read(&file).err()
+        DynamicObject::<DynEntry64>::read(&file).err()
     }
 }
 
@@ -245,6 +249,9 @@ fn refuses_with_the_first_error(rt: HostRuntime) {
             put(&mut bytes, place, &[byte]);
         }
         want_at(&rt, row, refusal(&rt, &bytes, class), error);
+        if class == 2 && error.is_some() {
+            want_at(&rt, row, value_by_name(&bytes, "ab").err(), error);
+        }
     }
 }
 
@@ -267,7 +274,7 @@ fn tells_why_a_symbol_has_no_name(rt: HostRuntime) -> Result<(), LinkError> {
     let mut bytes = *WIDE;
     put(&mut bytes, 0x368, &[1]);
     let file = open(&rt, &bytes);
-    let object = DynamicObject::<LinkedEntry64>::read(&file)?;
+    let object = DynamicObject::<DynEntry64>::read(&file)?;
     want(&rt, object.name(0), Ok(""));
     let past = Err(LinkError::Elf(ElfError::TextStart));
     want(&rt, object.name(3), past);
@@ -281,7 +288,7 @@ fn names_need_not_be_utf8(rt: HostRuntime) -> Result<(), LinkError> {
     put(&mut bytes, 450, b"\xff");
     put(&mut bytes, 464, b"\xff");
     let file = open(&rt, &bytes);
-    let object = DynamicObject::<LinkedEntry64>::read(&file)?;
+    let object = DynamicObject::<DynEntry64>::read(&file)?;
     check_names_of_bytes(&rt, &object);
     check_libraries_of_bytes(&rt, &object.view());
     Ok(())
@@ -289,7 +296,7 @@ fn names_need_not_be_utf8(rt: HostRuntime) -> Result<(), LinkError> {
 
 const NOT_UTF8: LinkError = LinkError::Elf(ElfError::TextUtf8);
 
-fn check_names_of_bytes(rt: &impl Abort, object: &DynamicObject<'_, LinkedEntry64>) {
+fn check_names_of_bytes(rt: &impl Abort, object: &DynamicObject<'_, DynEntry64>) {
     want(rt, object.name(1), Err(NOT_UTF8));
     want(rt, object.name_bytes(1), Ok(b"a\xff".as_slice()));
     want(rt, object.name_bytes(5), Err(LinkError::SymbolIndex));

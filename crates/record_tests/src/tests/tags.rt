@@ -235,6 +235,19 @@ const WIDE_NUMBERS: &[([u8; 16], Order, [u64; 2])] = &[
     ),
 ];
 
+// Each keeps its tag and its value.
+#[test]
+fn widens_entries(rt: HostRuntime) {
+    for (bytes, order, numbers) in NARROW_NUMBERS {
+        let [tag, value] = *numbers;
+        let entry = Dynamic::<P32>::decode(bytes, *order).widened();
+        let wanted = [u64::from(tag), u64::from(value)];
+        want_at(&rt, tag, [entry.raw_tag(), entry.raw_val()], wanted);
+        let named = Tag_::<P64>::from_raw(u64::from(tag)).as_tag();
+        want_at(&rt, tag, entry.get_tag() == named, true);
+    }
+}
+
 // The tag that the entry names is that of its number.
 #[test]
 fn returns_the_numbers_of_entries(rt: HostRuntime) {

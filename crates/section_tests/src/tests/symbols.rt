@@ -4,7 +4,7 @@
 
 use crate::tests::want::{open, want, want_at};
 use elf_callers::callers::symbols::{
-    dyn_name_or_refusal, first_name, name_by_table, name_bytes, name_in, name_of_any,
+    dyn_name_or_refusal, first_name, name_at, name_by_table, name_bytes, name_in, name_of_any,
     name_or_refusal, own_is_named, own_section, value_at,
 };
 use elf_callers::own::Numbered;
@@ -16,7 +16,9 @@ use std::test::Fail;
 use worked_files::files::{dynstr_file, strtab_file};
 use worked_files::places::{set, symbol_32, symbol_64};
 use xmas_elf::bytes::{Order, Record, Table};
-use xmas_elf::symbol_table::{Binding, DynEntry32, DynEntry64, Entry, Entry32, Entry64};
+use xmas_elf::symbol_table::{
+    Binding, DynEntry32, DynEntry64, Entry, Entry32, Entry64, SymbolTable,
+};
 use xmas_elf::{ElfError, ElfFile};
 
 const LITTLE: Order = Order::Little;
@@ -104,6 +106,9 @@ fn callers_read_bytes(rt: HostRuntime) -> Result<(), ElfError> {
     want(&rt, values, [Some(7), None]);
     let first = symbol::<Entry64>(&bytes, LITTLE)?;
     want(&rt, name_in(b"\0s.c\0start\0", &first), Ok("start"));
+    let by_strings = name_at(table, b"\0s.c\0start\0", 0);
+    want(&rt, by_strings, Some(Ok("start")));
+    want(&rt, name_at(table, b"\0s.c\0start\0", 1), None);
     Ok(())
 }
 
@@ -207,5 +212,40 @@ fn reads_symbols_of_ones_own(rt: HostRuntime) -> Result<(), ElfError> {
         let symbol = table.get(index).ok_or(ElfError::SymbolIndex)?;
         check_own(&rt, &symbol, &file, name);
     }
+    Ok(())
+}
+
+// The name of a symbol of a table by the file.
+fn name_by_file<'a, E: Entry + Record>(
+    table: Table<'a, E>,
+    file: &ElfFile<'a>,
+    index: usize,
+) -> Option<Result<&'a str, ElfError>> {
+    SymbolTable::new(table, file).name(index)
+}
+
+// The same in these strings.
+fn name_by_strings<'a, E: Entry + Record>(
+    table: Table<'a, E>,
+    strings: &'a [u8],
+    index: usize,
+) -> Option<Result<&'a str, ElfError>> {
+    SymbolTable::with_strings(table, strings).name(index)
+}
+
+// Their names are in no string table of the file; in strings each has the name at 0.
+#[test]
+fn a_table_names_symbols_of_ones_own(rt: HostRuntime) -> Result<(), ElfError> {
+    let bytes = strtab_file(LITTLE);
+    let file = open(&rt, &bytes);
+    let own = *OWN;
+    let table = Table::<Numbered>::new(&own, Order::Big)?;
+    for (index, &name) in OWN_NAMES.iter().enumerate() {
+        want_at(&rt, index, name_by_file(table, &file, index), Some(name));
+        let by_strings = name_by_strings(table, b"one\0two\0", index);
+        want_at(&rt, index, by_strings, Some(Ok("one")));
+    }
+    want(&rt, name_by_file(table, &file, 3), None);
+    want(&rt, name_by_strings(table, b"one\0two\0", 3), None);
     Ok(())
 }

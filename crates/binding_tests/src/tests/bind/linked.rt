@@ -11,11 +11,12 @@ use crate::tests::want::{open, want, want_at};
 use elf_base::ElfError;
 use elf_linking::references::Reference;
 use elf_linking::scope::Scope;
-use elf_linking::view::{LinkedEntry32, LinkedEntry64, LinkedSymbol};
+use elf_linking::view::LinkedSymbol;
 use elf_linking::{DynamicObject, LinkError};
 use linking_callers::callers::second_file::is_of_second_file;
 use std::process::Abort;
 use worked_files::places::put;
+use xmas_elf::symbol_table::{DynEntry32, DynEntry64};
 
 // The offset, the type, the index of the symbol and the addend of each reference.
 type Listed = (u64, u32, u32, u64);
@@ -242,19 +243,19 @@ fn check_bound<E: LinkedSymbol>(
 #[test]
 fn lists_and_binds_references(rt: HostRuntime) -> Result<(), LinkError> {
     let files: [&[u8]; 3] = [NARROW_CALLER, NARROW_FIRST, NARROW_SECOND];
-    check_all_listed::<LinkedEntry32>(&rt, files, &NARROW_REFERENCES)?;
-    check_bound::<LinkedEntry32>(&rt, files, BINDINGS)?;
+    check_all_listed::<DynEntry32>(&rt, files, &NARROW_REFERENCES)?;
+    check_bound::<DynEntry32>(&rt, files, BINDINGS)?;
     let files: [&[u8]; 3] = [WIDE_CALLER, WIDE_FIRST, WIDE_SECOND];
-    check_all_listed::<LinkedEntry64>(&rt, files, &WIDE_REFERENCES)?;
-    check_bound::<LinkedEntry64>(&rt, files, BINDINGS)
+    check_all_listed::<DynEntry64>(&rt, files, &WIDE_REFERENCES)?;
+    check_bound::<DynEntry64>(&rt, files, BINDINGS)
 }
 
 #[test]
 fn binds_in_another_order(rt: HostRuntime) -> Result<(), LinkError> {
     let files: [&[u8]; 3] = [NARROW_CALLER, NARROW_SECOND, NARROW_FIRST];
-    check_bound::<LinkedEntry32>(&rt, files, OTHER_BINDINGS)?;
+    check_bound::<DynEntry32>(&rt, files, OTHER_BINDINGS)?;
     let files: [&[u8]; 3] = [WIDE_CALLER, WIDE_SECOND, WIDE_FIRST];
-    check_bound::<LinkedEntry64>(&rt, files, OTHER_BINDINGS)
+    check_bound::<DynEntry64>(&rt, files, OTHER_BINDINGS)
 }
 
 // A place in a file, and the byte there.
@@ -309,7 +310,7 @@ fn asks_a_symbolic_library_first(rt: HostRuntime) {
         want_at(
             &rt,
             row,
-            last_bound::<LinkedEntry32>(&rt, files),
+            last_bound::<DynEntry32>(&rt, files),
             Ok(Some(found)),
         );
         let mut second = *WIDE_SECOND;
@@ -318,7 +319,7 @@ fn asks_a_symbolic_library_first(rt: HostRuntime) {
         want_at(
             &rt,
             row,
-            last_bound::<LinkedEntry64>(&rt, files),
+            last_bound::<DynEntry64>(&rt, files),
             Ok(Some(found)),
         );
     }
@@ -351,8 +352,8 @@ fn check_second<E: LinkedSymbol>(rt: &impl Abort, files: [&[u8]; 3]) {
 
 #[test]
 fn tells_what_is_of_the_second_file(rt: HostRuntime) {
-    check_second::<LinkedEntry32>(&rt, [NARROW_CALLER, NARROW_FIRST, NARROW_SECOND]);
-    check_second::<LinkedEntry64>(&rt, [WIDE_CALLER, WIDE_FIRST, WIDE_SECOND]);
-    let found = is_of_second_file::<LinkedEntry32>(WIDE_CALLER, WIDE_FIRST, WIDE_SECOND, "choose");
+    check_second::<DynEntry32>(&rt, [NARROW_CALLER, NARROW_FIRST, NARROW_SECOND]);
+    check_second::<DynEntry64>(&rt, [WIDE_CALLER, WIDE_FIRST, WIDE_SECOND]);
+    let found = is_of_second_file::<DynEntry32>(WIDE_CALLER, WIDE_FIRST, WIDE_SECOND, "choose");
     want(&rt, found, Err(LinkError::UnknownClass));
 }

@@ -5,11 +5,12 @@ use crate::tests::find::Asked::By;
 use crate::tests::find::{Answer, Asked, LATEST, PLAIN, V1, V2};
 use crate::tests::want::{open, want_at};
 use elf_linking::find::Use;
-use elf_linking::view::{LinkedEntry32, LinkedEntry64, LinkedSymbol};
+use elf_linking::view::LinkedSymbol;
 use elf_linking::{DynamicObject, LinkError};
 use linked_files::versions::{NARROW, NARROW_TABLES, WIDE, WIDE_TABLES};
 use std::process::Abort;
 use worked_files::places::put;
+use xmas_elf::symbol_table::{DynEntry32, DynEntry64};
 
 // Where the fields lie that a reference to `ab` reads, from the start of the version tables on: the
 // numbers of symbols 3 and 4; of the base its next; of V1 and V2 the flags, the number, the hash
@@ -146,14 +147,14 @@ fn finds_symbols_by_damaged_tables(rt: HostRuntime) -> Result<(), LinkError> {
         for damage in DAMAGES {
             let mut bytes = *NARROW;
             put(&mut bytes, place, &[*damage]);
-            check_damaged::<LinkedEntry32>(&rt, place.wrapping_sub(NARROW_TABLES.0), &bytes)?;
+            check_damaged::<DynEntry32>(&rt, place.wrapping_sub(NARROW_TABLES.0), &bytes)?;
         }
     }
     for place in WIDE_TABLES.0..WIDE_TABLES.1 {
         for damage in DAMAGES {
             let mut bytes = *WIDE;
             put(&mut bytes, place, &[*damage]);
-            check_damaged::<LinkedEntry64>(&rt, place.wrapping_sub(WIDE_TABLES.0), &bytes)?;
+            check_damaged::<DynEntry64>(&rt, place.wrapping_sub(WIDE_TABLES.0), &bytes)?;
         }
     }
     Ok(())

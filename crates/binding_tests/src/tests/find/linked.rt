@@ -5,11 +5,12 @@ use crate::tests::find::Asked::By;
 use crate::tests::find::{Answer, Asked, HIDDEN_V1, LATEST, PLAIN, V1, V2, V3, found_in};
 use crate::tests::want::{open, want, want_at};
 use elf_linking::find::{Use, Wanted};
-use elf_linking::view::{LinkedEntry32, LinkedEntry64, LinkedSymbol};
+use elf_linking::view::LinkedSymbol;
 use elf_linking::{DynamicObject, LinkError};
 use linked_files::versions::{NARROW, WIDE};
 use linking_callers::callers::find::{default_value, versioned_value};
 use std::process::Abort;
+use xmas_elf::symbol_table::{DynEntry32, DynEntry64};
 
 // What a reference to a name of the shared objects gets, by `readelf -W --dyn-syms -V`: `ab@@V2` is
 // symbol 3 with number 3, and `ab@V1` symbol 4 with the hidden number 2.
@@ -91,6 +92,6 @@ fn check_values<E: LinkedSymbol>(
 
 #[test]
 fn finds_values_by_versions(rt: HostRuntime) -> Result<(), LinkError> {
-    check_values::<LinkedEntry32>(&rt, NARROW, (0x240, 0x246))?;
-    check_values::<LinkedEntry64>(&rt, WIDE, (0x2f0, 0x2f6))
+    check_values::<DynEntry32>(&rt, NARROW, (0x240, 0x246))?;
+    check_values::<DynEntry64>(&rt, WIDE, (0x2f0, 0x2f6))
 }
