@@ -1,5 +1,5 @@
 -- What is read of a file for one value with its dynamic symbols.
-use Rattle.std.proofs.Common.{◌≡◌, ◌↔◌, ◌<◌, ◌+◌, ◌*◌, ◌/◌, ℕ, Bor, List, length, Option, Some, Result, Ok, Err, MatchOption, MatchResult, arith, refl, ap, subst, sym, ◌∙◌}
+use Rattle.std.proofs.Common.{◌≡◌, ◌↔◌, ◌<◌, ◌+◌, ◌*◌, ◌/◌, ℕ, Bor, List, length, Option, Some, Result, Ok, Err, MatchOption, MatchResult, arith, ap, subst, sym, ◌∙◌}
 use Rattle.std.proofs.lemmas.Nat.{div-mul-add}
 use Rattle.std.specs.Result.{result_ok}
 use Rattle.std.specs.Str.{IsUtf8}

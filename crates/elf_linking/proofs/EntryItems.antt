@@ -1,11 +1,11 @@
 -- The remaining entries of an iterator, one by one.
-use Rattle.std.proofs.Common.{◌≡◌, ◌≢◌, ℕ, ◌==◌, ◌<◌, ◌≤◌, suc, length, arith, Bool, true, false, List, [], ◌∷◌, None, Some, if◌then◌else◌, refl, sym, ap, ◌∙◌}
+use Rattle.std.proofs.Common.{◌≡◌, ◌≢◌, ℕ, ◌==◌, ◌<◌, ◌≤◌, suc, length, arith, Bool, true, false, List, [], ◌∷◌, None, Some, if◌then◌else◌, refl, ap, ◌∙◌}
 use Rattle.std.proofs.lemmas.Bool.{eq-eqb, ne_eqb}
 use Rattle.std.specs.List.{find}
 use Rattle.elf_linking.specs.DynamicView.{entries_left, has_tag, pairs_left, until_null}
 use Rattle.elf_linking.proofs.Firsts.{find_hit, find_none, find_other}
 use Rattle.elf_linking.specs.declared.view.entries.DynamicEntries.{DynamicEntries}
-use Rattle.elf_records.specs.Dynamic.{dynamic_tag, dynamic_value}
+use Rattle.elf_records.specs.Dynamic.{dynamic_tag}
 use Rattle.elf_records.specs.declared.dynamic.Dynamic.{Dynamic}
 use Rattle.elf_linking.specs.declared.view.tags.TheConstants.{DT_NULL}
 

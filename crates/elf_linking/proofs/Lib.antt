@@ -11,6 +11,7 @@ pub mod NoteItems
 pub mod Firsts
 pub mod LoadedBytes
 pub mod EntryItems
+pub mod FirstNumbers
 pub mod NeededItems
 pub mod NeededTexts
 pub mod ReferenceItems

@@ -1,11 +1,11 @@
 -- The places of definitions that are kept: they are those that a search of the list finds.
-use Rattle.std.proofs.Common.{◌≡◌, ◌≢◌, ℕ, zero, suc, ◌+◌, ◌-◌, ◌%◌, ◌<◌, ◌≤◌, ◌==◌, ◌&&◌, ◌⊎◌, inl, inr, Bool, true, false, not, nat_lt, List, [], ◌∷◌, length, map, Option, Some, None, Result, Ok, refl, sym, ap, subst, ◌∙◌, slice_index, if◌then◌else◌, arith}
+use Rattle.std.proofs.Common.{◌≡◌, ◌≢◌, ℕ, zero, suc, ◌+◌, ◌-◌, ◌%◌, ◌<◌, ◌≤◌, ◌==◌, ◌&&◌, ◌⊎◌, inl, inr, Bool, true, false, not, nat_lt, List, length, map, Option, Some, None, Result, Ok, refl, sym, ap, subst, ◌∙◌, slice_index, if◌then◌else◌, arith}
 use Rattle.std.specs.Prelude.{replicate, slice_set}
 use Rattle.std.proofs.lemmas.Bool.{cases_order, eq-eqb, eqb-true, eqb-false, le-ltb, lt-ltb, ltb-false, ltb-true, ne_eqb}
 use Rattle.std.proofs.lemmas.List.{get_or-replicate, get_or_past, get_or-set_other, get_or-set_same, length-set}
 use Rattle.elf_base.specs.Number.{number}
 use Rattle.elf_base.specs.declared.bytes.Order.{Order}
-use Rattle.elf_linking.specs.MarkedVersions.{AreMarks, bears_at, first_place, marked_at, marked_with}
+use Rattle.elf_linking.specs.MarkedVersions.{AreMarks, bears_at, first_place, marked_at}
 use Rattle.elf_linking.specs.VersionTables.{DefinitionParts, VersionRecords, definition_at, result_map, places_of}
 use Rattle.elf_linking.specs.Versions.{BearsDefined, bears_defined, first_item}
 use Rattle.elf_linking.specs.declared.error.LinkError.{LinkError}

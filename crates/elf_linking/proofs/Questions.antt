@@ -22,7 +22,6 @@ use Rattle.elf_linking.specs.declared.scope.asking.Asked.TheVariants.{Look, Own}
 use Rattle.elf_linking.proofs.VersionsRead.{HasName, item_ok, not_refused, version_read}
 use Rattle.std.specs.Borrow.{Bor}
 use Rattle.xmas_elf.specs.Symbol.{SymbolFields}
-use Rattle.xmas_elf.specs.declared.ElfFile.{ElfFile}
 
 -- the version that is wanted can be read, if the name of what bears it can
 wanted_read : (version : Option VersionParts) → IfSome version (λ v. HasName v.named) → IsOk (wanted_of version)

@@ -1,12 +1,11 @@
 -- A text that is compared in place.
-use Rattle.std.proofs.Common.{◌≡◌, ◌↔◌, ℕ, Bool, true, List, Result, Ok, Err, IsTrue, refl, sym, ap, ◌∙◌}
+use Rattle.std.proofs.Common.{◌≡◌, ◌↔◌, ℕ, Bool, true, List, Ok, IsTrue, refl, sym, ap, ◌∙◌}
 use Rattle.std.proofs.lemmas.Slice.Eq.{bytes_eq-Decides}
 use Rattle.std.specs.Str.{bytes_eq}
 use Rattle.elf_base.proofs.lemmas.TextLemmas.{is-text_of}
 use Rattle.elf_base.specs.Text.{IsText, text_of}
 use Rattle.elf_linking.specs.DynamicView.{as_link_error, text_in_strings}
 use Rattle.elf_linking.specs.VersionTables.{result_map}
-use Rattle.elf_linking.specs.declared.error.LinkError.{LinkError}
 
 -- if a text stands in a string table, it is the text there
 pub text_stands : (table : List ℕ) (place : ℕ) (wanted : List ℕ) (held : Bool) → (IsTrue held ↔ IsText table place wanted) → held ≡ true

@@ -1,9 +1,8 @@
 -- What the dynamic segment of a file leads to (gABI, "Dynamic Section"): its entries, the string table, the hash
 -- tables, and the symbols with their number and their names.
-use Rattle.std.specs.Prelude.{ℕ, ◌/◌, ◌%◌, ◌==◌, ◌||◌, is_some, false, not, Bool, List, [], ◌∷◌, length, Option, Result, Err, option_map, if◌then◌else◌, ◌≡◌, None, Some, IsSomeAnd, Ok, IsOkAnd, nat_lt, ◌≢◌, ◌+◌, ◌^◌, ◌<◌, ◌≤◌, ◌*◌}
+use Rattle.std.specs.Prelude.{ℕ, ◌==◌, Bool, List, [], ◌∷◌, length, Option, Result, Err, option_map, if◌then◌else◌, ◌≡◌, None, Some, IsSomeAnd, Ok, IsOkAnd, nat_lt, ◌*◌}
 use Rattle.std.specs.List.{find}
 use Rattle.std.specs.Borrow.{Bor}
-use Rattle.elf_base.specs.Table.{records, table_items, table_rest}
 use Rattle.elf_base.specs.declared.bytes.Order.{Order}
 use Rattle.elf_base.specs.Refusal.{unless}
 use Rattle.elf_base.specs.FileHeader.{class_of, file_class, file_order}
@@ -14,15 +13,13 @@ use Rattle.elf_records.specs.declared.program.Type.TheVariants as segment_type_v
 use Rattle.xmas_elf.specs.ProgramHeader.{program_fields, segment_type, program_list, segment_data_of}
 use Rattle.xmas_elf.specs.declared.ElfFile.{ElfFile}
 use Rattle.xmas_elf.specs.declared.program.program_header.ProgramHeader.{ProgramHeader}
+pub use Rattle.elf_linking.specs.Entries.{all_entries, entries_left, has_symbolic_flag, has_tag, is_symbolic, number_with, pairs_left, pairs_of, until_null, whole_entries}
 use Rattle.elf_linking.specs.Layouts.{gnu_table_of}
 use Rattle.elf_linking.specs.declared.error.LinkError.{LinkError}
 use Rattle.elf_linking.specs.declared.error.LinkError.TheVariants.{Elf, NoDynamic, NoEntry}
-use Rattle.elf_linking.specs.declared.view.entries.DynamicEntries.{DynamicEntries}
-use Rattle.elf_records.specs.Dynamic.{dynamic_32, dynamic_64, dynamic_tag, dynamic_value}
+use Rattle.elf_records.specs.Dynamic.{dynamic_tag, dynamic_value}
 use Rattle.elf_records.specs.declared.dynamic.Dynamic.{Dynamic}
-use Rattle.elf_linking.specs.declared.view.tags.TheConstants.{DT_NULL, DT_NEEDED, DT_STRSZ, DT_STRTAB, DT_FLAGS, DT_GNU_HASH, DT_HASH, DT_SYMBOLIC, DT_SYMTAB}
-use Rattle.elf_linking.specs.declared.view.entries.Pairs.{Pairs}
-use Rattle.elf_linking.specs.declared.view.entries.Rest.{Rest}
+use Rattle.elf_linking.specs.declared.view.tags.TheConstants.{DT_NEEDED, DT_STRSZ, DT_STRTAB, DT_GNU_HASH, DT_HASH, DT_SYMTAB}
 use Rattle.elf_linking.specs.Loaded.{LiesAsLoaded, bytes_at_of, lent, bytes_from_of}
 use Rattle.elf_linking.specs.declared.view.dynamic.DynamicView.{DynamicView}
 use Rattle.elf_linking.specs.declared.view.needed.Needed.{Needed}
@@ -32,59 +29,6 @@ use Rattle.elf_base.specs.Number.{number}
 use Rattle.elf_linking.specs.GnuCount.{IsGnuCount}
 use Rattle.elf_linking.specs.GnuHash.{gnu_class, gnu_data, gnu_order}
 use Rattle.elf_linking.specs.declared.gnu_hash.GnuHashTable.{GnuHashTable}
-use Rattle.elf_base.specs.declared.error.ElfError.TheVariants as elf_error
-use Rattle.elf_linking.specs.declared.view.entries.Pairs.TheVariants as pairs
-use Rattle.elf_linking.specs.declared.view.entries.Rest.TheVariants as rest
-
--- The entries of a dynamic segment in order (DT_NULL).
-
--- the records of bytes that are a whole number of records
-abbrev pub whole_entries : ℕ → (List ℕ → Dynamic ℕ) → List ℕ → Result (List (Dynamic ℕ)) LinkError
-whole_entries size value bytes =
-    unless ((not (length bytes % size == 0), Elf elf_error.NotMultiple) ∷ []) (records size value bytes)
-
--- the entries in bytes of a file of this class and byte order
-abbrev pub all_entries : ℕ → Order → List ℕ → Result (List (Dynamic ℕ)) LinkError
-all_entries class order bytes =
-    if class == 1 then whole_entries 8 (dynamic_32 order) bytes
-    else (if class == 2 then whole_entries 16 (dynamic_64 order) bytes else Err (Elf elf_error.UnknownClass))
-
--- the entries before the first with tag Null (DT_NULL)
-abbrev pub until_null : List (Dynamic ℕ) → List (Dynamic ℕ)
-until_null [] = []
-until_null (entry ∷ entries) = if dynamic_tag entry == DT_NULL then [] else entry ∷ until_null entries
-
--- an entry has this tag
-abbrev pub has_tag : ℕ → Dynamic ℕ → Bool
-has_tag tag entry = dynamic_tag entry == tag
-
--- the number in the first entry with a tag
-abbrev pub number_with : ℕ → List (Dynamic ℕ) → Option ℕ
-number_with tag entries = option_map (λ entry. dynamic_value entry) (find (has_tag tag) entries)
-
--- a number of flags has the flag 2 (DF_SYMBOLIC)
-abbrev pub has_symbolic_flag : Option ℕ → Bool
-has_symbolic_flag None = false
-has_symbolic_flag (Some flags) = flags / 2 % 2 == 1
-
--- references of the file are bound within it first: there is an entry DT_SYMBOLIC, or the entry DT_FLAGS has the
--- flag DF_SYMBOLIC
-abbrev pub is_symbolic : List (Dynamic ℕ) → Bool
-is_symbolic entries = is_some (number_with DT_SYMBOLIC entries) || has_symbolic_flag (number_with DT_FLAGS entries)
-
--- the entries of a table
-abbrev pub pairs_of : Pairs → List (Dynamic ℕ)
-pairs_of (pairs.Narrow table) = table_items table
-pairs_of (pairs.Wide table) = table_items table
-
--- the entries that remain of a table
-abbrev pub pairs_left : Rest → List (Dynamic ℕ)
-pairs_left (rest.Narrow table) = table_items (table_rest table)
-pairs_left (rest.Wide table) = table_items (table_rest table)
-
--- the entries that an iterator has not yet returned
-abbrev pub entries_left : DynamicEntries → List (Dynamic ℕ)
-entries_left iter = if iter.ended then [] else until_null (pairs_left iter.rest)
 
 -- The dynamic segment of a file and its string table (DT_NEEDED, DT_STRTAB, DT_STRSZ and others; that the
 -- first segment and the first entry of a kind are the ones read is this project's own).
@@ -155,7 +99,7 @@ LiesAsFileStrings file part = IsOkAnd (dynamic_entries_of file) (λ entries. Lie
 
 -- the entries of a view
 abbrev pub view_entries : DynamicView → List (Dynamic ℕ)
-view_entries view = until_null (pairs_of view.pairs)
+view_entries view = until_null (pairs_of view.entries.pairs)
 
 -- the bytes of the string table of a view, or why there is none
 abbrev pub view_strings : DynamicView → Result (List ℕ) LinkError

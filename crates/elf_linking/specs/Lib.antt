@@ -5,6 +5,8 @@ pub mod GnuCount
 pub mod Relr
 pub mod Notes
 pub mod Loaded
+pub mod Entries
+pub mod FirstNumbers
 pub mod DynamicView
 pub mod AnyTable
 pub mod BuildIds

@@ -1,6 +1,6 @@
 -- The value of a name in a file, found like `dlsym` finds it: by the dynamic segment, without section headers, and
 -- without a version.
-use Rattle.std.specs.Prelude.{◌≡◌, ◌≢◌, ℕ, List, Option, Result, Ok, Err, option_map}
+use Rattle.std.specs.Prelude.{◌≡◌, ◌≢◌, ℕ, List, Option, Result, Err, option_map}
 use Rattle.elf_base.specs.FileHeader.{file_class}
 use Rattle.elf_base.specs.declared.bytes.Order.{Order}
 use Rattle.elf_linking.specs.AnyTable.{IsCheckBy, IsGoodBy}

@@ -3,6 +3,7 @@
 
 mod dynamic;
 mod entries;
+mod first_numbers;
 mod linked_symbol;
 mod loaded;
 mod needed;

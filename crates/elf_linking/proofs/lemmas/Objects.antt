@@ -1,11 +1,8 @@
 -- For callers of `DynamicObject::read`: the dynamic symbols of an object are those of its file.
-use Rattle.std.proofs.Common.{◌≡◌, ℕ, List, Result, Ok, refl, ap, sym, subst, ◌∙◌}
-use Rattle.elf_base.specs.FileHeader.{file_order}
-use Rattle.elf_base.specs.Table.{records, table_data, table_order}
-use Rattle.elf_base.specs.Text.{text_of}
+use Rattle.std.proofs.Common.{◌≡◌, ℕ, List, Ok, ap, sym, ◌∙◌}
+use Rattle.elf_base.specs.Table.{table_data}
 use Rattle.elf_linking.specs.DynamicObject.{AreDynamicSymbols, IsObject, object_dynamic_symbols, object_records, object_strings, object_view, symbols_with}
 use Rattle.elf_linking.specs.DynamicView.{dynamic_entries_of, strings_by, dynamic_strings_of, strings_of_entries, view_entries}
-use Rattle.elf_linking.specs.declared.error.LinkError.{LinkError}
 use Rattle.elf_linking.specs.declared.object.DynamicObject.{DynamicObject}
 use Rattle.elf_records.specs.declared.dynamic.Dynamic.{Dynamic}
 use Rattle.xmas_elf.specs.Symbol.{SymbolFields}

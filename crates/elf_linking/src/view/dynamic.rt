@@ -11,6 +11,7 @@ ghost use Rattle.elf_linking.specs.declared.view.tags.TheConstants.{DT_RUNPATH, 
 
 use crate::LinkError;
 use crate::view::entries::{DynamicEntries, Pairs};
+use crate::view::first_numbers::Entries;
 use crate::view::loaded::bytes_at;
 use crate::view::needed::{Needed, text_by};
 use crate::view::needed_bytes::NeededBytes;
@@ -23,7 +24,7 @@ use xmas_elf::program::{ProgramHeader, Type};
 /// The dynamic segment of a file, read without section headers.
 #[derive(Clone, Copy, Debug)]
 pub struct DynamicView<'a> {
-    pairs: Pairs<'a>,
+    entries: Entries<'a>,
     strings: Result<&'a [u8], LinkError>,
 }
 
@@ -71,13 +72,9 @@ impl<'a> DynamicView<'a> {
         let Some(program) = dynamic_segment(file) else {
             return Err(LinkError::NoDynamic);
         };
-        let pairs = Pairs::new(program.raw_data(file)?, file)?;
-        let strings = strings_by(
-            file,
-            first_number(&pairs, DT_STRTAB),
-            first_number(&pairs, DT_STRSZ),
-        );
-        Ok(DynamicView { pairs, strings })
+        let entries = Entries::new(Pairs::new(program.raw_data(file)?, file)?);
+        let strings = strings_by(file, entries.number(DT_STRTAB), entries.number(DT_STRSZ));
+        Ok(DynamicView { entries, strings })
     }
 
     /// An iterator over the entries, in order.
@@ -85,14 +82,14 @@ impl<'a> DynamicView<'a> {
         ensures items { entries_left result ≡ view_entries self.now }
         ensures fits { length (entries_left result) < 2 ^ 64 }
     {
-        self.pairs.iter()
+        self.entries.iter()
     }
 
     /// The number in the first entry with this tag.
     pub fn entry(&self, tag: u64) -> Option<u64>
         ensures { result ≡ number_with tag (view_entries self.now) }
     {
-        first_number(&self.pairs, tag)
+        self.entries.number(tag)
     }
 
     /// An iterator over the names of the needed libraries, in order.
@@ -163,24 +160,11 @@ impl<'a> DynamicView<'a> {
     fn text_with(&self, tag: u64) -> Option<Result<&'a str, LinkError>>
         ensures { IsTextWith self.now tag result }
     {
-        match first_number(&self.pairs, tag) {
+        match self.entries.number(tag) {
             Some(number) => Some(text_by(self.strings, number)),
             None => None,
         }
     }
-}
-
-// The number in the first entry with this tag.
-#[tactic(auto, using(crate::proofs::EntryItems::number_none, crate::proofs::EntryItems::number_hit, crate::proofs::EntryItems::number_other))]
-fn first_number(pairs: &Pairs<'_>, tag: u64) -> Option<u64>
-    ensures { result ≡ number_with tag (until_null (pairs_of pairs.now)) }
-{
-    for entry in pairs.iter() {
-        if entry.raw_tag() == tag {
-            return Some(entry.raw_val());
-        }
-    }
-    None
 }
 
 // The bytes of the string table, by its address and its size.

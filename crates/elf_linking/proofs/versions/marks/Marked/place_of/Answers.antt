@@ -1,4 +1,4 @@
-use Rattle.std.proofs.Common.{◌≡◌, ◌≢◌, rules, slice_index, sym, ◌∙◌}
+use Rattle.std.proofs.Common.{◌≡◌, rules, sym, ◌∙◌}
 use Rattle.elf_linking.specs.VersionTables.{records_data}
 use Rattle.elf_linking.proofs.Marking.{mark_first, mark_whole}
 use Rattle.elf_linking.proofs.versions.marks.Marked.place_of.Goals as goal

@@ -1,6 +1,6 @@
 use Rattle.std.proofs.Common.{sym, ap}
 use Rattle.elf_base.specs.FileHeader.{file_order}
-use Rattle.elf_linking.specs.DynamicView.{by_gnu, by_hash, chain_count_in, no_table, view_entries}
+use Rattle.elf_linking.specs.DynamicView.{by_gnu, by_hash, chain_count_in, no_table}
 use Rattle.elf_linking.proofs.ViewTables.{count_read}
 use Rattle.elf_linking.proofs.view.dynamic.DynamicView.symbol_count.Goals as goal
 

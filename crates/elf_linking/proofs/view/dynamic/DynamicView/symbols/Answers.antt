@@ -1,4 +1,4 @@
-use Rattle.std.proofs.Common.{sym, ◌∙◌}
+use Rattle.std.proofs.Common.{sym}
 use Rattle.elf_base.specs.Table.{table_data}
 use Rattle.elf_linking.specs.DynamicView.{no_names, no_records}
 use Rattle.elf_linking.proofs.view.dynamic.DynamicView.symbols.Goals as goal

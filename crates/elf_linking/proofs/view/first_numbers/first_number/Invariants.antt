@@ -1,7 +1,7 @@
 use Rattle.std.proofs.Common.{◌≡◌}
 use Rattle.std.specs.List.{find}
-use Rattle.elf_linking.specs.DynamicView.{entries_left, has_tag, pairs_of, until_null}
-use Rattle.elf_linking.proofs.view.dynamic.first_number.Given as goal
+use Rattle.elf_linking.specs.Entries.{entries_left, has_tag, pairs_of, until_null}
+use Rattle.elf_linking.proofs.view.first_numbers.first_number.Given as goal
 
 -- a search of the remaining entries has the result of a search of all entries
 abbrev pub invariant-loop-entry : goal.invariant-loop-entry
