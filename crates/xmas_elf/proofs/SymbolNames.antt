@@ -1,13 +1,12 @@
 -- Names of symbols, compared in the string table that was found for them.
-use Rattle.std.proofs.Common.{rules, ◌≡◌, ◌↔◌, ℕ, List, Option, Some, Result, Ok, Err, Bool, true, false, IsTrue, Bor, ap}
+use Rattle.std.proofs.Common.{◌≡◌, ◌↔◌, ℕ, List, Some, Result, Ok, Err, Bool, true, false, IsTrue, Bor, ap}
 use Rattle.std.specs.Result.{result_ok}
 use Rattle.elf_base.specs.Lent.{Answers}
 use Rattle.elf_base.specs.Text.{IsText, text_of}
 use Rattle.elf_base.proofs.lemmas.TextLemmas.{text_of-is, is-text_of}
 use Rattle.xmas_elf.specs.Prelude.{ElfError, ElfFile}
 use Rattle.xmas_elf.specs.StringTables.{dyn_string_of, string_of}
-use Rattle.xmas_elf.specs.Symbol.{SymbolFields}
-use Rattle.xmas_elf.specs.SymbolName.{HoldsNames, name_in_table, symbol_string_of, symbol_strings_of}
+use Rattle.xmas_elf.specs.SymbolName.{name_in_table, symbol_string_of, symbol_strings_of}
 
 pub ok_of_some : (answer : Result (List ℕ) ElfError) (text : List ℕ) → result_ok answer ≡ Some text → answer ≡ Ok text
 ok_of_some (Ok one) text same = cc

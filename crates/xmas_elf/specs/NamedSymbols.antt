@@ -1,6 +1,6 @@
 -- Where the names of the symbols of a table are read, and what they are (gABI, "Symbol Table", st_name, and
 -- "String Table").
-use Rattle.std.specs.Prelude.{◌≡◌, ℕ, List, Option, None, Some, Result}
+use Rattle.std.specs.Prelude.{ℕ, List, Option, None, Some, Result}
 use Rattle.std.specs.Borrow.{Bor}
 use Rattle.std.specs.Result.{result_ok}
 use Rattle.std.proofs.Math.Path.{Singl, contract}
