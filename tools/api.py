@@ -25,16 +25,22 @@ LIBRARIES = ("xmas_elf", "elf_linking", "elf_base", "elf_records", "elf_c")
 
 HEAD = """# The public items
 
-Each public item of the five libraries in one line, by crate and module. The link leads to its doc, its signature and the clauses that are proved of it, on the page of the crate that declares it. `xmas_elf` makes most of `elf_base` and `elf_records` public under its own modules: a caller needs no other path.
+This page lists each public item of the five libraries in one line, by crate and module. The link leads to its description, its signature and its proved clauses, on the page of the crate that declares it. `xmas_elf` re-exports most of `elf_base` and `elf_records` under its own modules. So a caller needs no other path.
 
-These pages are made by `tools/api.py` from the sources, and `.ci/run` fails where they differ.
+`tools/api.py` makes these pages from the sources, and `.ci/run` fails if they differ.
 """
 
 ERRORS = """## Errors
 
-Which calls answer which error, with its text. What an error means stands beside it in `ElfError`, when a call answers it in the doc of the call, and in what order its errors come in its `exact` clause.
+Which calls return which error, with its text.
 
-`report::report` hands on what `ElfFile::new` answers, as `ReportFault::Elf`. The iterators over headers, `find_section_by_name`, `shstr_is` and the calls of `Extensions` don't say why there is nothing. `SectionStrings::next` gives its errors as an item.
+|What|Where|
+|---|---|
+|the meaning of an error|in `ElfError`|
+|when a call returns it|in the description of the call|
+|the order of the errors of a call|in its clause `exact`|
+
+`report::report` returns the error of `ElfFile::new` as `ReportFault::Elf`. The iterators over headers, `find_section_by_name`, `shstr_is` and the calls of `Extensions` return no error: they don't say why there is nothing. `SectionStrings::next` returns its errors as items.
 
 | Error | Text | Calls |
 |---|---|---|"""

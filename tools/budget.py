@@ -189,19 +189,19 @@ def table(output: str) -> str:
     loops = [(float(mean), int(count), float(best)) for mean, count, best in LOOP.findall(output)]
     if loops:
         mean = sum(it[0] * it[1] for it in loops) / sum(it[1] for it in loops)
-        share += f" A loop that took {min(it[2] for it in loops):.0f} ms at best took {mean:.0f} on average."
+        share += f" A fixed loop, run beside it to see other load, took {min(it[2] for it in loops):.0f} ms at best, {mean:.0f} ms on average."
     commit = subprocess.run(["git", "rev-parse", "--short", "HEAD"], cwd=ROOT, capture_output=True, text=True, check=False).stdout.strip()
     kit = subprocess.run(["rt", "version"], capture_output=True, text=True, check=False).stdout.split(" ")[0]
     pages = PAGES.search(output)
     huge = f", with transparent huge pages `{pages[1]}`" if pages else ""
-    said = f"Measured at {commit} by `.ci/run` on x86-64 with {where}: {minutes(wall)} minutes, {how}{huge}; {kit}, {datetime.date.today()}. Processor minutes by part.{share}"
+    said = f"Measured at {commit} by `.ci/run` on x86-64 with {where}: {minutes(wall)} minutes, {how}{huge}; {kit}, {datetime.date.today()}. The table lists processor minutes by part.{share}"
     head = "| Part | proof | tests | must-fail | batches | together |\n|---|---:|---:|---:|---:|---:|"
     return "\n\n".join([HEADING, ABOUT, said, "\n".join([head, *rows])]) + "\n"
 
 
-ABOUT = f"""`tools/budget.py write OUTPUT` writes this page from the output of `.ci/run`, without the paragraphs that were added by hand, and `.ci/run` checks it: the total may be at most {BUDGET} processor minutes. Measure where nothing was proved before; a kit whose `rt ci` keeps proofs has `rt ci --anew`.
+ABOUT = f"""`tools/budget.py write OUTPUT` writes this page from the output of `.ci/run`, without the paragraphs that were added by hand. `.ci/run` checks that the total is at most {BUDGET} processor minutes. Measure in a copy where nothing was proved before. If the kit's `rt ci` keeps proofs, use `rt ci --anew`.
 
-As root, `.ci/run` turns on transparent huge pages while it runs, and it gives each check one job. Two checks of `elf_base` side by side, with one job each, took 178 and 186 processor seconds with huge pages and 235 each without; one with two jobs took 252 with them. Measured at 5d99415 by `rt verdict` on x86-64, on two of four processors; rattle-kit-13f."""
+As root, `.ci/run` turns on transparent huge pages for the time of its run. It gives each check one job. Two checks of `elf_base` side by side, with one job each, took 178 and 186 processor seconds with huge pages, and 235 each without. One check with two jobs took 252 with huge pages. Measured at 5d99415 by `rt verdict` on x86-64, on two of four processors; rattle-kit-13f."""
 
 
 def write(paths) -> int:

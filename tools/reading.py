@@ -24,9 +24,9 @@ BOUNDS = {
     "xmas_elf::hash::lookup HashTable::lookup_in": 90,
     "xmas_elf::hash::check HashTable::check_in": 85,
     "elf_linking::gnu_hash::lookup GnuHashTable::lookup_in": 105,
-    "elf_linking::object DynamicObject::find": 192,
-    "elf_linking::scope Scope::bind": 254,
-    "elf_linking::values value_by_name": 340,
+    "elf_linking::object DynamicObject::find": 190,
+    "elf_linking::scope Scope::bind": 250,
+    "elf_linking::values value_by_name": 335,
 }
 ROOM = re.compile(r"(<!-- (read|bytes) ([^>]*) -->\n).*?(<!-- end -->)", re.S)
 

@@ -7,7 +7,7 @@ use Rattle.elf_base.specs.FileHeader.{file_class, file_order}
 use Rattle.elf_base.specs.Table.{records}
 use Rattle.elf_linking.specs.AnyTable.{LooksWhereBy}
 use Rattle.elf_linking.specs.DynamicView.{AreSymbols, as_link_error, dynamic_entries_of}
-use Rattle.elf_linking.specs.Find.{DynamicSymbols, IsAlone, IsAsked, IsFirstOf, IsFound, IsOtherwise, IsShown, Seeks, Then, accepted, if_alone}
+use Rattle.elf_linking.specs.Find.{DynamicSymbols, IsAsked, IsDefault, IsFound, IsShown, accepted, faulty, asked_first, none_shown, one_shown, otherwise, two_shown}
 use Rattle.elf_linking.specs.GnuHash as gnu
 use Rattle.elf_linking.specs.VersionTables.{result_map}
 use Rattle.elf_linking.specs.declared.any_table.AnyTable.{AnyTable}
@@ -15,7 +15,6 @@ use Rattle.elf_linking.specs.declared.any_table.AnyTable.TheVariants.{Gnu, Sysv}
 use Rattle.elf_linking.specs.declared.error.LinkError.{LinkError}
 use Rattle.elf_linking.specs.declared.find.Use.TheVariants.{Any}
 use Rattle.elf_linking.specs.declared.find.Wanted.{Wanted}
-use Rattle.elf_linking.specs.declared.find.Wanted.TheVariants.{Newest, Unversioned, Version}
 use Rattle.elf_linking.specs.declared.gnu_hash.GnuHashTable.{GnuHashTable}
 use Rattle.elf_records.specs.declared.dynamic.Dynamic.{Dynamic}
 use Rattle.xmas_elf.specs.HashTable as gabi
@@ -75,29 +74,21 @@ module _ {E : Type 0} (file : DynamicSymbols E) (name : List ℕ) (at : ℕ × E
   is_one : (one : ℕ × E) → Stands one → Some at ≡ Some one → Stands at
   is_one one stands is = let same : one ≡ at = cc in subst Stands same stands
 
-  alone_stands : (one : ℕ × E) → Stands one → (other : Result (Option (ℕ × E)) LinkError) → Then other (λ second answer. answer ≡ Ok (if_alone one second)) (Ok (Some at)) → Stands at
-  alone_stands one stands (Ok None) is = is_one one stands (cc)
-  alone_stands one stands (Ok (Some second)) is = absurd (cc)
-  alone_stands one stands (Err error) is = absurd (cc)
-
-  default_stands : (shown : Result (Option (ℕ × E)) LinkError) → Seeks (IsShown file name Any None) file name shown → Then shown (IsAlone file name Any) (Ok (Some at)) → Stands at
-  default_stands (Ok None) seeks is = absurd (cc)
-  default_stands (Ok (Some one)) seeks is = alone_stands one (by_table (IsShown file name Any None) one file.table file.symbols.items name seeks.0 seeks.1) is.0 is.2
-  default_stands (Err error) seeks is = absurd (cc)
-
-  otherwise_stands : (wanted : Wanted) → IsOtherwise file name wanted Any (Ok (Some at)) → Stands at
-  otherwise_stands (Version version hash hidden) is = absurd (cc)
-  otherwise_stands Unversioned is = default_stands is.0 is.1 is.2
-  otherwise_stands Newest is = default_stands is.0 is.1 is.2
+  default_stands : (wanted : Wanted) (found : Option (ℕ × E)) → IsDefault file name wanted Any found → found ≡ Some at → Stands at
+  default_stands wanted _ (none_shown none) is = absurd (cc)
+  default_stands wanted _ (one_shown one some none) is =
+      is_one one (by_table (IsShown file name wanted Any None) one file.table file.symbols.items name some.0 some.1) (sym is)
+  default_stands wanted _ (two_shown one other some more) is = absurd (cc)
 
   first_stands : (one : ℕ × E) (version : Result Bool LinkError) → Stands one → Ok (Some at) ≡ result_map (λ _. Some one) version → Stands at
   first_stands one (Ok b) stands is = is_one one stands (cc)
   first_stands one (Err error) stands is = absurd (cc)
 
-  found_stands : (wanted : Wanted) (first : Result (Option (ℕ × E)) LinkError) → Seeks (IsAsked file name wanted Any) file name first → Then first (IsFirstOf file name wanted Any) (Ok (Some at)) → Stands at
-  found_stands wanted (Ok None) seeks is = otherwise_stands wanted is
-  found_stands wanted (Ok (Some one)) seeks is = first_stands one (accepted file.versions wanted one.0) (by_table (IsAsked file name wanted Any) one file.table file.symbols.items name seeks.0 seeks.1) is
-  found_stands wanted (Err error) seeks is = absurd (cc)
+  found_stands : (wanted : Wanted) (answer : Result (Option (ℕ × E)) LinkError) → IsFound file name wanted Any answer → answer ≡ Ok (Some at) → Stands at
+  found_stands wanted _ (asked_first one answer seeks is) same =
+      first_stands one (accepted file.versions wanted one.0) (by_table (IsAsked file name wanted Any) one file.table file.symbols.items name seeks.0 seeks.1) (sym same ∙ is)
+  found_stands wanted _ (faulty error seeks) same = absurd (cc)
+  found_stands wanted _ (otherwise found seeks default) same = default_stands wanted found default (cc)
 
 -- the numbers of what was found are those of the symbol at its index
 found_there : {E : Type 0} (all : DynamicSymbols E) (name version : List ℕ) (said : FoundSymbol) → IsSearched all name version (Ok said) → said.found ≡ 1 → found_in (λ e. symbol_record (all.symbols.fields e)) all.symbols.items said.index ≡ Ok said.symbol
@@ -108,7 +99,7 @@ found_there {E} all name version said is one = by_found is.found is.is_found is.
     by_found (Ok None) finds numbers = absurd (let same : said ≡ found_symbol all.symbols.fields None = cc in let none : said.found ≡ 0 = ap (λ s. s.found) same in cc)
     by_found (Ok (Some at)) finds numbers =
         let same : said ≡ found_symbol all.symbols.fields (Some at) = cc in
-        let stands = found_stands all name at is.wanted finds.0 finds.1 finds.2 in
+        let stands = found_stands all name at is.wanted (Ok (Some at)) finds refl in
         subst (λ s. found_in (λ e. symbol_record (all.symbols.fields e)) all.symbols.items s.index ≡ Ok s.symbol) (sym same)
         (ap (taken_for (λ e. symbol_record (all.symbols.fields e))) stands)
 

@@ -24,8 +24,9 @@ pub mod VersionPlaces
 pub mod VersionItems
 pub mod VersionSearch
 mod Finds
-mod Early
-mod FoundOnce
+mod Kept
+mod GnuFinds
+mod SysvFinds
 pub mod TextsInPlace
 pub mod Marking
 mod Accepted

@@ -5,7 +5,7 @@ use Rattle.std.proofs.lemmas.Option.{slice_get_within}
 use Rattle.elf_base.specs.Refusal.{and_then}
 use Rattle.elf_base.specs.Table.{table_items}
 use Rattle.elf_linking.specs.DynamicObject.{object_dynamic_symbols, object_machine, name_of_symbol, object_name, object_records, object_strings, object_versions}
-use Rattle.elf_linking.specs.Find.{AreReadable, DynamicSymbols, FindsRight, IsFound, IsRight, at_once, by_default, no_version}
+use Rattle.elf_linking.specs.Find.{AreReadable, DynamicSymbols, FindsRight, IsDefault, IsFound, IsRight, asked_first, at_once, by_default, faulty, no_version, none_shown, one_shown, otherwise, two_shown}
 use Rattle.elf_linking.specs.References.{use_of}
 use Rattle.elf_linking.specs.Scope.{AnswersAsked, asked_of, asked_parts, asked_with, binds_to_itself, is_hidden_need, text_alone, wanted_by, wanted_of, wanted_parts}
 use Rattle.elf_linking.specs.VersionTables.{result_map, version_tables}
@@ -69,13 +69,27 @@ asked_read {E} fields object reference readable named = by_symbol (slice_get (ta
 
 -- a search is one for the version's name, wherever it lies
 module _ {E : Type 0} (file : DynamicSymbols E) (name : List ℕ) (purpose : uses.Use) where
+  module _ (place other : ℕ × ℕ) (text : List ℕ) (hash : ℕ) (hidden : Bool) where
+    abbrev At : ℕ × ℕ → Wanted
+    At p = Version (record { ref_ptr = p; now = text }) hash hidden
+
+    default_moved : (found : Option (ℕ × E)) → IsDefault file name (At place) purpose found → IsDefault file name (At other) purpose found
+    default_moved _ (none_shown none) = none_shown none
+    default_moved _ (one_shown at some none) = one_shown at some none
+    default_moved _ (two_shown at second some more) = two_shown at second some more
+
+    found_moved : (answer : Result (Option (ℕ × E)) LinkError) → IsFound file name (At place) purpose answer → IsFound file name (At other) purpose answer
+    found_moved _ (asked_first at answer seeks is) = asked_first at answer seeks is
+    found_moved _ (faulty error seeks) = faulty error seeks
+    found_moved _ (otherwise found seeks default) = otherwise found seeks (default_moved found default)
+
   pub found_alone : (wanted : Wanted) (answer : Result (Option (ℕ × E)) LinkError) → IsFound file name wanted purpose answer → IsFound file name (wanted_parts wanted) purpose answer
-  found_alone (Version text hash hidden) answer found = found
+  found_alone (Version text hash hidden) answer found = found_moved text.ref_ptr (0, 0) text.now hash hidden answer found
   found_alone Unversioned answer found = found
   found_alone Newest answer found = found
 
   pub alone_found : (wanted : Wanted) (answer : Result (Option (ℕ × E)) LinkError) → IsFound file name (wanted_parts wanted) purpose answer → IsFound file name wanted purpose answer
-  alone_found (Version text hash hidden) answer found = found
+  alone_found (Version text hash hidden) answer found = found_moved (0, 0) text.ref_ptr text.now hash hidden answer found
   alone_found Unversioned answer found = found
   alone_found Newest answer found = found
 

@@ -1,6 +1,6 @@
 -- The symbol of a file that a reference by a name and a version gets (LSB, "Symbol Versioning"; which symbols
 -- serve a use, and that a hidden version is no default, as glibc's linker has it).
-use Rattle.std.specs.Prelude.{◌≡◌, ◌≢◌, ℕ, ◌%◌, ◌==◌, ◌&&◌, ◌||◌, nat_lt, not, Bool, true, false, List, length, slice_get, Option, Some, None, option_map, Result, Ok, Err, IsOkAnd, if◌then◌else◌}
+use Rattle.std.specs.Prelude.{◌≡◌, ◌≢◌, ℕ, ◌%◌, ◌==◌, ◌&&◌, ◌||◌, nat_lt, not, Bool, true, false, List, length, slice_get, Option, Some, None, Result, Ok, Err, IsOkAnd, if◌then◌else◌}
 use Rattle.std.specs.Borrow.{Bor}
 use Rattle.std.specs.Str.{bytes_eq}
 use Rattle.elf_base.specs.Refusal.{and_then}
@@ -113,80 +113,47 @@ is_default _ = false
 
 -- The symbol that a reference gets.
 
+-- a reference by a version
+abbrev pub is_by_version : Wanted → Bool
+is_by_version (Version _ _ _) = true
+is_by_version _ = false
+
 -- the result of a look-up for a property of a symbol and its index
 abbrev pub Seeks : {E : Type 0} → (ℕ × E → Type 0) → DynamicSymbols E → List ℕ → Result (Option (ℕ × E)) LinkError → Type 0
 Seeks P file name answer = (count : ℕ) × LooksWhereBy P file.table file.symbols.items name answer count
-
--- what follows a look-up: its error, or what its result leads to
-abbrev pub Then : {A B : Type 0} → Result A LinkError → (A → Result B LinkError → Type 0) → Result B LinkError → Type 0
-Then (Ok found) Next answer = Next found answer
-Then (Err error) Next answer = answer ≡ Err error
 
 -- a candidate that is accepted at once, or whose version can't be read
 abbrev pub IsAsked : {E : Type 0} → DynamicSymbols E → List ℕ → Wanted → uses.Use → ℕ × E → Type 0
 IsAsked file name wanted purpose at = IsCandidate file name purpose at.1 × (accepted file.versions wanted at.0 ≢ Ok false)
 
--- a candidate whose version isn't hidden, at another index than one, if there is one
-abbrev pub IsShown : {E : Type 0} → DynamicSymbols E → List ℕ → uses.Use → Option ℕ → ℕ × E → Type 0
-IsShown file name purpose but at = IsCandidate file name purpose at.1
-    × ((is_default (number_of file.versions at.0) ≡ true) × (but ≢ Some at.0))
+-- a candidate that a reference without a version may fall back on, as its version isn't hidden, at another index
+-- than one, if there is one
+abbrev pub IsShown : {E : Type 0} → DynamicSymbols E → List ℕ → Wanted → uses.Use → Option ℕ → ℕ × E → Type 0
+IsShown file name wanted purpose but at = IsCandidate file name purpose at.1 × ((is_by_version wanted ≡ false)
+    × ((is_default (number_of file.versions at.0) ≡ true) × (but ≢ Some at.0)))
 
--- after a look-up for candidates that aren't hidden: the one found, unless there is another
-abbrev pub if_alone : {A : Type 0} → A → Option A → Option A
-if_alone found None = Some found
-if_alone found (Some other) = None
+-- the default: the one such candidate, if there is exactly one
+pub data IsDefault {E : Type 0} (file : DynamicSymbols E) (name : List ℕ) (wanted : Wanted) (purpose : uses.Use) : Option (ℕ × E) → Type 0 where
+  none_shown : Seeks (IsShown file name wanted purpose None) file name (Ok None)
+      → IsDefault file name wanted purpose None
+  one_shown : (at : ℕ × E) → Seeks (IsShown file name wanted purpose None) file name (Ok (Some at))
+      → Seeks (IsShown file name wanted purpose (Some at.0)) file name (Ok None)
+      → IsDefault file name wanted purpose (Some at)
+  two_shown : (at other : ℕ × E) → Seeks (IsShown file name wanted purpose None) file name (Ok (Some at))
+      → Seeks (IsShown file name wanted purpose (Some at.0)) file name (Ok (Some other))
+      → IsDefault file name wanted purpose None
 
--- what follows the first candidate that is not hidden: it is the default if there is no other
-abbrev pub IsAlone : {E : Type 0} → DynamicSymbols E → List ℕ → uses.Use → Option (ℕ × E) → Result (Option (ℕ × E)) LinkError → Type 0
-IsAlone file name purpose None answer = answer ≡ Ok None
-IsAlone {E} file name purpose (Some found) answer = (other : Result (Option (ℕ × E)) LinkError)
-    × Seeks (IsShown file name purpose (Some found.0)) file name other
-    × Then other (λ second answer. answer ≡ Ok (if_alone found second)) answer
-
--- the default: the one candidate that isn't hidden, if there is exactly one
-abbrev pub IsDefault : {E : Type 0} → DynamicSymbols E → List ℕ → uses.Use → Result (Option (ℕ × E)) LinkError → Type 0
-IsDefault {E} file name purpose answer = (shown : Result (Option (ℕ × E)) LinkError)
-    × Seeks (IsShown file name purpose None) file name shown × Then shown (IsAlone file name purpose) answer
-
--- if no candidate is accepted at once, a reference by a version gets none, and another one the default
-abbrev pub IsOtherwise : {E : Type 0} → DynamicSymbols E → List ℕ → Wanted → uses.Use → Result (Option (ℕ × E)) LinkError → Type 0
-IsOtherwise file name (Version _ _ _) purpose answer = answer ≡ Ok None
-IsOtherwise file name Unversioned purpose answer = IsDefault file name purpose answer
-IsOtherwise file name Newest purpose answer = IsDefault file name purpose answer
-
--- the first candidate that is accepted at once, or why its version can't be read; or else the default
-abbrev pub IsFirstOf : {E : Type 0} → DynamicSymbols E → List ℕ → Wanted → uses.Use → Option (ℕ × E) → Result (Option (ℕ × E)) LinkError → Type 0
-IsFirstOf file name wanted purpose None answer = IsOtherwise file name wanted purpose answer
-IsFirstOf file name wanted purpose (Some found) answer =
-    answer ≡ result_map (λ _. Some found) (accepted file.versions wanted found.0)
-
--- the result of a search for the symbol that a reference gets
-abbrev pub IsFound : {E : Type 0} → DynamicSymbols E → List ℕ → Wanted → uses.Use → Result (Option (ℕ × E)) LinkError → Type 0
-IsFound {E} file name wanted purpose answer = (first : Result (Option (ℕ × E)) LinkError)
-    × Seeks (IsAsked file name wanted purpose) file name first × Then first (IsFirstOf file name wanted purpose) answer
-
--- What a search looks for first.
-
--- a number that is below the least one that needs a name, or isn't hidden, or can't be read
-abbrev pub is_near : ℕ → Result (Option ℕ) LinkError → Bool
-is_near least (Ok (Some raw)) = nat_lt (version_number raw) least || not (is_hidden raw)
-is_near least _ = true
-
--- whether a reference may get the symbol at an index: by a version any symbol; otherwise one that is accepted at
--- once, or whose version can't be read or isn't hidden
-abbrev pub is_likely : VersionTables → Wanted → ℕ → Bool
-is_likely tables (Version _ _ _) index = true
-is_likely tables Unversioned index = is_near 3 (number_of tables index)
-is_likely tables Newest index = is_near 2 (number_of tables index)
-
--- a candidate that a reference may get
-abbrev pub IsLikely : {E : Type 0} → DynamicSymbols E → List ℕ → Wanted → uses.Use → ℕ × E → Type 0
-IsLikely file name wanted purpose at = IsCandidate file name purpose at.1 × (is_likely file.versions wanted at.0 ≡ true)
-
--- the symbol at an index, with the index
-abbrev pub symbol_at : {E : Type 0} → List E → Option ℕ → Option (ℕ × E)
-symbol_at items None = None
-symbol_at items (Some i) = option_map (λ e. (i, e)) (slice_get items i)
+-- the result of a search for the symbol that a reference gets: the first candidate that is accepted at once, or
+-- why its version can't be read; the fault that a look-up for it comes to; otherwise the default
+pub data IsFound {E : Type 0} (file : DynamicSymbols E) (name : List ℕ) (wanted : Wanted) (purpose : uses.Use) : Result (Option (ℕ × E)) LinkError → Type 0 where
+  asked_first : (at : ℕ × E) (answer : Result (Option (ℕ × E)) LinkError)
+      → Seeks (IsAsked file name wanted purpose) file name (Ok (Some at))
+      → answer ≡ result_map (λ _. Some at) (accepted file.versions wanted at.0)
+      → IsFound file name wanted purpose answer
+  faulty : (error : LinkError) → Seeks (IsAsked file name wanted purpose) file name (Err error)
+      → IsFound file name wanted purpose (Err error)
+  otherwise : (found : Option (ℕ × E)) → Seeks (IsAsked file name wanted purpose) file name (Ok None)
+      → IsDefault file name wanted purpose found → IsFound file name wanted purpose (Ok found)
 
 -- What a search of the list of symbols says of it, if look-ups in the table find what they must.
 
@@ -214,11 +181,6 @@ pub record Stands {E : Type 0} (file : DynamicSymbols E) (name : List ℕ) (purp
 abbrev pub StandsShown : {E : Type 0} → DynamicSymbols E → List ℕ → uses.Use → ℕ × E → Type 0
 StandsShown file name purpose at =
     Stands file name purpose at × (is_default (number_of file.versions at.0) ≡ true)
-
--- a reference by a version
-abbrev pub is_by_version : Wanted → Bool
-is_by_version (Version _ _ _) = true
-is_by_version _ = false
 
 -- the default in the list of symbols: the one candidate that isn't hidden; nothing if there is none among those
 -- that look-ups must find, or if there are two

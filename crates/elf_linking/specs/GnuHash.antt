@@ -177,12 +177,6 @@ pub data LooksWhere {E : Type 0} (P : ℕ × E → Type 0) (table : GnuHashTable
       → LooksFrom P (gnu_hash_number name) table symbols from answer n
       → LooksWhere P table symbols name answer n
 
--- the result of the rest of a look-up for P, behind index i, whose chain word has the hash number of the name
-pub data LooksBehind {E : Type 0} (P : ℕ × E → Type 0) (table : GnuHashTable) (symbols : List E) (i : ℕ) : Result (Option (ℕ × E)) LinkError → Type 0 where
-  at_end : EndsRun table i → LooksBehind P table symbols i (Ok None)
-  further : (n : ℕ) (answer : Result (Option (ℕ × E)) LinkError) → (EndsRun table i → ⊥)
-      → LooksFrom P (chain_word table i) table symbols (i + 1) answer n → LooksBehind P table symbols i answer
-
 -- the result of a look-up for the name and P, a property of a symbol, and the number of chain words read
 abbrev pub Looks : {E : Type 0} → (E → Type 0) → GnuHashTable → List E → List ℕ → Result (Option (ℕ × E)) LinkError → ℕ → Type 0
 Looks P table symbols name = LooksWhere (λ at. P at.1) table symbols name

@@ -15,6 +15,7 @@ pub mod VersionTables
 pub mod MarkedVersions
 pub mod Versions
 pub mod Find
+pub mod Kept
 pub mod DynamicObject
 pub mod References
 pub mod Values

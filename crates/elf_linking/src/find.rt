@@ -3,11 +3,11 @@
 
 ghost use Rattle.std.specs.Prelude.{◌≡◌, ◌↔◌, IfOk, IsTrue, option_map};
 ghost use Rattle.elf_linking.specs.Find.{IsAccepted, accepted, accepts_version, is_below, is_default};
-ghost use Rattle.elf_linking.specs.Find.{is_likely, is_near, is_open, is_version, serves};
+ghost use Rattle.elf_linking.specs.Find.{is_open, is_version, serves};
 ghost use Rattle.elf_linking.specs.VersionTables.{result_map, version_tables};
 ghost use Rattle.elf_linking.specs.Versions.{named_parts, number_of, version_parts};
 
-mod early;
+pub(crate) mod kept;
 mod search;
 
 use crate::LinkError;
@@ -164,28 +164,4 @@ pub(crate) fn is_default(versions: &Versions<'_>, index: u32) -> bool
     ensures { result ≡ is_default (number_of (version_tables versions.now) index) }
 {
     matches!(versions.number(index), Ok(Some(raw)) if raw < 0x8000)
-}
-
-// Whether a reference may get the symbol at an index.
-#[inline(always)]
-pub(crate) fn is_likely(versions: &Versions<'_>, wanted: &Wanted<'_>, index: u32) -> bool
-    ensures { result ≡ is_likely (version_tables versions.now) wanted.now index }
-{
-    match wanted {
-        Wanted::Version { .. } => true,
-        Wanted::Unversioned => is_near(versions, index, 3),
-        Wanted::Newest => is_near(versions, index, 2),
-    }
-}
-
-// Whether the number of a symbol's version is below the least that needs a name, or isn't hidden,
-// or can't be read.
-#[inline(always)]
-fn is_near(versions: &Versions<'_>, index: u32, least: u16) -> bool
-    ensures { result ≡ is_near least (number_of (version_tables versions.now) index) }
-{
-    match versions.number(index) {
-        Ok(Some(raw)) => raw % 0x8000 < least || raw < 0x8000,
-        Ok(None) | Err(_) => true,
-    }
 }

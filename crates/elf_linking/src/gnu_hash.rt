@@ -9,6 +9,7 @@ ghost use Rattle.std.specs.Int.{bit_at, is_power_of_two};
 
 mod check;
 mod count;
+mod find;
 mod lookup;
 
 use crate::LinkError;

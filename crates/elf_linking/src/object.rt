@@ -286,10 +286,9 @@ impl<'a, E: LinkedSymbol> DynamicObject<'a, E> {
     ///
     /// Errors: those of `AnyTable::lookup_where`; those of `Wanted::accepts` for a candidate before
     /// the first that is accepted. If `check` and `check_versions` are Ok, there is no error, and
-    /// no symbol is missed. With GNU's table a call goes through the chain of the name once if one
-    /// of the first two candidates decides it, and otherwise four times at most; with the standard's
-    /// table, three times at most. For `Wanted::Version` it asks for the version of each candidate
-    /// that it comes to, as `Versions::version_of` does.
+    /// no symbol is missed. A call goes through the chain of the name once at most. For
+    /// `Wanted::Version` it asks for the version of each candidate that it comes to, as
+    /// `Versions::version_of` does.
     pub fn find(
         &self,
         name: &str,

@@ -13,7 +13,7 @@ pub mod StringItems
 pub mod SymbolCounts
 pub mod ChainPaths
 pub mod ChainStarts
-mod ChainFinds
+pub mod ChainFinds
 mod ChainLinks
 pub mod ChainOnce
 pub mod ChainChecks

@@ -1,9 +1,9 @@
 -- For callers of look-ups with a test that every symbol passes; look-ups for two properties that are true
 -- together; and a test of a symbol as one of its index too.
-use Rattle.std.proofs.Common.{◌≡◌, ℕ, ◌+◌, List, Option, None, Result, Ok, Bool, true, refl, subst}
+use Rattle.std.proofs.Common.{◌≡◌, ℕ, List, Option, None, Result, Ok, Bool, true, refl, subst}
 use Rattle.std.specs.Borrow.{Bor}
 use Rattle.std.specs.Fn.{Shared, FnReturnsAt}
-use Rattle.elf_linking.specs.GnuHash.{EndsRun, FindsAll, IsExported, IsHit, Looks, LooksBehind, LooksFrom, LooksWhere, Stops, at_end, chain_word, ended, found, further, goes, no_run, refused, too_early}
+use Rattle.elf_linking.specs.GnuHash.{FindsAll, IsExported, IsHit, Looks, LooksFrom, LooksWhere, Stops, ended, found, goes, no_run, refused, too_early}
 use Rattle.elf_linking.specs.Layouts.{gnu_hash_number}
 use Rattle.elf_linking.specs.declared.error.LinkError.{LinkError}
 use Rattle.elf_linking.specs.declared.gnu_hash.GnuHashTable.{GnuHashTable}
@@ -54,17 +54,6 @@ looks_alike P Q to back table symbols name _ _ (no_run none) = no_run none
 looks_alike P Q to back table symbols name _ _ (too_early from starts early) = too_early from starts early
 looks_alike P Q to back table symbols name _ _ (goes from n a starts begins looks) =
     goes from n a starts begins (from_so (gnu_hash_number name) table symbols P Q to back from n a looks)
-
--- so is the rest of a look-up behind an index
-pub behind_alike : {E : Type 0} (P Q : ℕ × E → Type 0) → ((at : ℕ × E) → P at → Q at) → ((at : ℕ × E) → Q at → P at) → (table : GnuHashTable) (symbols : List E) (i : ℕ) (a : Result (Option (ℕ × E)) LinkError) → LooksBehind P table symbols i a → LooksBehind Q table symbols i a
-behind_alike P Q to back table symbols i _ (at_end ends) = at_end ends
-behind_alike P Q to back table symbols i _ (further n a on looks) =
-    further n a on (from_so (chain_word table i) table symbols P Q to back (i + 1) n a looks)
-
--- the rest behind an index whose word ends no run is a look-up from the next index on by its hash number
-pub behind_next : {E : Type 0} (P : ℕ × E → Type 0) (table : GnuHashTable) (symbols : List E) (i next h n : ℕ) (a : Result (Option (ℕ × E)) LinkError) → next ≡ i + 1 → h ≡ chain_word table i → (EndsRun table i → ⊥) → LooksFrom P h table symbols next a n → LooksBehind P table symbols i a
-behind_next P table symbols i next h n a follows same on looks =
-    further n a on (subst (λ w. LooksFrom P w table symbols (i + 1) a n) same (subst (λ k. LooksFrom P h table symbols k a n) follows looks))
 
 -- a look-up by a test of an index and a symbol that has the results of a test of the symbol is one by the latter
 pub looks_by_symbol : {F G E : Type 0} (test : Shared F (Bor E × Unit {0}) Bool) (f : F) (wrapped : Shared G (ℕ × (Bor E × Unit {0})) Bool) (g : G) (table : GnuHashTable) (symbols : Symbols E) (name : List ℕ) (a : Result (Option (ℕ × E)) LinkError) (n : ℕ) → (DecidesWhere symbols wrapped g → LooksWhere (IsMatchWhere symbols wrapped g name) table symbols.items name a n) → ((i : ℕ) (e : Bor E) (r : Bool) → wrapped.post g (i, (e, tt)) r → FnReturnsAt test f e.now r) → ((i : ℕ) (e : Bor E) (r : Bool) → FnReturnsAt test f e.now r → wrapped.post g (i, (e, tt)) r) → Decides symbols test f → Looks (IsMatch symbols test f name) table symbols.items name a n

@@ -63,7 +63,7 @@ fn symbol_at<E: Entry + Record, F: Fn(u32, &E) -> bool>(
 
 impl<'a> GnuHashTable<'a> {
     ghost use Rattle.elf_linking.specs.GnuHash.{FindsAll, FindsAllWhere, IsGood, Looks, LooksFrom};
-    ghost use Rattle.elf_linking.specs.GnuHash.{IsThere, LooksBehind, LooksWhere, first_symbol_of};
+    ghost use Rattle.elf_linking.specs.GnuHash.{LooksWhere, first_symbol_of};
     ghost use Rattle.elf_linking.specs.Layouts.{gnu_hash_number};
 
     /// The first symbol in the run of a name that has the name's hash number, has the name and
@@ -233,34 +233,6 @@ impl<'a> GnuHashTable<'a> {
             return (Err(LinkError::ChainIndex), 0);
         }
         self.walk(from, hash, name, symbols, f)
-    }
-
-    // The rest of a look-up behind an index that it found: the walk by the hash number there.
-    #[inline(always)]
-    pub(crate) fn lookup_behind<E: Entry + Record, F: Fn(u32, &E) -> bool>(
-        &self,
-        index: u32,
-        name: &str,
-        symbols: &SymbolTable<'_, E>,
-        f: F,
-    ) -> Result<Option<(u32, E)>, LinkError>
-        requires there { IsThere self.now (table_symbols symbols.now).items index }
-        requires callable { (index : ℕ) (e : Bor E) → index < 2 ^ 32
-            → slice_get (table_symbols symbols.now).items index ≡ Some e.now → F.pre f index e }
-        ensures { let all = table_symbols symbols.now in DecidesWhere all F.Fn f
-            → LooksBehind (IsMatchWhere all F.Fn f name.now) self.now all.items index result }
-    {
-        let here = match self.get_chain(index) {
-            Ok(here) => here,
-            Err(error) => return Err(error),
-        };
-        if here % 2 == 1 {
-            return Ok(None);
-        }
-        let Some(next) = index.checked_add(1) else {
-            return Err(LinkError::SymbolIndex);
-        };
-        self.walk(next, here, name, symbols, &f).0
     }
 
     // The walk from an index on, by the hash number of the name.

@@ -1,0 +1,108 @@
+//! What a search for the symbol that a reference gets keeps of the symbols that it passes.
+
+ghost use Rattle.std.specs.Prelude.{◌≡◌, ◌↔◌, IsTrue, MatchResult, false, true};
+ghost use Rattle.elf_linking.specs.Find.{IsCandidate, dynamic_symbols, is_by_version, is_default};
+ghost use Rattle.elf_linking.specs.Kept.{EndsAt, GoesOn, kept_alone, kept_with};
+ghost use Rattle.elf_linking.specs.VersionTables.{VersionTables, version_tables};
+ghost use Rattle.elf_linking.specs.Versions.{number_of};
+ghost use Rattle.elf_linking.specs.declared.any_table.AnyTable.{AnyTable};
+ghost use Rattle.xmas_elf.specs.SymbolTable.{table_symbols};
+
+use crate::LinkError;
+use crate::find::{Use, Wanted, is_default, serves};
+use crate::versions::Versions;
+use elf_base::bytes::Record;
+use xmas_elf::symbol_table::{Entry, SymbolTable};
+
+// The candidates that a reference may fall back on, as far as a search has come.
+#[derive(Clone, Copy)]
+pub(crate) enum Kept<E> {
+    Nothing,
+    One(u32, E),
+    Several,
+}
+
+impl<E: Entry + Record> Kept<E> {
+    // What is kept after the symbol at an index; `Err` with the answer if the search ends there.
+    #[inline(always)]
+    pub(crate) fn after(
+        self,
+        index: u32,
+        name: &str,
+        symbols: &SymbolTable<'_, E>,
+        versions: &Versions<'_>,
+        wanted: &Wanted<'_>,
+        use_: Use,
+    ) -> Result<Kept<E>, Result<Option<(u32, E)>, LinkError>>
+        ensures { (table : AnyTable) → let file = dynamic_symbols table (table_symbols symbols.now)
+            (version_tables versions.now) in MatchResult result
+            (GoesOn file name.now wanted.now use_ self index)
+            (EndsAt file name.now wanted.now use_ index) }
+    {
+        let Some(symbol) = symbols.get(index as usize) else {
+            return Ok(self);
+        };
+        if !is_candidate(&symbol, name, symbols, use_) {
+            return Ok(self);
+        }
+        match wanted.accepts(versions, index) {
+            Ok(true) => Err(Ok(Some((index, symbol)))),
+            Ok(false) => {
+                if is_shown(versions, wanted, index) {
+                    Ok(self.with(index, symbol))
+                } else {
+                    Ok(self)
+                }
+            }
+            Err(error) => Err(Err(error)),
+        }
+    }
+
+    // What is kept with one more candidate that the reference may fall back on. The same index again,
+    // as in a chain that never ends, is no other candidate.
+    #[inline(always)]
+    fn with(self, index: u32, symbol: E) -> Kept<E>
+        ensures { result ≡ kept_with index symbol self }
+    {
+        match self {
+            Kept::Nothing => Kept::One(index, symbol),
+            Kept::One(at, _) if at == index => self,
+            Kept::One(_, _) | Kept::Several => Kept::Several,
+        }
+    }
+
+    // The one that was kept, if there is exactly one.
+    #[inline(always)]
+    pub(crate) fn alone(self) -> Option<(u32, E)>
+        ensures { result ≡ kept_alone self }
+    {
+        match self {
+            Kept::One(index, symbol) => Some((index, symbol)),
+            Kept::Nothing | Kept::Several => None,
+        }
+    }
+}
+
+// Whether a symbol has the name and serves the use.
+#[inline(always)]
+fn is_candidate<E: Entry + Record>(
+    symbol: &E,
+    name: &str,
+    symbols: &SymbolTable<'_, E>,
+    use_: Use,
+) -> bool
+    ensures { (table : AnyTable) (versions : VersionTables) → IsTrue result
+        ↔ IsCandidate (dynamic_symbols table (table_symbols symbols.now) versions) name.now use_
+        symbol.now }
+{
+    symbols.has_name(symbol, name) && serves(symbol, use_)
+}
+
+// Whether a reference without a version may fall back on the symbol at an index.
+#[inline(always)]
+fn is_shown(versions: &Versions<'_>, wanted: &Wanted<'_>, index: u32) -> bool
+    ensures { IsTrue result ↔ ((is_by_version wanted.now ≡ false)
+        × (is_default (number_of (version_tables versions.now) index) ≡ true)) }
+{
+    !matches!(wanted, Wanted::Version { .. }) && is_default(versions, index)
+}

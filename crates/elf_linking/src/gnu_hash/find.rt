@@ -1,0 +1,57 @@
+//! The search by GNU's table for the symbol that a reference gets, in one pass over the run of its
+//! name.
+
+ghost use Rattle.std.specs.Prelude.{◌≡◌};
+ghost use Rattle.elf_linking.specs.Find.{IsFound, dynamic_symbols};
+ghost use Rattle.elf_linking.specs.VersionTables.{version_tables};
+ghost use Rattle.elf_linking.specs.declared.any_table.AnyTable.TheVariants.{Gnu};
+ghost use Rattle.xmas_elf.specs.SymbolTable.{table_symbols};
+
+use crate::LinkError;
+use crate::find::kept::Kept;
+use crate::find::{Use, Wanted};
+use crate::gnu_hash::lookup::symbol_end;
+use crate::gnu_hash::{GnuHashTable, gnu_hash};
+use crate::versions::Versions;
+use elf_base::bytes::Record;
+use xmas_elf::symbol_table::{Entry, SymbolTable};
+
+impl<'a> GnuHashTable<'a> {
+    // The symbol that a reference gets.
+    pub(crate) fn find_in<E: Entry + Record>(
+        &self,
+        name: &str,
+        symbols: &SymbolTable<'_, E>,
+        versions: &Versions<'_>,
+        wanted: &Wanted<'_>,
+        use_: Use,
+    ) -> Result<Option<(u32, E)>, LinkError>
+        ensures { IsFound (dynamic_symbols (Gnu self.now) (table_symbols symbols.now)
+            (version_tables versions.now)) name.now wanted.now use_ result }
+    {
+        let hash = gnu_hash(name);
+        let Some(from) = self.start(hash) else {
+            return Ok(None);
+        };
+        if from < self.first_symbol() {
+            return Err(LinkError::ChainIndex);
+        }
+        let mut kept = Kept::Nothing;
+        for index in u64::from(from)..symbol_end(symbols) {
+            let word = match self.get_chain(index as u32) {
+                Ok(word) => word,
+                Err(error) => return Err(error),
+            };
+            if word / 2 == hash / 2 {
+                kept = match kept.after(index as u32, name, symbols, versions, wanted, use_) {
+                    Ok(kept) => kept,
+                    Err(answer) => return answer,
+                };
+            }
+            if word % 2 == 1 {
+                return Ok(kept.alone());
+            }
+        }
+        Err(LinkError::SymbolIndex)
+    }
+}
