@@ -73,7 +73,7 @@ def lost(sources: list) -> list:
     known = {f"{it.crate}::{it.module}" for it in sources}
     known |= {f"{it.crate}::{it.module}::{name}" for it in sources for name in it.items}
     found = []
-    for page in [ROOT / "README.md", ROOT / "CALLING.md", *sorted((ROOT / "docs").glob("*.md"))]:
+    for page in [ROOT / "README.md", ROOT / "CONTRIBUTING.md", ROOT / "CALLING.md", *sorted((ROOT / "docs").glob("*.md"))]:
         for path in sorted(set(PATH.findall(page.read_text(encoding="utf-8")))):
             whole = path if path.split("::")[0] in CRATES else f"{CRATES[0]}::{path}"
             if whole not in known:

@@ -17,7 +17,7 @@ import sys
 
 from api_sources import ROOT
 
-PAGES = ("README.md", "CALLING.md", "docs", "bindings", "bench")
+PAGES = ("README.md", "CONTRIBUTING.md", "CALLING.md", "docs", "bindings", "bench")
 
 LIBRARIES = ("crates/elf_base/src", "crates/elf_records/src", "crates/xmas_elf/src")
 LINKING = (*LIBRARIES, "crates/elf_linking/src")

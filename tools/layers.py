@@ -1,5 +1,5 @@
 #!/usr/bin/env python3
-"""Draws the crates of crates.txt, and what uses what, in README.md between its lines `<!-- layers -->` and
+"""Draws the crates of crates.txt, and what uses what, in CONTRIBUTING.md between its lines `<!-- layers -->` and
 `<!-- /layers -->`.
 
     tools/layers.py            writes the picture
@@ -14,7 +14,7 @@ import re
 import sys
 
 ROOT = pathlib.Path(__file__).resolve().parent.parent
-PAGE = ROOT / "README.md"
+PAGE = ROOT / "CONTRIBUTING.md"
 CRATES = ROOT / "crates.txt"
 FIRST, LAST = "<!-- layers -->", "<!-- /layers -->"
 
@@ -60,7 +60,7 @@ def picture() -> str:
 def main() -> int:
     text = PAGE.read_text(encoding="utf-8")
     if text.count(FIRST) != 1 or text.count(LAST) != 1:
-        print(f"README.md: no room between {FIRST} and {LAST}")
+        print(f"CONTRIBUTING.md: no room between {FIRST} and {LAST}")
         return 1
     before, rest = text.split(FIRST)
     wanted = f"{before}{FIRST}\n{picture()}\n{LAST}{rest.split(LAST)[1]}"
@@ -68,7 +68,7 @@ def main() -> int:
     if sys.argv[1:] != ["--check"]:
         PAGE.write_text(wanted, encoding="utf-8")
         is_same = True
-    print(f"README.md: the picture of the layers {'is' if is_same else 'IS NOT'} what crates.txt gives")
+    print(f"CONTRIBUTING.md: the picture of the layers {'is' if is_same else 'IS NOT'} what crates.txt gives")
     return 0 if is_same else 1
 
 

@@ -66,7 +66,7 @@ def broken_links(page: pathlib.Path, text: str, headings: dict) -> list:
 def main() -> int:
     files = [it for it in ROOT.glob("crates/*/*/**/*") if it.suffix in ENDS.values() and "out" not in it.parts]
     texts = {it: one_line(it.read_text(encoding="utf-8")) for it in files}
-    pages = [ROOT / "README.md", ROOT / "CALLING.md", *sorted((ROOT / "docs").rglob("*.md"))]
+    pages = [ROOT / "README.md", ROOT / "CONTRIBUTING.md", ROOT / "CALLING.md", *sorted((ROOT / "docs").rglob("*.md"))]
     failed, count, headings = 0, 0, {}
     for page in pages:
         said = page.read_text(encoding="utf-8")

@@ -13,7 +13,7 @@ import re
 import sys
 
 ROOT = pathlib.Path(__file__).resolve().parent.parent
-PAGES = ("README.md", "CALLING.md", "docs/*.md", "bindings/**/*.md", "bench/*.md", "oracle/*.md")
+PAGES = ("*.md", "docs/*.md", "bindings/**/*.md", "bench/*.md", "oracle/*.md")
 
 # Pages that a script writes, and folders that package managers and compilers fill.
 GENERATED = ("docs/API.md", "docs/CALLERS.md")

@@ -211,8 +211,7 @@ impl<'a, E: LinkedSymbol> DynamicObject<'a, E> {
     }
 
     /// An iterator over the relocations of the file that name a symbol: the result of
-    /// `DynamicView::references`, which reads the dynamic entries and the program headers, once per
-    /// call.
+    /// `DynamicView::references`, which searches the program headers for each of the three tables.
     pub fn references(&self) -> Result<References<'a>, LinkError>
         ensures exact { let answer = references_of (object_file self.now)
             (view_entries (object_view self.now)) in

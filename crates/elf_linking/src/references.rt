@@ -49,7 +49,7 @@ impl<'a> DynamicView<'a> {
     /// JmpRel in this order. A table without an entry for its address is absent. A record that lies
     /// in two tables is returned twice.
     ///
-    /// This call goes through the dynamic entries and the program headers; `next` does not.
+    /// This call searches the program headers for each of the three tables; `next` does not.
     ///
     /// Errors, of the first table that has one: `NoEntry` if there is no entry for its size or, for
     /// JmpRel, no entry PltRel; `RelocationKind` if the number in the entry PltRel is not that of Rel
