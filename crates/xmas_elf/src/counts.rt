@@ -14,9 +14,7 @@ ghost use Rattle.xmas_elf.specs.HeaderTable.{entry_place, is_known_class};
 use crate::bytes::Order;
 use crate::header::Class_;
 use crate::ranges::entry_at;
-use crate::sections::{
-    SHN_LORESERVE, SHN_XINDEX, SectionHeader, check_entry_size, section_at_place,
-};
+use crate::sections::{SHN_LORESERVE, SHN_XINDEX, SectionHeader, read_at_place};
 use crate::{ElfError, ElfFile};
 
 // PN_XNUM: the number of program headers is in section header 0.
@@ -107,6 +105,5 @@ fn first_at(
         return None;
     }
     let place = entry_at(input, offset, entry_size, 0)?;
-    check_entry_size(class, entry_size).ok()?;
-    Some(section_at_place(input, place, class.raw(), order))
+    read_at_place(input, place, entry_size, class, order).ok()
 }

@@ -16,9 +16,7 @@ mod text;
 
 pub use crate::sections::content::SectionData;
 pub use crate::sections::section_header::{SectionHeader, SectionHeader_, parse_section_header};
-pub(crate) use crate::sections::section_header::{
-    check_entry_size, section_at_place, section_entry,
-};
+pub(crate) use crate::sections::section_header::{read_at_place, section_at_place, section_entry};
 pub use crate::sections::strings::SectionStrings;
 pub use crate::sections::table::{SectionTable, SectionTableIter};
 pub(crate) use crate::sections::text::SectionType;

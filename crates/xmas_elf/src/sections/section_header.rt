@@ -397,29 +397,48 @@ pub(crate) fn section_entry(
     let Some(place) = entry_at(input, header.pt2.sh_offset(), entry_size, index) else {
         return Err(ElfError::ShortSectionHeader);
     };
-    check_entry_size(header.pt1.class, entry_size)?;
-    let order = byte_order(header.pt1.encoding);
-    Ok(section_at_place(input, place, header.pt1.class.raw(), order))
+    let class = header.pt1.class;
+    // The byte order is chosen once for all fields.
+    match byte_order(header.pt1.encoding) {
+        Order::Little => read_at_place(input, place, entry_size, class, Order::Little),
+        Order::Big => read_at_place(input, place, entry_size, class, Order::Big),
+    }
 }
 
-// Whether a section header of this class can be read from an entry of this size: `UnknownClass` if
-// the class is neither 1 nor 2, `SmallEntry` if the entry is smaller than the header.
+// The section header at `place`, in the layout of the class, if an entry has room for it:
+// `UnknownClass` if the class is neither 1 nor 2, `SmallEntry` if the entry is smaller.
 #[inline(always)]
-pub(crate) fn check_entry_size(class: Class_, entry_size: u16) -> Result<(), ElfError>
+pub(crate) fn read_at_place(
+    input: &[u8],
+    place: usize,
+    entry_size: u16,
+    class: Class_,
+    order: Order,
+) -> Result<SectionHeader, ElfError>
+    requires { place + entry_size ≤ length input.now }
     ensures { result ≡ unless (
         (not (is_known_class (class_number class)), ElfError.UnknownClass)
         ∷ (nat_lt entry_size (section_header_size (class_number class)), ElfError.SmallEntry)
-        ∷ []) tt }
+        ∷ []) (section_at_place (class_number class) order place input.now) }
 {
-    let least = match class.as_class() {
-        ThirtyTwo => SectionHeader_::<P32>::SIZE,
-        SixtyFour => SectionHeader_::<P64>::SIZE,
-        _ => return Err(ElfError::UnknownClass),
-    };
-    if usize::from(entry_size) < least {
-        return Err(ElfError::SmallEntry);
+    let entry_size = usize::from(entry_size);
+    match class.as_class() {
+        ThirtyTwo => {
+            if entry_size < SectionHeader_::<P32>::SIZE {
+                return Err(ElfError::SmallEntry);
+            }
+            let record = SectionHeader_::<P32>::read(input, place, order);
+            Ok(SectionHeader::Sh32(record))
+        }
+        SixtyFour => {
+            if entry_size < SectionHeader_::<P64>::SIZE {
+                return Err(ElfError::SmallEntry);
+            }
+            let record = SectionHeader_::<P64>::read(input, place, order);
+            Ok(SectionHeader::Sh64(record))
+        }
+        _ => Err(ElfError::UnknownClass),
     }
-    Ok(())
 }
 
 // The section header at `place`, in the layout of class 32 for class 1, otherwise of class 64.

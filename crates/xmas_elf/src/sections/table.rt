@@ -18,10 +18,11 @@ ghost use Rattle.xmas_elf.specs.NameTable.{IsNameBytesAt, IsNameTable, LiesAsNam
 ghost use Rattle.xmas_elf.specs.NameTable.{name_bytes_of, name_of, name_table_of, section_named};
 ghost use Rattle.xmas_elf.specs.NameTable.{shstr_bytes_of, shstr_of};
 
-use crate::bytes::{Order, bytes_up_to_zero, text_at};
+use crate::bytes::{Order, Record, bytes_up_to_zero, text_at};
+use crate::header::Class::{SixtyFour, ThirtyTwo};
 use crate::ranges::entries_within;
-use crate::sections::{SectionHeader, ShType, check_entry_size, section_at_place};
-use crate::{ElfError, ElfFile};
+use crate::sections::{SectionHeader, SectionHeader_, ShType, section_at_place};
+use crate::{ElfError, ElfFile, P32, P64};
 
 /// The section headers of a file, for repeated access: their place, class and byte order are
 /// determined once, and so is the name table.
@@ -79,7 +80,12 @@ fn whole_sections(file: &ElfFile<'_>) -> usize
 {
     let offset = file.header.pt2.sh_offset();
     let entry_size = file.header.pt2.sh_entry_size();
-    if check_entry_size(file.header.pt1.class, entry_size).is_err() {
+    let least = match file.header.pt1.class() {
+        ThirtyTwo => SectionHeader_::<P32>::SIZE,
+        SixtyFour => SectionHeader_::<P64>::SIZE,
+        _ => return 0,
+    };
+    if usize::from(entry_size) < least {
         return 0;
     }
     let count = file.section_count();
