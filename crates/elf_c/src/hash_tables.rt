@@ -59,7 +59,7 @@ pub(crate) fn table_of<'a>(
 
 // The data of the section at an index.
 #[inline(always)]
-fn data_at<'a>(file: &ElfFile<'a>, section: u32) -> Result<SectionData<'a>, ElfError>
+fn content_at<'a>(file: &ElfFile<'a>, section: u32) -> Result<SectionData<'a>, ElfError>
     ensures { MatchResult result (λ held. content_at file.now section ≡ Ok (section_content held))
         (λ error. content_at file.now section ≡ Err error) }
 {
@@ -77,6 +77,6 @@ pub(crate) fn table_at<'a>(
 {
     let header = file.section_header_at(section)?;
     let table = table_of(kind, file, &header)?;
-    let linked = data_at(file, header.link())?;
+    let linked = content_at(file, header.link())?;
     Ok((table, linked))
 }

@@ -15,7 +15,7 @@ ghost use Rattle.xmas_elf.specs.SectionTable.{table_sections};
 
 use crate::batch::{Records, fill};
 use crate::file::Parsed;
-use crate::sections::data_at;
+use crate::sections::section_range_at;
 use crate::status::{Numbered, OK, Refusal, give};
 use elf_base::ElfError;
 use elf_base::bytes::text_at;
@@ -242,7 +242,7 @@ fn text_of_section(file: &ElfFile<'_>, section: u64, index: u64) -> Result<Range
     ensures exact { result ≡ section_text_of file.now section index }
     ensures within { IfOk result (LiesIn file.now.input.now) }
 {
-    text_in(file.input, &data_at(file, section)?, index)
+    text_in(file.input, &section_range_at(file, section)?, index)
 }
 
 /// The input range of the text at byte `index` of the data of the section at index `section`, such

@@ -159,7 +159,7 @@ pub extern "C" fn xmas_elf_sections(
 
 // The range of the data of the section at an index.
 #[inline(always)]
-pub(crate) fn data_at(file: &ElfFile<'_>, index: u64) -> Result<Range, ElfError>
+pub(crate) fn section_range_at(file: &ElfFile<'_>, index: u64) -> Result<Range, ElfError>
     ensures exact { result ≡ and_then (section_of file.now index) (section_range file.now) }
     ensures within { IfOk result (LiesIn file.now.input.now) }
 {
@@ -184,7 +184,7 @@ pub extern "C" fn xmas_elf_section_data(
         (section_range (file_of input.entry header.now))) out.old result out.new }
     ensures within { result ≡ 0 → LiesIn input.now out.new }
 {
-    give(data_at(&header.file(input), index), out)
+    give(section_range_at(&header.file(input), index), out)
 }
 
 // The numbers of the first section with a name.

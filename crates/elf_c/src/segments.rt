@@ -163,7 +163,7 @@ pub extern "C" fn xmas_elf_segments(
 // 0.
 #[tactic(auto, unfolding(xmas_elf::specs::ProgramHeader::segment_data_of))]
 #[inline(always)]
-fn data_at(file: &ElfFile<'_>, index: u32) -> Result<Range, ElfError>
+fn segment_range_at(file: &ElfFile<'_>, index: u32) -> Result<Range, ElfError>
     ensures { result ≡ and_then (program_of file.now index)
         (λ program. segment_range file.now (program_fields program)) }
 {
@@ -188,5 +188,5 @@ pub extern "C" fn xmas_elf_segment_data(
         out.old result out.new }
     ensures within { result ≡ 0 → LiesIn input.now out.new }
 {
-    give(data_at(&header.file(input), index), out)
+    give(segment_range_at(&header.file(input), index), out)
 }

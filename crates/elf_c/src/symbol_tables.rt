@@ -15,7 +15,7 @@ ghost use Rattle.xmas_elf.specs.SectionHeader.{section_of};
 
 use crate::file::Parsed;
 use crate::names::{Name, Range, bytes_in, text_in};
-use crate::sections::data_at;
+use crate::sections::section_range_at;
 use crate::status::{Numbered, Refusal, give};
 use crate::symbols::Symbol;
 use elf_base::bytes::Order;
@@ -61,7 +61,7 @@ fn table_of_section(file: &ElfFile<'_>, section: u64) -> Result<SymbolTable, Ref
 {
     let header = file.section_header_at(section)?;
     let count = count_in(&header.get_data(file)?)?;
-    let strings = Name::of(data_at(file, u64::from(header.link())));
+    let strings = Name::of(section_range_at(file, u64::from(header.link())));
     Ok(SymbolTable {
         symbols: Range {
             offset: header.offset(),

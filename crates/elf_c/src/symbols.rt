@@ -15,7 +15,7 @@ ghost use Rattle.xmas_elf.specs.SectionHeader.{section_of};
 use crate::batch::{Records, fill};
 use crate::file::Parsed;
 use crate::names::{Name, Range, text_in};
-use crate::sections::data_at;
+use crate::sections::section_range_at;
 use crate::status::{Refusal, give};
 use elf_base::ElfError;
 use xmas_elf::ElfFile;
@@ -251,7 +251,7 @@ fn fill_names(
     ensures within { IfOk result (λ count. AllLieIn file.now.input.now count out.new) }
 {
     let header = file.section_header_at(section)?;
-    let strings = data_at(file, u64::from(header.link()));
+    let strings = section_range_at(file, u64::from(header.link()));
     match header.get_data(file)? {
         SectionData::SymbolTable32(table) => names(&table, strings, file.input, first, out),
         SectionData::SymbolTable64(table) => names(&table, strings, file.input, first, out),

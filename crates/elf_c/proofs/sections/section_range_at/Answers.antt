@@ -1,5 +1,5 @@
 use Rattle.std.proofs.Common.{◌+◌, ◌≤◌, length, refl, arith}
-use Rattle.elf_c.proofs.sections.data_at.Goals as goal
+use Rattle.elf_c.proofs.sections.section_range_at.Goals as goal
 
 pub returns-clause-within : goal.returns-clause-within
 returns-clause-within c =
