@@ -26,13 +26,9 @@ pub fn build_id_among<'a>(notes: Notes<'a>) -> Result<Option<&'a [u8]>, LinkErro
     ensures { result ≡ id_among (notes_left notes.entry) }
 {
     for note in notes {
-        match note {
-            Ok(note) => {
-                if is_build_id(&note) {
-                    return Ok(Some(note.desc()));
-                }
-            }
-            Err(error) => return Err(error),
+        let note = note?;
+        if is_build_id(&note) {
+            return Ok(Some(note.desc()));
         }
     }
     Ok(None)
@@ -46,10 +42,7 @@ fn id_of_section<'a>(
 ) -> Result<Option<&'a [u8]>, LinkError>
     ensures { result ≡ id_of_section file.now section.now }
 {
-    match section_notes(file, section) {
-        Ok(notes) => build_id_among(notes),
-        Err(error) => Err(error),
-    }
+    build_id_among(section_notes(file, section)?)
 }
 
 // The build id in a segment of any type.

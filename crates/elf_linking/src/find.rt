@@ -81,10 +81,9 @@ fn is_accepted(wanted: &Wanted<'_>, versions: &Versions<'_>, index: u32) -> Resu
     ensures { result ≡ accepted (version_tables versions.now) wanted.now index }
 {
     match wanted {
-        Wanted::Version { name, hash, hidden } => match versions.version_of(index) {
-            Ok(version) => accepts_version(name, *hash, *hidden, version),
-            Err(error) => Err(error),
-        },
+        Wanted::Version { name, hash, hidden } => {
+            accepts_version(name, *hash, *hidden, versions.version_of(index)?)
+        }
         Wanted::Unversioned => number_below(versions, index, 3),
         Wanted::Newest => number_below(versions, index, 2),
     }
@@ -117,10 +116,7 @@ fn accepts_version(
     let Some(version) = version else {
         return Ok(true);
     };
-    match is_version(name, hash, version.named) {
-        Ok(same) => Ok(same || is_open(hidden, &version)),
-        Err(error) => Err(error),
-    }
+    Ok(is_version(name, hash, version.named)? || is_open(hidden, &version))
 }
 
 // Whether what bears a version has the hash number and the name.

@@ -122,10 +122,7 @@ fn numbers_at<'a>(
     if count >= 1 << 63 {
         return Err(LinkError::Address);
     }
-    match bytes_at(file, address, count * 2) {
-        Ok(numbers) => Ok(Some(numbers)),
-        Err(error) => Err(error),
-    }
+    Ok(Some(bytes_at(file, address, count * 2)?))
 }
 
 // The records at the address in an entry, with their number in another.
@@ -151,13 +148,10 @@ fn records_by<'a>(
     let Some(count) = view.entry(counted) else {
         return Err(LinkError::NoEntry);
     };
-    match bytes_from(file, address) {
-        Ok(bytes) => Ok(Records {
-            bytes,
-            count,
-            order,
-            strings,
-        }),
-        Err(error) => Err(error),
-    }
+    Ok(Records {
+        bytes: bytes_from(file, address)?,
+        count,
+        order,
+        strings,
+    })
 }

@@ -49,22 +49,13 @@ impl<'a, E: LinkedSymbol> DynamicObject<'a, E> {
         if binds_to_itself(&symbol) {
             return Ok(Asked::Own(symbol));
         }
-        let name = match self.name(reference.symbol) {
-            Ok(name) => name,
-            Err(error) => return Err(error),
-        };
-        let version = match self.version(reference.symbol) {
-            Ok(version) => version,
-            Err(error) => return Err(error),
-        };
-        match wanted_of(version) {
-            Ok(wanted) => Ok(Asked::Look {
-                name,
-                wanted,
-                use_: use_of(self.machine(), reference.kind),
-            }),
-            Err(error) => Err(error),
-        }
+        let name = self.name(reference.symbol)?;
+        let wanted = wanted_of(self.version(reference.symbol)?)?;
+        Ok(Asked::Look {
+            name,
+            wanted,
+            use_: use_of(self.machine(), reference.kind),
+        })
     }
 }
 
@@ -100,8 +91,6 @@ fn wanted_by<'a>(named: Option<NamedVersion<'a>>) -> Result<Wanted<'a>, LinkErro
         NamedVersion::Defined(_) => false,
         NamedVersion::Needed(need) => need.hidden,
     };
-    match named.name() {
-        Ok(name) => Ok(Wanted::Version { name, hash, hidden }),
-        Err(error) => Err(error),
-    }
+    let name = named.name()?;
+    Ok(Wanted::Version { name, hash, hidden })
 }

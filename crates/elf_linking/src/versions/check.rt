@@ -63,13 +63,7 @@ impl Versions<'_> {
             (needs_in (version_tables self.now).needs) }
     {
         for item in self.needs() {
-            match item {
-                Ok(need) => match need.name() {
-                    Ok(_) => {}
-                    Err(error) => return Err(error),
-                },
-                Err(error) => return Err(error),
-            }
+            let _name = item?.name()?;
         }
         Ok(())
     }

@@ -70,10 +70,7 @@ impl<'a> Definition<'a> {
         ensures { result
             ≡ result_map (λ other. bytes_eq other name.now) (definition_parts self.now).name }
     {
-        match self.name {
-            Ok(offset) => is_text_by(self.strings, u64::from(offset), name),
-            Err(error) => Err(error),
-        }
+        is_text_by(self.strings, u64::from(self.name?), name)
     }
 }
 

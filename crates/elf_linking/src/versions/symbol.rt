@@ -102,20 +102,15 @@ impl<'a> Versions<'a> {
         ensures answer { IsVersion (version_tables self.now) index (version_item result) }
         ensures exact { version_item result ≡ version_at (version_tables self.now) index }
     {
-        let raw = match self.number(index) {
-            Ok(Some(raw)) => raw,
-            Ok(None) => return Ok(None),
-            Err(error) => return Err(error),
+        let Some(raw) = self.number(index)? else {
+            return Ok(None);
         };
         let number = raw % 0x8000;
-        match self.named(number) {
-            Ok(named) => Ok(Some(SymbolVersion {
-                number,
-                hidden: raw >= 0x8000,
-                named,
-            })),
-            Err(error) => Err(error),
-        }
+        Ok(Some(SymbolVersion {
+            number,
+            hidden: raw >= 0x8000,
+            named: self.named(number)?,
+        }))
     }
 
     // What bears a number.
@@ -126,16 +121,10 @@ impl<'a> Versions<'a> {
         if number < 2 {
             return Ok(None);
         }
-        match self.definition_with(number) {
-            Ok(Some(definition)) => return Ok(Some(NamedVersion::Defined(definition))),
-            Ok(None) => {}
-            Err(error) => return Err(error),
+        if let Some(definition) = self.definition_with(number)? {
+            return Ok(Some(NamedVersion::Defined(definition)));
         }
-        match self.need_with(number) {
-            Ok(Some(need)) => Ok(Some(NamedVersion::Needed(need))),
-            Ok(None) => Ok(None),
-            Err(error) => Err(error),
-        }
+        Ok(self.need_with(number)?.map(NamedVersion::Needed))
     }
 
     // The first definition with a number that isn't the base.
@@ -156,13 +145,9 @@ impl<'a> Versions<'a> {
             (definitions_in (version_tables self.now).definitions) }
     {
         for item in self.definitions() {
-            match item {
-                Ok(definition) => {
-                    if definition.bears(number) {
-                        return Ok(Some(definition));
-                    }
-                }
-                Err(error) => return Err(error),
+            let definition = item?;
+            if definition.bears(number) {
+                return Ok(Some(definition));
             }
         }
         Ok(None)
@@ -175,13 +160,9 @@ impl<'a> Versions<'a> {
             (needs_in (version_tables self.now).needs) }
     {
         for item in self.needs() {
-            match item {
-                Ok(need) => {
-                    if need.bears(number) {
-                        return Ok(Some(need));
-                    }
-                }
-                Err(error) => return Err(error),
+            let need = item?;
+            if need.bears(number) {
+                return Ok(Some(need));
             }
         }
         Ok(None)

@@ -20,13 +20,7 @@ pub(crate) fn text_by<'a>(
 ) -> Result<&'a str, LinkError>
     ensures { lent result ≡ text_in_strings (lent strings.entry) place }
 {
-    match strings {
-        Ok(table) => match text_at(table, place as usize) {
-            Ok(text) => Ok(text),
-            Err(error) => Err(LinkError::Elf(error)),
-        },
-        Err(error) => Err(error),
-    }
+    Ok(text_at(strings?, place as usize)?)
 }
 
 // Whether the text at an offset in a string table is `wanted`; the errors are those of `text_by`. A

@@ -17,13 +17,7 @@ fn bytes_at_offset<'a>(
 ) -> Result<&'a [u8], LinkError>
     ensures { lent result ≡ bytes_in_strings (lent strings.entry) place }
 {
-    match strings {
-        Ok(table) => match bytes_up_to_zero(table, place as usize) {
-            Ok(bytes) => Ok(bytes),
-            Err(error) => Err(LinkError::Elf(error)),
-        },
-        Err(error) => Err(error),
-    }
+    Ok(bytes_up_to_zero(strings?, place as usize)?)
 }
 
 /// An iterator over the names of the libraries that a file needs as bytes, whether or not they are
