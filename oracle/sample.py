@@ -5,15 +5,15 @@
 
 The files and the list of them go to crates/elfanswers/data and args, the crate's answers as they are to
 oracle/sample/NAME.txt. crates/elfanswers/stdout has the same lines, but for those where the library answers
-otherwise: a panic is a refusal there, and the like. `tools/compare_rust.py` has to know each of these
+otherwise: a panic is a refusal there, and the like. `tools/compare/rust.py` has to know each of these
 differences by name, or nothing is written.
 """
 import pathlib
 import sys
 
 TOP = pathlib.Path(__file__).resolve().parent.parent
-sys.path.insert(0, str(TOP / "tools"))
-import compare_rust
+sys.path.insert(0, str(TOP / "tools" / "compare"))
+import rust
 import damage
 
 CRATE = TOP / "crates" / "elfanswers"
@@ -40,15 +40,15 @@ def sample():
 
 
 def main() -> int:
-    programs = [compare_rust.built(sys.argv[1] if len(sys.argv) > 1 else None), str(compare_rust.OURS)]
+    programs = [rust.built(sys.argv[1] if len(sys.argv) > 1 else None), str(rust.OURS)]
     held, told = dict(sample()), {}
-    tally = compare_rust.Tally()
+    tally = rust.Tally()
     (CRATE / "data").mkdir(exist_ok=True)
     for name, data in held.items():
         path = CRATE / "data" / f"{name}.elf"
         path.write_bytes(data)
-        told[name] = [compare_rust.run(it, [path.name], path.parent)[1] for it in programs]
-        tally.compare(name, *(compare_rust.answers(it)[0] for it in told[name]))
+        told[name] = [rust.run(it, [path.name], path.parent)[1] for it in programs]
+        tally.compare(name, *(rust.answers(it)[0] for it in told[name]))
     tally.told()
     if tally.left:
         return 1

@@ -1,4 +1,4 @@
-/* A call of each export, by the parts of a `struct asked`. Written by tools/exports.py. */
+/* A call of each export, by the parts of a `struct asked`. Written by tools/exports/declarations.py. */
 
 /* What a call writes: its first and its second output. */
 union output {

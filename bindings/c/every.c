@@ -199,6 +199,7 @@ CALL(gnu_look_ups) { return first_status(xmas_elf_gnu_look_ups, a, out); }
 CALL(message) /* OK where the status `index` has a text */
 {
     size_t whole = xmas_elf_message((uint32_t)a->index, NULL, 0);
+    if (strlen(xmas_elf_status_text((uint32_t)a->index).text) != whole) return 999;
     if (xmas_elf_message((uint32_t)a->index, out->of.text, sizeof out->of.text) != whole) return 999;
     return whole > 0 && whole <= sizeof out->of.text ? XMAS_ELF_OK : XMAS_ELF_NOT_FOUND;
 }

@@ -1,9 +1,12 @@
-/* find FILE NAME..: the build id of a file, and for each name the symbol that its hash table finds: the index, the
- * value and the first bytes there. */
+/* find FILE NAME..: the build id of a file, and for each name, or name and version as `exp@GLIBC_2.2.5`, the symbol that the
+ * dynamic linker gets: its index, its value and the first bytes there. */
 #include "xmas_elf.h"
+#include <errno.h>
 #include <stdio.h>
 #include <stdlib.h>
 #include <string.h>
+
+enum { NT_GNU_BUILD_ID = 3, PT_NOTE = 4, SHT_NOTE = 7 };
 
 struct input {
     uint8_t *bytes;
@@ -11,18 +14,20 @@ struct input {
     xmas_elf_header_t header;
 };
 
+/* Reads a file into memory, and else says why that failed. */
 static int is_read(const char *path, struct input *input)
 {
     FILE *file = fopen(path, "rb");
-    if (file == NULL) return 0;
-    if (fseek(file, 0, SEEK_END) == 0) {
+    if (file != NULL && fseek(file, 0, SEEK_END) == 0) {
         long end = ftell(file);
         rewind(file);
         input->bytes = end < 0 ? NULL : malloc((size_t)end + 1);
         input->size = input->bytes == NULL ? 0 : fread(input->bytes, 1, (size_t)end, file);
     }
-    fclose(file);
-    return input->bytes != NULL;
+    if (input->bytes == NULL || ferror(file)) fprintf(stderr, "%s: %s\n", path, strerror(errno));
+    int is_done = input->bytes != NULL && !ferror(file);
+    if (file != NULL) fclose(file);
+    return is_done;
 }
 
 /* Bytes in hexadecimal. */
@@ -32,77 +37,79 @@ static void print_range(const struct input *input, xmas_elf_range_t range)
     putchar('\n');
 }
 
-static void print_refusal(const char *what, uint32_t status)
+/* The status of the first of these notes that has a build id; XMAS_ELF_NO_RECORD where none has. */
+static uint32_t id_of_notes(const struct input *input, xmas_elf_range_t notes, uint64_t align, xmas_elf_range_t *id)
 {
-    uint8_t text[XMAS_ELF_LONGEST_MESSAGE];
-    printf("%s: %.*s\n", what, (int)xmas_elf_message(status, text, sizeof text), (const char *)text);
-}
-
-static void print_build_id(const struct input *input)
-{
-    xmas_elf_range_t id;
-    uint32_t status = xmas_elf_build_id(input->bytes, input->size, &input->header, &id);
-    if (status != XMAS_ELF_OK) {
-        print_refusal("build id", status);
-        return;
+    xmas_elf_note_t note;
+    uint32_t status;
+    while ((status = xmas_elf_note(input->bytes, input->size, &input->header, &notes, align, &note)) == XMAS_ELF_OK) {
+        *id = note.desc;
+        if (note.type == NT_GNU_BUILD_ID && note.name.size == 4 && memcmp(input->bytes + note.name.offset, "GNU", 4) == 0) break;
+        notes = note.rest;
     }
-    printf("build id ");
-    print_range(input, id);
+    return status;
 }
 
-/* The first section of a type, or the number of sections where there is none. */
-static uint64_t section_of_type(const struct input *input, uint32_t type, xmas_elf_section_t *section)
+/* The build id of the notes in sections, or else of those in segments. */
+static uint32_t find_build_id(const struct input *input, xmas_elf_range_t *id)
 {
     xmas_elf_counts_t counts = {0, 0};
-    uint64_t index = 0;
-    xmas_elf_counts(input->bytes, input->size, &input->header, &counts);
-    while (index < counts.sections && (xmas_elf_section(input->bytes, input->size, &input->header, index, section) != XMAS_ELF_OK || section->type != type))
-        index++;
-    section->type = index < counts.sections ? type : 0;
-    return index;
+    xmas_elf_section_t section;
+    xmas_elf_segment_t segment;
+    xmas_elf_range_t data;
+    uint32_t failed = XMAS_ELF_NOT_FOUND, status = xmas_elf_counts(input->bytes, input->size, &input->header, &counts);
+    for (uint64_t i = 0; i < counts.sections + counts.segments && status == XMAS_ELF_OK; i++) {
+        int is_section = i < counts.sections;
+        uint32_t index = (uint32_t)(i - counts.sections), found;
+        if (is_section) status = xmas_elf_section(input->bytes, input->size, &input->header, i, &section);
+        else status = xmas_elf_segment(input->bytes, input->size, &input->header, index, &segment);
+        if (status != XMAS_ELF_OK || (is_section ? section.type != SHT_NOTE : segment.type != PT_NOTE)) continue;
+        if (is_section) found = xmas_elf_section_data(input->bytes, input->size, &input->header, i, &data);
+        else found = xmas_elf_segment_data(input->bytes, input->size, &input->header, index, &data);
+        if (found == XMAS_ELF_OK) found = id_of_notes(input, data, is_section ? section.align : segment.align, id);
+        if (found == XMAS_ELF_OK) return found;
+        if (found != XMAS_ELF_NO_RECORD) failed = found;
+    }
+    return status == XMAS_ELF_OK ? failed : status;
 }
 
-static void print_symbol(const struct input *input, uint64_t symbols, uint32_t index, const char *name)
+static uint32_t find(const struct input *input, const char *name)
 {
-    xmas_elf_symbol_t symbol;
+    xmas_elf_found_symbol_t found;
     xmas_elf_range_t code;
-    if (xmas_elf_symbol(input->bytes, input->size, &input->header, symbols, index, &symbol) != XMAS_ELF_OK) return;
-    printf("%s %u %016llx ", name, index, (unsigned long long)symbol.value);
-    uint32_t status = xmas_elf_bytes_at(input->bytes, input->size, &input->header, symbol.value, 8, &code);
-    if (status == XMAS_ELF_OK) print_range(input, code);
-    else print_refusal("bytes", status);
+    const char *at = strchr(name, '@'), *version = at == NULL ? "" : at + 1;
+    size_t size = at == NULL ? strlen(name) : (size_t)(at - name);
+    uint32_t status = xmas_elf_find_symbol(input->bytes, input->size, &input->header, (const uint8_t *)name, size,
+                                           (const uint8_t *)version, strlen(version), &found);
+    if (status != XMAS_ELF_OK) return status;
+    if (!found.found) {
+        printf("%s -\n", name);
+        return status;
+    }
+    printf("%s %u %016llx ", name, found.index, (unsigned long long)found.symbol.value);
+    uint32_t read = xmas_elf_bytes_at(input->bytes, input->size, &input->header, found.symbol.value, 8, &code);
+    if (read == XMAS_ELF_OK) print_range(input, code);
+    else printf("bytes: %s\n", xmas_elf_status_text(read).text);
+    return status;
 }
 
 int main(int argc, char **argv)
 {
     struct input input = {0};
-    xmas_elf_section_t section;
-    if (argc < 2 || !is_read(argv[1], &input)) {
+    xmas_elf_range_t id;
+    if (argc < 2) {
         fprintf(stderr, "usage: find FILE NAME..\n");
         return 2;
     }
+    if (!is_read(argv[1], &input)) return 1;
     uint32_t status = xmas_elf_open(input.bytes, input.size, &input.header);
-    if (status == XMAS_ELF_OK) print_build_id(&input);
-    else print_refusal(argv[1], status);
-    int gnu = 1;
-    uint64_t table = section_of_type(&input, 0x6ffffff6, &section); /* SHT_GNU_HASH */
-    if (section.type == 0) {
-        gnu = 0;
-        table = section_of_type(&input, 5, &section); /* SHT_HASH */
+    if (status == XMAS_ELF_OK) {
+        uint32_t found = find_build_id(&input, &id);
+        printf("build id %s", found == XMAS_ELF_OK ? "" : "none\n");
+        if (found == XMAS_ELF_OK) print_range(&input, id);
     }
-    /* Look-ups can be relied on once the check has passed. */
-    status = gnu ? xmas_elf_check_gnu_hash(input.bytes, input.size, &input.header, table)
-                 : xmas_elf_check_hash(input.bytes, input.size, &input.header, table);
-    if (status != XMAS_ELF_OK) print_refusal("hash table", status);
-    for (int i = 2; i < argc && status == XMAS_ELF_OK; i++) {
-        xmas_elf_look_up_t said;
-        const uint8_t *name = (const uint8_t *)argv[i];
-        status = gnu ? xmas_elf_gnu_look_up(input.bytes, input.size, &input.header, table, name, strlen(argv[i]), &said)
-                     : xmas_elf_look_up(input.bytes, input.size, &input.header, table, name, strlen(argv[i]), &said);
-        if (status != XMAS_ELF_OK) print_refusal(argv[i], status);
-        else if (said.found) print_symbol(&input, section.link, said.index, argv[i]);
-        else printf("%s -\n", argv[i]);
-    }
+    for (int i = 2; i < argc && status == XMAS_ELF_OK; i++) status = find(&input, argv[i]);
+    if (status != XMAS_ELF_OK) fprintf(stderr, "%s: %s\n", argv[1], xmas_elf_status_text(status).text);
     free(input.bytes);
     return status != XMAS_ELF_OK;
 }

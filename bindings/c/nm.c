@@ -1,7 +1,9 @@
 /* nm FILE: the symbols of a file, as their value, the section index and the name. */
 #include "xmas_elf.h"
+#include <errno.h>
 #include <stdio.h>
 #include <stdlib.h>
+#include <string.h>
 
 static uint8_t *read_file(const char *path, size_t *size)
 {
@@ -40,16 +42,19 @@ int main(int argc, char **argv)
     size_t size = 0;
     xmas_elf_header_t header;
     xmas_elf_counts_t counts;
-    uint8_t *input = argc == 2 ? read_file(argv[1], &size) : NULL;
-    if (input == NULL) {
+    if (argc != 2) {
         fprintf(stderr, "usage: nm FILE\n");
         return 2;
+    }
+    uint8_t *input = read_file(argv[1], &size);
+    if (input == NULL) {
+        fprintf(stderr, "%s: %s\n", argv[1], strerror(errno));
+        return 1;
     }
     uint32_t status = xmas_elf_open(input, size, &header);
     if (status == XMAS_ELF_OK) status = xmas_elf_counts(input, size, &header, &counts);
     if (status != XMAS_ELF_OK) {
-        uint8_t text[XMAS_ELF_LONGEST_MESSAGE];
-        fprintf(stderr, "%s: %.*s\n", argv[1], (int)xmas_elf_message(status, text, sizeof text), (const char *)text);
+        fprintf(stderr, "%s: %s\n", argv[1], xmas_elf_status_text(status).text);
         free(input);
         return 1;
     }

@@ -1,5 +1,5 @@
 /* speed FILE: nanoseconds for an item of each pass through the exports, the least of many rounds.
- * speed --once FILE: makes each pass once, for tools/instructions.py, and says how many items it saw. */
+ * speed --once FILE: makes each pass once, for bench/instructions.py, and says how many items it saw. */
 #define _POSIX_C_SOURCE 199309L
 #include "xmas_elf.h"
 #include <stdbool.h>

@@ -1,16 +1,16 @@
 /* symbols FILE: the value and the name of each symbol of a file of up to 64 MiB. */
+#include <errno.h>
 #include <inttypes.h>
 #include <stdio.h>
+#include <string.h>
 #include <xmas_elf.h>
 
 static uint8_t input[64 << 20];
 
-/* Says why the file is refused. */
+/* Prints why the file can't be read. */
 static int refused(uint32_t status)
 {
-    uint8_t text[256] = {0};
-    xmas_elf_message(status, text, sizeof text - 1);
-    fprintf(stderr, "%s\n", (char *)text);
+    fprintf(stderr, "symbols: %s\n", xmas_elf_status_text(status).text);
     return 1;
 }
 
@@ -24,6 +24,10 @@ int main(int argc, char **argv)
     xmas_elf_symbol_t symbols[64];
     xmas_elf_name_t names[64];
     uint64_t first, count;
+    if (stream == NULL) {
+        fprintf(stderr, "symbols: %s\n", argc == 2 ? strerror(errno) : "a path is wanted");
+        return 1;
+    }
     if ((status = xmas_elf_open(input, size, &header))) return refused(status);
     if ((status = xmas_elf_check_header(input, size, &header))) return refused(status);
     if ((status = xmas_elf_counts(input, size, &header, &counts))) return refused(status);

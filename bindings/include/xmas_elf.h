@@ -1,30 +1,34 @@
 /* A proved reader of ELF files for C11 and C++: the declarations of the static library `elf_c`.
  *
  * A file is the bytes `input[0 .. input_size]`, which the caller keeps. `xmas_elf_open` reads the ELF header into a
- * struct, and the calls for parts of the file take the same bytes and that struct. A call answers a status: XMAS_ELF_OK,
- * or the number of the reason why it is refused, the first that applies in the order that its comment gives. No call
- * allocates, keeps a pointer, locks, writes anything but its outputs, or fails otherwise, whatever the bytes, the header
- * and the indices are. Any number of threads may call at the same time.
+ * struct, and the calls for parts of the file take the same bytes and that struct. A call returns a status: XMAS_ELF_OK,
+ * or the number of an error, the first that applies in the order of its comment. No call allocates, keeps a pointer,
+ * locks, writes anything but its outputs, or fails otherwise, whatever the bytes, the header and the indices are. Any
+ * number of threads may call at the same time.
  *
- * Outputs. `*out` and `*count` may be uninitialised before the call. Where the status is XMAS_ELF_OK they are written;
- * else they keep the value that they had, so that an uninitialised one stays uninitialised: test the status first.
+ * Outputs. `*out` and `*count` may be uninitialised before the call. If the status is XMAS_ELF_OK, they are written.
+ * Otherwise they keep their value, and an uninitialised one stays uninitialised: test the status first.
  *
  * Calls for many records write to the front of `out` as many records as `out_count` says, or all that follow index
  * `first`, and their number to `*count`; the rest of `out` keeps its value. With `out_count` 0 the number is 0. After
- * the last record the call is refused with XMAS_ELF_NO_RECORD, which ends a loop:
+ * the last record the status is XMAS_ELF_NO_RECORD, which ends a loop:
  *     for (first = 0; xmas_elf_sections(.., first, out, 64, &count) == XMAS_ELF_OK; first += count) ..
  *
  * Pointers. A pointer with a count after it (`input`, `name`, `names`, `ranges`, an array `out`) may be null where the
  * count is 0. Every other pointer points to a value. Bytes need no alignment: `input` and `names` may begin at any
  * address. Structs have the alignment that C gives them.
  *
- * Overlap. What a call writes (`out`, `count`) may not overlap anything else that it is handed: not the input, the header,
- * `part`, `names` or `ranges`, and not each other. What it only reads may overlap, so `names` may be the input. No other
- * thread may write to any of it during the call.
+ * Overlap. What a call writes (`out`, `count`) may not overlap any other argument: not the input, the header, `part`,
+ * `names` or `ranges`, and not each other. What it only reads may overlap, so `names` may be the input. No other thread
+ * may write to any of it during the call.
  *
- * Ranges. A range that a call answers lies in the input, an empty one too: `offset + size <= input_size`. An empty
- * section answers its own offset; an empty segment offset 0, whatever its own is; a refused name of many offset 0 and
- * size 0.
+ * Ranges. A range that a call returns lies in the input, an empty one too: `offset + size <= input_size`. For an empty
+ * section the offset is its own; for an empty segment it is 0, whatever its own is. For a name of many that can't be
+ * read, offset and size are 0.
+ *
+ * Mapped files. The bytes may be a file that is mapped (mmap). If another program cuts it off meanwhile, a read past its
+ * end raises SIGBUS, which ends the process; if it changes, results that belong together may not fit. Read a file that
+ * others write to into memory (fread), as examples/symbols.c does.
  *
  * The archive is built for x86-64 Linux and processors of level x86-64-v2 (SSE4.2 and POPCNT), and is position
  * independent. It needs `memcpy`, `memmove` and `memset` of the C library, and nothing else. It has no unwind tables
@@ -37,7 +41,13 @@
 #include <stddef.h>
 #include <stdint.h>
 
-/* A refused call leaves its outputs as they were, so its status should be read. C++17 and C23 warn where it is not. */
+/* The version of this header and of the archive that it belongs to. */
+#define XMAS_ELF_VERSION_MAJOR 0
+#define XMAS_ELF_VERSION_MINOR 1
+#define XMAS_ELF_VERSION_PATCH 0
+#define XMAS_ELF_VERSION "0.1.0"
+
+/* After an error the outputs are unchanged, so read the status. C++17 and C23 warn if it isn't read. */
 #if defined(__cplusplus) && __cplusplus >= 201703L
 #define XMAS_ELF_NODISCARD [[nodiscard]]
 #elif defined(__STDC_VERSION__) && __STDC_VERSION__ >= 202311L
@@ -53,7 +63,7 @@ extern "C" {
 #define XMAS_ELF_NOEXCEPT
 #endif
 
-/* The statuses, written by tools/statuses.py. */
+/* The statuses, written by tools/exports/statuses.py. */
 enum xmas_elf_status {
     XMAS_ELF_OK = 0,
     /* File is shorter than the first ELF header part. */
@@ -212,7 +222,7 @@ enum xmas_elf_status {
 #define XMAS_ELF_LONGEST_MESSAGE 54
 /* End of the statuses. */
 
-/* The structs and functions, written by tools/exports.py. */
+/* The structs and functions, written by tools/exports/declarations.py. */
 /* The ELF header of a file (gABI, "ELF Header"). */
 typedef struct xmas_elf_header_t {
     /* The address at which a program begins to run, or 0 (e_entry). */
@@ -263,7 +273,7 @@ typedef struct xmas_elf_counts_t {
     uint32_t segments;
 } xmas_elf_counts_t;
 
-/* A byte range of the input: `input[offset .. offset + size]`. A range that a call answers lies in the input. */
+/* A byte range of the input: `input[offset .. offset + size]`. A range that a call returns lies in the input. */
 typedef struct xmas_elf_range_t {
     /* The offset of the first byte, in bytes from the start of the input. */
     uint64_t offset;
@@ -273,7 +283,7 @@ typedef struct xmas_elf_range_t {
 
 /* The range of one name of many. */
 typedef struct xmas_elf_name_t {
-    /* The bytes of the name without the zero byte that ends it; offset and size are 0 where the name is refused. */
+    /* The bytes of the name without the zero byte that ends it; offset and size are 0 if the name can't be read. */
     xmas_elf_range_t range;
     /* The status of this name. */
     uint32_t status;
@@ -344,7 +354,7 @@ typedef struct xmas_elf_symbol_t {
 typedef struct xmas_elf_symbol_table_t {
     /* The bytes of the symbols. */
     xmas_elf_range_t symbols;
-    /* The bytes of the string table of their names; offset and size are 0 where it is refused. */
+    /* The bytes of the string table of their names; offset and size are 0 if it can't be read. */
     xmas_elf_range_t strings;
     /* The number of symbols. */
     uint64_t count;
@@ -390,7 +400,7 @@ typedef struct xmas_elf_note_t {
     uint32_t type;
 } xmas_elf_note_t;
 
-/* The answer of a look-up. */
+/* The result of a look-up. */
 typedef struct xmas_elf_look_up_t {
     /* 1 where a symbol is found, and else 0. */
     uint32_t found;
@@ -400,7 +410,7 @@ typedef struct xmas_elf_look_up_t {
     uint32_t looked_at;
 } xmas_elf_look_up_t;
 
-/* The answer of one look-up of many. */
+/* The result of one look-up of many. */
 typedef struct xmas_elf_answer_t {
     /* The status of this look-up; where it is not OK, the numbers after it are 0. */
     uint32_t status;
@@ -433,7 +443,7 @@ typedef struct xmas_elf_version_t {
     uint32_t name_status;
     /* The status of the library's name. */
     uint32_t file_status;
-    /* What bears the number: 0 nothing, 1 a definition of the file, 2 a need. */
+    /* What has the number: 0 nothing, 1 a definition of the file, 2 a need. */
     uint32_t kind;
     /* The number of the version, by which symbols refer to it (vd_ndx; bits 0 to 14 of a symbol's number and of
      * vna_other): 0 is local, 1 is global. */
@@ -457,58 +467,57 @@ typedef struct xmas_elf_found_symbol_t {
     uint32_t index;
 } xmas_elf_found_symbol_t;
 
-/* Reads the ELF header of a file. The call is refused with (in the order of the tests) XMAS_ELF_SHORT_PART_1,
- * XMAS_ELF_NO_MAGIC, XMAS_ELF_INVALID_CLASS, XMAS_ELF_SHORT_HEADERS. */
+/* Reads the ELF header of a file. Errors, in the order of the tests: XMAS_ELF_SHORT_PART_1, XMAS_ELF_NO_MAGIC,
+ * XMAS_ELF_INVALID_CLASS, XMAS_ELF_SHORT_HEADERS. */
 XMAS_ELF_NODISCARD uint32_t xmas_elf_open(const uint8_t *input, size_t input_size, xmas_elf_header_t *out)
     XMAS_ELF_NOEXCEPT;
 
 /* Checks the header against the input: its own size, its class, version and byte order, and that its two tables lie
- * in the input. The call is refused with (in the order of the tests) XMAS_ELF_HEADER_SIZE, XMAS_ELF_NO_CLASS,
- * XMAS_ELF_CLASS_MISMATCH, XMAS_ELF_NO_VERSION, XMAS_ELF_NO_DATA_FORMAT, XMAS_ELF_PH_TABLE_RANGE,
- * XMAS_ELF_SH_TABLE_RANGE. */
+ * in the input. Errors, in the order of the tests: XMAS_ELF_HEADER_SIZE, XMAS_ELF_NO_CLASS, XMAS_ELF_CLASS_MISMATCH,
+ * XMAS_ELF_NO_VERSION, XMAS_ELF_NO_DATA_FORMAT, XMAS_ELF_PH_TABLE_RANGE, XMAS_ELF_SH_TABLE_RANGE. */
 XMAS_ELF_NODISCARD uint32_t xmas_elf_check_header(const uint8_t *input, size_t input_size,
     const xmas_elf_header_t *header) XMAS_ELF_NOEXCEPT;
 
-/* The numbers of sections and segments that the file claims; its tables may be cut off before. Never refused. */
+/* The numbers of sections and segments that the file claims; its tables may be cut off before. It returns no error. */
 uint32_t xmas_elf_counts(const uint8_t *input, size_t input_size, const xmas_elf_header_t *header,
     xmas_elf_counts_t *out) XMAS_ELF_NOEXCEPT;
 
-/* The index of the section with the names of sections. The call is refused with XMAS_ELF_RESERVED_INDEX. */
+/* The index of the section with the names of sections. Errors: XMAS_ELF_RESERVED_INDEX. */
 XMAS_ELF_NODISCARD uint32_t xmas_elf_names_index(const uint8_t *input, size_t input_size,
     const xmas_elf_header_t *header, uint32_t *out) XMAS_ELF_NOEXCEPT;
 
 /* The section header at an index. The index is not compared with the number of sections: past the table the call
- * reads what bytes are there, or is refused. The call is refused with (in the order of the tests)
- * XMAS_ELF_SHORT_SECTION_HEADER, XMAS_ELF_UNKNOWN_CLASS, XMAS_ELF_SMALL_ENTRY. */
+ * reads what bytes are there, or returns an error. Errors, in the order of the tests: XMAS_ELF_SHORT_SECTION_HEADER,
+ * XMAS_ELF_UNKNOWN_CLASS, XMAS_ELF_SMALL_ENTRY. */
 XMAS_ELF_NODISCARD uint32_t xmas_elf_section(const uint8_t *input, size_t input_size, const xmas_elf_header_t *header,
     uint64_t index, xmas_elf_section_t *out) XMAS_ELF_NOEXCEPT;
 
 /* Checks the section header at an index: that this reader knows its type. Where the data lie is not tested:
- * `xmas_elf_section_data` does that. The call is refused with (in the order of the tests)
- * XMAS_ELF_SHORT_SECTION_HEADER, XMAS_ELF_UNKNOWN_CLASS, XMAS_ELF_SMALL_ENTRY, XMAS_ELF_INVALID_SH_TYPE. */
+ * `xmas_elf_section_data` does that. Errors, in the order of the tests: XMAS_ELF_SHORT_SECTION_HEADER,
+ * XMAS_ELF_UNKNOWN_CLASS, XMAS_ELF_SMALL_ENTRY, XMAS_ELF_INVALID_SH_TYPE. */
 XMAS_ELF_NODISCARD uint32_t xmas_elf_check_section(const uint8_t *input, size_t input_size,
     const xmas_elf_header_t *header, uint64_t index) XMAS_ELF_NOEXCEPT;
 
-/* The section headers from index `first` on, up to the number of sections or the first that is refused. Where they
- * end before that number, `xmas_elf_section` at the next index says why. The call is refused with XMAS_ELF_NO_RECORD. */
+/* The section headers from index `first` on, up to the number of sections or the first that can't be read. If they
+ * end before that number, `xmas_elf_section` at the next index returns the reason. Errors: XMAS_ELF_NO_RECORD. */
 XMAS_ELF_NODISCARD uint32_t xmas_elf_sections(const uint8_t *input, size_t input_size,
     const xmas_elf_header_t *header, uint64_t first, xmas_elf_section_t *out, size_t out_count, uint64_t *count)
     XMAS_ELF_NOEXCEPT;
 
-/* The first section with a name. A section whose name is refused is skipped, and a name that is not UTF-8 is never
- * found. The call is refused with XMAS_ELF_NOT_FOUND. */
+/* The first section with a name. A section whose name can't be read is skipped, and a name that is not UTF-8 is never
+ * found. Errors: XMAS_ELF_NOT_FOUND. */
 XMAS_ELF_NODISCARD uint32_t xmas_elf_find_section(const uint8_t *input, size_t input_size,
     const xmas_elf_header_t *header, const uint8_t *name, size_t name_size, xmas_elf_section_t *out)
     XMAS_ELF_NOEXCEPT;
 
-/* The index of the first section with a name: that of the section that `xmas_elf_find_section` gives. The call is
- * refused with XMAS_ELF_NOT_FOUND. */
+/* The index of the first section with a name: that of the section that `xmas_elf_find_section` gives. Errors:
+ * XMAS_ELF_NOT_FOUND. */
 XMAS_ELF_NODISCARD uint32_t xmas_elf_find_section_index(const uint8_t *input, size_t input_size,
     const xmas_elf_header_t *header, const uint8_t *name, size_t name_size, uint64_t *out) XMAS_ELF_NOEXCEPT;
 
 /* The range of a section's data. A section of type SHT_NOBITS has none in the file: its range belongs to other
  * sections. XMAS_ELF_NULL_DATA is for type SHT_NULL, XMAS_ELF_INVALID_SH_TYPE for a type that this reader does not
- * know. The range of an empty section begins at its offset. The call is refused with (in the order of the tests)
+ * know. The range of an empty section begins at its offset. Errors, in the order of the tests:
  * XMAS_ELF_SHORT_SECTION_HEADER, XMAS_ELF_UNKNOWN_CLASS, XMAS_ELF_SMALL_ENTRY, XMAS_ELF_INVALID_SH_TYPE,
  * XMAS_ELF_NULL_DATA, XMAS_ELF_DATA_RANGE. */
 XMAS_ELF_NODISCARD uint32_t xmas_elf_section_data(const uint8_t *input, size_t input_size,
@@ -516,128 +525,126 @@ XMAS_ELF_NODISCARD uint32_t xmas_elf_section_data(const uint8_t *input, size_t i
 
 /* The range of a section's name, without the zero byte that ends it. It is UTF-8. XMAS_ELF_NULL_NAME is for type
  * SHT_NULL, which section 0 has, XMAS_ELF_INVALID_SH_TYPE for a type that this reader does not know, such as 19
- * (SHT_RELR); `xmas_elf_names` and `xmas_elf_text` give the names of these too. The call is refused with (in the
- * order of the tests) XMAS_ELF_SHORT_SECTION_HEADER, XMAS_ELF_UNKNOWN_CLASS, XMAS_ELF_SMALL_ENTRY,
- * XMAS_ELF_INVALID_SH_TYPE, XMAS_ELF_NULL_NAME, XMAS_ELF_RESERVED_INDEX, XMAS_ELF_SHORT_SECTION_OFFSET,
- * XMAS_ELF_TEXT_START, XMAS_ELF_TEXT_END, XMAS_ELF_TEXT_UTF_8. */
+ * (SHT_RELR); `xmas_elf_names` and `xmas_elf_text` give the names of these too. Errors, in the order of the tests:
+ * XMAS_ELF_SHORT_SECTION_HEADER, XMAS_ELF_UNKNOWN_CLASS, XMAS_ELF_SMALL_ENTRY, XMAS_ELF_INVALID_SH_TYPE,
+ * XMAS_ELF_NULL_NAME, XMAS_ELF_RESERVED_INDEX, XMAS_ELF_SHORT_SECTION_OFFSET, XMAS_ELF_TEXT_START, XMAS_ELF_TEXT_END,
+ * XMAS_ELF_TEXT_UTF_8. */
 XMAS_ELF_NODISCARD uint32_t xmas_elf_section_name(const uint8_t *input, size_t input_size,
     const xmas_elf_header_t *header, uint64_t index, xmas_elf_range_t *out) XMAS_ELF_NOEXCEPT;
 
 /* The ranges of the names of sections from index `first` on, each with a status of its own, as
- * `xmas_elf_section_name` answers. The call gives as many names as `xmas_elf_sections` gives headers. The call is
- * refused with XMAS_ELF_NO_RECORD. Each record is refused with (in the order of the tests) XMAS_ELF_INVALID_SH_TYPE,
- * XMAS_ELF_NULL_NAME, XMAS_ELF_RESERVED_INDEX, XMAS_ELF_SHORT_SECTION_HEADER, XMAS_ELF_SHORT_SECTION_OFFSET,
- * XMAS_ELF_TEXT_START, XMAS_ELF_TEXT_END, XMAS_ELF_TEXT_UTF_8. */
+ * `xmas_elf_section_name` returns them. The call gives as many names as `xmas_elf_sections` gives headers. Errors:
+ * XMAS_ELF_NO_RECORD. Errors of a record, in the order of the tests: XMAS_ELF_INVALID_SH_TYPE, XMAS_ELF_NULL_NAME,
+ * XMAS_ELF_RESERVED_INDEX, XMAS_ELF_SHORT_SECTION_HEADER, XMAS_ELF_SHORT_SECTION_OFFSET, XMAS_ELF_TEXT_START,
+ * XMAS_ELF_TEXT_END, XMAS_ELF_TEXT_UTF_8. */
 XMAS_ELF_NODISCARD uint32_t xmas_elf_section_names(const uint8_t *input, size_t input_size,
     const xmas_elf_header_t *header, uint64_t first, xmas_elf_name_t *out, size_t out_count, uint64_t *count)
     XMAS_ELF_NOEXCEPT;
 
 /* The range of the name table of sections, which goes on to the end of the input. Read it once: the name of a section
- * is the text there at the section's `name`, by `xmas_elf_text`. The call is refused with (in the order of the tests)
+ * is the text there at the section's `name`, by `xmas_elf_text`. Errors, in the order of the tests:
  * XMAS_ELF_RESERVED_INDEX, XMAS_ELF_SHORT_SECTION_HEADER, XMAS_ELF_UNKNOWN_CLASS, XMAS_ELF_SMALL_ENTRY,
  * XMAS_ELF_SHORT_SECTION_OFFSET. */
 XMAS_ELF_NODISCARD uint32_t xmas_elf_names(const uint8_t *input, size_t input_size, const xmas_elf_header_t *header,
     xmas_elf_range_t *out) XMAS_ELF_NOEXCEPT;
 
 /* The range of the text that begins `index` bytes after the start of `part` and ends before the next zero byte of
- * `part`. It is UTF-8. The call is refused with (in the order of the tests) XMAS_ELF_DATA_RANGE, XMAS_ELF_TEXT_START,
+ * `part`. It is UTF-8. Errors, in the order of the tests: XMAS_ELF_DATA_RANGE, XMAS_ELF_TEXT_START,
  * XMAS_ELF_TEXT_END, XMAS_ELF_TEXT_UTF_8. */
 XMAS_ELF_NODISCARD uint32_t xmas_elf_text(const uint8_t *input, size_t input_size, const xmas_elf_range_t *part,
     uint64_t index, xmas_elf_range_t *out) XMAS_ELF_NOEXCEPT;
 
 /* The range of the text that begins `index` bytes after the start of a section's data and ends before the next zero
  * byte of the data: the name of a symbol is the text at its `name` in the section `link` of its own section. The call
- * does not test that the section is of type SHT_STRTAB. The call is refused with (in the order of the tests)
+ * does not test that the section is of type SHT_STRTAB. Errors, in the order of the tests:
  * XMAS_ELF_SHORT_SECTION_HEADER, XMAS_ELF_UNKNOWN_CLASS, XMAS_ELF_SMALL_ENTRY, XMAS_ELF_INVALID_SH_TYPE,
  * XMAS_ELF_NULL_DATA, XMAS_ELF_DATA_RANGE, XMAS_ELF_TEXT_START, XMAS_ELF_TEXT_END, XMAS_ELF_TEXT_UTF_8. */
 XMAS_ELF_NODISCARD uint32_t xmas_elf_section_text(const uint8_t *input, size_t input_size,
     const xmas_elf_header_t *header, uint64_t section, uint64_t index, xmas_elf_range_t *out) XMAS_ELF_NOEXCEPT;
 
-/* The program header at an index. The call is refused with (in the order of the tests) XMAS_ELF_NO_PROGRAM_HEADERS,
+/* The program header at an index. Errors, in the order of the tests: XMAS_ELF_NO_PROGRAM_HEADERS,
  * XMAS_ELF_UNKNOWN_CLASS, XMAS_ELF_SHORT_PROGRAM_HEADER, XMAS_ELF_SMALL_ENTRY. */
 XMAS_ELF_NODISCARD uint32_t xmas_elf_segment(const uint8_t *input, size_t input_size, const xmas_elf_header_t *header,
     uint32_t index, xmas_elf_segment_t *out) XMAS_ELF_NOEXCEPT;
 
 /* Checks the program header at an index against the input: the size of the table's entries, that the segment ends
  * before the input does, its type, and that its address and its offset are the same modulo an alignment above 1.
- * XMAS_ELF_ENTRY_POINT_RANGE is also for a segment that ends exactly where the input does. The call is refused with
- * (in the order of the tests) XMAS_ELF_NO_PROGRAM_HEADERS, XMAS_ELF_UNKNOWN_CLASS, XMAS_ELF_SHORT_PROGRAM_HEADER,
+ * XMAS_ELF_ENTRY_POINT_RANGE is also for a segment that ends exactly where the input does. Errors, in the order of
+ * the tests: XMAS_ELF_NO_PROGRAM_HEADERS, XMAS_ELF_UNKNOWN_CLASS, XMAS_ELF_SHORT_PROGRAM_HEADER,
  * XMAS_ELF_SMALL_ENTRY, XMAS_ELF_PH_SIZE_MISMATCH, XMAS_ELF_ENTRY_POINT_RANGE, XMAS_ELF_INVALID_PH_TYPE,
  * XMAS_ELF_SH_LIB_USED, XMAS_ELF_BAD_ALIGN. */
 XMAS_ELF_NODISCARD uint32_t xmas_elf_check_segment(const uint8_t *input, size_t input_size,
     const xmas_elf_header_t *header, uint32_t index) XMAS_ELF_NOEXCEPT;
 
-/* The program headers from index `first` on, up to the number of segments or the first that is refused. Where they
- * end before that number, `xmas_elf_segment` at the next index says why. The call is refused with XMAS_ELF_NO_RECORD. */
+/* The program headers from index `first` on, up to the number of segments or the first that can't be read. If they
+ * end before that number, `xmas_elf_segment` at the next index returns the reason. Errors: XMAS_ELF_NO_RECORD. */
 XMAS_ELF_NODISCARD uint32_t xmas_elf_segments(const uint8_t *input, size_t input_size,
     const xmas_elf_header_t *header, uint64_t first, xmas_elf_segment_t *out, size_t out_count, uint64_t *count)
     XMAS_ELF_NOEXCEPT;
 
 /* The range of a segment's data. XMAS_ELF_NULL_DATA is for type PT_NULL, XMAS_ELF_INVALID_PH_TYPE for a type that
- * this reader does not know. An empty segment (p_filesz 0) answers offset 0 and size 0, whatever its offset is. The
- * call is refused with (in the order of the tests) XMAS_ELF_NO_PROGRAM_HEADERS, XMAS_ELF_UNKNOWN_CLASS,
- * XMAS_ELF_SHORT_PROGRAM_HEADER, XMAS_ELF_SMALL_ENTRY, XMAS_ELF_INVALID_PH_TYPE, XMAS_ELF_NULL_DATA,
- * XMAS_ELF_DATA_RANGE. */
+ * this reader does not know. For an empty segment (p_filesz 0) offset and size are 0, whatever its offset is. Errors,
+ * in the order of the tests: XMAS_ELF_NO_PROGRAM_HEADERS, XMAS_ELF_UNKNOWN_CLASS, XMAS_ELF_SHORT_PROGRAM_HEADER,
+ * XMAS_ELF_SMALL_ENTRY, XMAS_ELF_INVALID_PH_TYPE, XMAS_ELF_NULL_DATA, XMAS_ELF_DATA_RANGE. */
 XMAS_ELF_NODISCARD uint32_t xmas_elf_segment_data(const uint8_t *input, size_t input_size,
     const xmas_elf_header_t *header, uint32_t index, xmas_elf_range_t *out) XMAS_ELF_NOEXCEPT;
 
 /* The symbol at an index of a section of type SHT_SYMTAB or SHT_DYNSYM. The name is a text of the string table that
- * is the section `link`. A section of another type is refused, mostly with XMAS_ELF_OTHER_DATA. The call is refused
- * with (in the order of the tests) XMAS_ELF_SHORT_SECTION_HEADER, XMAS_ELF_UNKNOWN_CLASS, XMAS_ELF_SMALL_ENTRY,
+ * is the section `link`. For a section of another type the status is an error, mostly XMAS_ELF_OTHER_DATA. Errors, in
+ * the order of the tests: XMAS_ELF_SHORT_SECTION_HEADER, XMAS_ELF_UNKNOWN_CLASS, XMAS_ELF_SMALL_ENTRY,
  * XMAS_ELF_INVALID_SH_TYPE, XMAS_ELF_DATA_RANGE, XMAS_ELF_NOT_MULTIPLE, XMAS_ELF_NOTE_32, XMAS_ELF_SHORT_DATA,
  * XMAS_ELF_OTHER_DATA, XMAS_ELF_NO_RECORD. */
 XMAS_ELF_NODISCARD uint32_t xmas_elf_symbol(const uint8_t *input, size_t input_size, const xmas_elf_header_t *header,
     uint64_t section, uint64_t index, xmas_elf_symbol_t *out) XMAS_ELF_NOEXCEPT;
 
-/* The symbols from index `first` on of a section. The call is refused with (in the order of the tests)
- * XMAS_ELF_SHORT_SECTION_HEADER, XMAS_ELF_UNKNOWN_CLASS, XMAS_ELF_SMALL_ENTRY, XMAS_ELF_INVALID_SH_TYPE,
- * XMAS_ELF_DATA_RANGE, XMAS_ELF_NOT_MULTIPLE, XMAS_ELF_NOTE_32, XMAS_ELF_SHORT_DATA, XMAS_ELF_OTHER_DATA,
- * XMAS_ELF_NO_RECORD. */
+/* The symbols from index `first` on of a section. Errors, in the order of the tests: XMAS_ELF_SHORT_SECTION_HEADER,
+ * XMAS_ELF_UNKNOWN_CLASS, XMAS_ELF_SMALL_ENTRY, XMAS_ELF_INVALID_SH_TYPE, XMAS_ELF_DATA_RANGE, XMAS_ELF_NOT_MULTIPLE,
+ * XMAS_ELF_NOTE_32, XMAS_ELF_SHORT_DATA, XMAS_ELF_OTHER_DATA, XMAS_ELF_NO_RECORD. */
 XMAS_ELF_NODISCARD uint32_t xmas_elf_symbols(const uint8_t *input, size_t input_size, const xmas_elf_header_t *header,
     uint64_t section, uint64_t first, xmas_elf_symbol_t *out, size_t out_count, uint64_t *count) XMAS_ELF_NOEXCEPT;
 
 /* The ranges of the names of these symbols, each with a status of its own: the texts at each symbol's `name` in the
- * string table that the section is linked to. The call gives as many names as `xmas_elf_symbols` gives symbols. The
- * call is refused with (in the order of the tests) XMAS_ELF_SHORT_SECTION_HEADER, XMAS_ELF_UNKNOWN_CLASS,
- * XMAS_ELF_SMALL_ENTRY, XMAS_ELF_INVALID_SH_TYPE, XMAS_ELF_DATA_RANGE, XMAS_ELF_NOT_MULTIPLE, XMAS_ELF_NOTE_32,
- * XMAS_ELF_SHORT_DATA, XMAS_ELF_OTHER_DATA, XMAS_ELF_NO_RECORD. Each record is refused with (in the order of the
- * tests) XMAS_ELF_SHORT_SECTION_HEADER, XMAS_ELF_INVALID_SH_TYPE, XMAS_ELF_NULL_DATA, XMAS_ELF_DATA_RANGE,
+ * string table that the section is linked to. The call gives as many names as `xmas_elf_symbols` gives symbols.
+ * Errors, in the order of the tests: XMAS_ELF_SHORT_SECTION_HEADER, XMAS_ELF_UNKNOWN_CLASS, XMAS_ELF_SMALL_ENTRY,
+ * XMAS_ELF_INVALID_SH_TYPE, XMAS_ELF_DATA_RANGE, XMAS_ELF_NOT_MULTIPLE, XMAS_ELF_NOTE_32, XMAS_ELF_SHORT_DATA,
+ * XMAS_ELF_OTHER_DATA, XMAS_ELF_NO_RECORD. Errors of a record, in the order of the tests:
+ * XMAS_ELF_SHORT_SECTION_HEADER, XMAS_ELF_INVALID_SH_TYPE, XMAS_ELF_NULL_DATA, XMAS_ELF_DATA_RANGE,
  * XMAS_ELF_TEXT_START, XMAS_ELF_TEXT_END, XMAS_ELF_TEXT_UTF_8. */
 XMAS_ELF_NODISCARD uint32_t xmas_elf_symbol_names(const uint8_t *input, size_t input_size,
     const xmas_elf_header_t *header, uint64_t section, uint64_t first, xmas_elf_name_t *out, size_t out_count,
     uint64_t *count) XMAS_ELF_NOEXCEPT;
 
 /* Finds the symbols of a section of type SHT_SYMTAB or SHT_DYNSYM, and the string table that it is linked to, once
- * for many calls of `xmas_elf_symbol_of` and `xmas_elf_symbol_name_of`. Where the string table is refused, the call
- * is OK, and `strings_status` says why. The call is refused with (in the order of the tests)
- * XMAS_ELF_SHORT_SECTION_HEADER, XMAS_ELF_UNKNOWN_CLASS, XMAS_ELF_SMALL_ENTRY, XMAS_ELF_INVALID_SH_TYPE,
- * XMAS_ELF_DATA_RANGE, XMAS_ELF_NOT_MULTIPLE, XMAS_ELF_NOTE_32, XMAS_ELF_SHORT_DATA, XMAS_ELF_OTHER_DATA. */
+ * for many calls of `xmas_elf_symbol_of` and `xmas_elf_symbol_name_of`. If the string table can't be read, the call
+ * is OK, and `strings_status` is the reason. Errors, in the order of the tests: XMAS_ELF_SHORT_SECTION_HEADER,
+ * XMAS_ELF_UNKNOWN_CLASS, XMAS_ELF_SMALL_ENTRY, XMAS_ELF_INVALID_SH_TYPE, XMAS_ELF_DATA_RANGE, XMAS_ELF_NOT_MULTIPLE,
+ * XMAS_ELF_NOTE_32, XMAS_ELF_SHORT_DATA, XMAS_ELF_OTHER_DATA. */
 XMAS_ELF_NODISCARD uint32_t xmas_elf_symbols_open(const uint8_t *input, size_t input_size,
     const xmas_elf_header_t *header, uint64_t section, xmas_elf_symbol_table_t *out) XMAS_ELF_NOEXCEPT;
 
-/* The symbol at an index of a table that was found, as `xmas_elf_symbol` or `xmas_elf_dynamic_symbols` answers it.
+/* The symbol at an index of a table that was found, as `xmas_elf_symbol` or `xmas_elf_dynamic_symbols` returns it.
  * Any table may be given: each call compares its range with the input, and `count` is not read. XMAS_ELF_DATA_RANGE
- * is for symbols that do not lie in the input. The call is refused with (in the order of the tests)
- * XMAS_ELF_DATA_RANGE, XMAS_ELF_NO_RECORD. */
+ * is for symbols that do not lie in the input. Errors, in the order of the tests: XMAS_ELF_DATA_RANGE,
+ * XMAS_ELF_NO_RECORD. */
 XMAS_ELF_NODISCARD uint32_t xmas_elf_symbol_of(const uint8_t *input, size_t input_size,
     const xmas_elf_symbol_table_t *table, uint64_t index, xmas_elf_symbol_t *out) XMAS_ELF_NOEXCEPT;
 
 /* The range of the name of the symbol at an index of a table that was found, as `xmas_elf_symbol_names` or
- * `xmas_elf_dynamic_symbol_names` answers it. Any table may be given. After `xmas_elf_symbol_of` the call is refused
- * with `strings_status`, where that is not 0, and then with XMAS_ELF_DATA_RANGE for a string table that does not lie
- * in the input. The call is refused with (in the order of the tests) XMAS_ELF_DATA_RANGE, XMAS_ELF_NO_RECORD,
- * XMAS_ELF_TEXT_START, XMAS_ELF_TEXT_END, XMAS_ELF_TEXT_UTF_8. */
+ * `xmas_elf_dynamic_symbol_names` returns it. Any table may be given. After the errors of `xmas_elf_symbol_of` the
+ * status is `strings_status`, if that is not 0, and then XMAS_ELF_DATA_RANGE for a string table that does not lie in
+ * the input. Errors, in the order of the tests: XMAS_ELF_DATA_RANGE, XMAS_ELF_NO_RECORD, XMAS_ELF_TEXT_START,
+ * XMAS_ELF_TEXT_END, XMAS_ELF_TEXT_UTF_8. */
 XMAS_ELF_NODISCARD uint32_t xmas_elf_symbol_name_of(const uint8_t *input, size_t input_size,
     const xmas_elf_symbol_table_t *table, uint64_t index, xmas_elf_range_t *out) XMAS_ELF_NOEXCEPT;
 
-/* The relocation at an index of a section of type SHT_REL or SHT_RELA. A section of another type is refused, mostly
- * with XMAS_ELF_OTHER_DATA. The call is refused with (in the order of the tests) XMAS_ELF_SHORT_SECTION_HEADER,
+/* The relocation at an index of a section of type SHT_REL or SHT_RELA. For a section of another type the status is an
+ * error, mostly XMAS_ELF_OTHER_DATA. Errors, in the order of the tests: XMAS_ELF_SHORT_SECTION_HEADER,
  * XMAS_ELF_UNKNOWN_CLASS, XMAS_ELF_SMALL_ENTRY, XMAS_ELF_INVALID_SH_TYPE, XMAS_ELF_DATA_RANGE, XMAS_ELF_NOT_MULTIPLE,
  * XMAS_ELF_NOTE_32, XMAS_ELF_SHORT_DATA, XMAS_ELF_OTHER_DATA, XMAS_ELF_NO_RECORD. */
 XMAS_ELF_NODISCARD uint32_t xmas_elf_relocation(const uint8_t *input, size_t input_size,
     const xmas_elf_header_t *header, uint64_t section, uint64_t index, xmas_elf_relocation_t *out) XMAS_ELF_NOEXCEPT;
 
-/* The relocations from index `first` on of a section. The call is refused with (in the order of the tests)
+/* The relocations from index `first` on of a section. Errors, in the order of the tests:
  * XMAS_ELF_SHORT_SECTION_HEADER, XMAS_ELF_UNKNOWN_CLASS, XMAS_ELF_SMALL_ENTRY, XMAS_ELF_INVALID_SH_TYPE,
  * XMAS_ELF_DATA_RANGE, XMAS_ELF_NOT_MULTIPLE, XMAS_ELF_NOTE_32, XMAS_ELF_SHORT_DATA, XMAS_ELF_OTHER_DATA,
  * XMAS_ELF_NO_RECORD. */
@@ -646,23 +653,23 @@ XMAS_ELF_NODISCARD uint32_t xmas_elf_relocations(const uint8_t *input, size_t in
     uint64_t *count) XMAS_ELF_NOEXCEPT;
 
 /* The addresses in the packed relative relocations of a section of type 19 (SHT_RELR) from index `first` on: those of
- * the words to which the load address is added. Each call reads the words from the first on, so give much room. The
- * call is refused with (in the order of the tests) XMAS_ELF_SHORT_SECTION_HEADER, XMAS_ELF_UNKNOWN_CLASS,
- * XMAS_ELF_SMALL_ENTRY, XMAS_ELF_OTHER_DATA, XMAS_ELF_DATA_RANGE, XMAS_ELF_LINK_NOT_MULTIPLE, XMAS_ELF_NO_RECORD. */
+ * the words to which the load address is added. Each call reads the words from the first on, so give much room.
+ * Errors, in the order of the tests: XMAS_ELF_SHORT_SECTION_HEADER, XMAS_ELF_UNKNOWN_CLASS, XMAS_ELF_SMALL_ENTRY,
+ * XMAS_ELF_OTHER_DATA, XMAS_ELF_DATA_RANGE, XMAS_ELF_LINK_NOT_MULTIPLE, XMAS_ELF_NO_RECORD. */
 XMAS_ELF_NODISCARD uint32_t xmas_elf_packed_relocations(const uint8_t *input, size_t input_size,
     const xmas_elf_header_t *header, uint64_t section, uint64_t first, uint64_t *out, size_t out_count,
     uint64_t *count) XMAS_ELF_NOEXCEPT;
 
-/* The dynamic entry at an index of a section of type SHT_DYNAMIC, also after the entry with tag 0. A section of
- * another type is refused, mostly with XMAS_ELF_OTHER_DATA. The call is refused with (in the order of the tests)
+/* The dynamic entry at an index of a section of type SHT_DYNAMIC, also after the entry with tag 0. For a section of
+ * another type the status is an error, mostly XMAS_ELF_OTHER_DATA. Errors, in the order of the tests:
  * XMAS_ELF_SHORT_SECTION_HEADER, XMAS_ELF_UNKNOWN_CLASS, XMAS_ELF_SMALL_ENTRY, XMAS_ELF_INVALID_SH_TYPE,
  * XMAS_ELF_DATA_RANGE, XMAS_ELF_NOT_MULTIPLE, XMAS_ELF_NOTE_32, XMAS_ELF_SHORT_DATA, XMAS_ELF_OTHER_DATA,
  * XMAS_ELF_NO_RECORD. */
 XMAS_ELF_NODISCARD uint32_t xmas_elf_dynamic(const uint8_t *input, size_t input_size, const xmas_elf_header_t *header,
     uint64_t section, uint64_t index, xmas_elf_dynamic_t *out) XMAS_ELF_NOEXCEPT;
 
-/* The dynamic entries from index `first` on of a section, also those after the entry with tag 0. The call is refused
- * with (in the order of the tests) XMAS_ELF_SHORT_SECTION_HEADER, XMAS_ELF_UNKNOWN_CLASS, XMAS_ELF_SMALL_ENTRY,
+/* The dynamic entries from index `first` on of a section, also those after the entry with tag 0. Errors, in the order
+ * of the tests: XMAS_ELF_SHORT_SECTION_HEADER, XMAS_ELF_UNKNOWN_CLASS, XMAS_ELF_SMALL_ENTRY,
  * XMAS_ELF_INVALID_SH_TYPE, XMAS_ELF_DATA_RANGE, XMAS_ELF_NOT_MULTIPLE, XMAS_ELF_NOTE_32, XMAS_ELF_SHORT_DATA,
  * XMAS_ELF_OTHER_DATA, XMAS_ELF_NO_RECORD. */
 XMAS_ELF_NODISCARD uint32_t xmas_elf_dynamics(const uint8_t *input, size_t input_size,
@@ -670,29 +677,29 @@ XMAS_ELF_NODISCARD uint32_t xmas_elf_dynamics(const uint8_t *input, size_t input
     uint64_t *count) XMAS_ELF_NOEXCEPT;
 
 /* The first note of a range, by the alignment of its section or segment (8, and else 4). XMAS_ELF_NO_RECORD is for an
- * empty range, XMAS_ELF_LINK_SHORT_NOTE for one that holds no whole note. The call is refused with (in the order of
- * the tests) XMAS_ELF_DATA_RANGE, XMAS_ELF_NO_RECORD, XMAS_ELF_LINK_SHORT_NOTE. */
+ * empty range, XMAS_ELF_LINK_SHORT_NOTE for one that holds no whole note. Errors, in the order of the tests:
+ * XMAS_ELF_DATA_RANGE, XMAS_ELF_NO_RECORD, XMAS_ELF_LINK_SHORT_NOTE. */
 XMAS_ELF_NODISCARD uint32_t xmas_elf_note(const uint8_t *input, size_t input_size, const xmas_elf_header_t *header,
     const xmas_elf_range_t *part, uint64_t align, xmas_elf_note_t *out) XMAS_ELF_NOEXCEPT;
 
 /* The range of the build id, of a file of either class: the description of the first note of section
  * `.note.gnu.build-id`. XMAS_ELF_NOT_FOUND is for a file without this section, and for a first note that is not of
- * type 3 with name `GNU`. Without section headers, look through the notes of the segments of type 4 (PT_NOTE). The
- * call is refused with (in the order of the tests) XMAS_ELF_NOT_FOUND, XMAS_ELF_DATA_RANGE, XMAS_ELF_NO_RECORD,
+ * type 3 with name `GNU`. Without section headers, look through the notes of the segments of type 4 (PT_NOTE).
+ * Errors, in the order of the tests: XMAS_ELF_NOT_FOUND, XMAS_ELF_DATA_RANGE, XMAS_ELF_NO_RECORD,
  * XMAS_ELF_LINK_SHORT_NOTE. */
 XMAS_ELF_NODISCARD uint32_t xmas_elf_build_id(const uint8_t *input, size_t input_size,
     const xmas_elf_header_t *header, xmas_elf_range_t *out) XMAS_ELF_NOEXCEPT;
 
 /* The range of the file bytes for addresses `address .. address + count`: those of the first PT_LOAD segment that has
- * them all. No section header is needed. Of a segment without file bytes the offset is 0. The call is refused with
- * (in the order of the tests) XMAS_ELF_LINK_ADDRESS, XMAS_ELF_DATA_RANGE. */
+ * them all. No section header is needed. Of a segment without file bytes the offset is 0. Errors, in the order of the
+ * tests: XMAS_ELF_LINK_ADDRESS, XMAS_ELF_DATA_RANGE. */
 XMAS_ELF_NODISCARD uint32_t xmas_elf_bytes_at(const uint8_t *input, size_t input_size,
     const xmas_elf_header_t *header, uint64_t address, uint64_t count, xmas_elf_range_t *out) XMAS_ELF_NOEXCEPT;
 
 /* The range of the text that the first dynamic entry with a tag names: for tag 14 (DT_SONAME) the name of the
  * library, for 29 (DT_RUNPATH) and 15 (DT_RPATH) the folders where the dynamic linker looks for libraries. The
  * entries are those of the first segment of type PT_DYNAMIC before the entry with tag 0, so no section header is
- * needed. XMAS_ELF_NOT_FOUND is for a tag that no entry has. The call is refused with (in the order of the tests)
+ * needed. XMAS_ELF_NOT_FOUND is for a tag that no entry has. Errors, in the order of the tests:
  * XMAS_ELF_LINK_NO_DYNAMIC, XMAS_ELF_DATA_RANGE, XMAS_ELF_NOT_MULTIPLE, XMAS_ELF_NOT_FOUND, XMAS_ELF_LINK_NO_ENTRY,
  * XMAS_ELF_LINK_ADDRESS, XMAS_ELF_TEXT_START, XMAS_ELF_TEXT_END, XMAS_ELF_TEXT_UTF_8. */
 XMAS_ELF_NODISCARD uint32_t xmas_elf_dynamic_text(const uint8_t *input, size_t input_size,
@@ -700,18 +707,18 @@ XMAS_ELF_NODISCARD uint32_t xmas_elf_dynamic_text(const uint8_t *input, size_t i
 
 /* The ranges of the names of the libraries that the file needs (DT_NEEDED), each with a status of its own, in the
  * order of the entries of `xmas_elf_dynamic_text`. Index `first` counts libraries. Each call reads the entries from
- * the first on, so give room for all where a file may have many. The call is refused with (in the order of the tests)
- * XMAS_ELF_LINK_NO_DYNAMIC, XMAS_ELF_DATA_RANGE, XMAS_ELF_NOT_MULTIPLE, XMAS_ELF_NO_RECORD. Each record is refused
- * with (in the order of the tests) XMAS_ELF_LINK_NO_ENTRY, XMAS_ELF_LINK_ADDRESS, XMAS_ELF_DATA_RANGE,
- * XMAS_ELF_TEXT_START, XMAS_ELF_TEXT_END, XMAS_ELF_TEXT_UTF_8. */
+ * the first on, so give room for all where a file may have many. Errors, in the order of the tests:
+ * XMAS_ELF_LINK_NO_DYNAMIC, XMAS_ELF_DATA_RANGE, XMAS_ELF_NOT_MULTIPLE, XMAS_ELF_NO_RECORD. Errors of a record, in
+ * the order of the tests: XMAS_ELF_LINK_NO_ENTRY, XMAS_ELF_LINK_ADDRESS, XMAS_ELF_DATA_RANGE, XMAS_ELF_TEXT_START,
+ * XMAS_ELF_TEXT_END, XMAS_ELF_TEXT_UTF_8. */
 XMAS_ELF_NODISCARD uint32_t xmas_elf_needed(const uint8_t *input, size_t input_size, const xmas_elf_header_t *header,
     uint64_t first, xmas_elf_name_t *out, size_t out_count, uint64_t *count) XMAS_ELF_NOEXCEPT;
 
 /* The number of symbols of the dynamic segment, which no entry says: the number of chains of the gABI's hash table
  * (DT_HASH) where the segment names one, and else one more than the last index that GNU's (DT_GNU_HASH) reaches, or
- * its first index where it reaches none; this one does not count symbols behind the last exported one. No section
- * header is needed. The call is refused with (in the order of the tests) XMAS_ELF_LINK_NO_DYNAMIC,
- * XMAS_ELF_DATA_RANGE, XMAS_ELF_NOT_MULTIPLE, XMAS_ELF_LINK_NO_ENTRY, XMAS_ELF_LINK_ADDRESS, XMAS_ELF_SHORT_DATA,
+ * its first index where it reaches none; this one does not count symbols after the last exported one. No section
+ * header is needed. Errors, in the order of the tests: XMAS_ELF_LINK_NO_DYNAMIC, XMAS_ELF_DATA_RANGE,
+ * XMAS_ELF_NOT_MULTIPLE, XMAS_ELF_LINK_NO_ENTRY, XMAS_ELF_LINK_ADDRESS, XMAS_ELF_SHORT_DATA,
  * XMAS_ELF_LINK_SHORT_TABLE, XMAS_ELF_LINK_BLOOM_COUNT, XMAS_ELF_LINK_CHAIN_INDEX, XMAS_ELF_LINK_CHAIN_DATA,
  * XMAS_ELF_LINK_SYMBOL_INDEX. */
 XMAS_ELF_NODISCARD uint32_t xmas_elf_dynamic_symbol_count(const uint8_t *input, size_t input_size,
@@ -719,92 +726,91 @@ XMAS_ELF_NODISCARD uint32_t xmas_elf_dynamic_symbol_count(const uint8_t *input, 
 
 /* The symbols of the dynamic segment (DT_SYMTAB) from index `first` on, as many in all as
  * `xmas_elf_dynamic_symbol_count` says. No section header is needed. Each call counts the symbols anew, so give room
- * for all. The call is refused with (in the order of the tests) XMAS_ELF_LINK_NO_DYNAMIC, XMAS_ELF_DATA_RANGE,
- * XMAS_ELF_NOT_MULTIPLE, XMAS_ELF_LINK_NO_ENTRY, XMAS_ELF_LINK_ADDRESS, XMAS_ELF_SHORT_DATA,
- * XMAS_ELF_LINK_SHORT_TABLE, XMAS_ELF_LINK_BLOOM_COUNT, XMAS_ELF_LINK_CHAIN_INDEX, XMAS_ELF_LINK_CHAIN_DATA,
- * XMAS_ELF_LINK_SYMBOL_INDEX, XMAS_ELF_NO_RECORD. */
+ * for all. Errors, in the order of the tests: XMAS_ELF_LINK_NO_DYNAMIC, XMAS_ELF_DATA_RANGE, XMAS_ELF_NOT_MULTIPLE,
+ * XMAS_ELF_LINK_NO_ENTRY, XMAS_ELF_LINK_ADDRESS, XMAS_ELF_SHORT_DATA, XMAS_ELF_LINK_SHORT_TABLE,
+ * XMAS_ELF_LINK_BLOOM_COUNT, XMAS_ELF_LINK_CHAIN_INDEX, XMAS_ELF_LINK_CHAIN_DATA, XMAS_ELF_LINK_SYMBOL_INDEX,
+ * XMAS_ELF_NO_RECORD. */
 XMAS_ELF_NODISCARD uint32_t xmas_elf_dynamic_symbols(const uint8_t *input, size_t input_size,
     const xmas_elf_header_t *header, uint64_t first, xmas_elf_symbol_t *out, size_t out_count, uint64_t *count)
     XMAS_ELF_NOEXCEPT;
 
 /* The ranges of the names of these symbols, each with a status of its own: the texts at each symbol's `name` in the
  * string table of the dynamic segment (DT_STRTAB). The call gives as many names as `xmas_elf_dynamic_symbols` gives
- * symbols. The call is refused with (in the order of the tests) XMAS_ELF_LINK_NO_DYNAMIC, XMAS_ELF_DATA_RANGE,
- * XMAS_ELF_NOT_MULTIPLE, XMAS_ELF_LINK_NO_ENTRY, XMAS_ELF_LINK_ADDRESS, XMAS_ELF_SHORT_DATA,
- * XMAS_ELF_LINK_SHORT_TABLE, XMAS_ELF_LINK_BLOOM_COUNT, XMAS_ELF_LINK_CHAIN_INDEX, XMAS_ELF_LINK_CHAIN_DATA,
- * XMAS_ELF_LINK_SYMBOL_INDEX, XMAS_ELF_NO_RECORD. Each record is refused with (in the order of the tests)
- * XMAS_ELF_LINK_NO_ENTRY, XMAS_ELF_LINK_ADDRESS, XMAS_ELF_DATA_RANGE, XMAS_ELF_TEXT_START, XMAS_ELF_TEXT_END,
- * XMAS_ELF_TEXT_UTF_8. */
+ * symbols. Errors, in the order of the tests: XMAS_ELF_LINK_NO_DYNAMIC, XMAS_ELF_DATA_RANGE, XMAS_ELF_NOT_MULTIPLE,
+ * XMAS_ELF_LINK_NO_ENTRY, XMAS_ELF_LINK_ADDRESS, XMAS_ELF_SHORT_DATA, XMAS_ELF_LINK_SHORT_TABLE,
+ * XMAS_ELF_LINK_BLOOM_COUNT, XMAS_ELF_LINK_CHAIN_INDEX, XMAS_ELF_LINK_CHAIN_DATA, XMAS_ELF_LINK_SYMBOL_INDEX,
+ * XMAS_ELF_NO_RECORD. Errors of a record, in the order of the tests: XMAS_ELF_LINK_NO_ENTRY, XMAS_ELF_LINK_ADDRESS,
+ * XMAS_ELF_DATA_RANGE, XMAS_ELF_TEXT_START, XMAS_ELF_TEXT_END, XMAS_ELF_TEXT_UTF_8. */
 XMAS_ELF_NODISCARD uint32_t xmas_elf_dynamic_symbol_names(const uint8_t *input, size_t input_size,
     const xmas_elf_header_t *header, uint64_t first, xmas_elf_name_t *out, size_t out_count, uint64_t *count)
     XMAS_ELF_NOEXCEPT;
 
 /* Finds the symbols of the dynamic segment and the string table of their names, as `xmas_elf_dynamic_symbols` and
  * `xmas_elf_dynamic_symbol_names` do, once for many calls of `xmas_elf_symbol_of` and `xmas_elf_symbol_name_of`. It
- * needs no section headers. Where the string table is refused, the call is OK, and `strings_status` says why. The
- * call is refused with (in the order of the tests) XMAS_ELF_LINK_NO_DYNAMIC, XMAS_ELF_DATA_RANGE,
- * XMAS_ELF_NOT_MULTIPLE, XMAS_ELF_LINK_NO_ENTRY, XMAS_ELF_LINK_ADDRESS, XMAS_ELF_SHORT_DATA,
- * XMAS_ELF_LINK_SHORT_TABLE, XMAS_ELF_LINK_BLOOM_COUNT, XMAS_ELF_LINK_CHAIN_INDEX, XMAS_ELF_LINK_CHAIN_DATA,
- * XMAS_ELF_LINK_SYMBOL_INDEX. */
+ * needs no section headers. If the string table can't be read, the call is OK, and `strings_status` is the reason.
+ * Errors, in the order of the tests: XMAS_ELF_LINK_NO_DYNAMIC, XMAS_ELF_DATA_RANGE, XMAS_ELF_NOT_MULTIPLE,
+ * XMAS_ELF_LINK_NO_ENTRY, XMAS_ELF_LINK_ADDRESS, XMAS_ELF_SHORT_DATA, XMAS_ELF_LINK_SHORT_TABLE,
+ * XMAS_ELF_LINK_BLOOM_COUNT, XMAS_ELF_LINK_CHAIN_INDEX, XMAS_ELF_LINK_CHAIN_DATA, XMAS_ELF_LINK_SYMBOL_INDEX. */
 XMAS_ELF_NODISCARD uint32_t xmas_elf_dynamic_symbols_open(const uint8_t *input, size_t input_size,
     const xmas_elf_header_t *header, xmas_elf_symbol_table_t *out) XMAS_ELF_NOEXCEPT;
 
 /* The versions of the symbols of the dynamic segment (DT_VERSYM) from index `first` on, each with a status of its
  * own: the first definition with the symbol's number but for the one that names the file, and else the first need
  * with it. The call gives as many versions as `xmas_elf_dynamic_symbols` gives symbols. XMAS_ELF_NOT_FOUND is for a
- * file whose symbols have no versions. Each call counts the symbols anew, so give room for all. The call is refused
- * with (in the order of the tests) XMAS_ELF_LINK_NO_DYNAMIC, XMAS_ELF_DATA_RANGE, XMAS_ELF_NOT_MULTIPLE,
- * XMAS_ELF_LINK_NO_ENTRY, XMAS_ELF_LINK_ADDRESS, XMAS_ELF_SHORT_DATA, XMAS_ELF_LINK_SHORT_TABLE,
- * XMAS_ELF_LINK_BLOOM_COUNT, XMAS_ELF_LINK_CHAIN_INDEX, XMAS_ELF_LINK_CHAIN_DATA, XMAS_ELF_LINK_SYMBOL_INDEX,
- * XMAS_ELF_NOT_FOUND, XMAS_ELF_NO_RECORD. Each record is refused with (in the order of the tests)
- * XMAS_ELF_LINK_SHORT_VERSION, XMAS_ELF_LINK_VERSION_COUNT, XMAS_ELF_LINK_NO_ENTRY, XMAS_ELF_LINK_ADDRESS,
- * XMAS_ELF_DATA_RANGE, XMAS_ELF_TEXT_START, XMAS_ELF_TEXT_END, XMAS_ELF_TEXT_UTF_8. */
+ * file whose symbols have no versions. Each call counts the symbols anew, so give room for all. Errors, in the order
+ * of the tests: XMAS_ELF_LINK_NO_DYNAMIC, XMAS_ELF_DATA_RANGE, XMAS_ELF_NOT_MULTIPLE, XMAS_ELF_LINK_NO_ENTRY,
+ * XMAS_ELF_LINK_ADDRESS, XMAS_ELF_SHORT_DATA, XMAS_ELF_LINK_SHORT_TABLE, XMAS_ELF_LINK_BLOOM_COUNT,
+ * XMAS_ELF_LINK_CHAIN_INDEX, XMAS_ELF_LINK_CHAIN_DATA, XMAS_ELF_LINK_SYMBOL_INDEX, XMAS_ELF_NOT_FOUND,
+ * XMAS_ELF_NO_RECORD. Errors of a record, in the order of the tests: XMAS_ELF_LINK_SHORT_VERSION,
+ * XMAS_ELF_LINK_VERSION_COUNT, XMAS_ELF_LINK_NO_ENTRY, XMAS_ELF_LINK_ADDRESS, XMAS_ELF_DATA_RANGE,
+ * XMAS_ELF_TEXT_START, XMAS_ELF_TEXT_END, XMAS_ELF_TEXT_UTF_8. */
 XMAS_ELF_NODISCARD uint32_t xmas_elf_dynamic_symbol_versions(const uint8_t *input, size_t input_size,
     const xmas_elf_header_t *header, uint64_t first, xmas_elf_version_t *out, size_t out_count, uint64_t *count)
     XMAS_ELF_NOEXCEPT;
 
 /* The versions that the file defines (DT_VERDEF) from index `first` on, in their order, each with a status of its
  * own: a record that is cut off is the last one. No section header is needed. Each call reads the records from the
- * first on, so give room for all. The call is refused with (in the order of the tests) XMAS_ELF_LINK_NO_DYNAMIC,
- * XMAS_ELF_DATA_RANGE, XMAS_ELF_NOT_MULTIPLE, XMAS_ELF_LINK_ADDRESS, XMAS_ELF_LINK_NO_ENTRY, XMAS_ELF_NO_RECORD. Each
- * record is refused with (in the order of the tests) XMAS_ELF_LINK_SHORT_VERSION, XMAS_ELF_LINK_NO_ENTRY,
- * XMAS_ELF_LINK_ADDRESS, XMAS_ELF_DATA_RANGE, XMAS_ELF_TEXT_START, XMAS_ELF_TEXT_END, XMAS_ELF_TEXT_UTF_8. */
+ * first on, so give room for all. Errors, in the order of the tests: XMAS_ELF_LINK_NO_DYNAMIC, XMAS_ELF_DATA_RANGE,
+ * XMAS_ELF_NOT_MULTIPLE, XMAS_ELF_LINK_ADDRESS, XMAS_ELF_LINK_NO_ENTRY, XMAS_ELF_NO_RECORD. Errors of a record, in
+ * the order of the tests: XMAS_ELF_LINK_SHORT_VERSION, XMAS_ELF_LINK_NO_ENTRY, XMAS_ELF_LINK_ADDRESS,
+ * XMAS_ELF_DATA_RANGE, XMAS_ELF_TEXT_START, XMAS_ELF_TEXT_END, XMAS_ELF_TEXT_UTF_8. */
 XMAS_ELF_NODISCARD uint32_t xmas_elf_version_definitions(const uint8_t *input, size_t input_size,
     const xmas_elf_header_t *header, uint64_t first, xmas_elf_version_t *out, size_t out_count, uint64_t *count)
     XMAS_ELF_NOEXCEPT;
 
 /* The versions that the file needs of libraries (DT_VERNEED) from index `first` on, in their order, as
- * `xmas_elf_version_definitions` gives the others. The call is refused with (in the order of the tests)
- * XMAS_ELF_LINK_NO_DYNAMIC, XMAS_ELF_DATA_RANGE, XMAS_ELF_NOT_MULTIPLE, XMAS_ELF_LINK_ADDRESS,
- * XMAS_ELF_LINK_NO_ENTRY, XMAS_ELF_NO_RECORD. Each record is refused with (in the order of the tests)
- * XMAS_ELF_LINK_SHORT_VERSION, XMAS_ELF_LINK_VERSION_COUNT, XMAS_ELF_LINK_NO_ENTRY, XMAS_ELF_LINK_ADDRESS,
- * XMAS_ELF_DATA_RANGE, XMAS_ELF_TEXT_START, XMAS_ELF_TEXT_END, XMAS_ELF_TEXT_UTF_8. */
+ * `xmas_elf_version_definitions` gives the others. Errors, in the order of the tests: XMAS_ELF_LINK_NO_DYNAMIC,
+ * XMAS_ELF_DATA_RANGE, XMAS_ELF_NOT_MULTIPLE, XMAS_ELF_LINK_ADDRESS, XMAS_ELF_LINK_NO_ENTRY, XMAS_ELF_NO_RECORD.
+ * Errors of a record, in the order of the tests: XMAS_ELF_LINK_SHORT_VERSION, XMAS_ELF_LINK_VERSION_COUNT,
+ * XMAS_ELF_LINK_NO_ENTRY, XMAS_ELF_LINK_ADDRESS, XMAS_ELF_DATA_RANGE, XMAS_ELF_TEXT_START, XMAS_ELF_TEXT_END,
+ * XMAS_ELF_TEXT_UTF_8. */
 XMAS_ELF_NODISCARD uint32_t xmas_elf_version_needs(const uint8_t *input, size_t input_size,
     const xmas_elf_header_t *header, uint64_t first, xmas_elf_version_t *out, size_t out_count, uint64_t *count)
     XMAS_ELF_NOEXCEPT;
 
-/* The symbol of the dynamic segment that a reference gets by a name and a version (DT_VERSYM): the first symbol on
- * the chain of the name whose version has the name `version`, or whose number nothing bears and which isn't hidden;
- * in a file without versions, the first. With `version_size` 0 it is the one that `dlsym` gets: the first with a
- * number below 2, or else the one whose version isn't hidden, if there is exactly one. A symbol counts if it has a
- * value, or is absolute or thread-local, and a type that linkers use: also one that is not defined and has a value.
- * That no symbol is found is no refusal. Each call counts the symbols of the dynamic segment anew; for many names
- * `xmas_elf_gnu_look_ups` is faster, which knows no versions. The call is refused with (in the order of the tests)
- * XMAS_ELF_TEXT_UTF_8, XMAS_ELF_LINK_NO_DYNAMIC, XMAS_ELF_DATA_RANGE, XMAS_ELF_NOT_MULTIPLE, XMAS_ELF_LINK_NO_ENTRY,
- * XMAS_ELF_LINK_ADDRESS, XMAS_ELF_SHORT_DATA, XMAS_ELF_LINK_SHORT_TABLE, XMAS_ELF_LINK_BLOOM_COUNT,
- * XMAS_ELF_LINK_CHAIN_INDEX, XMAS_ELF_LINK_CHAIN_DATA, XMAS_ELF_LINK_SYMBOL_INDEX, XMAS_ELF_HASH_DATA,
- * XMAS_ELF_CHAIN_INDEX, XMAS_ELF_SYMBOL_INDEX, XMAS_ELF_CHAIN_SUM, XMAS_ELF_HASH_CYCLE, XMAS_ELF_LINK_SHORT_VERSION,
- * XMAS_ELF_LINK_VERSION_COUNT, XMAS_ELF_TEXT_START, XMAS_ELF_TEXT_END. */
+/* The symbol of the dynamic segment that `dlvsym` finds by a name and a version (DT_VERSYM): the first symbol on the
+ * chain of the name whose version has the name `version`; in a file without versions, the first. With `version_size`
+ * 0 it is the one that `dlsym` finds: the first with a number below 2, or else the one whose version isn't hidden, if
+ * there is exactly one. A symbol counts if it has a value, or is absolute or thread-local, and a type that linkers
+ * use: also one that is not defined and has a value. The symbol is found only if other files can use it: its binding
+ * is global, weak or unique, and its visibility the default or protected. If no symbol is found, that is no error.
+ * Each call counts the symbols of the dynamic segment anew; for many names `xmas_elf_gnu_look_ups` is faster, which
+ * knows no versions. Errors, in the order of the tests: XMAS_ELF_TEXT_UTF_8, XMAS_ELF_LINK_NO_DYNAMIC,
+ * XMAS_ELF_DATA_RANGE, XMAS_ELF_NOT_MULTIPLE, XMAS_ELF_LINK_NO_ENTRY, XMAS_ELF_LINK_ADDRESS, XMAS_ELF_SHORT_DATA,
+ * XMAS_ELF_LINK_SHORT_TABLE, XMAS_ELF_LINK_BLOOM_COUNT, XMAS_ELF_LINK_CHAIN_INDEX, XMAS_ELF_LINK_CHAIN_DATA,
+ * XMAS_ELF_LINK_SYMBOL_INDEX, XMAS_ELF_HASH_DATA, XMAS_ELF_CHAIN_INDEX, XMAS_ELF_SYMBOL_INDEX, XMAS_ELF_CHAIN_SUM,
+ * XMAS_ELF_HASH_CYCLE, XMAS_ELF_LINK_SHORT_VERSION, XMAS_ELF_LINK_VERSION_COUNT, XMAS_ELF_TEXT_START,
+ * XMAS_ELF_TEXT_END. */
 XMAS_ELF_NODISCARD uint32_t xmas_elf_find_symbol(const uint8_t *input, size_t input_size,
     const xmas_elf_header_t *header, const uint8_t *name, size_t name_size, const uint8_t *version,
     size_t version_size, xmas_elf_found_symbol_t *out) XMAS_ELF_NOEXCEPT;
 
 /* Looks a name up in the hash table that is a section of type SHT_HASH, among the symbols of the section that it is
- * linked to: the first symbol on the chain of the name, defined or not. That no symbol is found is no refusal. A
- * table that `xmas_elf_check_hash` did not pass may be refused or miss a symbol; the look-up reads no more chain
- * entries than the table has. Names are those in section `.dynstr`, and of symbols of a section of type SHT_SYMTAB in
- * `.strtab`; in an undamaged file that is the string table that the symbols are linked to. The call is refused with
- * (in the order of the tests) XMAS_ELF_TEXT_UTF_8, XMAS_ELF_SHORT_SECTION_HEADER, XMAS_ELF_UNKNOWN_CLASS,
+ * linked to: the first symbol on the chain of the name, defined or not. If no symbol is found, that is no error. In a
+ * table that does not pass `xmas_elf_check_hash`, a look-up may return an error or miss a symbol; it reads no more
+ * chain entries than the table has. Names are those in section `.dynstr`, and of symbols of a section of type
+ * SHT_SYMTAB in `.strtab`; in an undamaged file that is the string table that the symbols are linked to. Errors, in
+ * the order of the tests: XMAS_ELF_TEXT_UTF_8, XMAS_ELF_SHORT_SECTION_HEADER, XMAS_ELF_UNKNOWN_CLASS,
  * XMAS_ELF_SMALL_ENTRY, XMAS_ELF_INVALID_SH_TYPE, XMAS_ELF_DATA_RANGE, XMAS_ELF_NOT_MULTIPLE, XMAS_ELF_NOTE_32,
  * XMAS_ELF_SHORT_DATA, XMAS_ELF_OTHER_DATA, XMAS_ELF_HASH_DATA, XMAS_ELF_CHAIN_INDEX, XMAS_ELF_SYMBOL_INDEX,
  * XMAS_ELF_CHAIN_SUM, XMAS_ELF_HASH_CYCLE. */
@@ -812,10 +818,10 @@ XMAS_ELF_NODISCARD uint32_t xmas_elf_look_up(const uint8_t *input, size_t input_
     uint64_t section, const uint8_t *name, size_t name_size, xmas_elf_look_up_t *out) XMAS_ELF_NOEXCEPT;
 
 /* Looks many names up in one call, each a range of the bytes `names`: as many as there are ranges, and as `out` has
- * room for. Each answer is that of `xmas_elf_look_up` for the name; XMAS_ELF_DATA_RANGE is for a range that passes
+ * room for. Each result is that of `xmas_elf_look_up` for the name; XMAS_ELF_DATA_RANGE is for a range that passes
  * the end of `names`. The table and its symbols are read once, so this is faster for many names. `names` may be
- * another file, and the ranges those of the names of its symbols. Each record is refused with (in the order of the
- * tests) XMAS_ELF_DATA_RANGE, XMAS_ELF_TEXT_UTF_8, XMAS_ELF_SHORT_SECTION_HEADER, XMAS_ELF_UNKNOWN_CLASS,
+ * another file, and the ranges those of the names of its symbols. Errors of a record, in the order of the tests:
+ * XMAS_ELF_DATA_RANGE, XMAS_ELF_TEXT_UTF_8, XMAS_ELF_SHORT_SECTION_HEADER, XMAS_ELF_UNKNOWN_CLASS,
  * XMAS_ELF_SMALL_ENTRY, XMAS_ELF_INVALID_SH_TYPE, XMAS_ELF_NOT_MULTIPLE, XMAS_ELF_NOTE_32, XMAS_ELF_SHORT_DATA,
  * XMAS_ELF_OTHER_DATA, XMAS_ELF_HASH_DATA, XMAS_ELF_CHAIN_INDEX, XMAS_ELF_SYMBOL_INDEX, XMAS_ELF_CHAIN_SUM,
  * XMAS_ELF_HASH_CYCLE. */
@@ -824,25 +830,25 @@ void xmas_elf_look_ups(const uint8_t *input, size_t input_size, const xmas_elf_h
     xmas_elf_answer_t *out, size_t out_count) XMAS_ELF_NOEXCEPT;
 
 /* Finds the hash table that is a section of type SHT_HASH, and the symbols of the section of type SHT_DYNSYM that it
- * is linked to, once for many calls of `xmas_elf_hash_look_up_of`. Where the string table `.dynstr` is refused, the
- * call is OK, no symbol has a name, and `strings_status` says why. The call is refused with (in the order of the
- * tests) XMAS_ELF_SHORT_SECTION_HEADER, XMAS_ELF_UNKNOWN_CLASS, XMAS_ELF_SMALL_ENTRY, XMAS_ELF_INVALID_SH_TYPE,
+ * is linked to, once for many calls of `xmas_elf_hash_look_up_of`. If the string table `.dynstr` can't be read, the
+ * call is OK, no symbol has a name, and `strings_status` is the reason. Errors, in the order of the tests:
+ * XMAS_ELF_SHORT_SECTION_HEADER, XMAS_ELF_UNKNOWN_CLASS, XMAS_ELF_SMALL_ENTRY, XMAS_ELF_INVALID_SH_TYPE,
  * XMAS_ELF_DATA_RANGE, XMAS_ELF_NOT_MULTIPLE, XMAS_ELF_NOTE_32, XMAS_ELF_SHORT_DATA, XMAS_ELF_OTHER_DATA. */
 XMAS_ELF_NODISCARD uint32_t xmas_elf_hash_open(const uint8_t *input, size_t input_size,
     const xmas_elf_header_t *header, uint64_t section, xmas_elf_gnu_table_t *out) XMAS_ELF_NOEXCEPT;
 
 /* Looks a name up in a table that `xmas_elf_hash_open` found, as `xmas_elf_look_up` does in its section. Any table
  * may be given: each call compares its ranges with the input, and does not read the count of its symbols.
- * `xmas_elf_symbol_of` gives the symbol, by the `symbols` of the table. The call is refused with (in the order of the
- * tests) XMAS_ELF_TEXT_UTF_8, XMAS_ELF_DATA_RANGE, XMAS_ELF_SHORT_DATA, XMAS_ELF_NOT_MULTIPLE, XMAS_ELF_HASH_DATA,
+ * `xmas_elf_symbol_of` gives the symbol, by the `symbols` of the table. Errors, in the order of the tests:
+ * XMAS_ELF_TEXT_UTF_8, XMAS_ELF_DATA_RANGE, XMAS_ELF_SHORT_DATA, XMAS_ELF_NOT_MULTIPLE, XMAS_ELF_HASH_DATA,
  * XMAS_ELF_CHAIN_INDEX, XMAS_ELF_SYMBOL_INDEX, XMAS_ELF_CHAIN_SUM, XMAS_ELF_HASH_CYCLE. */
 XMAS_ELF_NODISCARD uint32_t xmas_elf_hash_look_up_of(const uint8_t *input, size_t input_size,
     const xmas_elf_gnu_table_t *table, const uint8_t *name, size_t name_size, xmas_elf_look_up_t *out)
     XMAS_ELF_NOEXCEPT;
 
-/* Checks a hash table of type SHT_HASH: where it is OK, no look-up is refused for the table, and each finds a symbol
- * where one that is not local has the name. Call it once before many look-ups. A table that was made to be slow takes
- * a few nanoseconds times the product of its buckets and chains. The call is refused with (in the order of the tests)
+/* Checks a hash table of type SHT_HASH. If it is OK, look-ups return no error for the table, and each finds a symbol
+ * if one that is not local has the name. Call it once before many look-ups. A table that was made to be slow takes a
+ * few nanoseconds times the product of its buckets and chains. Errors, in the order of the tests:
  * XMAS_ELF_SHORT_SECTION_HEADER, XMAS_ELF_UNKNOWN_CLASS, XMAS_ELF_SMALL_ENTRY, XMAS_ELF_INVALID_SH_TYPE,
  * XMAS_ELF_DATA_RANGE, XMAS_ELF_NOT_MULTIPLE, XMAS_ELF_NOTE_32, XMAS_ELF_SHORT_DATA, XMAS_ELF_OTHER_DATA,
  * XMAS_ELF_HASH_DATA, XMAS_ELF_CHAIN_INDEX, XMAS_ELF_SYMBOL_INDEX, XMAS_ELF_CHAIN_SUM, XMAS_ELF_HASH_CYCLE,
@@ -851,8 +857,8 @@ XMAS_ELF_NODISCARD uint32_t xmas_elf_check_hash(const uint8_t *input, size_t inp
     const xmas_elf_header_t *header, uint64_t section) XMAS_ELF_NOEXCEPT;
 
 /* Looks a name up in GNU's hash table, a section of type 0x6ffffff6 (SHT_GNU_HASH), which holds the symbols from its
- * first on that are defined and not local; else as `xmas_elf_look_up`. The call is refused with (in the order of the
- * tests) XMAS_ELF_TEXT_UTF_8, XMAS_ELF_SHORT_SECTION_HEADER, XMAS_ELF_UNKNOWN_CLASS, XMAS_ELF_SMALL_ENTRY,
+ * first on that are defined and not local; else as `xmas_elf_look_up`. Errors, in the order of the tests:
+ * XMAS_ELF_TEXT_UTF_8, XMAS_ELF_SHORT_SECTION_HEADER, XMAS_ELF_UNKNOWN_CLASS, XMAS_ELF_SMALL_ENTRY,
  * XMAS_ELF_OTHER_DATA, XMAS_ELF_DATA_RANGE, XMAS_ELF_LINK_SHORT_TABLE, XMAS_ELF_LINK_BLOOM_COUNT,
  * XMAS_ELF_INVALID_SH_TYPE, XMAS_ELF_NOT_MULTIPLE, XMAS_ELF_NOTE_32, XMAS_ELF_SHORT_DATA, XMAS_ELF_LINK_CHAIN_INDEX,
  * XMAS_ELF_LINK_SYMBOL_INDEX, XMAS_ELF_LINK_CHAIN_DATA. */
@@ -860,17 +866,17 @@ XMAS_ELF_NODISCARD uint32_t xmas_elf_gnu_look_up(const uint8_t *input, size_t in
     const xmas_elf_header_t *header, uint64_t section, const uint8_t *name, size_t name_size, xmas_elf_look_up_t *out)
     XMAS_ELF_NOEXCEPT;
 
-/* Looks many names up in GNU's hash table in one call, as `xmas_elf_look_ups` does. Each record is refused with (in
- * the order of the tests) XMAS_ELF_DATA_RANGE, XMAS_ELF_TEXT_UTF_8, XMAS_ELF_SHORT_SECTION_HEADER,
- * XMAS_ELF_UNKNOWN_CLASS, XMAS_ELF_SMALL_ENTRY, XMAS_ELF_OTHER_DATA, XMAS_ELF_LINK_SHORT_TABLE,
- * XMAS_ELF_LINK_BLOOM_COUNT, XMAS_ELF_INVALID_SH_TYPE, XMAS_ELF_NOT_MULTIPLE, XMAS_ELF_NOTE_32, XMAS_ELF_SHORT_DATA,
- * XMAS_ELF_LINK_CHAIN_INDEX, XMAS_ELF_LINK_SYMBOL_INDEX, XMAS_ELF_LINK_CHAIN_DATA. */
+/* Looks many names up in GNU's hash table in one call, as `xmas_elf_look_ups` does. Errors of a record, in the order
+ * of the tests: XMAS_ELF_DATA_RANGE, XMAS_ELF_TEXT_UTF_8, XMAS_ELF_SHORT_SECTION_HEADER, XMAS_ELF_UNKNOWN_CLASS,
+ * XMAS_ELF_SMALL_ENTRY, XMAS_ELF_OTHER_DATA, XMAS_ELF_LINK_SHORT_TABLE, XMAS_ELF_LINK_BLOOM_COUNT,
+ * XMAS_ELF_INVALID_SH_TYPE, XMAS_ELF_NOT_MULTIPLE, XMAS_ELF_NOTE_32, XMAS_ELF_SHORT_DATA, XMAS_ELF_LINK_CHAIN_INDEX,
+ * XMAS_ELF_LINK_SYMBOL_INDEX, XMAS_ELF_LINK_CHAIN_DATA. */
 void xmas_elf_gnu_look_ups(const uint8_t *input, size_t input_size, const xmas_elf_header_t *header, uint64_t section,
     const uint8_t *names, size_t names_size, const xmas_elf_range_t *ranges, size_t ranges_count,
     xmas_elf_answer_t *out, size_t out_count) XMAS_ELF_NOEXCEPT;
 
 /* Finds GNU's hash table of a section of type 0x6ffffff6 (SHT_GNU_HASH), once for many calls of
- * `xmas_elf_gnu_look_up_of`; else as `xmas_elf_hash_open`. The call is refused with (in the order of the tests)
+ * `xmas_elf_gnu_look_up_of`; else as `xmas_elf_hash_open`. Errors, in the order of the tests:
  * XMAS_ELF_SHORT_SECTION_HEADER, XMAS_ELF_UNKNOWN_CLASS, XMAS_ELF_SMALL_ENTRY, XMAS_ELF_OTHER_DATA,
  * XMAS_ELF_DATA_RANGE, XMAS_ELF_LINK_SHORT_TABLE, XMAS_ELF_LINK_BLOOM_COUNT, XMAS_ELF_INVALID_SH_TYPE,
  * XMAS_ELF_NOT_MULTIPLE, XMAS_ELF_NOTE_32, XMAS_ELF_SHORT_DATA. */
@@ -878,26 +884,44 @@ XMAS_ELF_NODISCARD uint32_t xmas_elf_gnu_open(const uint8_t *input, size_t input
     const xmas_elf_header_t *header, uint64_t section, xmas_elf_gnu_table_t *out) XMAS_ELF_NOEXCEPT;
 
 /* Looks a name up in a table that `xmas_elf_gnu_open` found, as `xmas_elf_gnu_look_up` does in its section; else as
- * `xmas_elf_hash_look_up_of`. The call is refused with (in the order of the tests) XMAS_ELF_TEXT_UTF_8,
- * XMAS_ELF_DATA_RANGE, XMAS_ELF_LINK_SHORT_TABLE, XMAS_ELF_LINK_BLOOM_COUNT, XMAS_ELF_NOT_MULTIPLE,
- * XMAS_ELF_LINK_CHAIN_INDEX, XMAS_ELF_LINK_SYMBOL_INDEX, XMAS_ELF_LINK_CHAIN_DATA. */
+ * `xmas_elf_hash_look_up_of`. Errors, in the order of the tests: XMAS_ELF_TEXT_UTF_8, XMAS_ELF_DATA_RANGE,
+ * XMAS_ELF_LINK_SHORT_TABLE, XMAS_ELF_LINK_BLOOM_COUNT, XMAS_ELF_NOT_MULTIPLE, XMAS_ELF_LINK_CHAIN_INDEX,
+ * XMAS_ELF_LINK_SYMBOL_INDEX, XMAS_ELF_LINK_CHAIN_DATA. */
 XMAS_ELF_NODISCARD uint32_t xmas_elf_gnu_look_up_of(const uint8_t *input, size_t input_size,
     const xmas_elf_gnu_table_t *table, const uint8_t *name, size_t name_size, xmas_elf_look_up_t *out)
     XMAS_ELF_NOEXCEPT;
 
-/* Checks GNU's hash table, in one pass over the table and one over the symbols and their names: where it is OK, no
- * look-up is refused for the table, and each finds a symbol where one from the table's first on that is defined and
- * not local has the name. The call is refused with (in the order of the tests) XMAS_ELF_SHORT_SECTION_HEADER,
- * XMAS_ELF_UNKNOWN_CLASS, XMAS_ELF_SMALL_ENTRY, XMAS_ELF_OTHER_DATA, XMAS_ELF_DATA_RANGE, XMAS_ELF_LINK_SHORT_TABLE,
+/* Checks GNU's hash table, in one pass over the table and one over the symbols and their names. If it is OK, look-ups
+ * return no error for the table, and each finds a symbol if one from the table's first on that is defined and not
+ * local has the name. Errors, in the order of the tests: XMAS_ELF_SHORT_SECTION_HEADER, XMAS_ELF_UNKNOWN_CLASS,
+ * XMAS_ELF_SMALL_ENTRY, XMAS_ELF_OTHER_DATA, XMAS_ELF_DATA_RANGE, XMAS_ELF_LINK_SHORT_TABLE,
  * XMAS_ELF_LINK_BLOOM_COUNT, XMAS_ELF_INVALID_SH_TYPE, XMAS_ELF_NOT_MULTIPLE, XMAS_ELF_NOTE_32, XMAS_ELF_SHORT_DATA,
  * XMAS_ELF_LINK_CHAIN_INDEX, XMAS_ELF_LINK_SYMBOL_INDEX, XMAS_ELF_LINK_CHAIN_DATA, XMAS_ELF_LINK_MISSING. */
 XMAS_ELF_NODISCARD uint32_t xmas_elf_check_gnu_hash(const uint8_t *input, size_t input_size,
     const xmas_elf_header_t *header, uint64_t section) XMAS_ELF_NOEXCEPT;
 
-/* Writes the text of a status to the front of `out`, as much as fits, and answers the size of the whole text in
- * bytes. The text is ASCII without a zero byte at its end. A status that is no refusal, such as 0, has an empty text. */
+/* Writes the text of a status to the front of `out`, as much as fits, and returns the size of the whole text in
+ * bytes. The text is ASCII without a zero byte at its end. A status that is no error, such as 0, has an empty text. */
 size_t xmas_elf_message(uint32_t status, uint8_t *out, size_t out_size) XMAS_ELF_NOEXCEPT;
 /* End of the structs and functions. */
+
+/* The text of a status, ended by a zero byte. */
+typedef struct xmas_elf_status_text_t {
+    char text[XMAS_ELF_LONGEST_MESSAGE + 1];
+} xmas_elf_status_text_t;
+
+/* Returns the text of a status: puts(xmas_elf_status_text(status).text). That of XMAS_ELF_OK is empty. */
+static inline xmas_elf_status_text_t xmas_elf_status_text(uint32_t status) XMAS_ELF_NOEXCEPT
+{
+    xmas_elf_status_text_t text;
+#ifdef __cplusplus
+    size_t size = xmas_elf_message(status, reinterpret_cast<uint8_t *>(text.text), XMAS_ELF_LONGEST_MESSAGE);
+#else
+    size_t size = xmas_elf_message(status, (uint8_t *)text.text, XMAS_ELF_LONGEST_MESSAGE);
+#endif
+    for (; size <= XMAS_ELF_LONGEST_MESSAGE; size++) text.text[size] = 0;
+    return text;
+}
 
 #ifdef __cplusplus
 }

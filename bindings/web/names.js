@@ -134,7 +134,10 @@ export const PT_INTERP = 3;
 export const PT_NOTE = 4;
 export const PT_PHDR = 6;
 export const PT_TLS = 7;
+export const PT_STACK = 0x6474e551;
 export const PT_RELRO = 0x6474e552;
+/** The kind of shared objects, and of programs at any address. */
+export const ET_DYN = 3;
 /** The types of segments that hold only sections that are loaded. */
 export const LOADED_SEGMENTS = [PT_LOAD, PT_DYNAMIC, 0x6474e550, 0x6474e551, PT_RELRO, 0x6474e554];
 

@@ -107,10 +107,12 @@ async function findFacts(client, file) {
   const segment = file.segments.find(({ header }) => header.type === names.PT_INTERP);
   const part = segment && { offset: segment.header.offset, size: segment.header.file_size };
   file.interpreter = part ? await client.ask("text", { part, index: 0 }) : null;
-  Object.assign(file, { named: [], namedRefused: null });
+  Object.assign(file, { named: [], namedRefused: null, dynamicValues: null });
   for (const { section, strings, count } of file.dynamicTables) {
     const rows = await client.ask("dynamic", { section: section.index, strings, texts: names.TEXT_TAGS, first: 0, size: Math.min(count, 2048) });
     file.named.push(...rows.filter(({ tag }) => names.TEXT_TAGS.includes(tag)));
+    const end = rows.findIndex(({ tag }) => tag === 0n);
+    file.dynamicValues ??= new Map(rows.slice(0, end < 0 ? rows.length : end).map(({ tag, value }) => [tag, value]));
   }
   if (file.dynamicTables.length || !hasDynamic(file)) return;
   const tags = names.TEXT_TAGS.filter((it) => it !== names.NEEDED);

@@ -2,6 +2,7 @@
 import * as names from "./names.js";
 import { element, refusalNode, verdictNode } from "./dom.js";
 import { fieldsOf } from "./fields.js";
+import { hardeningOf } from "./hardening.js";
 import { checkNode } from "./linking.js";
 import { STATUS } from "./records.js";
 import { hasData } from "./tables.js";
@@ -47,6 +48,11 @@ function needs(file) {
   const list = element("ul", { class: "libraries" }, needed.map((it) => element("li", {}, textOrRefusal(it))));
   const none = file.namedRefused ? refusalNode(file.namedRefused) : element("p", { class: "hint" }, "None.");
   return card("Libraries needed", needed.length ? list : none, others.length ? facts(others) : null);
+}
+
+function hardening(file) {
+  const rows = hardeningOf(file);
+  return rows.length ? card("How it is hardened", facts(rows)) : null;
 }
 
 // What the checks of all sections or segments say.
@@ -127,6 +133,6 @@ function headerTable(file, show) {
 }
 
 export function overviewPanel(file, show) {
-  const cards = [identity(file), needs(file), checks(file), refused(file), layoutFacts(file), headerTable(file, show)];
+  const cards = [identity(file), needs(file), hardening(file), checks(file), refused(file), layoutFacts(file), headerTable(file, show)].filter(Boolean);
   return { node: element("div", { class: "panel" }, element("h2", { class: "hidden" }, "Overview"), element("div", { class: "scroll" }, element("div", { class: "overview" }, cards))) };
 }

@@ -7,12 +7,13 @@ PYTHON = pathlib.Path(__file__).resolve().parent.parent
 ROOT = PYTHON.parent.parent
 if "XMAS_ELF_INSTALLED" not in os.environ:
     sys.path.insert(0, str(PYTHON))
-sys.path.append(str(ROOT / "tools"))
+sys.path[1:1] = [str(ROOT / "tools" / folder) for folder in ("compare", "exports")]
 
 import damage  # noqa: E402
 
 FOLDERS = ("/usr/bin", "/usr/lib/x86_64-linux-gnu", "/usr/lib/python3")
 LARGEST = 200_000
+LIBRARIES = ("libc.so.6", "libm.so.6", "libz.so.1", "libgcc_s.so.1", "libstdc++.so.6")
 
 
 def pytest_addoption(parser):
@@ -48,6 +49,8 @@ def worked_files():
 def pytest_generate_tests(metafunc):
     if "path" in metafunc.fixturenames:
         metafunc.parametrize("path", system_files(metafunc.config.getoption("--files")), ids=str)
+    if "library" in metafunc.fixturenames:
+        metafunc.parametrize("library", LIBRARIES)
     if "worked" in metafunc.fixturenames:
         named = list(worked_files())
         metafunc.parametrize("worked", [data for _, data in named], ids=[name for name, _ in named])

@@ -1,4 +1,6 @@
 """Damaged files: each call returns, or raises ElfError, and nothing else."""
+import gc
+
 import damage
 import pytest
 
@@ -73,3 +75,24 @@ def test_file_cut_in_its_sections():
         next(sections)
     with pytest.raises(ElfError, match="section header offset"):
         next(sections)
+
+
+def read_notes(file):
+    for part in (*file.sections(), *file.segments()):
+        for segment in file.segments():
+            list(segment.notes())
+        list(part.notes())
+
+
+def test_kept_errors_are_collected():
+    """Errors whose tracebacks keep iterators and views alive, in cycles that only the garbage collector frees."""
+    kept = []
+    for index in range(300):
+        try:
+            read_notes(ElfFile(damage.damaged(1, index)))
+        except ElfError as error:
+            error.cycle = [error]
+            kept.append(error)
+    assert len(kept) > 100
+    kept.clear()
+    gc.collect()

@@ -99,28 +99,33 @@ def test_texts_of_statuses_are_those_of_the_archive():
 
 def test_parts_that_are_not_there():
     file = ElfFile(DATA)
-    for call in (lambda: file.section(".none"), lambda: file.section(99), lambda: file.section(-1), lambda: file.segment(7)):
+    for call in (lambda: file.section(".none"), lambda: file.section(99), lambda: file.segment(7), lambda: file.section(2**64 - 1)):
         with pytest.raises(ElfError):
             call()
     with pytest.raises(ElfError) as caught:
         list(file.section(".text").symbols())
     assert caught.value.status is Status.OTHER_DATA
-    assert file.symbol("none") is None
+    with pytest.raises(ElfError) as caught:
+        file.symbol("none")
+    # Its dynamic segment names no hash table, so the name may be there.
+    assert caught.value.status is Status.LINK_BLOOM_COUNT
+    assert file.symbol("alpha") == file.section(".symtab").symbol(1)
     assert file.symbol("\udcff") is None
 
 
 def test_checks():
     file = ElfFile(DATA)
     file.check_header()
-    assert all(it.check() is None for it in file.sections() if it.name != ".relr.dyn")
+    assert all(it.check() is None for it in file.sections())
     assert all(it.check() is None for it in file.segments())
     # The address of segment 1 is odd, and segment 2 goes on past the input.
     changed, layout = bytearray(DATA), damage.Layout(True, "little")
     starts = [layout.header_size + at * layout.segment_size for at in (1, 2)]
     layout.put(changed, starts[0], layout.segment["vaddr"], 1)
     layout.put(changed, starts[1], layout.segment["filesz"], len(DATA))
+    layout.put(changed, file.header.sh_offset + layout.section_size, layout.section["type"], 12)
     damaged = ElfFile(changed)
-    wanted = {Status.INVALID_SH_TYPE: file.section(".relr.dyn"), Status.BAD_ALIGN: damaged.segment(1), Status.ENTRY_POINT_RANGE: damaged.segment(2)}
+    wanted = {Status.INVALID_SH_TYPE: damaged.section(1), Status.BAD_ALIGN: damaged.segment(1), Status.ENTRY_POINT_RANGE: damaged.segment(2)}
     for status, part in wanted.items():
         with pytest.raises(ElfError) as caught:
             part.check()
@@ -141,10 +146,10 @@ def test_worked_file():
 
 def test_layout_is_the_compilers(tmp_path):
     """The sizes and offsets that a C compiler gives the structs of the header."""
-    exports_list = pytest.importorskip("exports_list")
+    listing = pytest.importorskip("listing")
     from conftest import ROOT
 
-    asked = [(struct, field) for struct in exports_list.read().structs for field in struct.fields]
+    asked = [(struct, field) for struct in listing.read().structs for field in struct.fields]
     lines = [f'printf("%zu %zu\\n", sizeof({s.c_type}), offsetof({s.c_type}, {f.c_name}));' for s, f in asked]
     (tmp_path / "layout.c").write_text('#include "xmas_elf.h"\n#include <stdio.h>\nint main(void) {' + "\n".join(lines) + "}\n")
     subprocess.run(["gcc", f"-I{ROOT}/bindings/include", tmp_path / "layout.c", "-o", tmp_path / "layout"], check=True)
@@ -173,6 +178,7 @@ def test_threads():
 def test_all_is_documented():
     for name in xmas_elf.__all__:
         assert getattr(xmas_elf, name).__doc__
-    for name, member in vars(ElfFile).items():
-        if not name.startswith("_"):
-            assert name == "header" or member.__doc__, name
+    for kind in (ElfFile, xmas_elf.Section, xmas_elf.Segment, xmas_elf.Symbol, xmas_elf.Note, xmas_elf.Version, xmas_elf.Overview):
+        for name in dir(kind):
+            if not name.startswith("_"):
+                assert getattr(kind, name).__doc__, name

@@ -1,16 +1,22 @@
 """Reads ELF files by the proved library `elf_c`.
 
-    with open("/bin/ls", "rb") as stream:
-        file = ElfFile(stream)
-    for symbol in file.symbols():
-        print(hex(symbol.value), symbol.name)
+    with ElfFile.load_from_path("/bin/ls") as file:
+        print(file.overview())
+        for symbol in file.symbols():
+            print(hex(symbol.value), symbol.name)
 
-Data is a `memoryview` of the input. A part that can't be read raises `ElfError`, with the status that says why.
+Data is a `memoryview` of the input. A part that can't be read raises `ElfError`, with the status that says why. Numbers
+have the names of the standard: `constants.SHT(11)` is `SHT_DYNSYM`. `survey` makes a table of many files.
 """
 from ._archive import ElfError
-from ._declarations import HeaderRecord as Header
 from ._declarations import Status
 from ._file import ElfFile
-from ._parts import Dynamic, Note, Relocation, Section, Segment, Symbol
+from ._overview import Overview
+from ._parts import Dynamic, Header, Note, Relocation, Section, Segment, Symbol
+from ._survey import elf_files, survey, survey_row
+from ._versions import Version, VersionKind
 
-__all__ = ["Dynamic", "ElfError", "ElfFile", "Header", "Note", "Relocation", "Section", "Segment", "Status", "Symbol"]
+__all__ = [
+    "Dynamic", "ElfError", "ElfFile", "Header", "Note", "Overview", "Relocation", "Section", "Segment", "Status", "Symbol",
+    "Version", "VersionKind", "elf_files", "survey", "survey_row",
+]

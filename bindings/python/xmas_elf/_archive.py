@@ -17,7 +17,7 @@ def _loaded() -> ctypes.CDLL:
             export = getattr(library, name)
             export.restype, export.argtypes = result, parameters
     except (OSError, AttributeError) as error:
-        wanted = "install the wheel for this system, or build it by tools/python.sh of the repository"
+        wanted = "install the wheel for this system, or build it by tools/exports/python.sh of the repository"
         raise ImportError(f"{_PATH} can't be loaded ({error}): {wanted}", path=str(_PATH)) from error
     return library
 
@@ -26,10 +26,10 @@ library = _loaded()
 
 
 class ElfError(Exception):
-    """A file, or a part of it, is refused. Its text is that of the status."""
+    """A file, or a part of it, can't be read. The text is that of the status."""
 
     status: Union[Status, int]
-    """Why it is refused; a number alone where the package doesn't know the status."""
+    """The reason; a number alone if the package doesn't know the status."""
 
     def __init__(self, status: int) -> None:
         super().__init__(status)
@@ -48,6 +48,6 @@ class ElfError(Exception):
 
 
 def check(status: int) -> None:
-    """Raises where a call is refused."""
+    """Raises if a call returns an error."""
     if status:
         raise ElfError(status)

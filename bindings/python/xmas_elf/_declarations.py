@@ -1,4 +1,4 @@
-"""The records, exports and statuses of the archive. Written by tools/python_declarations.py."""
+"""The records, exports and statuses of the archive. Written by tools/exports/python_declarations.py."""
 from __future__ import annotations
 
 from ctypes import c_size_t, c_uint32, c_uint64, c_void_p
@@ -6,8 +6,16 @@ from enum import IntEnum
 from struct import Struct
 from typing import TYPE_CHECKING, Any, Dict, NamedTuple, Optional, Tuple
 
+from .constants import DT, ELFOSABI, EM, ET, PF, PT, SHF, SHT
+
 if TYPE_CHECKING:
     from ._file import ElfFile
+
+
+def _document(record: Any, **fields: str) -> None:
+    """Gives the fields the texts that `help` shows."""
+    for name, text in fields.items():
+        getattr(record, name).__doc__ = text
 
 
 
@@ -15,42 +23,48 @@ class HeaderRecord(NamedTuple):
     """The ELF header of a file (gABI, "ELF Header")."""
 
     entry_point: int
-    """The address at which a program begins to run, or 0 (e_entry)."""
     ph_offset: int
-    """The offset of the program header table in the file, in bytes, or 0 (e_phoff)."""
     sh_offset: int
-    """The offset of the section header table in the file, in bytes, or 0 (e_shoff)."""
     version: int
-    """The version of the file (e_version)."""
     flags: int
-    """Flags of the processor (e_flags)."""
-    type: int
-    """The kind of file (e_type)."""
-    machine: int
-    """The processor that the file is for (e_machine)."""
+    type: ET
+    machine: EM
     header_size: int
-    """The size of the ELF header in bytes, as the file says (e_ehsize)."""
     ph_entry_size: int
-    """The size of an entry of the program header table in bytes (e_phentsize)."""
     ph_count: int
-    """The number of program headers, or 0xffff where it needs more than 16 bits (e_phnum)."""
     sh_entry_size: int
-    """The size of an entry of the section header table in bytes (e_shentsize)."""
     sh_count: int
-    """The number of section headers, or 0 where it needs more than 16 bits (e_shnum)."""
     sh_str_index: int
-    """The index of the section with the names of sections, or 0xffff where it needs more than 16 bits
-    (e_shstrndx)."""
     file_class: int
-    """1: class 32, 2: class 64 (EI_CLASS)."""
     encoding: int
-    """2: big-endian; any other number is read as little-endian (EI_DATA)."""
     header_version: int
-    """The version of the header (EI_VERSION)."""
-    os_abi: int
-    """The operating system whose extensions the file uses (EI_OSABI)."""
+    os_abi: ELFOSABI
     abi_version: int
-    """The version of these extensions (EI_ABIVERSION)."""
+
+
+_document(
+    HeaderRecord,
+    entry_point="The address at which a program begins to run, or 0 (e_entry).",
+    ph_offset="The offset of the program header table in the file, in bytes, or 0 (e_phoff).",
+    sh_offset="The offset of the section header table in the file, in bytes, or 0 (e_shoff).",
+    version="The version of the file (e_version).",
+    flags="Flags of the processor (e_flags).",
+    type="The kind of file (e_type).",
+    machine="The processor that the file is for (e_machine).",
+    header_size="The size of the ELF header in bytes, as the file says (e_ehsize).",
+    ph_entry_size="The size of an entry of the program header table in bytes (e_phentsize).",
+    ph_count="The number of program headers, or 0xffff where it needs more than 16 bits (e_phnum).",
+    sh_entry_size="The size of an entry of the section header table in bytes (e_shentsize).",
+    sh_count="The number of section headers, or 0 where it needs more than 16 bits (e_shnum).",
+    sh_str_index=
+        "The index of the section with the names of sections, or 0xffff where it needs more than 16 bits "
+        "(e_shstrndx).",
+    file_class="1: class 32, 2: class 64 (EI_CLASS).",
+    encoding="2: big-endian; any other number is read as little-endian (EI_DATA).",
+    header_version="The version of the header (EI_VERSION).",
+    os_abi="The operating system whose extensions the file uses (EI_OSABI).",
+    abi_version="The version of these extensions (EI_ABIVERSION).",
+)
 
 
 HEADER = Struct("@QQQIIHHHHHHHHBBBBB7x0Q")
@@ -60,21 +74,31 @@ class CountsRecord(NamedTuple):
     """The numbers of sections and segments, also those that need more than 16 bits."""
 
     sections: int
-    """The number of sections."""
     segments: int
-    """The number of segments."""
+
+
+_document(
+    CountsRecord,
+    sections="The number of sections.",
+    segments="The number of segments.",
+)
 
 
 COUNTS = Struct("@QI0Q")
 
 
 class RangeRecord(NamedTuple):
-    """A byte range of the input: `input[offset .. offset + size]`. A range that a call answers lies in the input."""
+    """A byte range of the input: `input[offset .. offset + size]`. A range that a call returns lies in the input."""
 
     offset: int
-    """The offset of the first byte, in bytes from the start of the input."""
     size: int
-    """The number of bytes."""
+
+
+_document(
+    RangeRecord,
+    offset="The offset of the first byte, in bytes from the start of the input.",
+    size="The number of bytes.",
+)
 
 
 RANGE = Struct("@QQ0Q")
@@ -84,13 +108,20 @@ class NameRecord(NamedTuple):
     """The range of one name of many."""
 
     range_offset: int
-    """The bytes of the name without the zero byte that ends it; offset and size are 0 where the name is refused. The
-    offset of the first byte, in bytes from the start of the input."""
     range_size: int
-    """The bytes of the name without the zero byte that ends it; offset and size are 0 where the name is refused. The
-    number of bytes."""
     status: int
-    """The status of this name."""
+
+
+_document(
+    NameRecord,
+    range_offset=
+        "The bytes of the name without the zero byte that ends it; offset and size are 0 if the name can't be"
+        " read. The offset of the first byte, in bytes from the start of the input.",
+    range_size=
+        "The bytes of the name without the zero byte that ends it; offset and size are 0 if the name can't be"
+        " read. The number of bytes.",
+    status="The status of this name.",
+)
 
 
 NAME = Struct("@QQI0Q")
@@ -100,33 +131,38 @@ class SectionRecord(NamedTuple):
     """A section header (gABI, "Sections")."""
 
     file: ElfFile
-    """The file."""
     index: int  # type: ignore[assignment]
-    """The index of the section."""
     name: Optional[str]
-    """The name, or None where it is refused."""
     name_status: int
-    """The status of the name."""
-    flags: int
-    """The flags of the section (sh_flags)."""
+    flags: SHF
     address: int
-    """The address of the section in memory, or 0 (sh_addr)."""
     offset: int
-    """The offset of the section's data in the file, in bytes (sh_offset)."""
     size: int
-    """The size of the section in bytes (sh_size)."""
     align: int
-    """The alignment of the section's address, in bytes (sh_addralign)."""
     entry_size: int
-    """The size of an entry of the section in bytes, or 0 (sh_entsize)."""
     name_index: int
-    """The index of the section's name in the name table, in bytes (sh_name)."""
-    type: int
-    """The type of the section (sh_type)."""
+    type: SHT
     link: int
-    """The index of a linked section; its meaning depends on the type (sh_link)."""
     info: int
-    """More about the section; its meaning depends on the type (sh_info)."""
+
+
+_document(
+    SectionRecord,
+    file="The file.",
+    index="The index of the section.",
+    name="The name, or None if it can't be read.",
+    name_status="The status of the name.",
+    flags="The flags of the section (sh_flags).",
+    address="The address of the section in memory, or 0 (sh_addr).",
+    offset="The offset of the section's data in the file, in bytes (sh_offset).",
+    size="The size of the section in bytes (sh_size).",
+    align="The alignment of the section's address, in bytes (sh_addralign).",
+    entry_size="The size of an entry of the section in bytes, or 0 (sh_entsize).",
+    name_index="The index of the section's name in the name table, in bytes (sh_name).",
+    type="The type of the section (sh_type).",
+    link="The index of a linked section; its meaning depends on the type (sh_link).",
+    info="More about the section; its meaning depends on the type (sh_info).",
+)
 
 
 SECTION = Struct("@QQQQQQIIII0Q")
@@ -136,25 +172,30 @@ class SegmentRecord(NamedTuple):
     """A program header (gABI, "Program Header")."""
 
     file: ElfFile
-    """The file."""
     index: int  # type: ignore[assignment]
-    """The index of the segment."""
     offset: int
-    """The offset of the segment's data in the file, in bytes (p_offset)."""
     virtual_addr: int
-    """The address of the segment in memory (p_vaddr)."""
     physical_addr: int
-    """The physical address of the segment, where that matters (p_paddr)."""
     file_size: int
-    """The size of the segment in the file, in bytes (p_filesz)."""
     mem_size: int
-    """The size of the segment in memory, in bytes (p_memsz)."""
     align: int
-    """The alignment of the segment in memory and in the file, in bytes; 0 and 1 mean none (p_align)."""
-    type: int
-    """The type of the segment (p_type)."""
-    flags: int
-    """The permissions of the segment's memory (p_flags)."""
+    type: PT
+    flags: PF
+
+
+_document(
+    SegmentRecord,
+    file="The file.",
+    index="The index of the segment.",
+    offset="The offset of the segment's data in the file, in bytes (p_offset).",
+    virtual_addr="The address of the segment in memory (p_vaddr).",
+    physical_addr="The physical address of the segment, where that matters (p_paddr).",
+    file_size="The size of the segment in the file, in bytes (p_filesz).",
+    mem_size="The size of the segment in memory, in bytes (p_memsz).",
+    align="The alignment of the segment in memory and in the file, in bytes; 0 and 1 mean none (p_align).",
+    type="The type of the segment (p_type).",
+    flags="The permissions of the segment's memory (p_flags).",
+)
 
 
 SEGMENT = Struct("@QQQQQQII0Q")
@@ -164,21 +205,26 @@ class SymbolRecord(NamedTuple):
     """A symbol (gABI, "Symbol Table")."""
 
     name: Optional[str]
-    """The name, or None where it is refused."""
     name_status: int
-    """The status of the name."""
     value: int
-    """The address of the symbol, or an offset in its section (st_value)."""
     size: int
-    """The size of the function or object in bytes, or 0 (st_size)."""
     name_index: int
-    """The index of the symbol's name in its string table, in bytes; 0 where it has none (st_name)."""
     shndx: int
-    """The index of the section that the symbol belongs to, or a reserved index (st_shndx)."""
     info: int
-    """The binding times 16, plus the type (st_info)."""
     other: int
-    """The visibility: the remainder of this number by 4 (st_other)."""
+
+
+_document(
+    SymbolRecord,
+    name="The name, or None if it can't be read.",
+    name_status="The status of the name.",
+    value="The address of the symbol, or an offset in its section (st_value).",
+    size="The size of the function or object in bytes, or 0 (st_size).",
+    name_index="The index of the symbol's name in its string table, in bytes; 0 where it has none (st_name).",
+    shndx="The index of the section that the symbol belongs to, or a reserved index (st_shndx).",
+    info="The binding times 16, plus the type (st_info).",
+    other="The visibility: the remainder of this number by 4 (st_other).",
+)
 
 
 SYMBOL = Struct("@QQIHBB0Q")
@@ -189,23 +235,30 @@ class SymbolTableRecord(NamedTuple):
     other calls take back."""
 
     symbols_offset: int
-    """The bytes of the symbols. The offset of the first byte, in bytes from the start of the input."""
     symbols_size: int
-    """The bytes of the symbols. The number of bytes."""
     strings_offset: int
-    """The bytes of the string table of their names; offset and size are 0 where it is refused. The offset of the
-    first byte, in bytes from the start of the input."""
     strings_size: int
-    """The bytes of the string table of their names; offset and size are 0 where it is refused. The number of
-    bytes."""
     count: int  # type: ignore[assignment]
-    """The number of symbols."""
     strings_status: int
-    """The status of the string table."""
     file_class: int
-    """1: symbols of class 32, any other number: of class 64 (EI_CLASS)."""
     encoding: int
-    """2: big-endian; any other number is read as little-endian (EI_DATA)."""
+
+
+_document(
+    SymbolTableRecord,
+    symbols_offset="The bytes of the symbols. The offset of the first byte, in bytes from the start of the input.",
+    symbols_size="The bytes of the symbols. The number of bytes.",
+    strings_offset=
+        "The bytes of the string table of their names; offset and size are 0 if it can't be read. The offset "
+        "of the first byte, in bytes from the start of the input.",
+    strings_size=
+        "The bytes of the string table of their names; offset and size are 0 if it can't be read. The number "
+        "of bytes.",
+    count="The number of symbols.",
+    strings_status="The status of the string table.",
+    file_class="1: symbols of class 32, any other number: of class 64 (EI_CLASS).",
+    encoding="2: big-endian; any other number is read as little-endian (EI_DATA).",
+)
 
 
 SYMBOL_TABLE = Struct("@QQQQQIHH0Q")
@@ -215,15 +268,20 @@ class RelocationRecord(NamedTuple):
     """A relocation (gABI, "Relocation")."""
 
     offset: int
-    """The place that is changed: an offset in its section, or an address (r_offset)."""
     addend: int
-    """The addend; 32 bits of it count in class 32, and it is 0 in a table without addends (r_addend)."""
     symbol: int
-    """The index of the symbol (r_info)."""
     type: int
-    """The type of the relocation, by the processor (r_info)."""
     has_addend: int
-    """1 in a table with addends (SHT_RELA), 0 in one without (SHT_REL)."""
+
+
+_document(
+    RelocationRecord,
+    offset="The place that is changed: an offset in its section, or an address (r_offset).",
+    addend="The addend; 32 bits of it count in class 32, and it is 0 in a table without addends (r_addend).",
+    symbol="The index of the symbol (r_info).",
+    type="The type of the relocation, by the processor (r_info).",
+    has_addend="1 in a table with addends (SHT_RELA), 0 in one without (SHT_REL).",
+)
 
 
 RELOCATION = Struct("@QQIII0Q")
@@ -232,10 +290,15 @@ RELOCATION = Struct("@QQIII0Q")
 class DynamicRecord(NamedTuple):
     """A dynamic entry (gABI, "Dynamic Section")."""
 
-    tag: int
-    """The tag (d_tag)."""
+    tag: DT
     value: int
-    """A value or an address, by the tag (d_un)."""
+
+
+_document(
+    DynamicRecord,
+    tag="The tag (d_tag).",
+    value="A value or an address, by the tag (d_un).",
+)
 
 
 DYNAMIC = Struct("@QQ0Q")
@@ -245,51 +308,68 @@ class NoteRecord(NamedTuple):
     """A note (gABI, "Note Section"), and the notes that follow it."""
 
     name_offset: int
-    """The name, with the zero byte that ends it (namesz bytes). The offset of the first byte, in bytes from the start
-    of the input."""
     name_size: int
-    """The name, with the zero byte that ends it (namesz bytes). The number of bytes."""
     desc_offset: int
-    """The description (descsz bytes). The offset of the first byte, in bytes from the start of the input."""
     desc_size: int
-    """The description (descsz bytes). The number of bytes."""
     rest_offset: int
-    """The bytes after the note and its padding: the next notes. The offset of the first byte, in bytes from the start
-    of the input."""
     rest_size: int
-    """The bytes after the note and its padding: the next notes. The number of bytes."""
     type: int
-    """The type of the note; its meaning depends on the name."""
+
+
+_document(
+    NoteRecord,
+    name_offset=
+        "The name, with the zero byte that ends it (namesz bytes). The offset of the first byte, in bytes "
+        "from the start of the input.",
+    name_size="The name, with the zero byte that ends it (namesz bytes). The number of bytes.",
+    desc_offset="The description (descsz bytes). The offset of the first byte, in bytes from the start of the input.",
+    desc_size="The description (descsz bytes). The number of bytes.",
+    rest_offset=
+        "The bytes after the note and its padding: the next notes. The offset of the first byte, in bytes "
+        "from the start of the input.",
+    rest_size="The bytes after the note and its padding: the next notes. The number of bytes.",
+    type="The type of the note; its meaning depends on the name.",
+)
 
 
 NOTE = Struct("@QQQQQQI0Q")
 
 
 class LookUpRecord(NamedTuple):
-    """The answer of a look-up."""
+    """The result of a look-up."""
 
     found: int
-    """1 where a symbol is found, and else 0."""
     index: int  # type: ignore[assignment]
-    """The index of the symbol, or 0."""
     looked_at: int
-    """The number of chain entries that the look-up read."""
+
+
+_document(
+    LookUpRecord,
+    found="1 where a symbol is found, and else 0.",
+    index="The index of the symbol, or 0.",
+    looked_at="The number of chain entries that the look-up read.",
+)
 
 
 LOOK_UP = Struct("@III0I")
 
 
 class AnswerRecord(NamedTuple):
-    """The answer of one look-up of many."""
+    """The result of one look-up of many."""
 
     status: int
-    """The status of this look-up; where it is not OK, the numbers after it are 0."""
     found: int
-    """1 where a symbol is found, and else 0."""
     index: int  # type: ignore[assignment]
-    """The index of the symbol, or 0."""
     looked_at: int
-    """The number of chain entries that the look-up read."""
+
+
+_document(
+    AnswerRecord,
+    status="The status of this look-up; where it is not OK, the numbers after it are 0.",
+    found="1 where a symbol is found, and else 0.",
+    index="The index of the symbol, or 0.",
+    looked_at="The number of chain entries that the look-up read.",
+)
 
 
 ANSWER = Struct("@IIII0I")
@@ -300,32 +380,45 @@ class GnuTableRecord(NamedTuple):
     `xmas_elf_gnu_look_up_of` takes back; and those of `xmas_elf_hash_open` for `xmas_elf_hash_look_up_of`."""
 
     table_offset: int
-    """The bytes of the hash table. The offset of the first byte, in bytes from the start of the input."""
     table_size: int
-    """The bytes of the hash table. The number of bytes."""
     symbols_symbols_offset: int
-    """Its symbols, with the string table in which look-ups compare their names. The bytes of the symbols. The offset
-    of the first byte, in bytes from the start of the input."""
     symbols_symbols_size: int
-    """Its symbols, with the string table in which look-ups compare their names. The bytes of the symbols. The number
-    of bytes."""
     symbols_strings_offset: int
-    """Its symbols, with the string table in which look-ups compare their names. The bytes of the string table of
-    their names; offset and size are 0 where it is refused. The offset of the first byte, in bytes from the start of
-    the input."""
     symbols_strings_size: int
-    """Its symbols, with the string table in which look-ups compare their names. The bytes of the string table of
-    their names; offset and size are 0 where it is refused. The number of bytes."""
     symbols_count: int
-    """Its symbols, with the string table in which look-ups compare their names. The number of symbols."""
     symbols_strings_status: int
-    """Its symbols, with the string table in which look-ups compare their names. The status of the string table."""
     symbols_file_class: int
-    """Its symbols, with the string table in which look-ups compare their names. 1: symbols of class 32, any other
-    number: of class 64 (EI_CLASS)."""
     symbols_encoding: int
-    """Its symbols, with the string table in which look-ups compare their names. 2: big-endian; any other number is
-    read as little-endian (EI_DATA)."""
+
+
+_document(
+    GnuTableRecord,
+    table_offset="The bytes of the hash table. The offset of the first byte, in bytes from the start of the input.",
+    table_size="The bytes of the hash table. The number of bytes.",
+    symbols_symbols_offset=
+        "Its symbols, with the string table in which look-ups compare their names. The bytes of the symbols. "
+        "The offset of the first byte, in bytes from the start of the input.",
+    symbols_symbols_size=
+        "Its symbols, with the string table in which look-ups compare their names. The bytes of the symbols. "
+        "The number of bytes.",
+    symbols_strings_offset=
+        "Its symbols, with the string table in which look-ups compare their names. The bytes of the string "
+        "table of their names; offset and size are 0 if it can't be read. The offset of the first byte, in "
+        "bytes from the start of the input.",
+    symbols_strings_size=
+        "Its symbols, with the string table in which look-ups compare their names. The bytes of the string "
+        "table of their names; offset and size are 0 if it can't be read. The number of bytes.",
+    symbols_count="Its symbols, with the string table in which look-ups compare their names. The number of symbols.",
+    symbols_strings_status=
+        "Its symbols, with the string table in which look-ups compare their names. The status of the string "
+        "table.",
+    symbols_file_class=
+        "Its symbols, with the string table in which look-ups compare their names. 1: symbols of class 32, "
+        "any other number: of class 64 (EI_CLASS).",
+    symbols_encoding=
+        "Its symbols, with the string table in which look-ups compare their names. 2: big-endian; any other "
+        "number is read as little-endian (EI_DATA).",
+)
 
 
 GNU_TABLE = Struct("@QQQQQQQIHH0Q")
@@ -335,35 +428,46 @@ class VersionRecord(NamedTuple):
     """The version of a symbol, or one that a file defines or needs (LSB, "Symbol Versioning")."""
 
     name_offset: int
-    """The bytes of the version's name without the zero byte that ends it; offset and size are 0 where it has none.
-    The offset of the first byte, in bytes from the start of the input."""
     name_size: int
-    """The bytes of the version's name without the zero byte that ends it; offset and size are 0 where it has none.
-    The number of bytes."""
     file_offset: int
-    """The bytes of the name of the library that the version is needed of; offset and size are 0 where there is none.
-    The offset of the first byte, in bytes from the start of the input."""
     file_size: int
-    """The bytes of the name of the library that the version is needed of; offset and size are 0 where there is none.
-    The number of bytes."""
     status: int
-    """The status of this version; where it is not OK, the other fields are 0."""
     name_status: int
-    """The status of the version's name."""
     file_status: int
-    """The status of the library's name."""
     kind: int
-    """What bears the number: 0 nothing, 1 a definition of the file, 2 a need."""
     number: int
-    """The number of the version, by which symbols refer to it (vd_ndx; bits 0 to 14 of a symbol's number and of
-    vna_other): 0 is local, 1 is global."""
     hidden: int
-    """1 where the symbol or the need is hidden (bit 15 of its number), and else 0."""
     flags: int
-    """The flags of the definition or the need (vd_flags, vna_flags); the lowest marks the definition that names the
-    file itself."""
     hash: int
-    """The hash number of the version's name (vd_hash, vna_hash)."""
+
+
+_document(
+    VersionRecord,
+    name_offset=
+        "The bytes of the version's name without the zero byte that ends it; offset and size are 0 where it "
+        "has none. The offset of the first byte, in bytes from the start of the input.",
+    name_size=
+        "The bytes of the version's name without the zero byte that ends it; offset and size are 0 where it "
+        "has none. The number of bytes.",
+    file_offset=
+        "The bytes of the name of the library that the version is needed of; offset and size are 0 where "
+        "there is none. The offset of the first byte, in bytes from the start of the input.",
+    file_size=
+        "The bytes of the name of the library that the version is needed of; offset and size are 0 where "
+        "there is none. The number of bytes.",
+    status="The status of this version; where it is not OK, the other fields are 0.",
+    name_status="The status of the version's name.",
+    file_status="The status of the library's name.",
+    kind="What has the number: 0 nothing, 1 a definition of the file, 2 a need.",
+    number=
+        "The number of the version, by which symbols refer to it (vd_ndx; bits 0 to 14 of a symbol's number "
+        "and of vna_other): 0 is local, 1 is global.",
+    hidden="1 where the symbol or the need is hidden (bit 15 of its number), and else 0.",
+    flags=
+        "The flags of the definition or the need (vd_flags, vna_flags); the lowest marks the definition that "
+        "names the file itself.",
+    hash="The hash number of the version's name (vd_hash, vna_hash).",
+)
 
 
 VERSION = Struct("@QQQQIIIIIIII0Q")
@@ -373,26 +477,36 @@ class FoundSymbolRecord(NamedTuple):
     """The symbol that a reference gets."""
 
     symbol_value: int
-    """The symbol; its fields are 0 where none is found. The address of the symbol, or an offset in its section
-    (st_value)."""
     symbol_size: int
-    """The symbol; its fields are 0 where none is found. The size of the function or object in bytes, or 0
-    (st_size)."""
     symbol_name_index: int
-    """The symbol; its fields are 0 where none is found. The index of the symbol's name in its string table, in bytes;
-    0 where it has none (st_name)."""
     symbol_shndx: int
-    """The symbol; its fields are 0 where none is found. The index of the section that the symbol belongs to, or a
-    reserved index (st_shndx)."""
     symbol_info: int
-    """The symbol; its fields are 0 where none is found. The binding times 16, plus the type (st_info)."""
     symbol_other: int
-    """The symbol; its fields are 0 where none is found. The visibility: the remainder of this number by 4
-    (st_other)."""
     found: int
-    """1 where a symbol is found, and else 0."""
     index: int  # type: ignore[assignment]
-    """The index of the symbol among those of the dynamic segment, or 0."""
+
+
+_document(
+    FoundSymbolRecord,
+    symbol_value=
+        "The symbol; its fields are 0 where none is found. The address of the symbol, or an offset in its "
+        "section (st_value).",
+    symbol_size=
+        "The symbol; its fields are 0 where none is found. The size of the function or object in bytes, or 0 "
+        "(st_size).",
+    symbol_name_index=
+        "The symbol; its fields are 0 where none is found. The index of the symbol's name in its string "
+        "table, in bytes; 0 where it has none (st_name).",
+    symbol_shndx=
+        "The symbol; its fields are 0 where none is found. The index of the section that the symbol belongs "
+        "to, or a reserved index (st_shndx).",
+    symbol_info="The symbol; its fields are 0 where none is found. The binding times 16, plus the type (st_info).",
+    symbol_other=
+        "The symbol; its fields are 0 where none is found. The visibility: the remainder of this number by 4 "
+        "(st_other).",
+    found="1 where a symbol is found, and else 0.",
+    index="The index of the symbol among those of the dynamic segment, or 0.",
+)
 
 
 FOUND_SYMBOL = Struct("@QQIHBBII0Q")
@@ -458,7 +572,7 @@ EXPORTS: Dict[str, Tuple[Any, Tuple[Any, ...]]] = {
 
 
 class Status(IntEnum):
-    """What a call says: OK, or why it is refused. The numbers never change."""
+    """The status of a call: OK, or an error. The numbers never change."""
 
     OK = 0
     """No refusal."""

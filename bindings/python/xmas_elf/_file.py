@@ -2,7 +2,7 @@
 from __future__ import annotations
 
 import os
-from ctypes import c_uint64, create_string_buffer
+from ctypes import create_string_buffer
 from functools import cached_property
 from itertools import chain
 from struct import Struct
@@ -11,42 +11,58 @@ from typing import Any, BinaryIO, Dict, Iterator, List, Optional, Tuple, Union
 from . import _declarations as declared
 from ._archive import ElfError, check, library
 from ._declarations import Status
-from ._input import address_of, view_of
-from ._parts import HASH_TABLES, TABLES_OF_RELOCATIONS, TABLES_OF_SYMBOLS, look_up_by
-from ._parts import Dynamic, Note, Relocation, Section, Segment, Symbol, symbols_of
+from ._numbers import unsigned, utf_8
+from ._overview import Overview, overview_of
+from ._parts import Dynamic, Header, Note, Relocation, Section, Segment, Symbol
+from ._parts import section_of, segment_of, symbols_of
+from ._reading import Reading
 from ._rows import NUMBER, Row, batches, rows
-from .constants import DT_NULL, DT_RPATH, DT_RUNPATH, DT_SONAME, PT_NOTE, SHT_DYNAMIC, SHT_NOTE
+from ._versions import Version, versions
+from .constants import DT, DT_NULL, DT_RPATH, DT_RUNPATH, DT_SONAME, ELFOSABI, EM, ET, NT_GNU_BUILD_ID, PT_DYNAMIC, PT_NOTE
+from .constants import SHT_DYNAMIC, SHT_DYNSYM, SHT_NOTE, SHT_REL, SHT_RELA, SHT_SYMTAB
 
-# A name that is refused for the type of its section alone is read from the name table.
+# A name that is an error only for the type of its section is read from the name table.
 _BY_TYPE = (Status.NULL_NAME, Status.INVALID_SH_TYPE)
 
 
-class ElfFile:
+class ElfFile(Reading):
     """An ELF file: bytes, a `bytearray`, an `mmap`, a `memoryview`, or a binary file, which is mapped.
 
-    The bytes must not change while they are read. A file that was mapped stays so as long as a part of it is in use,
-    and may be closed."""
+        with ElfFile.load_from_path("/bin/ls") as file:
+            print(file.overview())
 
-    header: declared.HeaderRecord
-    """The ELF header."""
+    The bytes must not change while they are read, and a mapped file must not be cut off: a read past its end ends the
+    process (SIGBUS). For a file that others write to, pass what `read()` gives."""
 
     def __init__(self, source: Union[bytes, bytearray, memoryview, BinaryIO, Any]) -> None:
-        self._view = view_of(source)
-        header = create_string_buffer(declared.HEADER.size)
-        bytes_of_file = address_of(self._view), len(self._view)
-        check(library.xmas_elf_open(*bytes_of_file, header))
-        # What each call begins with.
-        self._input: Tuple[int, int, Any] = (*bytes_of_file, header)
-        self.header = declared.HeaderRecord._make(declared.HEADER.unpack(header))
+        super().__init__(source)
 
     @classmethod
     def load_from_path(cls, path: Union[str, "os.PathLike[str]"]) -> "ElfFile":
         """The file at a path, which is mapped."""
-        with open(path, "rb") as stream:
+        with open(os.fspath(path), "rb") as stream:
             return cls(stream)
 
+    def close(self) -> None:
+        """Gives the file back. Its parts that are in use stay readable; other calls of the file raise ValueError."""
+        self.__dict__.clear()
+
+    def __enter__(self) -> "ElfFile":
+        return self
+
+    def __exit__(self, *raised: object) -> None:
+        self.close()
+
     def __repr__(self) -> str:
-        return f"<ElfFile of {len(self._view)} bytes, class {self.elfclass}>"
+        if "_view" not in self.__dict__:
+            return "<ElfFile, closed>"
+        return f"<ElfFile {self.header.type} {self.header.machine}, {len(self._view)} bytes>"
+
+    @cached_property
+    def header(self) -> Header:
+        """The ELF header."""
+        header = Header._make(declared.HEADER.unpack(self._input[2]))
+        return header._replace(type=ET(header.type), machine=EM(header.machine), os_abi=ELFOSABI(header.os_abi))
 
     @property
     def input(self) -> memoryview:
@@ -67,6 +83,10 @@ class ElfFile:
         """Raises where the header doesn't agree with the input: its size, class, version, byte order and tables."""
         check(library.xmas_elf_check_header(*self._input))
 
+    def overview(self) -> Overview:
+        """What a first look at a file asks for: what it needs, its build id, and how it is hardened."""
+        return overview_of(self)
+
     # Sections.
 
     def num_sections(self) -> int:
@@ -85,13 +105,13 @@ class ElfFile:
             self._asked("xmas_elf_section", declared.SECTION, count)
 
     def section(self, wanted: Union[int, str]) -> Section:
-        """The section at an index, or the first with a name: refused where there is none."""
+        """The section at an index, or the first with a name: an error if there is none."""
         if isinstance(wanted, str):
             for section in self.sections():
                 if section.name == wanted:
                     return section
             raise ElfError(Status.NOT_FOUND)
-        if not 0 <= wanted < self.num_sections():
+        if unsigned(wanted) >= self.num_sections():
             raise ElfError(Status.NO_RECORD)
         fields = self._asked("xmas_elf_section", declared.SECTION, wanted)
         name = create_string_buffer(declared.RANGE.size)
@@ -100,8 +120,8 @@ class ElfFile:
 
     def _section(self, index: int, fields: Row, name: Row, status: int) -> Section:
         if not status:
-            return Section(self, index, self._text_in(name), 0, *fields)
-        section = Section(self, index, None, status, *fields)
+            return section_of(self, index, self._text_in(name), 0, fields)
+        section = section_of(self, index, None, status, fields)
         if status not in _BY_TYPE:
             return section
         try:
@@ -120,40 +140,98 @@ class ElfFile:
         """The segments, from index 0 on."""
         count = 0
         for count, fields in enumerate(rows("xmas_elf_segments", declared.SEGMENT, *self._input), 1):
-            yield Segment(self, count - 1, *fields)
+            yield segment_of(self, count - 1, fields)
         if count < self.num_segments():
             self._asked("xmas_elf_segment", declared.SEGMENT, count)
 
     def segment(self, index: int) -> Segment:
         """The segment at an index."""
-        if not 0 <= index < self.num_segments():
+        if unsigned(index) >= self.num_segments():
             raise ElfError(Status.NO_RECORD)
-        return Segment(self, index, *self._asked("xmas_elf_segment", declared.SEGMENT, index))
+        return segment_of(self, index, self._asked("xmas_elf_segment", declared.SEGMENT, index))
 
-    # What sections hold.
+    # Symbols and relocations.
 
     def symbols(self) -> Iterator[Symbol]:
-        """The symbols of all symbol tables, in the order of the sections."""
-        return chain.from_iterable(it.symbols() for it in self.sections() if it.type in TABLES_OF_SYMBOLS)
+        """The symbols of all symbol tables, in the order of the sections; without such sections, `dynamic_symbols`."""
+        tables = self._sections_of(SHT_SYMTAB, SHT_DYNSYM)
+        return chain.from_iterable(it.symbols() for it in tables) if tables else self.dynamic_symbols()
+
+    def dynamic_symbols(self) -> Iterator[Symbol]:
+        """The symbols of the dynamic segment with their names (DT_SYMTAB), as many as its hash tables count: GNU's alone
+        doesn't count symbols after the last exported one. None if there is no such segment. It needs no sections."""
+        room = self._dynamic_count
+        if room is not None:
+            yield from symbols_of(self._view, "dynamic_symbol", *self._input, room=room)
 
     def relocations(self) -> Iterator[Relocation]:
         """The relocations of all tables, in the order of the sections. The index of a symbol is one of the symbol table
         that is the section `link` of the table: see `Section.relocations`."""
-        return chain.from_iterable(it.relocations() for it in self.sections() if it.type in TABLES_OF_RELOCATIONS)
+        return chain.from_iterable(it.relocations() for it in self._sections_of(SHT_RELA, SHT_REL))
+
+    # Versions.
+
+    def dynamic_symbol_versions(self) -> Iterator[Version]:
+        """The versions of the symbols of the dynamic segment, in the order of `dynamic_symbols`; none if they have none."""
+        room = self._dynamic_count
+        return versions(self, "xmas_elf_dynamic_symbol_versions", room) if room is not None else iter(())
+
+    def versioned_symbols(self) -> Iterator[Tuple[Symbol, Optional[Version]]]:
+        """The symbols of the dynamic segment, each with its version; None for each if they have none."""
+        found = list(self.dynamic_symbol_versions())
+        return ((symbol, found[index] if found else None) for index, symbol in enumerate(self.dynamic_symbols()))
+
+    def version_definitions(self) -> Iterator[Version]:
+        """The versions that the file defines (DT_VERDEF), that of the file itself included. It needs no sections."""
+        return versions(self, "xmas_elf_version_definitions", self._all)
+
+    def version_needs(self) -> Iterator[Version]:
+        """The versions that the file needs of libraries (DT_VERNEED). It needs no sections."""
+        return versions(self, "xmas_elf_version_needs", self._all)
+
+    # Notes.
 
     def notes(self) -> Iterator[Note]:
-        """The notes of all sections of type SHT_NOTE; of a file without sections, of all segments of type PT_NOTE."""
-        if self.num_sections():
-            return chain.from_iterable(it.notes() for it in self.sections() if it.type == SHT_NOTE)
+        """The notes of all sections of type SHT_NOTE; of a file without such sections, of all segments of type PT_NOTE."""
+        sections = self._sections_of(SHT_NOTE)
+        return chain.from_iterable(it.notes() for it in sections) if sections else self._notes_of_segments()
+
+    def _notes_of_segments(self) -> Iterator[Note]:
         return chain.from_iterable(it.notes() for it in self.segments() if it.type == PT_NOTE)
 
+    @property
+    def build_id(self) -> Optional[memoryview]:
+        """The build id: the description of the first note of GNU with type 3 in the sections of type SHT_NOTE, or else in
+        the segments of type PT_NOTE. `build_id.hex()` is what `readelf --notes` prints."""
+        failed = 0
+        for notes in (self.notes, self._notes_of_segments):
+            try:
+                for note in notes():
+                    if note.type == NT_GNU_BUILD_ID and note.name == b"GNU":
+                        return note.desc
+            except ElfError as error:
+                failed = failed or int(error.status)
+        check(failed)
+        return None
+
+    # The dynamic segment.
+
     def dynamic(self) -> Iterator[Dynamic]:
-        """The dynamic entries up to that with tag 0 (DT_NULL), which is the last; none where no section has them."""
-        table = self._dynamic_section
-        for entry in table.dynamic() if table else ():
+        """The dynamic entries up to that with tag 0 (DT_NULL), which is the last: those of the section of type SHT_DYNAMIC,
+        or else of the segment of type PT_DYNAMIC. None if the file has neither."""
+        table = next(iter(self._sections_of(SHT_DYNAMIC)), None)
+        for entry in table.dynamic() if table else self._entries_of_segment():
             yield entry
             if entry.tag == DT_NULL:
                 return
+
+    def _entries_of_segment(self) -> Iterator[Dynamic]:
+        segment = next((it for it in self.segments() if it.type == PT_DYNAMIC), None)
+        data = segment.data() if segment else memoryview(b"")
+        layout = Struct(("<" if self.little_endian else ">") + ("QQ" if self.elfclass == 64 else "II"))
+        if len(data) % layout.size:
+            raise ElfError(Status.NOT_MULTIPLE)
+        return (Dynamic(DT(tag), value) for tag, value in layout.iter_unpack(bytes(data)))
 
     @property
     def needed(self) -> List[str]:
@@ -164,19 +242,6 @@ class ElfFile:
             if error.status == Status.LINK_NO_DYNAMIC:
                 return []
             raise
-
-    def dynamic_symbols(self) -> Iterator[Symbol]:
-        """The symbols of the dynamic segment with their names (DT_SYMTAB), as many as its hash tables count: GNU's alone
-        doesn't count symbols behind the last exported one. None where there is no such segment. It needs no sections."""
-        try:
-            (count,) = self._asked("xmas_elf_dynamic_symbol_count", NUMBER)
-        except ElfError as error:
-            if error.status == Status.LINK_NO_DYNAMIC:
-                return
-            raise
-        # Room for all, since each call counts anew; no symbol takes fewer than 16 bytes of the input.
-        room = max(1, min(count, len(self._view) // 16))
-        yield from symbols_of(self._view, "dynamic_symbol", *self._input, room=room)
 
     @property
     def soname(self) -> Optional[str]:
@@ -190,58 +255,63 @@ class ElfFile:
         folders = self._dynamic_text(DT_RUNPATH)
         return self._dynamic_text(DT_RPATH) if folders is None else folders
 
-    @property
-    def build_id(self) -> Optional[memoryview]:
-        """The build id; `build_id.hex()` is what `readelf --notes` prints."""
-        try:
-            return self._slice("xmas_elf_build_id")
-        except ElfError as error:
-            if error.status == Status.NOT_FOUND:
-                return None
-            raise
-
     # Look-ups.
 
     def bytes_at(self, address: int, count: int) -> memoryview:
         """The bytes of the file for `count` addresses from `address` on: those of the first segment of type PT_LOAD that
         has them all."""
-        return self._slice("xmas_elf_bytes_at", address, count)
+        return self._slice("xmas_elf_bytes_at", unsigned(address), unsigned(count))
 
-    def symbol(self, name: str) -> Optional[Symbol]:
-        """The symbol with a name: the one that the hash table of the dynamic symbols finds, or else the first of all symbol
-        tables, one that is defined before one that isn't."""
-        symbol = self._looked_up(name)
-        return symbol if symbol and symbol.is_defined else self._by_name.get(name)
+    def symbol(self, name: str, version: Optional[str] = None) -> Optional[Symbol]:
+        """The symbol that `dlsym` gets by a name, which is that of the default version, or `dlvsym` by a name and a
+        version. It needs no sections.
 
-    def _looked_up(self, name: str) -> Optional[Symbol]:
-        if self._hash_table is None:
-            return None
-        section, look_up = self._hash_table
-        sought = name.encode("utf-8", "surrogateescape")
+        If there is none, and no version is asked for, it is the first of the symbols that `dlsym` can't get: those of
+        sections of type SHT_SYMTAB, and those that aren't defined here. One that is defined comes first."""
+        status = 0
         try:
-            found, index, _ = self._asked(look_up, declared.LOOK_UP, section.index, sought, len(sought))
-        except ElfError:
-            # The table has passed its check: the name isn't UTF-8, and no symbol has it.
-            return None
-        return self.section(section.link).symbol(index) if found else None
+            symbol = self._found(name, "" if version is None else version)
+        except ElfError as error:
+            symbol, status = None, int(error.status)
+        if symbol is None and version is None:
+            symbol = self._by_name.get(name)
+        if symbol is None and status != Status.LINK_NO_DYNAMIC:
+            check(status)
+        return symbol
 
-    @cached_property
-    def _hash_table(self) -> Optional[Tuple[Section, str]]:
-        """The first hash table that passes its check, GNU's before the gABI's, and the export that looks up by it."""
-        tables = [it for kind in HASH_TABLES for it in self.sections() if it.type == kind]
-        return next(((table, export) for table in tables for export in [look_up_by(table)] if export), None)
+    def _found(self, name: str, version: str) -> Optional[Symbol]:
+        sought, wanted = utf_8(name), utf_8(version)
+        try:
+            fields = self._asked("xmas_elf_find_symbol", declared.FOUND_SYMBOL, sought, len(sought), wanted, len(wanted))
+        except ElfError as error:
+            if error.status == Status.TEXT_UTF_8:
+                return None
+            raise
+        return Symbol(name, 0, *fields[:-2]) if fields[-2] else None
 
     @cached_property
     def _by_name(self) -> Dict[str, Symbol]:
         found: Dict[str, Symbol] = {}
-        for symbol in self.symbols():
+        for symbol in self._not_served():
             if symbol.name and (symbol.name not in found or symbol.is_defined > found[symbol.name].is_defined):
                 found[symbol.name] = symbol
         return found
 
-    @cached_property
-    def _dynamic_section(self) -> Optional[Section]:
-        return next((section for section in self.sections() if section.type == SHT_DYNAMIC), None)
+    def _not_served(self) -> Iterator[Symbol]:
+        """The symbols that a look-up in the dynamic segment doesn't find; all if it can't be read."""
+        try:
+            dynamic = self._dynamic_count is not None
+        except ElfError:
+            dynamic = False
+        for table in self._sections_of(SHT_SYMTAB, SHT_DYNSYM):
+            for symbol in table.symbols():
+                if table.type == SHT_SYMTAB or not dynamic or not symbol.is_defined:
+                    yield symbol
+
+    # The archive's results.
+
+    def _sections_of(self, *types: int) -> List[Section]:
+        return [section for section in self.sections() if section.type in types]
 
     def _dynamic_text(self, tag: int) -> Optional[str]:
         """The text that the first dynamic entry with a tag names."""
@@ -252,49 +322,23 @@ class ElfFile:
                 return None
             raise
 
-    def _named(self, offset: int, size: int, status: int) -> str:
-        """The text of one name of many."""
-        check(status)
-        return self._text_in((offset, size))
+    @property
+    def _dynamic_count(self) -> Optional[int]:
+        """Room for the symbols of the dynamic segment, all at once since each call counts anew; None without a segment."""
+        try:
+            (count,) = self._asked("xmas_elf_dynamic_symbol_count", NUMBER)
+        except ElfError as error:
+            if error.status == Status.LINK_NO_DYNAMIC:
+                return None
+            raise
+        # No symbol takes fewer than 16 bytes of the input.
+        return max(1, min(int(count), len(self._view) // 16))
 
-    # The archive's answers.
+    @property
+    def _all(self) -> int:
+        """Room for the versions of most files at once, since each call reads the records from the first on."""
+        return min(4096, 1 + len(self._view) // 16)
 
     @cached_property
     def _counts(self) -> declared.CountsRecord:
         return declared.CountsRecord._make(self._asked("xmas_elf_counts", declared.COUNTS))
-
-    def _asked(self, export: str, layout: Struct, *arguments: Any) -> Row:
-        """The record that a call fills."""
-        out = create_string_buffer(layout.size)
-        check(getattr(library, export)(*self._input, *arguments, out))
-        return layout.unpack(out)
-
-    def _slice(self, export: str, *arguments: Any) -> memoryview:
-        """The bytes whose range a call answers."""
-        offset, size = self._asked(export, declared.RANGE, *arguments)
-        return self._view[offset : offset + size]
-
-    def _text_in(self, part: Row) -> str:
-        offset, size = part
-        return str(self._view[offset : offset + size], "utf-8")
-
-    def _text(self, part: Row, index: int) -> str:
-        """The text at an index of a string table."""
-        out = create_string_buffer(declared.RANGE.size)
-        check(library.xmas_elf_text(*self._input[:2], declared.RANGE.pack(*part), index, out))
-        return self._text_in(declared.RANGE.unpack(out))
-
-    def _notes(self, rest: Row, align: int) -> Iterator[Note]:
-        """The notes of a range."""
-        while True:
-            try:
-                fields = self._asked("xmas_elf_note", declared.NOTE, declared.RANGE.pack(*rest), c_uint64(align))
-            except ElfError as error:
-                if error.status == Status.NO_RECORD:
-                    return
-                raise
-            note = declared.NoteRecord._make(fields)
-            name = self._view[note.name_offset : note.name_offset + note.name_size]
-            desc = self._view[note.desc_offset : note.desc_offset + note.desc_size]
-            yield Note(name[:-1] if name[-1:] == b"\0" else name, note.type, desc)
-            rest = note.rest_offset, note.rest_size

@@ -31,12 +31,19 @@ _release_buffer = ctypes.pythonapi["PyBuffer_Release"]
 _release_buffer.argtypes, _release_buffer.restype = (ctypes.c_void_p,), None
 
 
-def address_of(view: memoryview) -> int:
-    """The address of the bytes, which holds as long as the view is there. ctypes gives none of memory that is read-only."""
+class Address(int):
+    """The address of bytes, which stay in memory as long as the number does."""
+
+    view: memoryview
+
+
+def address_of(view: memoryview) -> Address:
+    """The address of the bytes. ctypes gives none of memory that is read-only."""
     buffer = _Buffer()
     _get_buffer(view, ctypes.byref(buffer), 0)
-    address = buffer.buf or 0
+    address = Address(buffer.buf or 0)
     _release_buffer(ctypes.byref(buffer))
+    address.view = view
     return address
 
 

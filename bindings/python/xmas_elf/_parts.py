@@ -7,14 +7,25 @@ from typing import Any, Callable, Iterator, List, NamedTuple, Tuple, Type, TypeV
 
 from . import _declarations as declared
 from ._archive import ElfError, check, library
+from ._declarations import Status, _document
+from ._numbers import unsigned
 from ._rows import NUMBER, ROOM, Row, batches, rows
-from .constants import SHN_UNDEF, SHT_DYNSYM, SHT_GNU_HASH, SHT_HASH, SHT_REL, SHT_RELA, SHT_SYMTAB
+from .constants import DT, PF, PF_R, PF_W, PF_X, PT, SHF, SHN, SHN_LORESERVE, SHN_UNDEF, SHT, SHT_RELR, STB, STT, STV
 
 _Record = TypeVar("_Record", bound=Tuple[Any, ...])
 
-TABLES_OF_SYMBOLS = (SHT_SYMTAB, SHT_DYNSYM)
-TABLES_OF_RELOCATIONS = (SHT_RELA, SHT_REL)
-HASH_TABLES = {SHT_GNU_HASH: "gnu_", SHT_HASH: ""}
+# The names of the numbers that symbols have, by the numbers.
+_TYPES, _BINDINGS = tuple(map(STT, range(16))), tuple(map(STB, range(16)))
+_VISIBILITIES = tuple(map(STV, range(4)))
+
+
+class Header(declared.HeaderRecord):
+    """The ELF header of a file."""
+
+    __slots__ = ()
+
+    def __repr__(self) -> str:
+        return f"<Header {self.type} {self.machine}, entry point {self.entry_point:#x}>"
 
 
 class Symbol(declared.SymbolRecord):
@@ -22,20 +33,24 @@ class Symbol(declared.SymbolRecord):
 
     __slots__ = ()
 
-    @property
-    def binding(self) -> int:
-        """The binding, STB_.. (st_info)."""
-        return self.info >> 4
+    def __repr__(self) -> str:
+        section = SHN(self.shndx) if self.shndx >= SHN_LORESERVE or not self.shndx else f"section {self.shndx}"
+        return f"<Symbol {self.name!r} {self.type} {self.binding} {section} at {self.value:#x}, {self.size} bytes>"
 
     @property
-    def type(self) -> int:
-        """The type, STT_.. (st_info)."""
-        return self.info & 15
+    def binding(self) -> STB:
+        """The binding (st_info)."""
+        return _BINDINGS[self.info >> 4]
 
     @property
-    def visibility(self) -> int:
-        """The visibility, STV_.. (st_other)."""
-        return self.other & 3
+    def type(self) -> STT:
+        """The type (st_info)."""
+        return _TYPES[self.info & 15]
+
+    @property
+    def visibility(self) -> STV:
+        """The visibility (st_other)."""
+        return _VISIBILITIES[self.other & 3]
 
     @property
     def is_defined(self) -> bool:
@@ -48,23 +63,36 @@ class Relocation(declared.RelocationRecord):
 
     __slots__ = ()
 
+    def __repr__(self) -> str:
+        return f"<Relocation at {self.offset:#x} of type {self.type}, symbol {self.symbol}, addend {self.addend:#x}>"
+
 
 class Dynamic(declared.DynamicRecord):
     """A dynamic entry."""
 
     __slots__ = ()
 
+    def __repr__(self) -> str:
+        return f"<Dynamic {self.tag} {self.value:#x}>"
+
 
 class Note(NamedTuple):
     """A note."""
 
     name: memoryview
-    """Who defines the type, without the zero byte that ends it: it compares with bytes, as `note.name == b"GNU"`."""
     type: int
-    """The type; its meaning depends on the name."""
     desc: memoryview
-    """The description."""
 
+    def __repr__(self) -> str:
+        return f"<Note {bytes(self.name[:40])!r} {self.type!r}, {len(self.desc)} bytes>"
+
+
+_document(
+    Note,
+    name='Who defines the type, without the zero byte that ends it: it compares with bytes, as `note.name == b"GNU"`.',
+    type="The type, whose meaning depends on the name: NT_.. for GNU.",
+    desc="The description.",
+)
 
 # The addend is signed, and of the width of the class: an archive for x86-64 has its lower half first.
 _RELOCATIONS = {
@@ -99,47 +127,62 @@ class Section(declared.SectionRecord):
 
     __slots__ = ()
 
+    def __repr__(self) -> str:
+        return f"<Section {self.index} {self.name!r} {self.type} {self.flags}, {self.size} bytes at offset {self.offset:#x}>"
+
     def check(self) -> None:
-        """Raises where the reader doesn't know the type."""
-        check(library.xmas_elf_check_section(*self.file._input, self.index))
+        """Raises if neither the reader nor the package knows the type."""
+        status = library.xmas_elf_check_section(*self.file._input, self.index)
+        if self.type != SHT_RELR or status != Status.INVALID_SH_TYPE:
+            check(status)
 
     def data(self) -> memoryview:
-        """The data. Refused for type SHT_NULL and for types that the reader doesn't know; for type SHT_NOBITS these bytes
+        """The data. An error for type SHT_NULL and for types that the reader doesn't know; for type SHT_NOBITS these bytes
         belong to other sections, or to none."""
-        return self.file._slice("xmas_elf_section_data", self.index)
+        offset, size = self._data_range()
+        return self.file._view[offset : offset + size]
+
+    def _data_range(self) -> Row:
+        if self.type != SHT_RELR:
+            return self.file._asked("xmas_elf_section_data", declared.RANGE, self.index)
+        # The archive gives the addresses of this type, and not the data.
+        if self.offset + self.size > len(self.file._view):
+            raise ElfError(Status.DATA_RANGE)
+        return self.offset, self.size
 
     def text(self, index: int) -> str:
         """The text that begins at an index of a string table, in bytes."""
-        return self.file._text_in(self.file._asked("xmas_elf_section_text", declared.RANGE, self.index, index))
+        return self.file._text_in(self.file._asked("xmas_elf_section_text", declared.RANGE, self.index, unsigned(index)))
 
     def symbols(self) -> Iterator[Symbol]:
-        """The symbols with their names, from index 0 on. Refused where the section isn't a symbol table."""
+        """The symbols with their names, from index 0 on. An error if the section isn't a symbol table."""
         return symbols_of(self.file._view, "symbol", *self.file._input, self.index)
 
     def symbol(self, index: int) -> Symbol:
         """The symbol at an index."""
-        symbol = Symbol(None, 0, *self.file._asked("xmas_elf_symbol", declared.SYMBOL, self.index, index))
+        symbol = Symbol(None, 0, *self.file._asked("xmas_elf_symbol", declared.SYMBOL, self.index, unsigned(index)))
         try:
             return symbol._replace(name=self.file.section(self.link).text(symbol.name_index))
         except ElfError as error:
             return symbol._replace(name_status=int(error.status))
 
     def relocations(self) -> Iterator[Relocation]:
-        """The relocations. Refused where the section has none by its type."""
+        """The relocations. An error if the section has none by its type."""
         layout = _RELOCATIONS[self.file.elfclass]
         return _records(Relocation, "xmas_elf_relocations", layout, *self.file._input, self.index)
 
     def packed_relocations(self) -> Iterator[int]:
-        """The addresses in the packed relative relocations. Refused where the section isn't of type SHT_RELR."""
+        """The addresses in the packed relative relocations. An error if the section isn't of type SHT_RELR."""
         return (address for (address,) in rows("xmas_elf_packed_relocations", NUMBER, *self.file._input, self.index))
 
     def dynamic(self) -> Iterator[Dynamic]:
-        """The dynamic entries, those after the entry with tag 0 too. Refused where the section has none by its type."""
-        return _records(Dynamic, "xmas_elf_dynamics", declared.DYNAMIC, *self.file._input, self.index)
+        """The dynamic entries, those after the entry with tag 0 too. An error if the section has none by its type."""
+        entries = rows("xmas_elf_dynamics", declared.DYNAMIC, *self.file._input, self.index)
+        return (Dynamic(DT(tag), value) for tag, value in entries)
 
     def notes(self) -> Iterator[Note]:
         """The notes that the data is."""
-        return self.file._notes(self.file._asked("xmas_elf_section_data", declared.RANGE, self.index), self.align)
+        return (Note(*fields) for fields in self.file._notes(self._data_range(), self.align))
 
 
 class Segment(declared.SegmentRecord):
@@ -147,22 +190,33 @@ class Segment(declared.SegmentRecord):
 
     __slots__ = ()
 
+    def __repr__(self) -> str:
+        letters = "".join(letter if self.flags & flag else "-" for letter, flag in zip("RWX", (PF_R, PF_W, PF_X)))
+        return f"<Segment {self.index} {self.type} {letters}, {self.file_size} bytes at offset {self.offset:#x}>"
+
     def check(self) -> None:
         """Raises where the header doesn't agree with the input: the size of the table's entries, the end of the segment, its
-        type and its alignment. A segment that ends where the input ends is refused too."""
+        type and its alignment. A segment that ends where the input ends is an error too."""
         check(library.xmas_elf_check_segment(*self.file._input, self.index))
 
     def data(self) -> memoryview:
-        """The data. Refused for type PT_NULL and for types that the reader doesn't know."""
+        """The data. An error for type PT_NULL and for types that the reader doesn't know."""
         return self.file._slice("xmas_elf_segment_data", self.index)
 
     def notes(self) -> Iterator[Note]:
         """The notes that the data is."""
-        return self.file._notes(self.file._asked("xmas_elf_segment_data", declared.RANGE, self.index), self.align)
+        data = self.file._asked("xmas_elf_segment_data", declared.RANGE, self.index)
+        return (Note(*fields) for fields in self.file._notes(data, self.align))
 
 
-def look_up_by(table: Section) -> str:
-    """The export that looks up by a hash table; none where the table doesn't pass its check."""
-    kind = HASH_TABLES[table.type]
-    check = getattr(library, f"xmas_elf_check_{kind}hash")
-    return "" if check(*table.file._input, table.index) else f"xmas_elf_{kind}look_up"
+def section_of(file: Any, index: int, name: Any, status: int, fields: Row) -> Section:
+    """A section whose numbers have their names."""
+    section = Section(file, index, name, status, *fields)
+    return section._replace(type=SHT(section.type), flags=SHF(section.flags))
+
+
+def segment_of(file: Any, index: int, fields: Row) -> Segment:
+    """A segment whose numbers have their names."""
+    segment = Segment(file, index, *fields)
+    return segment._replace(type=PT(segment.type), flags=PF(segment.flags))
+

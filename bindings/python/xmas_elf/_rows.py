@@ -17,7 +17,8 @@ ROOM = 512
 
 
 def batches(export: str, layout: Struct, *arguments: Any, room: int = ROOM) -> Iterator[Iterator[Row]]:
-    """The records of a table from index 0 on, call by call. The next call fills the memory of the last one anew."""
+    """The records of a table from index 0 on, call by call. They are copied out of the memory that a call fills: an iterator
+    over a view of it, kept by an error's traceback, can end CPython 3.11 in its garbage collector."""
     call, first, filled = getattr(library, export), 0, c_uint64()
     records = create_string_buffer(room * layout.size)
     memory = memoryview(records)
@@ -26,10 +27,10 @@ def batches(export: str, layout: Struct, *arguments: Any, room: int = ROOM) -> I
         if status == Status.NO_RECORD:
             return
         check(status)
-        yield layout.iter_unpack(memory[: filled.value * layout.size])
+        yield layout.iter_unpack(bytes(memory[: filled.value * layout.size]))
         first += filled.value
 
 
-def rows(export: str, layout: Struct, *arguments: Any) -> Iterator[Row]:
+def rows(export: str, layout: Struct, *arguments: Any, room: int = ROOM) -> Iterator[Row]:
     """The records of a table from index 0 on."""
-    return chain.from_iterable(batches(export, layout, *arguments))
+    return chain.from_iterable(batches(export, layout, *arguments, room=room))

@@ -5,17 +5,23 @@ use xmas_elf_proved::{ElfFile, Error};
 
 fn print(bytes: &[u8]) -> Result<(), Error> {
     let file = ElfFile::new(bytes)?;
-    file.dynamic_symbol_count()?;
-    for symbol in file.dynamic_symbols() {
+    for symbol in file.dynamic_symbols()? {
         println!("{} {:016x} {} {}", symbol.index(), symbol.value, symbol.shndx, symbol.name()?);
     }
     Ok(())
 }
 
 fn main() -> ExitCode {
-    let Some(bytes) = std::env::args().nth(1).and_then(|path| std::fs::read(path).ok()) else {
+    let Some(path) = std::env::args_os().nth(1) else {
         eprintln!("usage: dynsym FILE");
         return ExitCode::from(2);
+    };
+    let bytes = match std::fs::read(&path) {
+        Ok(bytes) => bytes,
+        Err(error) => {
+            eprintln!("{}: {error}", path.to_string_lossy());
+            return ExitCode::FAILURE;
+        }
     };
     match print(&bytes) {
         Ok(()) => ExitCode::SUCCESS,

@@ -5,7 +5,7 @@ use xmas_elf_proved::{ElfFile, Error};
 
 fn print(bytes: &[u8]) -> Result<(), Error> {
     let file = ElfFile::new(bytes)?;
-    for name in file.needed() {
+    for name in file.needed()? {
         println!("NEEDED {}", name?);
     }
     if let Some(name) = file.soname()? {
@@ -18,9 +18,16 @@ fn print(bytes: &[u8]) -> Result<(), Error> {
 }
 
 fn main() -> ExitCode {
-    let Some(bytes) = std::env::args().nth(1).and_then(|path| std::fs::read(path).ok()) else {
+    let Some(path) = std::env::args_os().nth(1) else {
         eprintln!("usage: needed FILE");
         return ExitCode::from(2);
+    };
+    let bytes = match std::fs::read(&path) {
+        Ok(bytes) => bytes,
+        Err(error) => {
+            eprintln!("{}: {error}", path.to_string_lossy());
+            return ExitCode::FAILURE;
+        }
     };
     match print(&bytes) {
         Ok(()) => ExitCode::SUCCESS,

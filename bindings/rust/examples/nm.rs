@@ -4,9 +4,16 @@ use std::process::ExitCode;
 use xmas_elf_proved::ElfFile;
 
 fn main() -> ExitCode {
-    let Some(bytes) = std::env::args_os().nth(1).and_then(|path| std::fs::read(path).ok()) else {
+    let Some(path) = std::env::args_os().nth(1) else {
         eprintln!("usage: nm FILE");
         return ExitCode::from(2);
+    };
+    let bytes = match std::fs::read(&path) {
+        Ok(bytes) => bytes,
+        Err(error) => {
+            eprintln!("{}: {error}", path.to_string_lossy());
+            return ExitCode::FAILURE;
+        }
     };
     let file = match ElfFile::new(&bytes) {
         Ok(file) => file,

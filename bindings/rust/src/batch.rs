@@ -36,6 +36,12 @@ impl<T: Copy + Default, const N: usize> Batch<T, N> {
         Some((index, record))
     }
 
+    // What `size_hint` says of so many records in all.
+    pub(crate) fn left(&self, count: u64) -> (usize, Option<usize>) {
+        let left = count.saturating_sub(self.first + self.next as u64) as usize;
+        (left, Some(left))
+    }
+
     #[cold]
     fn refill(&mut self, ask: impl FnOnce(u64, &mut [T]) -> Result<u64, Error>) -> Option<()> {
         let first = self.first + self.count as u64;

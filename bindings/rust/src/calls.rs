@@ -1,4 +1,4 @@
-//! A call of each export, for the tests. Written by tools/exports.py.
+//! A call of each export, for the tests. Written by tools/exports/declarations.py.
 
 use crate::records::*;
 use crate::{ffi, Error};

@@ -1,6 +1,6 @@
-//! Why a part of a file is refused. Written by tools/statuses.py.
+//! The errors of the archive. Written by tools/exports/statuses.py.
 
-/// Why a file, or a part of it, is refused.
+/// Why a file, or a part of it, can't be read.
 #[derive(Clone, Copy, Debug, PartialEq, Eq, Hash)]
 #[non_exhaustive]
 pub enum Error {
@@ -159,7 +159,7 @@ pub enum Error {
 }
 
 impl Error {
-    /// The refusal with this number, which isn't 0.
+    /// The error with this number, which isn't 0.
     pub(crate) fn of(status: u32) -> Error {
         match status {
             1 => Error::ShortPart1,
@@ -241,7 +241,7 @@ impl Error {
         }
     }
 
-    /// The number of the refusal.
+    /// The number of the error.
     pub fn status(&self) -> u32 {
         match self {
             Error::ShortPart1 => 1,

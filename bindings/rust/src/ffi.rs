@@ -1,8 +1,8 @@
-//! The declarations of the archive, and a safe call for each. Written by tools/exports.py.
+//! The declarations of the archive, and a safe call for each. Written by tools/exports/declarations.py.
 //!
-//! One reason holds for each `unsafe`: the export reads the slices and records that it is lent, for the call alone, writes
-//! the records that it is lent to write, of a slice at most as many as it has, and is defined whatever they hold. All of
-//! these are references of the call, of the types that the archive declares.
+//! The reason is the same for each `unsafe`. During the call the export reads the slices and records that it is passed,
+//! writes the records that it is passed to write, of a slice at most as many as it has, and is defined whatever they
+//! contain. All of these are references of the call, of the types that the archive declares.
 
 use crate::records::{Answer, Counts, Dynamic, Entry, FoundSymbol, GnuTable, Header, LookUp, Name, NoteRange, ProgramHeader, Range, Relocation, SectionHeader, SymbolTable, Version};
 use crate::Error;
@@ -113,8 +113,8 @@ extern "C" {
     fn xmas_elf_message(status: u32, out: *mut u8, out_len: usize) -> usize;
 }
 
-/// Reads the ELF header of a file. The call is refused with (in the order of the tests) `ShortPart1`, `NoMagic`,
-/// `InvalidClass`, `ShortHeaders`.
+/// Reads the ELF header of a file. Errors, in the order of the tests: `ShortPart1`, `NoMagic`, `InvalidClass`,
+/// `ShortHeaders`.
 pub(crate) fn open(input: &[u8]) -> Result<Header, Error> {
     let mut out = Header::default();
     // SAFETY: see the head of this file.
@@ -123,15 +123,15 @@ pub(crate) fn open(input: &[u8]) -> Result<Header, Error> {
 }
 
 /// Checks the header against the input: its own size, its class, version and byte order, and that its two tables lie
-/// in the input. The call is refused with (in the order of the tests) `HeaderSize`, `NoClass`, `ClassMismatch`,
-/// `NoVersion`, `NoDataFormat`, `PhTableRange`, `ShTableRange`.
+/// in the input. Errors, in the order of the tests: `HeaderSize`, `NoClass`, `ClassMismatch`, `NoVersion`,
+/// `NoDataFormat`, `PhTableRange`, `ShTableRange`.
 pub(crate) fn check_header(input: &[u8], header: &Header) -> Result<(), Error> {
     // SAFETY: see the head of this file.
     let status = unsafe { xmas_elf_check_header(input.as_ptr(), input.len(), header) };
     answered(status, ())
 }
 
-/// The numbers of sections and segments that the file claims; its tables may be cut off before. Never refused.
+/// The numbers of sections and segments that the file claims; its tables may be cut off before. It returns no error.
 pub(crate) fn counts(input: &[u8], header: &Header) -> Result<Counts, Error> {
     let mut out = Counts::default();
     // SAFETY: see the head of this file.
@@ -139,7 +139,7 @@ pub(crate) fn counts(input: &[u8], header: &Header) -> Result<Counts, Error> {
     answered(status, out)
 }
 
-/// The index of the section with the names of sections. The call is refused with `ReservedIndex`.
+/// The index of the section with the names of sections. Errors: `ReservedIndex`.
 pub(crate) fn names_index(input: &[u8], header: &Header) -> Result<u32, Error> {
     let mut out = u32::default();
     // SAFETY: see the head of this file.
@@ -148,8 +148,8 @@ pub(crate) fn names_index(input: &[u8], header: &Header) -> Result<u32, Error> {
 }
 
 /// The section header at an index. The index is not compared with the number of sections: past the table the call
-/// reads what bytes are there, or is refused. The call is refused with (in the order of the tests)
-/// `ShortSectionHeader`, `UnknownClass`, `SmallEntry`.
+/// reads what bytes are there, or returns an error. Errors, in the order of the tests: `ShortSectionHeader`,
+/// `UnknownClass`, `SmallEntry`.
 pub(crate) fn section(input: &[u8], header: &Header, index: u64) -> Result<SectionHeader, Error> {
     let mut out = SectionHeader::default();
     // SAFETY: see the head of this file.
@@ -158,16 +158,16 @@ pub(crate) fn section(input: &[u8], header: &Header, index: u64) -> Result<Secti
 }
 
 /// Checks the section header at an index: that this reader knows its type. Where the data lie is not tested:
-/// `section_data` does that. The call is refused with (in the order of the tests) `ShortSectionHeader`,
-/// `UnknownClass`, `SmallEntry`, `InvalidShType`.
+/// `section_data` does that. Errors, in the order of the tests: `ShortSectionHeader`, `UnknownClass`, `SmallEntry`,
+/// `InvalidShType`.
 pub(crate) fn check_section(input: &[u8], header: &Header, index: u64) -> Result<(), Error> {
     // SAFETY: see the head of this file.
     let status = unsafe { xmas_elf_check_section(input.as_ptr(), input.len(), header, index) };
     answered(status, ())
 }
 
-/// The section headers from index `first` on, up to the number of sections or the first that is refused. Where they
-/// end before that number, `section` at the next index says why. The call is refused with `NoRecord`.
+/// The section headers from index `first` on, up to the number of sections or the first that can't be read. If they
+/// end before that number, `section` at the next index returns the reason. Errors: `NoRecord`.
 pub(crate) fn sections(input: &[u8], header: &Header, first: u64, out: &mut [SectionHeader]) -> Result<u64, Error> {
     let mut count = u64::default();
     // SAFETY: see the head of this file.
@@ -176,8 +176,8 @@ pub(crate) fn sections(input: &[u8], header: &Header, first: u64, out: &mut [Sec
     answered(status, count)
 }
 
-/// The first section with a name. A section whose name is refused is skipped, and a name that is not UTF-8 is never
-/// found. The call is refused with `NotFound`.
+/// The first section with a name. A section whose name can't be read is skipped, and a name that is not UTF-8 is
+/// never found. Errors: `NotFound`.
 pub(crate) fn find_section(input: &[u8], header: &Header, name: &[u8]) -> Result<SectionHeader, Error> {
     let mut out = SectionHeader::default();
     // SAFETY: see the head of this file.
@@ -186,8 +186,7 @@ pub(crate) fn find_section(input: &[u8], header: &Header, name: &[u8]) -> Result
     answered(status, out)
 }
 
-/// The index of the first section with a name: that of the section that `find_section` gives. The call is refused
-/// with `NotFound`.
+/// The index of the first section with a name: that of the section that `find_section` gives. Errors: `NotFound`.
 pub(crate) fn find_section_index(input: &[u8], header: &Header, name: &[u8]) -> Result<u64, Error> {
     let mut out = u64::default();
     // SAFETY: see the head of this file.
@@ -198,8 +197,8 @@ pub(crate) fn find_section_index(input: &[u8], header: &Header, name: &[u8]) -> 
 
 /// The range of a section's data. A section of type SHT_NOBITS has none in the file: its range belongs to other
 /// sections. `NullData` is for type SHT_NULL, `InvalidShType` for a type that this reader does not know. The range of
-/// an empty section begins at its offset. The call is refused with (in the order of the tests) `ShortSectionHeader`,
-/// `UnknownClass`, `SmallEntry`, `InvalidShType`, `NullData`, `DataRange`.
+/// an empty section begins at its offset. Errors, in the order of the tests: `ShortSectionHeader`, `UnknownClass`,
+/// `SmallEntry`, `InvalidShType`, `NullData`, `DataRange`.
 pub(crate) fn section_data(input: &[u8], header: &Header, index: u64) -> Result<Range, Error> {
     let mut out = Range::default();
     // SAFETY: see the head of this file.
@@ -209,9 +208,9 @@ pub(crate) fn section_data(input: &[u8], header: &Header, index: u64) -> Result<
 
 /// The range of a section's name, without the zero byte that ends it. It is UTF-8. `NullName` is for type SHT_NULL,
 /// which section 0 has, `InvalidShType` for a type that this reader does not know, such as 19 (SHT_RELR); `names` and
-/// `text` give the names of these too. The call is refused with (in the order of the tests) `ShortSectionHeader`,
-/// `UnknownClass`, `SmallEntry`, `InvalidShType`, `NullName`, `ReservedIndex`, `ShortSectionOffset`, `TextStart`,
-/// `TextEnd`, `TextUtf8`.
+/// `text` give the names of these too. Errors, in the order of the tests: `ShortSectionHeader`, `UnknownClass`,
+/// `SmallEntry`, `InvalidShType`, `NullName`, `ReservedIndex`, `ShortSectionOffset`, `TextStart`, `TextEnd`,
+/// `TextUtf8`.
 pub(crate) fn section_name(input: &[u8], header: &Header, index: u64) -> Result<Range, Error> {
     let mut out = Range::default();
     // SAFETY: see the head of this file.
@@ -220,9 +219,9 @@ pub(crate) fn section_name(input: &[u8], header: &Header, index: u64) -> Result<
 }
 
 /// The ranges of the names of sections from index `first` on, each with a status of its own, as `section_name`
-/// answers. The call gives as many names as `sections` gives headers. The call is refused with `NoRecord`. Each
-/// record is refused with (in the order of the tests) `InvalidShType`, `NullName`, `ReservedIndex`,
-/// `ShortSectionHeader`, `ShortSectionOffset`, `TextStart`, `TextEnd`, `TextUtf8`.
+/// returns them. The call gives as many names as `sections` gives headers. Errors: `NoRecord`. Errors of a record, in
+/// the order of the tests: `InvalidShType`, `NullName`, `ReservedIndex`, `ShortSectionHeader`, `ShortSectionOffset`,
+/// `TextStart`, `TextEnd`, `TextUtf8`.
 pub(crate) fn section_names(input: &[u8], header: &Header, first: u64, out: &mut [Name]) -> Result<u64, Error> {
     let mut count = u64::default();
     // SAFETY: see the head of this file.
@@ -232,8 +231,8 @@ pub(crate) fn section_names(input: &[u8], header: &Header, first: u64, out: &mut
 }
 
 /// The range of the name table of sections, which goes on to the end of the input. Read it once: the name of a
-/// section is the text there at the section's `name`, by `text`. The call is refused with (in the order of the tests)
-/// `ReservedIndex`, `ShortSectionHeader`, `UnknownClass`, `SmallEntry`, `ShortSectionOffset`.
+/// section is the text there at the section's `name`, by `text`. Errors, in the order of the tests: `ReservedIndex`,
+/// `ShortSectionHeader`, `UnknownClass`, `SmallEntry`, `ShortSectionOffset`.
 pub(crate) fn names(input: &[u8], header: &Header) -> Result<Range, Error> {
     let mut out = Range::default();
     // SAFETY: see the head of this file.
@@ -242,8 +241,7 @@ pub(crate) fn names(input: &[u8], header: &Header) -> Result<Range, Error> {
 }
 
 /// The range of the text that begins `index` bytes after the start of `part` and ends before the next zero byte of
-/// `part`. It is UTF-8. The call is refused with (in the order of the tests) `DataRange`, `TextStart`, `TextEnd`,
-/// `TextUtf8`.
+/// `part`. It is UTF-8. Errors, in the order of the tests: `DataRange`, `TextStart`, `TextEnd`, `TextUtf8`.
 pub(crate) fn text(input: &[u8], part: &Range, index: u64) -> Result<Range, Error> {
     let mut out = Range::default();
     // SAFETY: see the head of this file.
@@ -253,7 +251,7 @@ pub(crate) fn text(input: &[u8], part: &Range, index: u64) -> Result<Range, Erro
 
 /// The range of the text that begins `index` bytes after the start of a section's data and ends before the next zero
 /// byte of the data: the name of a symbol is the text at its `name` in the section `link` of its own section. The
-/// call does not test that the section is of type SHT_STRTAB. The call is refused with (in the order of the tests)
+/// call does not test that the section is of type SHT_STRTAB. Errors, in the order of the tests:
 /// `ShortSectionHeader`, `UnknownClass`, `SmallEntry`, `InvalidShType`, `NullData`, `DataRange`, `TextStart`,
 /// `TextEnd`, `TextUtf8`.
 pub(crate) fn section_text(input: &[u8], header: &Header, section: u64, index: u64) -> Result<Range, Error> {
@@ -263,8 +261,8 @@ pub(crate) fn section_text(input: &[u8], header: &Header, section: u64, index: u
     answered(status, out)
 }
 
-/// The program header at an index. The call is refused with (in the order of the tests) `NoProgramHeaders`,
-/// `UnknownClass`, `ShortProgramHeader`, `SmallEntry`.
+/// The program header at an index. Errors, in the order of the tests: `NoProgramHeaders`, `UnknownClass`,
+/// `ShortProgramHeader`, `SmallEntry`.
 pub(crate) fn segment(input: &[u8], header: &Header, index: u32) -> Result<ProgramHeader, Error> {
     let mut out = ProgramHeader::default();
     // SAFETY: see the head of this file.
@@ -274,17 +272,17 @@ pub(crate) fn segment(input: &[u8], header: &Header, index: u32) -> Result<Progr
 
 /// Checks the program header at an index against the input: the size of the table's entries, that the segment ends
 /// before the input does, its type, and that its address and its offset are the same modulo an alignment above 1.
-/// `EntryPointRange` is also for a segment that ends exactly where the input does. The call is refused with (in the
-/// order of the tests) `NoProgramHeaders`, `UnknownClass`, `ShortProgramHeader`, `SmallEntry`, `PhSizeMismatch`,
-/// `EntryPointRange`, `InvalidPhType`, `ShLibUsed`, `BadAlign`.
+/// `EntryPointRange` is also for a segment that ends exactly where the input does. Errors, in the order of the tests:
+/// `NoProgramHeaders`, `UnknownClass`, `ShortProgramHeader`, `SmallEntry`, `PhSizeMismatch`, `EntryPointRange`,
+/// `InvalidPhType`, `ShLibUsed`, `BadAlign`.
 pub(crate) fn check_segment(input: &[u8], header: &Header, index: u32) -> Result<(), Error> {
     // SAFETY: see the head of this file.
     let status = unsafe { xmas_elf_check_segment(input.as_ptr(), input.len(), header, index) };
     answered(status, ())
 }
 
-/// The program headers from index `first` on, up to the number of segments or the first that is refused. Where they
-/// end before that number, `segment` at the next index says why. The call is refused with `NoRecord`.
+/// The program headers from index `first` on, up to the number of segments or the first that can't be read. If they
+/// end before that number, `segment` at the next index returns the reason. Errors: `NoRecord`.
 pub(crate) fn segments(input: &[u8], header: &Header, first: u64, out: &mut [ProgramHeader]) -> Result<u64, Error> {
     let mut count = u64::default();
     // SAFETY: see the head of this file.
@@ -294,9 +292,9 @@ pub(crate) fn segments(input: &[u8], header: &Header, first: u64, out: &mut [Pro
 }
 
 /// The range of a segment's data. `NullData` is for type PT_NULL, `InvalidPhType` for a type that this reader does
-/// not know. An empty segment (p_filesz 0) answers offset 0 and size 0, whatever its offset is. The call is refused
-/// with (in the order of the tests) `NoProgramHeaders`, `UnknownClass`, `ShortProgramHeader`, `SmallEntry`,
-/// `InvalidPhType`, `NullData`, `DataRange`.
+/// not know. For an empty segment (p_filesz 0) offset and size are 0, whatever its offset is. Errors, in the order of
+/// the tests: `NoProgramHeaders`, `UnknownClass`, `ShortProgramHeader`, `SmallEntry`, `InvalidPhType`, `NullData`,
+/// `DataRange`.
 pub(crate) fn segment_data(input: &[u8], header: &Header, index: u32) -> Result<Range, Error> {
     let mut out = Range::default();
     // SAFETY: see the head of this file.
@@ -305,8 +303,8 @@ pub(crate) fn segment_data(input: &[u8], header: &Header, index: u32) -> Result<
 }
 
 /// The symbol at an index of a section of type SHT_SYMTAB or SHT_DYNSYM. The name is a text of the string table that
-/// is the section `link`. A section of another type is refused, mostly with `OtherData`. The call is refused with (in
-/// the order of the tests) `ShortSectionHeader`, `UnknownClass`, `SmallEntry`, `InvalidShType`, `DataRange`,
+/// is the section `link`. For a section of another type the status is an error, mostly `OtherData`. Errors, in the
+/// order of the tests: `ShortSectionHeader`, `UnknownClass`, `SmallEntry`, `InvalidShType`, `DataRange`,
 /// `NotMultiple`, `Note32`, `ShortData`, `OtherData`, `NoRecord`.
 pub(crate) fn symbol(input: &[u8], header: &Header, section: u64, index: u64) -> Result<Entry, Error> {
     let mut out = Entry::default();
@@ -315,9 +313,9 @@ pub(crate) fn symbol(input: &[u8], header: &Header, section: u64, index: u64) ->
     answered(status, out)
 }
 
-/// The symbols from index `first` on of a section. The call is refused with (in the order of the tests)
-/// `ShortSectionHeader`, `UnknownClass`, `SmallEntry`, `InvalidShType`, `DataRange`, `NotMultiple`, `Note32`,
-/// `ShortData`, `OtherData`, `NoRecord`.
+/// The symbols from index `first` on of a section. Errors, in the order of the tests: `ShortSectionHeader`,
+/// `UnknownClass`, `SmallEntry`, `InvalidShType`, `DataRange`, `NotMultiple`, `Note32`, `ShortData`, `OtherData`,
+/// `NoRecord`.
 pub(crate) fn symbols(input: &[u8], header: &Header, section: u64, first: u64,
     out: &mut [Entry]) -> Result<u64, Error> {
     let mut count = u64::default();
@@ -328,11 +326,10 @@ pub(crate) fn symbols(input: &[u8], header: &Header, section: u64, first: u64,
 }
 
 /// The ranges of the names of these symbols, each with a status of its own: the texts at each symbol's `name` in the
-/// string table that the section is linked to. The call gives as many names as `symbols` gives symbols. The call is
-/// refused with (in the order of the tests) `ShortSectionHeader`, `UnknownClass`, `SmallEntry`, `InvalidShType`,
-/// `DataRange`, `NotMultiple`, `Note32`, `ShortData`, `OtherData`, `NoRecord`. Each record is refused with (in the
-/// order of the tests) `ShortSectionHeader`, `InvalidShType`, `NullData`, `DataRange`, `TextStart`, `TextEnd`,
-/// `TextUtf8`.
+/// string table that the section is linked to. The call gives as many names as `symbols` gives symbols. Errors, in
+/// the order of the tests: `ShortSectionHeader`, `UnknownClass`, `SmallEntry`, `InvalidShType`, `DataRange`,
+/// `NotMultiple`, `Note32`, `ShortData`, `OtherData`, `NoRecord`. Errors of a record, in the order of the tests:
+/// `ShortSectionHeader`, `InvalidShType`, `NullData`, `DataRange`, `TextStart`, `TextEnd`, `TextUtf8`.
 pub(crate) fn symbol_names(input: &[u8], header: &Header, section: u64, first: u64,
     out: &mut [Name]) -> Result<u64, Error> {
     let mut count = u64::default();
@@ -343,9 +340,9 @@ pub(crate) fn symbol_names(input: &[u8], header: &Header, section: u64, first: u
 }
 
 /// Finds the symbols of a section of type SHT_SYMTAB or SHT_DYNSYM, and the string table that it is linked to, once
-/// for many calls of `symbol_of` and `symbol_name_of`. Where the string table is refused, the call is OK, and
-/// `strings_status` says why. The call is refused with (in the order of the tests) `ShortSectionHeader`,
-/// `UnknownClass`, `SmallEntry`, `InvalidShType`, `DataRange`, `NotMultiple`, `Note32`, `ShortData`, `OtherData`.
+/// for many calls of `symbol_of` and `symbol_name_of`. If the string table can't be read, the call is OK, and
+/// `strings_status` is the reason. Errors, in the order of the tests: `ShortSectionHeader`, `UnknownClass`,
+/// `SmallEntry`, `InvalidShType`, `DataRange`, `NotMultiple`, `Note32`, `ShortData`, `OtherData`.
 pub(crate) fn symbols_open(input: &[u8], header: &Header, section: u64) -> Result<SymbolTable, Error> {
     let mut out = SymbolTable::default();
     // SAFETY: see the head of this file.
@@ -353,9 +350,9 @@ pub(crate) fn symbols_open(input: &[u8], header: &Header, section: u64) -> Resul
     answered(status, out)
 }
 
-/// The symbol at an index of a table that was found, as `symbol` or `dynamic_symbols` answers it. Any table may be
+/// The symbol at an index of a table that was found, as `symbol` or `dynamic_symbols` returns it. Any table may be
 /// given: each call compares its range with the input, and `count` is not read. `DataRange` is for symbols that do
-/// not lie in the input. The call is refused with (in the order of the tests) `DataRange`, `NoRecord`.
+/// not lie in the input. Errors, in the order of the tests: `DataRange`, `NoRecord`.
 pub(crate) fn symbol_of(input: &[u8], table: &SymbolTable, index: u64) -> Result<Entry, Error> {
     let mut out = Entry::default();
     // SAFETY: see the head of this file.
@@ -364,10 +361,9 @@ pub(crate) fn symbol_of(input: &[u8], table: &SymbolTable, index: u64) -> Result
 }
 
 /// The range of the name of the symbol at an index of a table that was found, as `symbol_names` or
-/// `dynamic_symbol_names` answers it. Any table may be given. After `symbol_of` the call is refused with
-/// `strings_status`, where that is not 0, and then with `DataRange` for a string table that does not lie in the
-/// input. The call is refused with (in the order of the tests) `DataRange`, `NoRecord`, `TextStart`, `TextEnd`,
-/// `TextUtf8`.
+/// `dynamic_symbol_names` returns it. Any table may be given. After the errors of `symbol_of` the status is
+/// `strings_status`, if that is not 0, and then `DataRange` for a string table that does not lie in the input.
+/// Errors, in the order of the tests: `DataRange`, `NoRecord`, `TextStart`, `TextEnd`, `TextUtf8`.
 pub(crate) fn symbol_name_of(input: &[u8], table: &SymbolTable, index: u64) -> Result<Range, Error> {
     let mut out = Range::default();
     // SAFETY: see the head of this file.
@@ -375,8 +371,8 @@ pub(crate) fn symbol_name_of(input: &[u8], table: &SymbolTable, index: u64) -> R
     answered(status, out)
 }
 
-/// The relocation at an index of a section of type SHT_REL or SHT_RELA. A section of another type is refused, mostly
-/// with `OtherData`. The call is refused with (in the order of the tests) `ShortSectionHeader`, `UnknownClass`,
+/// The relocation at an index of a section of type SHT_REL or SHT_RELA. For a section of another type the status is
+/// an error, mostly `OtherData`. Errors, in the order of the tests: `ShortSectionHeader`, `UnknownClass`,
 /// `SmallEntry`, `InvalidShType`, `DataRange`, `NotMultiple`, `Note32`, `ShortData`, `OtherData`, `NoRecord`.
 pub(crate) fn relocation(input: &[u8], header: &Header, section: u64, index: u64) -> Result<Relocation, Error> {
     let mut out = Relocation::default();
@@ -385,9 +381,9 @@ pub(crate) fn relocation(input: &[u8], header: &Header, section: u64, index: u64
     answered(status, out)
 }
 
-/// The relocations from index `first` on of a section. The call is refused with (in the order of the tests)
-/// `ShortSectionHeader`, `UnknownClass`, `SmallEntry`, `InvalidShType`, `DataRange`, `NotMultiple`, `Note32`,
-/// `ShortData`, `OtherData`, `NoRecord`.
+/// The relocations from index `first` on of a section. Errors, in the order of the tests: `ShortSectionHeader`,
+/// `UnknownClass`, `SmallEntry`, `InvalidShType`, `DataRange`, `NotMultiple`, `Note32`, `ShortData`, `OtherData`,
+/// `NoRecord`.
 pub(crate) fn relocations(input: &[u8], header: &Header, section: u64, first: u64,
     out: &mut [Relocation]) -> Result<u64, Error> {
     let mut count = u64::default();
@@ -399,8 +395,8 @@ pub(crate) fn relocations(input: &[u8], header: &Header, section: u64, first: u6
 
 /// The addresses in the packed relative relocations of a section of type 19 (SHT_RELR) from index `first` on: those
 /// of the words to which the load address is added. Each call reads the words from the first on, so give much room.
-/// The call is refused with (in the order of the tests) `ShortSectionHeader`, `UnknownClass`, `SmallEntry`,
-/// `OtherData`, `DataRange`, `LinkNotMultiple`, `NoRecord`.
+/// Errors, in the order of the tests: `ShortSectionHeader`, `UnknownClass`, `SmallEntry`, `OtherData`, `DataRange`,
+/// `LinkNotMultiple`, `NoRecord`.
 pub(crate) fn packed_relocations(input: &[u8], header: &Header, section: u64, first: u64,
     out: &mut [u64]) -> Result<u64, Error> {
     let mut count = u64::default();
@@ -410,10 +406,10 @@ pub(crate) fn packed_relocations(input: &[u8], header: &Header, section: u64, fi
     answered(status, count)
 }
 
-/// The dynamic entry at an index of a section of type SHT_DYNAMIC, also after the entry with tag 0. A section of
-/// another type is refused, mostly with `OtherData`. The call is refused with (in the order of the tests)
-/// `ShortSectionHeader`, `UnknownClass`, `SmallEntry`, `InvalidShType`, `DataRange`, `NotMultiple`, `Note32`,
-/// `ShortData`, `OtherData`, `NoRecord`.
+/// The dynamic entry at an index of a section of type SHT_DYNAMIC, also after the entry with tag 0. For a section of
+/// another type the status is an error, mostly `OtherData`. Errors, in the order of the tests: `ShortSectionHeader`,
+/// `UnknownClass`, `SmallEntry`, `InvalidShType`, `DataRange`, `NotMultiple`, `Note32`, `ShortData`, `OtherData`,
+/// `NoRecord`.
 pub(crate) fn dynamic(input: &[u8], header: &Header, section: u64, index: u64) -> Result<Dynamic, Error> {
     let mut out = Dynamic::default();
     // SAFETY: see the head of this file.
@@ -421,8 +417,8 @@ pub(crate) fn dynamic(input: &[u8], header: &Header, section: u64, index: u64) -
     answered(status, out)
 }
 
-/// The dynamic entries from index `first` on of a section, also those after the entry with tag 0. The call is refused
-/// with (in the order of the tests) `ShortSectionHeader`, `UnknownClass`, `SmallEntry`, `InvalidShType`, `DataRange`,
+/// The dynamic entries from index `first` on of a section, also those after the entry with tag 0. Errors, in the
+/// order of the tests: `ShortSectionHeader`, `UnknownClass`, `SmallEntry`, `InvalidShType`, `DataRange`,
 /// `NotMultiple`, `Note32`, `ShortData`, `OtherData`, `NoRecord`.
 pub(crate) fn dynamics(input: &[u8], header: &Header, section: u64, first: u64,
     out: &mut [Dynamic]) -> Result<u64, Error> {
@@ -434,8 +430,8 @@ pub(crate) fn dynamics(input: &[u8], header: &Header, section: u64, first: u64,
 }
 
 /// The first note of a range, by the alignment of its section or segment (8, and else 4). `NoRecord` is for an empty
-/// range, `LinkShortNote` for one that holds no whole note. The call is refused with (in the order of the tests)
-/// `DataRange`, `NoRecord`, `LinkShortNote`.
+/// range, `LinkShortNote` for one that holds no whole note. Errors, in the order of the tests: `DataRange`,
+/// `NoRecord`, `LinkShortNote`.
 pub(crate) fn note(input: &[u8], header: &Header, part: &Range, align: u64) -> Result<NoteRange, Error> {
     let mut out = NoteRange::default();
     // SAFETY: see the head of this file.
@@ -445,8 +441,8 @@ pub(crate) fn note(input: &[u8], header: &Header, part: &Range, align: u64) -> R
 
 /// The range of the build id, of a file of either class: the description of the first note of section
 /// `.note.gnu.build-id`. `NotFound` is for a file without this section, and for a first note that is not of type 3
-/// with name `GNU`. Without section headers, look through the notes of the segments of type 4 (PT_NOTE). The call is
-/// refused with (in the order of the tests) `NotFound`, `DataRange`, `NoRecord`, `LinkShortNote`.
+/// with name `GNU`. Without section headers, look through the notes of the segments of type 4 (PT_NOTE). Errors, in
+/// the order of the tests: `NotFound`, `DataRange`, `NoRecord`, `LinkShortNote`.
 pub(crate) fn build_id(input: &[u8], header: &Header) -> Result<Range, Error> {
     let mut out = Range::default();
     // SAFETY: see the head of this file.
@@ -455,8 +451,8 @@ pub(crate) fn build_id(input: &[u8], header: &Header) -> Result<Range, Error> {
 }
 
 /// The range of the file bytes for addresses `address .. address + count`: those of the first PT_LOAD segment that
-/// has them all. No section header is needed. Of a segment without file bytes the offset is 0. The call is refused
-/// with (in the order of the tests) `LinkAddress`, `DataRange`.
+/// has them all. No section header is needed. Of a segment without file bytes the offset is 0. Errors, in the order
+/// of the tests: `LinkAddress`, `DataRange`.
 pub(crate) fn bytes_at(input: &[u8], header: &Header, address: u64, count: u64) -> Result<Range, Error> {
     let mut out = Range::default();
     // SAFETY: see the head of this file.
@@ -467,9 +463,8 @@ pub(crate) fn bytes_at(input: &[u8], header: &Header, address: u64, count: u64) 
 /// The range of the text that the first dynamic entry with a tag names: for tag 14 (DT_SONAME) the name of the
 /// library, for 29 (DT_RUNPATH) and 15 (DT_RPATH) the folders where the dynamic linker looks for libraries. The
 /// entries are those of the first segment of type PT_DYNAMIC before the entry with tag 0, so no section header is
-/// needed. `NotFound` is for a tag that no entry has. The call is refused with (in the order of the tests)
-/// `LinkNoDynamic`, `DataRange`, `NotMultiple`, `NotFound`, `LinkNoEntry`, `LinkAddress`, `TextStart`, `TextEnd`,
-/// `TextUtf8`.
+/// needed. `NotFound` is for a tag that no entry has. Errors, in the order of the tests: `LinkNoDynamic`,
+/// `DataRange`, `NotMultiple`, `NotFound`, `LinkNoEntry`, `LinkAddress`, `TextStart`, `TextEnd`, `TextUtf8`.
 pub(crate) fn dynamic_text(input: &[u8], header: &Header, tag: u64) -> Result<Range, Error> {
     let mut out = Range::default();
     // SAFETY: see the head of this file.
@@ -479,9 +474,9 @@ pub(crate) fn dynamic_text(input: &[u8], header: &Header, tag: u64) -> Result<Ra
 
 /// The ranges of the names of the libraries that the file needs (DT_NEEDED), each with a status of its own, in the
 /// order of the entries of `dynamic_text`. Index `first` counts libraries. Each call reads the entries from the first
-/// on, so give room for all where a file may have many. The call is refused with (in the order of the tests)
-/// `LinkNoDynamic`, `DataRange`, `NotMultiple`, `NoRecord`. Each record is refused with (in the order of the tests)
-/// `LinkNoEntry`, `LinkAddress`, `DataRange`, `TextStart`, `TextEnd`, `TextUtf8`.
+/// on, so give room for all where a file may have many. Errors, in the order of the tests: `LinkNoDynamic`,
+/// `DataRange`, `NotMultiple`, `NoRecord`. Errors of a record, in the order of the tests: `LinkNoEntry`,
+/// `LinkAddress`, `DataRange`, `TextStart`, `TextEnd`, `TextUtf8`.
 pub(crate) fn needed(input: &[u8], header: &Header, first: u64, out: &mut [Name]) -> Result<u64, Error> {
     let mut count = u64::default();
     // SAFETY: see the head of this file.
@@ -492,10 +487,10 @@ pub(crate) fn needed(input: &[u8], header: &Header, first: u64, out: &mut [Name]
 
 /// The number of symbols of the dynamic segment, which no entry says: the number of chains of the gABI's hash table
 /// (DT_HASH) where the segment names one, and else one more than the last index that GNU's (DT_GNU_HASH) reaches, or
-/// its first index where it reaches none; this one does not count symbols behind the last exported one. No section
-/// header is needed. The call is refused with (in the order of the tests) `LinkNoDynamic`, `DataRange`,
-/// `NotMultiple`, `LinkNoEntry`, `LinkAddress`, `ShortData`, `LinkShortTable`, `LinkBloomCount`, `LinkChainIndex`,
-/// `LinkChainData`, `LinkSymbolIndex`.
+/// its first index where it reaches none; this one does not count symbols after the last exported one. No section
+/// header is needed. Errors, in the order of the tests: `LinkNoDynamic`, `DataRange`, `NotMultiple`, `LinkNoEntry`,
+/// `LinkAddress`, `ShortData`, `LinkShortTable`, `LinkBloomCount`, `LinkChainIndex`, `LinkChainData`,
+/// `LinkSymbolIndex`.
 pub(crate) fn dynamic_symbol_count(input: &[u8], header: &Header) -> Result<u64, Error> {
     let mut out = u64::default();
     // SAFETY: see the head of this file.
@@ -504,9 +499,9 @@ pub(crate) fn dynamic_symbol_count(input: &[u8], header: &Header) -> Result<u64,
 }
 
 /// The symbols of the dynamic segment (DT_SYMTAB) from index `first` on, as many in all as `dynamic_symbol_count`
-/// says. No section header is needed. Each call counts the symbols anew, so give room for all. The call is refused
-/// with (in the order of the tests) `LinkNoDynamic`, `DataRange`, `NotMultiple`, `LinkNoEntry`, `LinkAddress`,
-/// `ShortData`, `LinkShortTable`, `LinkBloomCount`, `LinkChainIndex`, `LinkChainData`, `LinkSymbolIndex`, `NoRecord`.
+/// says. No section header is needed. Each call counts the symbols anew, so give room for all. Errors, in the order
+/// of the tests: `LinkNoDynamic`, `DataRange`, `NotMultiple`, `LinkNoEntry`, `LinkAddress`, `ShortData`,
+/// `LinkShortTable`, `LinkBloomCount`, `LinkChainIndex`, `LinkChainData`, `LinkSymbolIndex`, `NoRecord`.
 pub(crate) fn dynamic_symbols(input: &[u8], header: &Header, first: u64, out: &mut [Entry]) -> Result<u64, Error> {
     let mut count = u64::default();
     // SAFETY: see the head of this file.
@@ -517,10 +512,10 @@ pub(crate) fn dynamic_symbols(input: &[u8], header: &Header, first: u64, out: &m
 
 /// The ranges of the names of these symbols, each with a status of its own: the texts at each symbol's `name` in the
 /// string table of the dynamic segment (DT_STRTAB). The call gives as many names as `dynamic_symbols` gives symbols.
-/// The call is refused with (in the order of the tests) `LinkNoDynamic`, `DataRange`, `NotMultiple`, `LinkNoEntry`,
-/// `LinkAddress`, `ShortData`, `LinkShortTable`, `LinkBloomCount`, `LinkChainIndex`, `LinkChainData`,
-/// `LinkSymbolIndex`, `NoRecord`. Each record is refused with (in the order of the tests) `LinkNoEntry`,
-/// `LinkAddress`, `DataRange`, `TextStart`, `TextEnd`, `TextUtf8`.
+/// Errors, in the order of the tests: `LinkNoDynamic`, `DataRange`, `NotMultiple`, `LinkNoEntry`, `LinkAddress`,
+/// `ShortData`, `LinkShortTable`, `LinkBloomCount`, `LinkChainIndex`, `LinkChainData`, `LinkSymbolIndex`, `NoRecord`.
+/// Errors of a record, in the order of the tests: `LinkNoEntry`, `LinkAddress`, `DataRange`, `TextStart`, `TextEnd`,
+/// `TextUtf8`.
 pub(crate) fn dynamic_symbol_names(input: &[u8], header: &Header, first: u64,
     out: &mut [Name]) -> Result<u64, Error> {
     let mut count = u64::default();
@@ -532,9 +527,9 @@ pub(crate) fn dynamic_symbol_names(input: &[u8], header: &Header, first: u64,
 
 /// Finds the symbols of the dynamic segment and the string table of their names, as `dynamic_symbols` and
 /// `dynamic_symbol_names` do, once for many calls of `symbol_of` and `symbol_name_of`. It needs no section headers.
-/// Where the string table is refused, the call is OK, and `strings_status` says why. The call is refused with (in the
-/// order of the tests) `LinkNoDynamic`, `DataRange`, `NotMultiple`, `LinkNoEntry`, `LinkAddress`, `ShortData`,
-/// `LinkShortTable`, `LinkBloomCount`, `LinkChainIndex`, `LinkChainData`, `LinkSymbolIndex`.
+/// If the string table can't be read, the call is OK, and `strings_status` is the reason. Errors, in the order of the
+/// tests: `LinkNoDynamic`, `DataRange`, `NotMultiple`, `LinkNoEntry`, `LinkAddress`, `ShortData`, `LinkShortTable`,
+/// `LinkBloomCount`, `LinkChainIndex`, `LinkChainData`, `LinkSymbolIndex`.
 pub(crate) fn dynamic_symbols_open(input: &[u8], header: &Header) -> Result<SymbolTable, Error> {
     let mut out = SymbolTable::default();
     // SAFETY: see the head of this file.
@@ -545,11 +540,11 @@ pub(crate) fn dynamic_symbols_open(input: &[u8], header: &Header) -> Result<Symb
 /// The versions of the symbols of the dynamic segment (DT_VERSYM) from index `first` on, each with a status of its
 /// own: the first definition with the symbol's number but for the one that names the file, and else the first need
 /// with it. The call gives as many versions as `dynamic_symbols` gives symbols. `NotFound` is for a file whose
-/// symbols have no versions. Each call counts the symbols anew, so give room for all. The call is refused with (in
-/// the order of the tests) `LinkNoDynamic`, `DataRange`, `NotMultiple`, `LinkNoEntry`, `LinkAddress`, `ShortData`,
-/// `LinkShortTable`, `LinkBloomCount`, `LinkChainIndex`, `LinkChainData`, `LinkSymbolIndex`, `NotFound`, `NoRecord`.
-/// Each record is refused with (in the order of the tests) `LinkShortVersion`, `LinkVersionCount`, `LinkNoEntry`,
-/// `LinkAddress`, `DataRange`, `TextStart`, `TextEnd`, `TextUtf8`.
+/// symbols have no versions. Each call counts the symbols anew, so give room for all. Errors, in the order of the
+/// tests: `LinkNoDynamic`, `DataRange`, `NotMultiple`, `LinkNoEntry`, `LinkAddress`, `ShortData`, `LinkShortTable`,
+/// `LinkBloomCount`, `LinkChainIndex`, `LinkChainData`, `LinkSymbolIndex`, `NotFound`, `NoRecord`. Errors of a
+/// record, in the order of the tests: `LinkShortVersion`, `LinkVersionCount`, `LinkNoEntry`, `LinkAddress`,
+/// `DataRange`, `TextStart`, `TextEnd`, `TextUtf8`.
 pub(crate) fn dynamic_symbol_versions(input: &[u8], header: &Header, first: u64,
     out: &mut [Version]) -> Result<u64, Error> {
     let mut count = u64::default();
@@ -561,9 +556,9 @@ pub(crate) fn dynamic_symbol_versions(input: &[u8], header: &Header, first: u64,
 
 /// The versions that the file defines (DT_VERDEF) from index `first` on, in their order, each with a status of its
 /// own: a record that is cut off is the last one. No section header is needed. Each call reads the records from the
-/// first on, so give room for all. The call is refused with (in the order of the tests) `LinkNoDynamic`, `DataRange`,
-/// `NotMultiple`, `LinkAddress`, `LinkNoEntry`, `NoRecord`. Each record is refused with (in the order of the tests)
-/// `LinkShortVersion`, `LinkNoEntry`, `LinkAddress`, `DataRange`, `TextStart`, `TextEnd`, `TextUtf8`.
+/// first on, so give room for all. Errors, in the order of the tests: `LinkNoDynamic`, `DataRange`, `NotMultiple`,
+/// `LinkAddress`, `LinkNoEntry`, `NoRecord`. Errors of a record, in the order of the tests: `LinkShortVersion`,
+/// `LinkNoEntry`, `LinkAddress`, `DataRange`, `TextStart`, `TextEnd`, `TextUtf8`.
 pub(crate) fn version_definitions(input: &[u8], header: &Header, first: u64,
     out: &mut [Version]) -> Result<u64, Error> {
     let mut count = u64::default();
@@ -574,10 +569,10 @@ pub(crate) fn version_definitions(input: &[u8], header: &Header, first: u64,
 }
 
 /// The versions that the file needs of libraries (DT_VERNEED) from index `first` on, in their order, as
-/// `version_definitions` gives the others. The call is refused with (in the order of the tests) `LinkNoDynamic`,
-/// `DataRange`, `NotMultiple`, `LinkAddress`, `LinkNoEntry`, `NoRecord`. Each record is refused with (in the order of
-/// the tests) `LinkShortVersion`, `LinkVersionCount`, `LinkNoEntry`, `LinkAddress`, `DataRange`, `TextStart`,
-/// `TextEnd`, `TextUtf8`.
+/// `version_definitions` gives the others. Errors, in the order of the tests: `LinkNoDynamic`, `DataRange`,
+/// `NotMultiple`, `LinkAddress`, `LinkNoEntry`, `NoRecord`. Errors of a record, in the order of the tests:
+/// `LinkShortVersion`, `LinkVersionCount`, `LinkNoEntry`, `LinkAddress`, `DataRange`, `TextStart`, `TextEnd`,
+/// `TextUtf8`.
 pub(crate) fn version_needs(input: &[u8], header: &Header, first: u64, out: &mut [Version]) -> Result<u64, Error> {
     let mut count = u64::default();
     // SAFETY: see the head of this file.
@@ -586,17 +581,17 @@ pub(crate) fn version_needs(input: &[u8], header: &Header, first: u64, out: &mut
     answered(status, count)
 }
 
-/// The symbol of the dynamic segment that a reference gets by a name and a version (DT_VERSYM): the first symbol on
-/// the chain of the name whose version has the name `version`, or whose number nothing bears and which isn't hidden;
-/// in a file without versions, the first. With `version_size` 0 it is the one that `dlsym` gets: the first with a
-/// number below 2, or else the one whose version isn't hidden, if there is exactly one. A symbol counts if it has a
-/// value, or is absolute or thread-local, and a type that linkers use: also one that is not defined and has a value.
-/// That no symbol is found is no refusal. Each call counts the symbols of the dynamic segment anew; for many names
-/// `gnu_look_ups` is faster, which knows no versions. The call is refused with (in the order of the tests)
-/// `TextUtf8`, `LinkNoDynamic`, `DataRange`, `NotMultiple`, `LinkNoEntry`, `LinkAddress`, `ShortData`,
-/// `LinkShortTable`, `LinkBloomCount`, `LinkChainIndex`, `LinkChainData`, `LinkSymbolIndex`, `HashData`,
-/// `ChainIndex`, `SymbolIndex`, `ChainSum`, `HashCycle`, `LinkShortVersion`, `LinkVersionCount`, `TextStart`,
-/// `TextEnd`.
+/// The symbol of the dynamic segment that `dlvsym` finds by a name and a version (DT_VERSYM): the first symbol on the
+/// chain of the name whose version has the name `version`; in a file without versions, the first. With `version_size`
+/// 0 it is the one that `dlsym` finds: the first with a number below 2, or else the one whose version isn't hidden,
+/// if there is exactly one. A symbol counts if it has a value, or is absolute or thread-local, and a type that
+/// linkers use: also one that is not defined and has a value. The symbol is found only if other files can use it: its
+/// binding is global, weak or unique, and its visibility the default or protected. If no symbol is found, that is no
+/// error. Each call counts the symbols of the dynamic segment anew; for many names `gnu_look_ups` is faster, which
+/// knows no versions. Errors, in the order of the tests: `TextUtf8`, `LinkNoDynamic`, `DataRange`, `NotMultiple`,
+/// `LinkNoEntry`, `LinkAddress`, `ShortData`, `LinkShortTable`, `LinkBloomCount`, `LinkChainIndex`, `LinkChainData`,
+/// `LinkSymbolIndex`, `HashData`, `ChainIndex`, `SymbolIndex`, `ChainSum`, `HashCycle`, `LinkShortVersion`,
+/// `LinkVersionCount`, `TextStart`, `TextEnd`.
 pub(crate) fn find_symbol(input: &[u8], header: &Header, name: &[u8], version: &[u8]) -> Result<FoundSymbol, Error> {
     let mut out = FoundSymbol::default();
     // SAFETY: see the head of this file.
@@ -606,11 +601,11 @@ pub(crate) fn find_symbol(input: &[u8], header: &Header, name: &[u8], version: &
 }
 
 /// Looks a name up in the hash table that is a section of type SHT_HASH, among the symbols of the section that it is
-/// linked to: the first symbol on the chain of the name, defined or not. That no symbol is found is no refusal. A
-/// table that `check_hash` did not pass may be refused or miss a symbol; the look-up reads no more chain entries than
-/// the table has. Names are those in section `.dynstr`, and of symbols of a section of type SHT_SYMTAB in `.strtab`;
-/// in an undamaged file that is the string table that the symbols are linked to. The call is refused with (in the
-/// order of the tests) `TextUtf8`, `ShortSectionHeader`, `UnknownClass`, `SmallEntry`, `InvalidShType`, `DataRange`,
+/// linked to: the first symbol on the chain of the name, defined or not. If no symbol is found, that is no error. In
+/// a table that does not pass `check_hash`, a look-up may return an error or miss a symbol; it reads no more chain
+/// entries than the table has. Names are those in section `.dynstr`, and of symbols of a section of type SHT_SYMTAB
+/// in `.strtab`; in an undamaged file that is the string table that the symbols are linked to. Errors, in the order
+/// of the tests: `TextUtf8`, `ShortSectionHeader`, `UnknownClass`, `SmallEntry`, `InvalidShType`, `DataRange`,
 /// `NotMultiple`, `Note32`, `ShortData`, `OtherData`, `HashData`, `ChainIndex`, `SymbolIndex`, `ChainSum`,
 /// `HashCycle`.
 pub(crate) fn look_up(input: &[u8], header: &Header, section: u64, name: &[u8]) -> Result<LookUp, Error> {
@@ -622,11 +617,11 @@ pub(crate) fn look_up(input: &[u8], header: &Header, section: u64, name: &[u8]) 
 }
 
 /// Looks many names up in one call, each a range of the bytes `names`: as many as there are ranges, and as `out` has
-/// room for. Each answer is that of `look_up` for the name; `DataRange` is for a range that passes the end of
+/// room for. Each result is that of `look_up` for the name; `DataRange` is for a range that passes the end of
 /// `names`. The table and its symbols are read once, so this is faster for many names. `names` may be another file,
-/// and the ranges those of the names of its symbols. Each record is refused with (in the order of the tests)
-/// `DataRange`, `TextUtf8`, `ShortSectionHeader`, `UnknownClass`, `SmallEntry`, `InvalidShType`, `NotMultiple`,
-/// `Note32`, `ShortData`, `OtherData`, `HashData`, `ChainIndex`, `SymbolIndex`, `ChainSum`, `HashCycle`.
+/// and the ranges those of the names of its symbols. Errors of a record, in the order of the tests: `DataRange`,
+/// `TextUtf8`, `ShortSectionHeader`, `UnknownClass`, `SmallEntry`, `InvalidShType`, `NotMultiple`, `Note32`,
+/// `ShortData`, `OtherData`, `HashData`, `ChainIndex`, `SymbolIndex`, `ChainSum`, `HashCycle`.
 pub(crate) fn look_ups(input: &[u8], header: &Header, section: u64, names: &[u8], ranges: &[Range],
     out: &mut [Answer]) {
     // SAFETY: see the head of this file.
@@ -635,8 +630,8 @@ pub(crate) fn look_ups(input: &[u8], header: &Header, section: u64, names: &[u8]
 }
 
 /// Finds the hash table that is a section of type SHT_HASH, and the symbols of the section of type SHT_DYNSYM that it
-/// is linked to, once for many calls of `hash_look_up_of`. Where the string table `.dynstr` is refused, the call is
-/// OK, no symbol has a name, and `strings_status` says why. The call is refused with (in the order of the tests)
+/// is linked to, once for many calls of `hash_look_up_of`. If the string table `.dynstr` can't be read, the call is
+/// OK, no symbol has a name, and `strings_status` is the reason. Errors, in the order of the tests:
 /// `ShortSectionHeader`, `UnknownClass`, `SmallEntry`, `InvalidShType`, `DataRange`, `NotMultiple`, `Note32`,
 /// `ShortData`, `OtherData`.
 pub(crate) fn hash_open(input: &[u8], header: &Header, section: u64) -> Result<GnuTable, Error> {
@@ -648,8 +643,8 @@ pub(crate) fn hash_open(input: &[u8], header: &Header, section: u64) -> Result<G
 
 /// Looks a name up in a table that `hash_open` found, as `look_up` does in its section. Any table may be given: each
 /// call compares its ranges with the input, and does not read the count of its symbols. `symbol_of` gives the symbol,
-/// by the `symbols` of the table. The call is refused with (in the order of the tests) `TextUtf8`, `DataRange`,
-/// `ShortData`, `NotMultiple`, `HashData`, `ChainIndex`, `SymbolIndex`, `ChainSum`, `HashCycle`.
+/// by the `symbols` of the table. Errors, in the order of the tests: `TextUtf8`, `DataRange`, `ShortData`,
+/// `NotMultiple`, `HashData`, `ChainIndex`, `SymbolIndex`, `ChainSum`, `HashCycle`.
 pub(crate) fn hash_look_up_of(input: &[u8], table: &GnuTable, name: &[u8]) -> Result<LookUp, Error> {
     let mut out = LookUp::default();
     // SAFETY: see the head of this file.
@@ -658,10 +653,10 @@ pub(crate) fn hash_look_up_of(input: &[u8], table: &GnuTable, name: &[u8]) -> Re
     answered(status, out)
 }
 
-/// Checks a hash table of type SHT_HASH: where it is OK, no look-up is refused for the table, and each finds a symbol
-/// where one that is not local has the name. Call it once before many look-ups. A table that was made to be slow
-/// takes a few nanoseconds times the product of its buckets and chains. The call is refused with (in the order of the
-/// tests) `ShortSectionHeader`, `UnknownClass`, `SmallEntry`, `InvalidShType`, `DataRange`, `NotMultiple`, `Note32`,
+/// Checks a hash table of type SHT_HASH. If it is OK, look-ups return no error for the table, and each finds a symbol
+/// if one that is not local has the name. Call it once before many look-ups. A table that was made to be slow takes a
+/// few nanoseconds times the product of its buckets and chains. Errors, in the order of the tests:
+/// `ShortSectionHeader`, `UnknownClass`, `SmallEntry`, `InvalidShType`, `DataRange`, `NotMultiple`, `Note32`,
 /// `ShortData`, `OtherData`, `HashData`, `ChainIndex`, `SymbolIndex`, `ChainSum`, `HashCycle`, `HashMissing`.
 pub(crate) fn check_hash(input: &[u8], header: &Header, section: u64) -> Result<(), Error> {
     // SAFETY: see the head of this file.
@@ -670,10 +665,9 @@ pub(crate) fn check_hash(input: &[u8], header: &Header, section: u64) -> Result<
 }
 
 /// Looks a name up in GNU's hash table, a section of type 0x6ffffff6 (SHT_GNU_HASH), which holds the symbols from its
-/// first on that are defined and not local; else as `look_up`. The call is refused with (in the order of the tests)
-/// `TextUtf8`, `ShortSectionHeader`, `UnknownClass`, `SmallEntry`, `OtherData`, `DataRange`, `LinkShortTable`,
-/// `LinkBloomCount`, `InvalidShType`, `NotMultiple`, `Note32`, `ShortData`, `LinkChainIndex`, `LinkSymbolIndex`,
-/// `LinkChainData`.
+/// first on that are defined and not local; else as `look_up`. Errors, in the order of the tests: `TextUtf8`,
+/// `ShortSectionHeader`, `UnknownClass`, `SmallEntry`, `OtherData`, `DataRange`, `LinkShortTable`, `LinkBloomCount`,
+/// `InvalidShType`, `NotMultiple`, `Note32`, `ShortData`, `LinkChainIndex`, `LinkSymbolIndex`, `LinkChainData`.
 pub(crate) fn gnu_look_up(input: &[u8], header: &Header, section: u64, name: &[u8]) -> Result<LookUp, Error> {
     let mut out = LookUp::default();
     // SAFETY: see the head of this file.
@@ -682,10 +676,10 @@ pub(crate) fn gnu_look_up(input: &[u8], header: &Header, section: u64, name: &[u
     answered(status, out)
 }
 
-/// Looks many names up in GNU's hash table in one call, as `look_ups` does. Each record is refused with (in the order
-/// of the tests) `DataRange`, `TextUtf8`, `ShortSectionHeader`, `UnknownClass`, `SmallEntry`, `OtherData`,
-/// `LinkShortTable`, `LinkBloomCount`, `InvalidShType`, `NotMultiple`, `Note32`, `ShortData`, `LinkChainIndex`,
-/// `LinkSymbolIndex`, `LinkChainData`.
+/// Looks many names up in GNU's hash table in one call, as `look_ups` does. Errors of a record, in the order of the
+/// tests: `DataRange`, `TextUtf8`, `ShortSectionHeader`, `UnknownClass`, `SmallEntry`, `OtherData`, `LinkShortTable`,
+/// `LinkBloomCount`, `InvalidShType`, `NotMultiple`, `Note32`, `ShortData`, `LinkChainIndex`, `LinkSymbolIndex`,
+/// `LinkChainData`.
 pub(crate) fn gnu_look_ups(input: &[u8], header: &Header, section: u64, names: &[u8], ranges: &[Range],
     out: &mut [Answer]) {
     // SAFETY: see the head of this file.
@@ -694,9 +688,9 @@ pub(crate) fn gnu_look_ups(input: &[u8], header: &Header, section: u64, names: &
 }
 
 /// Finds GNU's hash table of a section of type 0x6ffffff6 (SHT_GNU_HASH), once for many calls of `gnu_look_up_of`;
-/// else as `hash_open`. The call is refused with (in the order of the tests) `ShortSectionHeader`, `UnknownClass`,
-/// `SmallEntry`, `OtherData`, `DataRange`, `LinkShortTable`, `LinkBloomCount`, `InvalidShType`, `NotMultiple`,
-/// `Note32`, `ShortData`.
+/// else as `hash_open`. Errors, in the order of the tests: `ShortSectionHeader`, `UnknownClass`, `SmallEntry`,
+/// `OtherData`, `DataRange`, `LinkShortTable`, `LinkBloomCount`, `InvalidShType`, `NotMultiple`, `Note32`,
+/// `ShortData`.
 pub(crate) fn gnu_open(input: &[u8], header: &Header, section: u64) -> Result<GnuTable, Error> {
     let mut out = GnuTable::default();
     // SAFETY: see the head of this file.
@@ -705,8 +699,8 @@ pub(crate) fn gnu_open(input: &[u8], header: &Header, section: u64) -> Result<Gn
 }
 
 /// Looks a name up in a table that `gnu_open` found, as `gnu_look_up` does in its section; else as `hash_look_up_of`.
-/// The call is refused with (in the order of the tests) `TextUtf8`, `DataRange`, `LinkShortTable`, `LinkBloomCount`,
-/// `NotMultiple`, `LinkChainIndex`, `LinkSymbolIndex`, `LinkChainData`.
+/// Errors, in the order of the tests: `TextUtf8`, `DataRange`, `LinkShortTable`, `LinkBloomCount`, `NotMultiple`,
+/// `LinkChainIndex`, `LinkSymbolIndex`, `LinkChainData`.
 pub(crate) fn gnu_look_up_of(input: &[u8], table: &GnuTable, name: &[u8]) -> Result<LookUp, Error> {
     let mut out = LookUp::default();
     // SAFETY: see the head of this file.
@@ -715,20 +709,19 @@ pub(crate) fn gnu_look_up_of(input: &[u8], table: &GnuTable, name: &[u8]) -> Res
     answered(status, out)
 }
 
-/// Checks GNU's hash table, in one pass over the table and one over the symbols and their names: where it is OK, no
-/// look-up is refused for the table, and each finds a symbol where one from the table's first on that is defined and
-/// not local has the name. The call is refused with (in the order of the tests) `ShortSectionHeader`, `UnknownClass`,
-/// `SmallEntry`, `OtherData`, `DataRange`, `LinkShortTable`, `LinkBloomCount`, `InvalidShType`, `NotMultiple`,
-/// `Note32`, `ShortData`, `LinkChainIndex`, `LinkSymbolIndex`, `LinkChainData`, `LinkMissing`.
+/// Checks GNU's hash table, in one pass over the table and one over the symbols and their names. If it is OK,
+/// look-ups return no error for the table, and each finds a symbol if one from the table's first on that is defined
+/// and not local has the name. Errors, in the order of the tests: `ShortSectionHeader`, `UnknownClass`, `SmallEntry`,
+/// `OtherData`, `DataRange`, `LinkShortTable`, `LinkBloomCount`, `InvalidShType`, `NotMultiple`, `Note32`,
+/// `ShortData`, `LinkChainIndex`, `LinkSymbolIndex`, `LinkChainData`, `LinkMissing`.
 pub(crate) fn check_gnu_hash(input: &[u8], header: &Header, section: u64) -> Result<(), Error> {
     // SAFETY: see the head of this file.
     let status = unsafe { xmas_elf_check_gnu_hash(input.as_ptr(), input.len(), header, section) };
     answered(status, ())
 }
 
-/// Writes the text of a status to the front of `out`, as much as fits, and answers the size of the whole text in
-/// bytes. The text is ASCII without a zero byte at its end. A status that is no refusal, such as 0, has an empty
-/// text.
+/// Writes the text of a status to the front of `out`, as much as fits, and returns the size of the whole text in
+/// bytes. The text is ASCII without a zero byte at its end. A status that is no error, such as 0, has an empty text.
 pub(crate) fn message(status: u32, out: &mut [u8]) -> usize {
     // SAFETY: see the head of this file.
     unsafe { xmas_elf_message(status, out.as_mut_ptr(), out.len()) }

@@ -7,12 +7,18 @@ use crate::{ffi, Answer, ByteRange, ElfFile, Error, GnuTable, LookUp, SectionHea
 ///
 /// It goes by the names in section `.dynstr`, and for symbols of a section of type SHT_SYMTAB in `.strtab`. In an
 /// undamaged file that is the string table that the symbols are linked to.
-#[derive(Clone, Copy, Debug)]
+#[derive(Clone, Copy)]
 pub struct HashTable<'f, 'a> {
     file: &'f ElfFile<'a>,
     section: u64,
     link: u64,
     gnu: bool,
+}
+
+impl core::fmt::Debug for HashTable<'_, '_> {
+    fn fmt(&self, f: &mut core::fmt::Formatter<'_>) -> core::fmt::Result {
+        f.debug_struct("HashTable").field("section", &self.section).field("is_gnu", &self.gnu).finish_non_exhaustive()
+    }
 }
 
 /// The gABI's hash table of a section with its symbols, found once: what [`HashTable::sysv_table`] gives, and
@@ -31,8 +37,8 @@ impl<'f, 'a> HashTable<'f, 'a> {
         self.gnu
     }
 
-    /// Whether look-ups can be relied on: then none is refused for the table, and each finds a symbol wherever one
-    /// that isn't local bears the name; in GNU's table one from its first on that is defined. To be called once for many look-ups.
+    /// Whether look-ups can be relied on: then none returns an error for the table, and each finds a symbol if one that
+    /// isn't local has the name; in GNU's table one from its first on that is defined. Call it once for many look-ups.
     pub fn check(&self) -> Result<(), Error> {
         let (input, header) = (self.file.input, &self.file.header);
         if self.gnu {
@@ -52,18 +58,18 @@ impl<'f, 'a> HashTable<'f, 'a> {
         }
     }
 
-    /// The gABI's table with its symbols, found once for many calls of [`ElfFile::hash_look_up_of`]. Refused for GNU's.
+    /// The gABI's table with its symbols, found once for many calls of [`ElfFile::hash_look_up_of`]. An error for GNU's.
     pub fn sysv_table(&self) -> Result<SysvTable, Error> {
         ffi::hash_open(self.file.input, &self.file.header, self.section).map(SysvTable)
     }
 
-    /// GNU's table with its symbols, found once for many calls of [`ElfFile::gnu_look_up_of`]. Refused for the gABI's.
+    /// GNU's table with its symbols, found once for many calls of [`ElfFile::gnu_look_up_of`]. An error for the gABI's.
     pub fn gnu_table(&self) -> Result<GnuTable, Error> {
         ffi::gnu_open(self.file.input, &self.file.header, self.section)
     }
 
     /// Many look-ups by one call, each for the name that is a range of `names`: as many as there are ranges and as
-    /// `out` has room for, which it answers. Each answer is that of `look_up_counted`; `DataRange` where the range
+    /// `out` has room for, and returns their number. Each result is that of `look_up_counted`; `DataRange` if the range
     /// passes the end of `names`, and `TextUtf8` where it isn't UTF-8.
     ///
     /// The table and its symbols are found once, so this is the faster way for many names. `names` may be

@@ -1,16 +1,25 @@
-//! Sections, segments and notes, each with the file that it belongs to.
+//! Sections and segments, each with the file that it belongs to.
 
 use crate::batch::Batch;
 use crate::ffi;
-use crate::{ByteRange, Dynamic, ElfFile, Entry, Error, HashTable, Name, ProgramHeader, Relocation, SectionHeader, Symbol, SymbolTable, Symbols};
+use crate::constants::SHT_RELR;
+use crate::{ByteRange, Dynamic, ElfFile, Entry, Error, HashTable, Name, Notes, ProgramHeader, Relocation, SectionHeader, Symbol, SymbolTable, Symbols};
+use core::fmt;
 use core::ops::Deref;
 
 /// A section; the fields of its header are its own.
-#[derive(Clone, Copy, Debug)]
+#[derive(Clone, Copy)]
 pub struct Section<'f, 'a> {
     pub(crate) file: &'f ElfFile<'a>,
     pub(crate) index: u64,
     pub(crate) header: SectionHeader,
+}
+
+impl fmt::Debug for Section<'_, '_> {
+    fn fmt(&self, f: &mut fmt::Formatter<'_>) -> fmt::Result {
+        let name = self.name().unwrap_or_default();
+        f.debug_struct("Section").field("index", &self.index).field("name", &name).field("header", &self.header).finish_non_exhaustive()
+    }
 }
 
 impl Deref for Section<'_, '_> {
@@ -27,31 +36,43 @@ impl<'f, 'a> Section<'f, 'a> {
         self.index
     }
 
-    /// Whether the header makes sense: whether the reader knows its type.
+    /// Whether the header makes sense: whether the reader or this crate knows its type.
     pub fn check(&self) -> Result<(), Error> {
-        ffi::check_section(self.file.input, &self.file.header, self.index)
+        match ffi::check_section(self.file.input, &self.file.header, self.index) {
+            Err(Error::InvalidShType) if self.header.type_ == SHT_RELR => Ok(()),
+            checked => checked,
+        }
     }
 
-    /// The name of the section. Refused for type Null and for types that the reader doesn't know: see `raw_name`.
+    /// The name of the section, whatever its type.
     pub fn name(&self) -> Result<&'a str, Error> {
-        let range = ffi::section_name(self.file.input, &self.file.header, self.index)?;
+        let range = match ffi::section_name(self.file.input, &self.file.header, self.index) {
+            // It is an error only for the type.
+            Err(Error::NullName | Error::InvalidShType) => {
+                let names = ffi::names(self.file.input, &self.file.header)?;
+                ffi::text(self.file.input, &names, u64::from(self.header.name))?
+            }
+            named => named?,
+        };
         Ok(self.file.text(range))
     }
 
-    /// The name of the section, whatever its type, as RELR.
-    pub fn raw_name(&self) -> Result<&'a str, Error> {
-        let names = ffi::names(self.file.input, &self.file.header)?;
-        let range = ffi::text(self.file.input, &names, u64::from(self.header.name))?;
-        Ok(self.file.text(range))
-    }
-
-    /// The data of the section. For type NoBits these bytes belong to other sections, or to none.
+    /// The data of the section. An error for type Null and for types that neither the reader nor this crate knows; for type
+    /// NoBits these bytes belong to other sections, or to none.
     pub fn data(&self) -> Result<&'a [u8], Error> {
         Ok(self.file.bytes(self.data_range()?))
     }
 
     fn data_range(&self) -> Result<ByteRange, Error> {
-        ffi::section_data(self.file.input, &self.file.header, self.index)
+        match ffi::section_data(self.file.input, &self.file.header, self.index) {
+            // The archive gives the addresses of this type, and not the data.
+            Err(Error::InvalidShType) if self.header.type_ == SHT_RELR => {
+                let end = self.header.offset.checked_add(self.header.size).ok_or(Error::DataRange)?;
+                let fits = end <= self.file.input.len() as u64;
+                fits.then_some(ByteRange { offset: self.header.offset, size: self.header.size }).ok_or(Error::DataRange)
+            }
+            range => range,
+        }
     }
 
     /// The symbols of the section, from index 0 on; none where it holds others.
@@ -59,13 +80,13 @@ impl<'f, 'a> Section<'f, 'a> {
         Symbols::new(self.file, self.index, u64::from(self.header.link))
     }
 
-    /// The symbol at an index; refused where the section has none there.
+    /// The symbol at an index; an error if the section has none there.
     pub fn symbol(&self, index: u64) -> Result<Symbol<'a>, Error> {
         Symbol::at(self.file, self.index, u64::from(self.header.link), index)
     }
 
     /// Puts the symbols from an index on to the front of `out`, as many as it has room for or all that follow, and
-    /// says how many. Refused where there is none at that index. It costs less than the iterator.
+    /// says how many. An error if there is none at that index. It costs less than the iterator.
     pub fn symbols_from(&self, first: u64, out: &mut [Entry]) -> Result<usize, Error> {
         ffi::symbols(self.file.input, &self.file.header, self.index, first, out).map(|count| count as usize)
     }
@@ -92,13 +113,13 @@ impl<'f, 'a> Section<'f, 'a> {
         Batch::<Relocation, 64>::items(move |first, out| ffi::relocations(file.input, &file.header, section, first, out))
     }
 
-    /// The relocation at an index; refused where the section has none there.
+    /// The relocation at an index; an error if the section has none there.
     pub fn relocation(&self, index: u64) -> Result<Relocation, Error> {
         ffi::relocation(self.file.input, &self.file.header, self.index, index)
     }
 
     /// Puts the relocations from an index on to the front of `out`, as many as it has room for or all that follow, and
-    /// says how many. Refused where there is none at that index.
+    /// says how many. An error if there is none at that index.
     pub fn relocations_from(&self, first: u64, out: &mut [Relocation]) -> Result<usize, Error> {
         ffi::relocations(self.file.input, &self.file.header, self.index, first, out).map(|count| count as usize)
     }
@@ -109,19 +130,19 @@ impl<'f, 'a> Section<'f, 'a> {
         Batch::<u64, 64>::items(move |first, out| ffi::packed_relocations(file.input, &file.header, section, first, out))
     }
 
-    /// The dynamic entries of the section, those behind the entry of tag 0 too; none where it holds others.
+    /// The dynamic entries of the section, those after the entry of tag 0 too; none if it has other data.
     pub fn dynamic(&self) -> impl Iterator<Item = Dynamic> + 'f {
         let (file, section) = (self.file, self.index);
         Batch::<Dynamic, 32>::items(move |first, out| ffi::dynamics(file.input, &file.header, section, first, out))
     }
 
-    /// The dynamic entry at an index; refused where the section has none there.
+    /// The dynamic entry at an index; an error if the section has none there.
     pub fn dynamic_entry(&self, index: u64) -> Result<Dynamic, Error> {
         ffi::dynamic(self.file.input, &self.file.header, self.index, index)
     }
 
     /// Puts the dynamic entries from an index on to the front of `out`, as many as it has room for or all that follow,
-    /// and says how many. Refused where there is none at that index.
+    /// and says how many. An error if there is none at that index.
     pub fn dynamic_from(&self, first: u64, out: &mut [Dynamic]) -> Result<usize, Error> {
         ffi::dynamics(self.file.input, &self.file.header, self.index, first, out).map(|count| count as usize)
     }
@@ -133,22 +154,49 @@ impl<'f, 'a> Section<'f, 'a> {
 
     /// The notes that the data of the section is.
     pub fn notes(&self) -> Result<Notes<'f, 'a>, Error> {
-        Ok(Notes { file: self.file, rest: self.data_range()?, align: self.header.align })
+        Ok(Notes::new(self.file, self.data_range()?, self.header.align))
     }
 }
 
+// How many of `count` records can be read, of a table that is cut off somewhere: all up to one.
+fn readable(count: u64, is_read: impl Fn(u64) -> bool) -> u64 {
+    if count == 0 || is_read(count - 1) {
+        return count;
+    }
+    let (mut read, mut unread) = (0, count - 1);
+    while read < unread {
+        let middle = read + (unread - read) / 2;
+        if is_read(middle) {
+            read = middle + 1;
+        } else {
+            unread = middle;
+        }
+    }
+    read
+}
+
 /// The sections of a file in order, which it asks the archive for by many at once.
-#[derive(Clone, Debug)]
+#[derive(Clone)]
 pub struct Sections<'f, 'a> {
     file: &'f ElfFile<'a>,
+    count: u64,
     batch: Batch<SectionHeader, 16>,
+}
+
+impl fmt::Debug for Sections<'_, '_> {
+    fn fmt(&self, f: &mut fmt::Formatter<'_>) -> fmt::Result {
+        f.debug_struct("Sections").field("left", &self.len()).finish_non_exhaustive()
+    }
 }
 
 impl<'f, 'a> Sections<'f, 'a> {
     pub(crate) fn new(file: &'f ElfFile<'a>) -> Sections<'f, 'a> {
-        Sections { file, batch: Batch::new() }
+        let count = readable(file.section_count(), |index| file.section(index).is_ok());
+        Sections { file, count, batch: Batch::new() }
     }
 }
+
+impl ExactSizeIterator for Sections<'_, '_> {}
 
 impl<'f, 'a> Iterator for Sections<'f, 'a> {
     type Item = Section<'f, 'a>;
@@ -159,14 +207,62 @@ impl<'f, 'a> Iterator for Sections<'f, 'a> {
         let (index, header) = self.batch.next(|first, out| ffi::sections(file.input, &file.header, first, out))?;
         Some(Section { file, index, header })
     }
+
+    fn size_hint(&self) -> (usize, Option<usize>) {
+        self.batch.left(self.count)
+    }
+}
+
+/// The segments of a file in order, which it asks the archive for by many at once.
+#[derive(Clone)]
+pub struct Segments<'f, 'a> {
+    file: &'f ElfFile<'a>,
+    count: u64,
+    batch: Batch<ProgramHeader, 8>,
+}
+
+impl fmt::Debug for Segments<'_, '_> {
+    fn fmt(&self, f: &mut fmt::Formatter<'_>) -> fmt::Result {
+        f.debug_struct("Segments").field("left", &self.len()).finish_non_exhaustive()
+    }
+}
+
+impl<'f, 'a> Segments<'f, 'a> {
+    pub(crate) fn new(file: &'f ElfFile<'a>) -> Segments<'f, 'a> {
+        let count = readable(file.segment_count().into(), |index| file.segment(index as u32).is_ok());
+        Segments { file, count, batch: Batch::new() }
+    }
+}
+
+impl ExactSizeIterator for Segments<'_, '_> {}
+
+impl<'f, 'a> Iterator for Segments<'f, 'a> {
+    type Item = Segment<'f, 'a>;
+
+    #[inline]
+    fn next(&mut self) -> Option<Segment<'f, 'a>> {
+        let file = self.file;
+        let (index, header) = self.batch.next(|first, out| ffi::segments(file.input, &file.header, first, out))?;
+        Some(Segment { file, index: index as u32, header })
+    }
+
+    fn size_hint(&self) -> (usize, Option<usize>) {
+        self.batch.left(self.count)
+    }
 }
 
 /// A segment; the fields of its header are its own.
-#[derive(Clone, Copy, Debug)]
+#[derive(Clone, Copy)]
 pub struct Segment<'f, 'a> {
     pub(crate) file: &'f ElfFile<'a>,
     pub(crate) index: u32,
     pub(crate) header: ProgramHeader,
+}
+
+impl fmt::Debug for Segment<'_, '_> {
+    fn fmt(&self, f: &mut fmt::Formatter<'_>) -> fmt::Result {
+        f.debug_struct("Segment").field("index", &self.index).field("header", &self.header).finish_non_exhaustive()
+    }
 }
 
 impl Deref for Segment<'_, '_> {
@@ -178,6 +274,11 @@ impl Deref for Segment<'_, '_> {
 }
 
 impl<'f, 'a> Segment<'f, 'a> {
+    /// The index of the segment.
+    pub fn index(&self) -> u32 {
+        self.index
+    }
+
     /// Whether the header makes sense over the input: `PhSizeMismatch`, `EntryPointRange` where the segment doesn't end before
     /// the input does, `InvalidPhType`, `ShLibUsed`, and `BadAlign` where address and offset differ modulo the alignment.
     pub fn check(&self) -> Result<(), Error> {
@@ -195,45 +296,6 @@ impl<'f, 'a> Segment<'f, 'a> {
 
     /// The notes that the data of the segment is.
     pub fn notes(&self) -> Result<Notes<'f, 'a>, Error> {
-        Ok(Notes { file: self.file, rest: self.data_range()?, align: self.header.align })
-    }
-}
-
-/// A note.
-#[derive(Clone, Copy, Debug)]
-pub struct Note<'a> {
-    /// What the description means, by the name.
-    pub type_: u32,
-    /// The name, as many bytes as the note says: with the zero byte that ends it.
-    pub name: &'a [u8],
-    /// The description.
-    pub desc: &'a [u8],
-}
-
-/// The notes of a section or a segment in order. Where what is left holds no whole note, the last item is
-/// the refusal.
-#[derive(Clone, Copy)]
-pub struct Notes<'f, 'a> {
-    file: &'f ElfFile<'a>,
-    rest: ByteRange,
-    align: u64,
-}
-
-impl<'a> Iterator for Notes<'_, 'a> {
-    type Item = Result<Note<'a>, Error>;
-
-    fn next(&mut self) -> Option<Self::Item> {
-        match ffi::note(self.file.input, &self.file.header, &self.rest, self.align) {
-            Ok(note) => {
-                self.rest = note.rest;
-                let (name, desc) = (self.file.bytes(note.name), self.file.bytes(note.desc));
-                Some(Ok(Note { type_: note.type_, name, desc }))
-            }
-            Err(Error::NoRecord) => None,
-            Err(error) => {
-                self.rest = ByteRange::default();
-                Some(Err(error))
-            }
-        }
+        Ok(Notes::new(self.file, self.data_range()?, self.header.align))
     }
 }

@@ -1,11 +1,11 @@
-//! The text of a refusal, which the archive has.
+//! The text of an error, which the archive has.
 
 use crate::error::LONGEST;
 use crate::{ffi, Error};
 use core::fmt;
 use core::ops::Deref;
 
-/// The text of a refusal.
+/// The text of an error.
 #[derive(Clone, Copy)]
 pub struct Message {
     bytes: [u8; LONGEST],
@@ -13,7 +13,7 @@ pub struct Message {
 }
 
 impl Error {
-    /// The text of the refusal.
+    /// The text of the error.
     pub fn message(&self) -> Message {
         let mut bytes = [0; LONGEST];
         let size = ffi::message(self.status(), &mut bytes);

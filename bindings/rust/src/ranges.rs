@@ -1,4 +1,4 @@
-//! What the structs of the archive answer: ranges, and the names and look-ups that have a status of their own.
+//! What the structs of the archive contain: ranges, and the names and look-ups that have a status of their own.
 
 use crate::{Answer, ByteRange, Error, LookUp, Name, SymbolTable};
 
@@ -9,13 +9,13 @@ impl From<core::ops::Range<usize>> for ByteRange {
 }
 
 impl ByteRange {
-    // The bytes of a range that the archive answered, which lies in the input.
+    // The bytes of a range that the archive returned, which lies in the input.
     pub(crate) fn bytes_in(self, input: &[u8]) -> &[u8] {
         let start = self.offset as usize;
         input.get(start..start.saturating_add(self.size as usize)).unwrap_or_default()
     }
 
-    // The text of a range that the archive answered as one.
+    // The text of a range that the archive returned as one.
     pub(crate) fn text_in(self, input: &[u8]) -> &str {
         core::str::from_utf8(self.bytes_in(input)).unwrap_or_default()
     }
@@ -29,7 +29,7 @@ pub(crate) fn checked(status: u32) -> Result<(), Error> {
 }
 
 impl Name {
-    /// The range of the name in the file, without the zero byte that ends it, or why it is refused.
+    /// The range of the name in the file, without the zero byte that ends it, or its error.
     pub fn range(&self) -> Result<ByteRange, Error> {
         checked(self.status).map(|()| self.range)
     }
@@ -48,7 +48,7 @@ impl SymbolTable {
 }
 
 impl Answer {
-    /// The answer of the look-up, or why it is refused.
+    /// The result of the look-up, or its error.
     pub fn look_up(&self) -> Result<LookUp, Error> {
         let Answer { status, found, index, looked_at } = *self;
         checked(status).map(|()| LookUp { found, index, looked_at })

@@ -1,4 +1,4 @@
-//! The structs of the archive. Written by tools/exports.py.
+//! The structs of the archive. Written by tools/exports/declarations.py.
 
 /// The ELF header of a file (gABI, "ELF Header").
 #[repr(C)]
@@ -54,7 +54,7 @@ pub(crate) struct Counts {
     pub(crate) segments: u32,
 }
 
-/// A byte range of the input: `input[offset .. offset + size]`. A range that a call answers lies in the input.
+/// A byte range of the input: `input[offset .. offset + size]`. A range that a call returns lies in the input.
 #[repr(C)]
 #[derive(Clone, Copy, Debug, Default, PartialEq, Eq)]
 pub struct Range {
@@ -68,7 +68,7 @@ pub struct Range {
 #[repr(C)]
 #[derive(Clone, Copy, Debug, Default, PartialEq, Eq)]
 pub struct Name {
-    /// The bytes of the name without the zero byte that ends it; offset and size are 0 where the name is refused.
+    /// The bytes of the name without the zero byte that ends it; offset and size are 0 if the name can't be read.
     pub(crate) range: Range,
     /// The status of this name.
     pub(crate) status: u32,
@@ -147,7 +147,7 @@ pub struct Entry {
 pub struct SymbolTable {
     /// The bytes of the symbols.
     pub(crate) symbols: Range,
-    /// The bytes of the string table of their names; offset and size are 0 where it is refused.
+    /// The bytes of the string table of their names; offset and size are 0 if it can't be read.
     pub(crate) strings: Range,
     /// The number of symbols.
     pub(crate) count: u64,
@@ -199,7 +199,7 @@ pub(crate) struct NoteRange {
     pub(crate) type_: u32,
 }
 
-/// The answer of a look-up.
+/// The result of a look-up.
 #[repr(C)]
 #[derive(Clone, Copy, Debug, Default, PartialEq, Eq)]
 pub struct LookUp {
@@ -211,7 +211,7 @@ pub struct LookUp {
     pub looked_at: u32,
 }
 
-/// The answer of one look-up of many.
+/// The result of one look-up of many.
 #[repr(C)]
 #[derive(Clone, Copy, Debug, Default, PartialEq, Eq)]
 pub struct Answer {
@@ -250,7 +250,7 @@ pub struct Version {
     pub(crate) name_status: u32,
     /// The status of the library's name.
     pub(crate) file_status: u32,
-    /// What bears the number: 0 nothing, 1 a definition of the file, 2 a need.
+    /// What has the number: 0 nothing, 1 a definition of the file, 2 a need.
     pub(crate) kind: u32,
     /// The number of the version, by which symbols refer to it (vd_ndx; bits 0 to 14 of a symbol's number and of
     /// vna_other): 0 is local, 1 is global.

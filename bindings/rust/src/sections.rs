@@ -40,6 +40,8 @@ pub enum ShType {
     Group,
     /// `SHT_SYMTAB_SHNDX`: section indices that need more than 16 bits.
     SymTabShIndex,
+    /// `SHT_RELR`: relative relocations.
+    Relr,
     /// `SHT_LOOS` to `SHT_HIOS` (0x60000000 to 0x6fffffff), `SHT_GNU_HASH` among them.
     OsSpecific(u32),
     /// `SHT_LOPROC` to `SHT_HIPROC` (0x70000000 to 0x7fffffff).
@@ -49,7 +51,7 @@ pub enum ShType {
 }
 
 impl SectionHeader {
-    /// The type of the section; `InvalidShType` for a number that has no meaning here, as `SHT_RELR`.
+    /// The type of the section; `InvalidShType` for a number that has no meaning.
     pub fn get_type(&self) -> Result<ShType, Error> {
         Ok(match self.type_ {
             SHT_NULL => ShType::Null,
@@ -69,6 +71,7 @@ impl SectionHeader {
             SHT_PREINIT_ARRAY => ShType::PreInitArray,
             SHT_GROUP => ShType::Group,
             SHT_SYMTAB_SHNDX => ShType::SymTabShIndex,
+            SHT_RELR => ShType::Relr,
             other @ 0x6000_0000..=0x6fff_ffff => ShType::OsSpecific(other),
             other @ 0x7000_0000..=0x7fff_ffff => ShType::ProcessorSpecific(other),
             other @ 0x8000_0000.. => ShType::User(other),

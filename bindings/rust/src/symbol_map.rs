@@ -1,7 +1,7 @@
 //! The symbol that an address lies in.
 
 use crate::constants::*;
-use crate::{ElfFile, Entry, Section, Symbol};
+use crate::{ElfFile, Entry, Symbol, SymbolTable};
 use alloc::vec::Vec;
 
 // A symbol that addresses lie in: `first ..= last`.
@@ -16,14 +16,21 @@ struct Extent {
 
 /// The functions and objects of a file by their addresses.
 ///
-/// It has the symbols of the section of type SHT_SYMTAB, or else of SHT_DYNSYM, that are defined in a section and are
-/// functions, objects or of no type but with a size. A symbol has the addresses `value .. value + size`, and one of size
+/// It has the symbols of the section of type SHT_SYMTAB, or else of SHT_DYNSYM, or else of the dynamic segment, that are
+/// defined in a section and are functions, objects or of no type but with a size. A symbol has the addresses `value .. value + size`, and one of size
 /// 0 its value alone. In an object file (ET_REL) these are offsets in sections, which the map does not keep apart.
-#[derive(Clone, Debug)]
+#[derive(Clone)]
 pub struct SymbolMap<'f, 'a> {
-    table: Option<Section<'f, 'a>>,
+    file: &'f ElfFile<'a>,
+    table: Option<SymbolTable>,
     // By address; of those at one address the smaller are later, and of equal ones the first of the table.
     extents: Vec<Extent>,
+}
+
+impl core::fmt::Debug for SymbolMap<'_, '_> {
+    fn fmt(&self, f: &mut core::fmt::Formatter<'_>) -> core::fmt::Result {
+        f.debug_struct("SymbolMap").field("len", &self.extents.len()).finish_non_exhaustive()
+    }
 }
 
 fn extent(index: u64, entry: &Entry) -> Option<Extent> {
@@ -40,10 +47,11 @@ fn extent(index: u64, entry: &Entry) -> Option<Extent> {
 impl<'f, 'a> SymbolMap<'f, 'a> {
     pub(crate) fn new(file: &'f ElfFile<'a>) -> SymbolMap<'f, 'a> {
         let of_type = |type_| file.sections().find(|section| section.type_ == type_);
-        let table = of_type(SHT_SYMTAB).or_else(|| of_type(SHT_DYNSYM));
-        let mut extents: Vec<Extent> = match &table {
+        let section = of_type(SHT_SYMTAB).or_else(|| of_type(SHT_DYNSYM));
+        let table = section.map_or_else(|| file.dynamic_symbol_table(), |section| section.symbol_table()).ok();
+        let mut extents: Vec<Extent> = match section {
             Some(section) => section.symbols().filter_map(|symbol| extent(symbol.index(), &symbol)).collect(),
-            None => Vec::new(),
+            None => file.dynamic_symbols().into_iter().flatten().filter_map(|symbol| extent(symbol.index(), &symbol)).collect(),
         };
         extents.sort_unstable_by_key(|one| (one.first, core::cmp::Reverse((one.last, one.index))));
         let mut reach = 0;
@@ -51,7 +59,7 @@ impl<'f, 'a> SymbolMap<'f, 'a> {
             reach = one.last.max(reach);
             one.reach = reach;
         }
-        SymbolMap { table, extents }
+        SymbolMap { file, table, extents }
     }
 
     /// The number of symbols in the map.
@@ -69,6 +77,6 @@ impl<'f, 'a> SymbolMap<'f, 'a> {
         let after = self.extents.partition_point(|one| one.first <= address);
         let before = self.extents[..after].iter().rev();
         let found = before.take_while(|one| one.reach >= address).find(|one| one.last >= address)?;
-        self.table.as_ref()?.symbol(found.index).ok()
+        Symbol::of_table(self.file, self.table.as_ref()?, found.index).ok()
     }
 }

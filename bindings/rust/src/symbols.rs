@@ -1,8 +1,11 @@
-//! The symbols of a section, and those of the dynamic segment.
+//! The symbols of a section.
 
 use crate::batch::Batch;
 use crate::ffi;
-use crate::{ByteRange, ElfFile, Entry, Error, Name};
+#[cfg(feature = "alloc")]
+use crate::{ranges::checked, SymbolTable};
+use crate::{ByteRange, ElfFile, Entry, Error};
+use core::fmt;
 use core::ops::Deref;
 
 // The data of a string table.
@@ -11,11 +14,17 @@ fn strings_of<'a>(file: &ElfFile<'a>, section: u64) -> Result<&'a [u8], Error> {
 }
 
 /// A symbol; its numbers are its own.
-#[derive(Clone, Copy, Debug)]
+#[derive(Clone, Copy)]
 pub struct Symbol<'a> {
     strings: Result<&'a [u8], Error>,
     index: u64,
     entry: Entry,
+}
+
+impl fmt::Debug for Symbol<'_> {
+    fn fmt(&self, f: &mut fmt::Formatter<'_>) -> fmt::Result {
+        f.debug_struct("Symbol").field("index", &self.index).field("name", &self.name()).field("entry", &self.entry).finish_non_exhaustive()
+    }
 }
 
 impl Deref for Symbol<'_> {
@@ -33,6 +42,13 @@ impl<'a> Symbol<'a> {
         Ok(Symbol { strings: strings_of(file, link), index, entry })
     }
 
+    // The symbol at an index of a table.
+    #[cfg(feature = "alloc")]
+    pub(crate) fn of_table(file: &ElfFile<'a>, table: &SymbolTable, index: u64) -> Result<Symbol<'a>, Error> {
+        let entry = ffi::symbol_of(file.input, table, index)?;
+        Ok(Symbol { strings: checked(table.strings_status).map(|()| file.bytes(table.strings)), index, entry })
+    }
+
     /// The index of the symbol in its table.
     pub fn index(&self) -> u64 {
         self.index
@@ -43,13 +59,13 @@ impl<'a> Symbol<'a> {
         Ok(core::str::from_utf8(self.name_bytes()?).unwrap_or_default())
     }
 
-    /// The bytes of the name, which are UTF-8; refused as `name` is. Rust doesn't test them again.
+    /// The bytes of the name, which are UTF-8; the errors are those of `name`. Rust doesn't test them again.
     pub fn name_bytes(&self) -> Result<&'a [u8], Error> {
         let (strings, range) = (self.strings?, self.name_range()?);
         Ok(range.bytes_in(strings))
     }
 
-    /// Where the name stands in the string table that the symbol's section is linked to; refused as `name` is.
+    /// Where the name is in the string table that the symbol's section is linked to; the errors are those of `name`.
     pub fn name_range(&self) -> Result<ByteRange, Error> {
         let strings = self.strings?;
         let whole = ByteRange { offset: 0, size: strings.len() as u64 };
@@ -58,19 +74,29 @@ impl<'a> Symbol<'a> {
 }
 
 /// The symbols of a section in order, which it asks the archive for by many at once.
-#[derive(Clone, Debug)]
+#[derive(Clone)]
 pub struct Symbols<'f, 'a> {
     file: &'f ElfFile<'a>,
     section: u64,
+    count: u64,
     strings: Result<&'a [u8], Error>,
     batch: Batch<Entry, 64>,
 }
 
 impl<'f, 'a> Symbols<'f, 'a> {
     pub(crate) fn new(file: &'f ElfFile<'a>, section: u64, link: u64) -> Symbols<'f, 'a> {
-        Symbols { file, section, strings: strings_of(file, link), batch: Batch::new() }
+        let count = ffi::symbols_open(file.input, &file.header, section).map_or(0, |table| table.count);
+        Symbols { file, section, count, strings: strings_of(file, link), batch: Batch::new() }
     }
 }
+
+impl fmt::Debug for Symbols<'_, '_> {
+    fn fmt(&self, f: &mut fmt::Formatter<'_>) -> fmt::Result {
+        f.debug_struct("Symbols").field("left", &self.len()).finish_non_exhaustive()
+    }
+}
+
+impl ExactSizeIterator for Symbols<'_, '_> {}
 
 impl<'a> Iterator for Symbols<'_, 'a> {
     type Item = Symbol<'a>;
@@ -81,66 +107,8 @@ impl<'a> Iterator for Symbols<'_, 'a> {
         let (index, entry) = self.batch.next(|first, out| ffi::symbols(file.input, &file.header, section, first, out))?;
         Some(Symbol { strings: self.strings, index, entry })
     }
-}
 
-/// A symbol of the dynamic segment; its numbers are its own.
-#[derive(Clone, Copy, Debug)]
-pub struct DynamicSymbol<'a> {
-    name: Result<&'a [u8], Error>,
-    index: u64,
-    entry: Entry,
-}
-
-impl Deref for DynamicSymbol<'_> {
-    type Target = Entry;
-
-    fn deref(&self) -> &Entry {
-        &self.entry
-    }
-}
-
-impl<'a> DynamicSymbol<'a> {
-    /// The index of the symbol among those of the dynamic segment.
-    pub fn index(&self) -> u64 {
-        self.index
-    }
-
-    /// The name of the symbol, in the string table of the dynamic segment.
-    pub fn name(&self) -> Result<&'a str, Error> {
-        Ok(core::str::from_utf8(self.name?).unwrap_or_default())
-    }
-
-    /// The bytes of the name, which are UTF-8; refused as `name` is. Rust doesn't test them again.
-    pub fn name_bytes(&self) -> Result<&'a [u8], Error> {
-        self.name
-    }
-}
-
-// Each call of the archive counts the symbols anew, so many are asked for at once.
-const ROOM: usize = 256;
-
-/// The symbols of the dynamic segment in order, which it asks the archive for by many at once.
-#[derive(Clone, Debug)]
-pub struct DynamicSymbols<'f, 'a> {
-    file: &'f ElfFile<'a>,
-    entries: Batch<Entry, ROOM>,
-    names: Batch<Name, ROOM>,
-}
-
-impl<'f, 'a> DynamicSymbols<'f, 'a> {
-    pub(crate) fn new(file: &'f ElfFile<'a>) -> DynamicSymbols<'f, 'a> {
-        DynamicSymbols { file, entries: Batch::new(), names: Batch::new() }
-    }
-}
-
-impl<'a> Iterator for DynamicSymbols<'_, 'a> {
-    type Item = DynamicSymbol<'a>;
-
-    #[inline]
-    fn next(&mut self) -> Option<DynamicSymbol<'a>> {
-        let file = self.file;
-        let (index, entry) = self.entries.next(|first, out| ffi::dynamic_symbols(file.input, &file.header, first, out))?;
-        let (_, name) = self.names.next(|first, out| ffi::dynamic_symbol_names(file.input, &file.header, first, out))?;
-        Some(DynamicSymbol { name: name.range().map(|range| file.bytes(range)), index, entry })
+    fn size_hint(&self) -> (usize, Option<usize>) {
+        self.batch.left(self.count)
     }
 }

@@ -5,6 +5,7 @@ use crate::constants::*;
 use crate::records::{Answer, Dynamic, Entry, FoundSymbol, GnuTable, Header, Name, ProgramHeader, Range, Relocation, SectionHeader, SymbolTable, Version};
 use crate::{ffi, Error};
 extern crate std;
+use std::string::ToString;
 use std::vec::Vec;
 
 fn whole() -> Vec<u8> {
@@ -255,8 +256,11 @@ fn symbols_by_names_and_versions() {
     assert_eq!(ffi::find_symbol(&input, &header, b"memcpy", b"\xff"), Err(Error::TextUtf8));
     assert_eq!(ffi::find_symbol(&[], &header, b"", b""), Err(Error::LinkNoDynamic));
     let file = crate::ElfFile::new(&input).expect("an ELF file");
-    assert_eq!(file.find_symbol("memcpy", None), Ok(Some((newest.index, newest.symbol))));
-    assert_eq!(file.find_symbol("memcpy", Some("GLIBC_2.2.5")), Ok(Some((older.index, older.symbol))));
+    for (version, wanted, shown) in [(None, newest, "@@GLIBC_2.14"), (Some("GLIBC_2.2.5"), older, "@GLIBC_2.2.5")] {
+        let found = file.find_symbol("memcpy", version).expect("not refused").expect("a symbol");
+        assert_eq!((found.index(), *found, found.name()), (wanted.index.into(), wanted.symbol, Ok("memcpy")));
+        assert!(found.version().is_ok_and(|version| version.is_some_and(|version| version.to_string() == shown)));
+    }
     assert_eq!(file.find_symbol("no_such_name", None), Ok(None));
 }
 

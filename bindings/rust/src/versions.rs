@@ -2,8 +2,9 @@
 
 use crate::ranges::checked;
 use crate::{ElfFile, Error, Version};
+use core::fmt;
 
-/// What bears the number of a version.
+/// What has the number of a version.
 #[derive(Clone, Copy, Debug, PartialEq, Eq)]
 pub enum VersionKind {
     /// Nothing: the symbol is local (0) or global (1), or the file has no such version.
@@ -14,15 +15,36 @@ pub enum VersionKind {
     Needed,
 }
 
-/// The version of a symbol, or one that a file defines or needs.
-#[derive(Clone, Copy, Debug, PartialEq, Eq)]
+/// The version of a symbol, or one that a file defines or needs. Its text is what follows a symbol's name: `@@V` for the
+/// default version, `@V` for others, and nothing if nothing has the number.
+#[derive(Clone, Copy, PartialEq, Eq)]
 pub struct SymbolVersion<'a> {
     version: Version,
     input: &'a [u8],
 }
 
+impl fmt::Display for SymbolVersion<'_> {
+    fn fmt(&self, f: &mut fmt::Formatter<'_>) -> fmt::Result {
+        let mark = if self.is_default() { "@@" } else { "@" };
+        match self.name() {
+            Ok(None) => Ok(()),
+            Ok(Some(name)) => write!(f, "{mark}{name}"),
+            Err(error) => write!(f, "{mark}<{error}>"),
+        }
+    }
+}
+
+impl fmt::Debug for SymbolVersion<'_> {
+    fn fmt(&self, f: &mut fmt::Formatter<'_>) -> fmt::Result {
+        let (kind, library) = (self.kind(), self.library().ok().flatten());
+        let mut shown = f.debug_struct("SymbolVersion");
+        shown.field("number", &self.number()).field("kind", &kind).field("name", &self.name()).field("library", &library);
+        shown.field("is_hidden", &self.is_hidden()).finish_non_exhaustive()
+    }
+}
+
 impl<'a> SymbolVersion<'a> {
-    /// What bears the number.
+    /// What has the number.
     pub fn kind(&self) -> VersionKind {
         match self.version.kind {
             1 => VersionKind::Defined,
@@ -41,6 +63,11 @@ impl<'a> SymbolVersion<'a> {
         self.version.hidden != 0
     }
 
+    /// Whether a reference without a version gets the symbol: the file defines the version, and it isn't hidden.
+    pub fn is_default(&self) -> bool {
+        self.kind() == VersionKind::Defined && !self.is_hidden()
+    }
+
     /// The flags of the definition or the need (vd_flags, vna_flags), or 0.
     pub fn flags(&self) -> u16 {
         self.version.flags as u16
@@ -56,7 +83,7 @@ impl<'a> SymbolVersion<'a> {
         self.version.hash
     }
 
-    /// The name of the version, if anything bears the number.
+    /// The name of the version, if anything has the number.
     pub fn name(&self) -> Result<Option<&'a str>, Error> {
         checked(self.version.name_status)?;
         Ok((self.kind() != VersionKind::Unnamed).then(|| self.version.name.text_in(self.input)))
@@ -70,7 +97,7 @@ impl<'a> SymbolVersion<'a> {
 }
 
 impl<'a> ElfFile<'a> {
-    /// The version that a call for many has put there, or why it is refused.
+    /// The version that a call for many has put there, or its error.
     pub fn version_of(&self, version: &Version) -> Result<SymbolVersion<'a>, Error> {
         checked(version.status).map(|()| SymbolVersion { version: *version, input: self.input })
     }

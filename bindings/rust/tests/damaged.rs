@@ -1,5 +1,6 @@
 //! Damaged files: every call returns, and each part that it gives lies in the input.
 
+use xmas_elf_proved::constants::SHT_NULL;
 use xmas_elf_proved::program::Type;
 use xmas_elf_proved::{Answer, ByteRange, Dynamic, ElfFile, Entry, Error, HashTable, Name, ProgramHeader, Relocation, Section, SectionHeader, Version, VersionKind};
 
@@ -46,7 +47,10 @@ fn visit_section_names(file: &ElfFile<'_>) {
         let left = usize::try_from(first).map_or(0, |first| file.sections().skip(first).take(9).count());
         assert_eq!(count, left);
         for (place, name) in names.iter().take(count).enumerate() {
-            assert_eq!(Ok(file.name_of(name)), file.section(first + place as u64).map(|section| section.name()));
+            let section = file.section(first + place as u64).expect("a section with a name");
+            // These are names for their types.
+            let by_type = [Err(Error::NullName), Err(Error::InvalidShType)].contains(&file.name_of(name));
+            assert!(by_type || file.name_of(name) == section.name());
         }
     }
     let read = (0..file.section_count()).map_while(|index| file.section(index).ok()).take(200);
@@ -54,9 +58,10 @@ fn visit_section_names(file: &ElfFile<'_>) {
     let mut headers = [SectionHeader::default(); 3];
     assert_eq!(file.sections_from(0, &mut headers).unwrap_or(0), file.sections().take(3).count());
     assert_eq!(file.section_names_from(0, &mut []).is_ok(), file.sections().next().is_some());
-    for section in file.sections().take(200) {
+    assert_eq!(file.sections().len(), file.sections().count());
+    for section in file.sections().filter(|section| section.type_ != SHT_NULL).take(200) {
         let Ok(name) = section.name() else { continue };
-        let first = file.sections().find(|one| one.name() == Ok(name)).map(|one| one.index());
+        let first = file.sections().find(|one| one.name() == Ok(name) && one.type_ != SHT_NULL).map(|one| one.index());
         assert!(first.is_some() && file.section_index_by_name(name) == first);
         assert_eq!(file.section_by_name(name).map(|one| *one), file.section_header_by_name(name).ok());
     }
@@ -91,11 +96,13 @@ fn visit_batches(file: &ElfFile<'_>, section: &Section<'_, '_>) {
 
 // The texts of the dynamic segment lie in the input; segments by many at once are as each by itself.
 fn visit_segments(file: &ElfFile<'_>) {
-    for name in file.needed().take(200).chain([file.soname(), file.run_path()].into_iter().filter_map(Result::transpose)) {
+    let needed = file.needed().into_iter().flatten().take(200);
+    for name in needed.chain([file.soname(), file.run_path()].into_iter().filter_map(Result::transpose)) {
         assert!(name.map_or(true, |name| lies_in(file.input(), name.as_bytes())));
     }
     let read = (0..file.segment_count()).map_while(|index| file.segment(index).ok()).take(200);
     assert!(read.map(|one| *one).eq(file.segments().take(200).map(|one| *one)));
+    assert_eq!(file.segments().len(), file.segments().count());
     let mut headers = [ProgramHeader::default(); 3];
     let count = file.segments_from(1, &mut headers).unwrap_or(0);
     assert!(file.segments().skip(1).take(3).map(|one| *one).eq(headers[..count].iter().copied()));
@@ -107,14 +114,29 @@ fn visit_dynamic_symbols(file: &ElfFile<'_>) {
     let (mut entries, mut names) = ([Entry::default(); 7], [Name::default(); 7]);
     let count = file.dynamic_symbols_from(3, &mut entries).unwrap_or(0);
     assert_eq!(file.dynamic_symbol_names_from(3, &mut names).unwrap_or(0), count);
-    let left = file.dynamic_symbols().skip(3).take(7);
+    // The symbols of a table that can't be read are an error, and not none.
+    let room = file.dynamic_symbols_from(0, &mut [Entry::default()]).err();
+    let is_none = [None, Some(Error::NoRecord), Some(Error::LinkNoDynamic)].contains(&room);
+    let Ok(symbols) = file.dynamic_symbols() else {
+        assert!(!is_none && count == 0);
+        return;
+    };
+    assert!(is_none && symbols.len() == symbols.clone().count());
+    let left = symbols.clone().skip(3).take(7);
     assert_eq!(left.clone().count(), count);
     for ((symbol, entry), name) in left.zip(&entries).zip(&names) {
         assert!(*symbol == *entry && symbol.name() == file.name_of(name) && symbol.name().map(str::as_bytes) == symbol.name_bytes());
         assert!(symbol.name().map_or(true, |name| lies_in(file.input(), name.as_bytes())));
     }
     let counted = file.dynamic_symbol_count().unwrap_or(0);
-    assert!(file.dynamic_symbols().take(2000).all(|symbol| symbol.index() < counted));
+    assert!(symbols.clone().take(2000).all(|symbol| symbol.index() < counted));
+    let versions: Vec<_> = file.dynamic_symbol_versions().into_iter().flatten().take(20).collect();
+    for (symbol, version) in symbols.zip(versions) {
+        assert_eq!(symbol.version(), version.map(Some));
+        if let Ok(Some(found)) = symbol.name().and_then(|name| file.find_symbol(name, None)) {
+            assert_eq!(found.name(), symbol.name());
+        }
+    }
 }
 
 // The versions by many at once are those of the iterators, their names lie in the input, and a version with an error is the
@@ -122,19 +144,21 @@ fn visit_dynamic_symbols(file: &ElfFile<'_>) {
 fn visit_versions(file: &ElfFile<'_>) {
     let mut many = [Version::default(); 7];
     let count = file.dynamic_symbol_versions_from(3, &mut many).unwrap_or(0);
-    assert!(file.dynamic_symbol_versions().skip(3).take(7).eq(many[..count].iter().map(|one| file.version_of(one))));
+    let listed = || file.dynamic_symbol_versions().into_iter().flatten();
+    assert!(listed().skip(3).take(7).eq(many[..count].iter().map(|one| file.version_of(one))));
     // The symbols themselves may be refused.
     let symbols = file.dynamic_symbols_from(3, &mut [Entry::default(); 7]);
     assert!(count == 0 || symbols.map_or(true, |symbols| symbols == count));
     let count = file.version_definitions_from(1, &mut many).unwrap_or(0);
-    assert!(file.version_definitions().skip(1).take(7).eq(many[..count].iter().map(|one| file.version_of(one))));
+    assert!(file.version_definitions().into_iter().flatten().skip(1).take(7).eq(many[..count].iter().map(|one| file.version_of(one))));
     let count = file.version_needs_from(1, &mut many).unwrap_or(0);
-    assert!(file.version_needs().skip(1).take(7).eq(many[..count].iter().map(|one| file.version_of(one))));
-    let lists = [file.version_definitions().take(2000).collect::<Vec<_>>(), file.version_needs().take(2000).collect()];
+    assert!(file.version_needs().into_iter().flatten().skip(1).take(7).eq(many[..count].iter().map(|one| file.version_of(one))));
+    let definitions = file.version_definitions().into_iter().flatten().take(2000).collect::<Vec<_>>();
+    let lists = [definitions, file.version_needs().into_iter().flatten().take(2000).collect()];
     for list in &lists {
         assert!(list.iter().rev().skip(1).all(|version| version.is_ok()));
     }
-    for version in file.dynamic_symbol_versions().take(2000).chain(lists.into_iter().flatten()).flatten() {
+    for version in listed().take(2000).chain(lists.into_iter().flatten()).flatten() {
         for name in [version.name(), version.library()] {
             assert!(name.map_or(true, |name| name.map_or(true, |name| lies_in(file.input(), name.as_bytes()))));
         }
@@ -153,6 +177,7 @@ fn visit_section(input: &[u8], section: &Section<'_, '_>) -> usize {
     }
     let mut many = [Entry::default(); 7];
     let count = section.symbols_from(3, &mut many).unwrap_or(0);
+    assert_eq!(section.symbols().len(), section.symbols().count());
     let left = section.symbols().skip(3).take(7);
     assert!(left.clone().count() == count && left.zip(&many).all(|(symbol, entry)| symbol.value == entry.value));
     found += section.relocations().take(200).count() + section.dynamic().take(200).count();
@@ -172,7 +197,8 @@ fn visit_section(input: &[u8], section: &Section<'_, '_>) -> usize {
         }
     }
     assert!(section.data().map_or(true, |data| lies_in(input, data) && data.len() as u64 == section.size));
-    assert!(section.name().map_or(true, |name| lies_in(input, name.as_bytes()) && section.raw_name() == Ok(name)));
+    assert!(section.name().map_or(true, |name| lies_in(input, name.as_bytes())));
+    assert!(format!("{section:?}").len() < 1000 + section.name().map_or(0, str::len) * 4);
     found
 }
 
@@ -226,7 +252,10 @@ fn visit(input: &[u8]) -> usize {
     visit_segments(&file);
     visit_dynamic_symbols(&file);
     visit_versions(&file);
-    assert!(file.build_id().map_or(true, |id| lies_in(input, id)));
+    assert!(file.build_id().ok().flatten().map_or(true, |id| lies_in(input, id)));
+    assert!(file.notes().take(200).flatten().all(|note| lies_in(input, note.name) && lies_in(input, note.desc)));
+    assert!(file.dynamic().map_or(true, |entries| entries.take(200).count() <= 200));
+    assert!(format!("{file:?}").len() < 1000);
     #[cfg(feature = "alloc")]
     visit_symbol_map(&file);
     let segments = file.segments().take(200).map(|segment| {
@@ -274,7 +303,7 @@ fn short_inputs_are_refused() {
     assert!(ElfFile::new(&whole[..64]).is_ok());
 }
 
-// tools/bindings.sh puts the files of tools/damage.py there.
+// tools/exports/bindings.sh puts the files of tools/compare/damage.py there.
 #[test]
 fn files_of_the_folder_are_read_or_refused() {
     let Some(folder) = std::env::var_os("XMAS_ELF_DAMAGED") else {

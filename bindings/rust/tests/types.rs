@@ -31,7 +31,8 @@ fn types_of_this_file() {
 #[test]
 fn numbers_without_a_meaning() {
     let section = |type_| SectionHeader { type_, ..SectionHeader::default() }.get_type();
-    assert_eq!([section(SHT_RELR), section(12), section(0x5fff_ffff)], [Err(Error::InvalidShType); 3]);
+    assert_eq!([section(12), section(13), section(0x5fff_ffff)], [Err(Error::InvalidShType); 3]);
+    assert_eq!(section(SHT_RELR), Ok(ShType::Relr));
     assert_eq!(section(0x7000_0001), Ok(ShType::ProcessorSpecific(0x7000_0001)));
     assert_eq!(section(u32::MAX), Ok(ShType::User(u32::MAX)));
     let segment = |type_| ProgramHeader { type_, ..ProgramHeader::default() }.get_type();

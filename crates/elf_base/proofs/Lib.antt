@@ -4,4 +4,3 @@ pub mod PrintedLines
 pub mod Texts
 pub mod TextComparisons
 pub mod lemmas
-pub mod TextRanges

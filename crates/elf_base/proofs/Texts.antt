@@ -1,6 +1,6 @@
 -- Texts ended by a zero byte.
-use Rattle.std.proofs.Common.{◌≡◌, ◌≢◌, ◌↔◌, ℕ, suc, ◌+◌, ◌-◌, ◌≤◌, ◌<◌, Bool, true, false, ltb, eqb, None, Some, Ok, Err, List, [], ◌∷◌, ◌++◌, length, length-drop, length-append, take, drop, get_or, slice_index, refl, sym, ap, ◌∙◌, subst, arith}
-use Rattle.std.proofs.Math.Seq.{drop-cons, get_or-append_seam}
+use Rattle.std.proofs.Common.{◌≡◌, ◌≢◌, ℕ, suc, ◌+◌, ◌-◌, ◌≤◌, ◌<◌, Bool, true, false, ltb, eqb, None, Some, Ok, Err, List, [], ◌∷◌, ◌++◌, length, length-drop, length-append, take, drop, get_or, slice_index, refl, sym, ap, ◌∙◌, subst, arith}
+use Rattle.std.proofs.Math.Seq.{drop-cons}
 use Rattle.std.proofs.lemmas.List.{get_or-drop, get_or-take, length-take-le, take-append-drop}
 use Rattle.std.proofs.lemmas.Bool.{eqb-true, eq-eqb, ne_eqb, lt-ltb, le-ltb}
 use Rattle.std.specs.Str.{IsUtf8, is_utf8}
@@ -45,48 +45,13 @@ ends_in_zero bytes start end found passes =
       no_zero = zero_first ys end found;
     }
 
--- two texts without a zero byte, each followed by one at the front of equal bytes, are equal
-one_front : (t u r s : List ℕ) → t ++ (0 ∷ r) ≡ u ++ (0 ∷ s) → ((k : ℕ) → k < length t → slice_index t k ≢ 0) → ((k : ℕ) → k < length u → slice_index u k ≢ 0) → t ≡ u
-one_front [] [] r s e ht hu = refl
-one_front [] (y ∷ u) r s e ht hu = let h : y ≡ 0 = cc in absurd (hu 0 (omega arith) h)
-one_front (x ∷ t) [] r s e ht hu = let h : x ≡ 0 = cc in absurd (ht 0 (omega arith) h)
-one_front (x ∷ t) (y ∷ u) r s e ht hu =
-    let head : x ≡ y = cc in
-    let tail : t ++ (0 ∷ r) ≡ u ++ (0 ∷ s) = cc in
-    let same : t ≡ u = one_front t u r s tail (λ k h. ht (suc k) (omega arith)) (λ k h. hu (suc k) (omega arith)) in
-    cc
-
--- at most one text begins at a place
-one_ending : (bytes : List ℕ) (start : ℕ) (t u : List ℕ) → EndsInZero bytes start t → EndsInZero bytes start u → t ≡ u
-one_ending bytes start t u a b = one_front t u a.after b.after (sym a.begins ∙ b.begins) a.no_zero b.no_zero
-
-pub one_text : (bytes : List ℕ) (start : ℕ) (t u : List ℕ) → IsText bytes start t → IsText bytes start u → t ≡ u
-one_text bytes start t u a b = one_ending bytes start t u a.ended b.ended
-
 -- the zero byte after a text is within the bytes
-zero_stands : (bytes : List ℕ) (start : ℕ) (t : List ℕ) → EndsInZero bytes start t → (start + length t < length bytes) × (slice_index bytes (start + length t) ≡ 0)
-zero_stands bytes start t a =
-    let len : length (drop start bytes) ≡ length t + suc (length a.after) = ap length a.begins ∙ length-append t (0 ∷ a.after) in
-    let all = length-drop start bytes in
-    (omega arith, sym (get_or-drop start bytes (length t) 0) ∙ ap (λ l. slice_index l (length t)) a.begins ∙ get_or-append_seam t 0 a.after 0)
-
--- if the bytes are refused, no zero byte ends them
-pub not_ended : (bytes : List ℕ) (start : ℕ) (e : ElfError) (t : List ℕ) → BytesRefused bytes start e → EndsInZero bytes start t → ⊥
-not_ended bytes start TextStart t refused is =
-    let z = (zero_stands bytes start t is).0 in omega arith
-not_ended bytes start TextEnd t refused is =
-    let z = zero_stands bytes start t is in
-    refused.1 (start + length t) (omega arith) z.0 z.1
-not_ended bytes start _ t refused is = refused
-
--- if a text is refused, there is none
-refused_none : (bytes : List ℕ) (start : ℕ) (e : ElfError) (t : List ℕ) → TextRefused bytes start e → IsText bytes start t → ⊥
-refused_none bytes start TextStart t refused is = not_ended bytes start TextStart t refused is.ended
-refused_none bytes start TextEnd t refused is = not_ended bytes start TextEnd t refused is.ended
-refused_none bytes start TextUtf8 t refused is =
-    let same : t ≡ refused.0 = one_ending bytes start t refused.0 is.ended refused.1 in
-    refused.2 (subst IsUtf8 same is.utf8)
-refused_none bytes start _ t refused is = refused
+pub zero_within : (bytes : List ℕ) (start : ℕ) (t : List ℕ) → EndsInZero bytes start t → start + length t < length bytes
+zero_within bytes start t ended =
+    let whole = ap length ended.begins in
+    let parts = length-append t (0 ∷ ended.after) in
+    let rest = length-drop start bytes in
+    omega (arith, whole, parts, rest)
 
 -- the bytes before the zero byte that ends a text are the text
 before_zero-append : (t r : List ℕ) → ((k : ℕ) → k < length t → slice_index t k ≢ 0) → before_zero (t ++ (0 ∷ r)) ≡ Some t
@@ -115,7 +80,7 @@ not_utf8 t false e never = e
 pub bytes-ended : (bytes : List ℕ) (start : ℕ) (t : List ℕ) → EndsInZero bytes start t → bytes_up_to_zero_of bytes start ≡ Ok t
 unfolding bytes_up_to_zero_of
 bytes-ended bytes start t ended =
-    let within = (zero_stands bytes start t ended).0 in
+    let within = zero_within bytes start t ended in
     let low : ltb (length bytes) start ≡ false = le-ltb (length bytes) start (omega arith) in
     let before : before_zero (drop start bytes) ≡ Some t = before_zero-ended bytes start t ended in
     rw (low, before) refl
@@ -162,77 +127,3 @@ text_of-bytes bytes start t found = rw found refl
 pub text_of-error : (bytes : List ℕ) (start : ℕ) (e : ElfError) → bytes_up_to_zero_of bytes start ≡ Err e → text_of bytes start ≡ Err e
 unfolding text_of
 text_of-error bytes start e found = rw found refl
-
--- what follows from a result that is bytes ended by a zero byte
-pub record BytesAnswers (bytes : List ℕ) (start : ℕ) (s : List ℕ) : Type 0 where
-  pub only : (t : List ℕ) → EndsInZero bytes start t → s ≡ t
-  pub refuses : (e : ElfError) → BytesRefused bytes start e → ⊥
-  pub texts : (t : List ℕ) → IsText bytes start t ↔ ((s ≡ t) × IsUtf8 t)
-  pub whole : text_of bytes start ≡ as_text s
-  pub ok : bytes_up_to_zero_of bytes start ≡ Ok s
-
-pub bytes_answers : (bytes : List ℕ) (start : ℕ) (s : List ℕ) → EndsInZero bytes start s → BytesAnswers bytes start s
-bytes_answers bytes start s is =
-    let found = bytes-ended bytes start s is in
-    record {
-      only = λ t is'. one_ending bytes start s t is is';
-      refuses = λ e refused. not_ended bytes start e s refused is;
-      texts = λ t. (
-        (λ text. (one_ending bytes start s t is text.ended, text.utf8)),
-        λ same. record { utf8 = same.1; ended = subst (EndsInZero bytes start) same.0 is },
-      );
-      whole = text_of-bytes bytes start s found;
-      ok = found;
-    }
-
--- what follows from a result that is an error for bytes
-pub record BytesRefusal (bytes : List ℕ) (start : ℕ) (e : ElfError) : Type 0 where
-  pub only : (t : List ℕ) → EndsInZero bytes start t → ⊥
-  pub refuses : (why : ElfError) → BytesRefused bytes start why → e ≡ why
-  pub texts : (t : List ℕ) → IsText bytes start t → ⊥
-  pub whole : text_of bytes start ≡ Err e
-  pub err : bytes_up_to_zero_of bytes start ≡ Err e
-
-pub bytes_refusal : (bytes : List ℕ) (start : ℕ) (e : ElfError) → BytesRefused bytes start e → BytesRefusal bytes start e
-bytes_refusal bytes start e r =
-    let err = bytes-refused bytes start e r in
-    record {
-      only = λ t is. not_ended bytes start e t r is;
-      refuses = λ why refused. let other = bytes-refused bytes start why refused in cc;
-      texts = λ t is. not_ended bytes start e t r is.ended;
-      whole = text_of-error bytes start e err;
-      err = err;
-    }
-
--- what follows from a result that is a text
-pub record TextAnswers (bytes : List ℕ) (start : ℕ) (s : List ℕ) : Type 0 where
-  pub text : IsText bytes start s
-  pub only : (t : List ℕ) → IsText bytes start t → s ≡ t
-  pub ok : text_of bytes start ≡ Ok s
-  pub refuses : (e : ElfError) → TextRefused bytes start e → ⊥
-
-pub text_answers : (bytes : List ℕ) (start : ℕ) (s : List ℕ) → IsText bytes start s → TextAnswers bytes start s
-text_answers bytes start s is =
-    record {
-      text = is;
-      only = λ t is'. one_text bytes start s t is is';
-      ok = text_of-text bytes start s is;
-      refuses = λ e refused. refused_none bytes start e s refused is;
-    }
-
--- what follows from a result that is an error
-pub record RefusalAnswers (bytes : List ℕ) (start : ℕ) (e : ElfError) : Type 0 where
-  pub only : (t : List ℕ) → IsText bytes start t → ⊥
-  pub refused : TextRefused bytes start e
-  pub err : text_of bytes start ≡ Err e
-  pub refuses : (why : ElfError) → TextRefused bytes start why → e ≡ why
-
-pub refusal_answers : (bytes : List ℕ) (start : ℕ) (e : ElfError) → TextRefused bytes start e → RefusalAnswers bytes start e
-refusal_answers bytes start e r =
-    let err = text_of-refused bytes start e r in
-    record {
-      only = λ t is. refused_none bytes start e t r is;
-      refused = r;
-      err = err;
-      refuses = λ why refused. let other = text_of-refused bytes start why refused in cc;
-    }

@@ -54,11 +54,11 @@ as_text bytes = unless ((not (is_utf8 bytes), TextUtf8) ∷ []) bytes
 unfoldable pub text_of : List ℕ → ℕ → Result (List ℕ) ElfError
 text_of bytes start = and_then (bytes_up_to_zero_of bytes start) as_text
 
--- a text has the property exactly if it is the lent bytes and they are UTF-8
+-- a text has the property exactly if it is the returned bytes and they are UTF-8
 abbrev pub TextIfUtf8 : {E : Type 0} → (List ℕ → Type 0) → Result (Bor (List ℕ)) E → Type 0
 TextIfUtf8 Is result = (text : List ℕ) → Is text ↔ IsOkAnd result (λ part. (part.now ≡ text) × IsUtf8 text)
 
--- the lent bytes as a text
+-- the returned bytes as a text
 abbrev pub lent_text : Result (Bor (List ℕ)) ElfError → Result (List ℕ) ElfError
 lent_text (Ok part) = as_text part.now
 lent_text (Err error) = Err error

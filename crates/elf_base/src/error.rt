@@ -6,8 +6,8 @@ ghost use Rattle.elf_base.specs.Message.{message_of};
 use std::error::Error;
 use std::fmt;
 
-/// Why a file, or a part of it, is refused. Each error has one text and a number that never
-/// changes, the status in `elf_c`; `docs/API.md` lists the calls of `xmas_elf` that return it.
+/// Why a file, or a part of it, can't be read. Each error has one text and a number that never
+/// changes, the status in `elf_c`; `docs/api/elf_base.md` lists the calls that return it.
 #[derive(Clone, Copy, Debug, PartialEq, Eq)]
 pub enum ElfError {
     /// The input has fewer than 16 bytes.

@@ -1,15 +1,14 @@
 -- The range that an export answers lies in the input.
-use Rattle.std.proofs.Common.{◌≡◌, ℕ, ◌+◌, ◌-◌, ◌<◌, ◌≤◌, ◌==◌, nat_lt, Bool, true, false, [], length, Option, None, Some, Result, Ok, Err, IfOk, drop, take, if◌then◌else◌, refl, sym, subst, arith}
-use Rattle.std.proofs.lemmas.Bool.{eqb-true, ltb-false}
+use Rattle.std.proofs.Common.{◌≡◌, ℕ, ◌+◌, ◌-◌, ◌<◌, ◌≤◌, ◌==◌, Bool, true, false, List, [], length, Option, None, Some, Result, Ok, Err, IfOk, if◌then◌else◌, refl, sym, subst, arith}
+use Rattle.std.proofs.lemmas.Bool.{eqb-true}
 use Rattle.elf_base.specs.Refusal.{and_then}
 use Rattle.elf_base.specs.declared.error.ElfError.{ElfError}
-use Rattle.elf_base.specs.declared.error.ElfError.TheVariants.{DataRange, NullData}
 use Rattle.elf_linking.specs.Loaded.{segment_at_of}
 use Rattle.elf_linking.proofs.LoadedBytes.{first_segment_at}
 use Rattle.elf_records.specs.ProgramNumbers.{is_ph_type}
-use Rattle.elf_records.specs.declared.program.Type as the_type
 use Rattle.elf_records.specs.declared.program.Type.TheVariants.{Null}
 use Rattle.xmas_elf.specs.ProgramHeader.{program_fields, program_of, segment_data_of, segment_type}
+use Rattle.xmas_elf.proofs.FirstNamed.{not_refused, went_on}
 use Rattle.xmas_elf.specs.Ranges.{range_of}
 use Rattle.xmas_elf.specs.Types.{ElfFile, ProgramHeader, ProgramHeader64}
 use Rattle.elf_c.specs.Addresses.{range_at_address, range_in_segment}
@@ -17,6 +16,7 @@ use Rattle.elf_c.specs.Records.{LiesIn, range_at, segment_range}
 use Rattle.elf_base.specs.Message.{error_number}
 use Rattle.elf_c.specs.Status.{Gives, GivesBy, GivesHere, and_so, refusal_number}
 use Rattle.elf_c.proofs.Statuses.{error_above, refusal_above}
+use Rattle.elf_c.proofs.StoredNames.{part_within}
 use Rattle.elf_c.specs.declared.names.Range.{Range}
 use Rattle.elf_c.specs.declared.status.Refusal.{Refusal}
 
@@ -49,34 +49,23 @@ given_range_here file known answer old status new same has gave zero = subst (λ
 -- the data of a segment that has some lie in the input
 segment_lies : (file : ElfFile) (segment : ProgramHeader64) (part : Range) → segment_range file segment ≡ Ok part → LiesIn file.input.now part × (part.size ≡ segment.file_size)
 unfolding segment_data_of
-segment_lies file segment part is = by_type (segment_type segment) is
+segment_lies file segment part is =
+    let (bytes, read, answered) = went_on (segment_data_of file segment) _ part is in
+    let (kind, typed, checked) = went_on (segment_type segment) _ bytes read in
+    let own : range_at (if segment.file_size == 0 then 0 else segment.offset) segment.file_size ≡ part = cc in
+    by_size bytes (segment.file_size == 0) refl (not_refused (is_ph_type Null kind) _ _ bytes checked).1 own
   where
-    by_range : (b : Bool) → (segment.file_size == 0) ≡ false → nat_lt (length file.input.now) (segment.offset + segment.file_size) ≡ b
-        → and_then (if b then Err DataRange else Ok (take segment.file_size (drop segment.offset file.input.now))) (λ _. Ok (range_at (if segment.file_size == 0 then 0 else segment.offset) segment.file_size)) ≡ Ok part → LiesIn file.input.now part × (part.size ≡ segment.file_size)
-    by_range true some test same = absurd (cc)
-    by_range false some test same =
-        let fits : segment.offset + segment.file_size ≤ length file.input.now = ltb-false _ _ test in
-        let own : range_at (if segment.file_size == 0 then 0 else segment.offset) segment.file_size ≡ part = cc in
-        let there : range_at segment.offset segment.file_size ≡ part = subst (λ b. range_at (if b then 0 else segment.offset) segment.file_size ≡ part) some own in
-        subst (λ r. LiesIn file.input.now r × (r.size ≡ segment.file_size)) there (fits, refl)
-
-    by_size : (b : Bool) → (segment.file_size == 0) ≡ b
-        → and_then (if b then Ok [] else range_of file.input.now segment.offset segment.file_size) (λ _. Ok (range_at (if segment.file_size == 0 then 0 else segment.offset) segment.file_size)) ≡ Ok part → LiesIn file.input.now part × (part.size ≡ segment.file_size)
-    by_size true none same =
-        let own : range_at (if segment.file_size == 0 then 0 else segment.offset) segment.file_size ≡ part = cc in
+    by_size : (bytes : List ℕ) (none : Bool) → (segment.file_size == 0) ≡ none → (if none then Ok [] else range_of file.input.now segment.offset segment.file_size) ≡ Ok bytes
+        → range_at (if segment.file_size == 0 then 0 else segment.offset) segment.file_size ≡ part → LiesIn file.input.now part × (part.size ≡ segment.file_size)
+    by_size bytes true none taken own =
         let there : range_at 0 segment.file_size ≡ part = subst (λ b. range_at (if b then 0 else segment.offset) segment.file_size ≡ part) none own in
         let zero : segment.file_size ≡ 0 = eqb-true segment.file_size 0 none in
         let sum : 0 + segment.file_size ≤ length file.input.now = omega (arith, zero) in
         subst (λ r. LiesIn file.input.now r × (r.size ≡ segment.file_size)) there (sum, refl)
-    by_size false some same = by_range (nat_lt (length file.input.now) (segment.offset + segment.file_size)) some refl same
-
-    by_null : (b : Bool) → and_then (if b then Err NullData else (if segment.file_size == 0 then Ok [] else range_of file.input.now segment.offset segment.file_size)) (λ _. Ok (range_at (if segment.file_size == 0 then 0 else segment.offset) segment.file_size)) ≡ Ok part → LiesIn file.input.now part × (part.size ≡ segment.file_size)
-    by_null true same = absurd (cc)
-    by_null false same = by_size (segment.file_size == 0) refl same
-
-    by_type : (r : Result the_type.Type ElfError) → and_then (and_then r (λ kind. if is_ph_type Null kind then Err NullData else (if segment.file_size == 0 then Ok [] else range_of file.input.now segment.offset segment.file_size))) (λ _. Ok (range_at (if segment.file_size == 0 then 0 else segment.offset) segment.file_size)) ≡ Ok part → LiesIn file.input.now part × (part.size ≡ segment.file_size)
-    by_type (Ok kind) same = by_null (is_ph_type Null kind) same
-    by_type (Err error) same = absurd (cc)
+    by_size bytes false some taken own =
+        let fits : segment.offset + segment.file_size ≤ length file.input.now = (part_within file.input.now segment.offset segment.file_size bytes taken).0 in
+        let there : range_at segment.offset segment.file_size ≡ part = subst (λ b. range_at (if b then 0 else segment.offset) segment.file_size ≡ part) some own in
+        subst (λ r. LiesIn file.input.now r × (r.size ≡ segment.file_size)) there (fits, refl)
 
 found_lies : {A : Type 0} (file : ElfFile) (r : Result A ElfError) (next : A → Result Range ElfError) → ((a : A) (part : Range) → next a ≡ Ok part → LiesIn file.input.now part) → IfOk (and_then r next) (LiesIn file.input.now)
 found_lies {A} file (Err error) next has = tt

@@ -15,3 +15,4 @@ pub mod OpenedSymbols
 pub mod OpenedTables
 pub mod OpenedDynamics
 pub mod OpenedFound
+pub mod OpenedWithin

@@ -1,7 +1,7 @@
 -- The symbols by a record are those of the dynamic segment that it was read from.
-use Rattle.std.proofs.Common.{◌≡◌, ◌<◌, ◌≤◌, ◌==◌, ◌+◌, ◌-◌, ◌*◌, ◌/◌, ◌↔◌, ℕ, Bool, true, false, List, [], length, drop, take, Option, None, Some, Result, Ok, Err, IfOk, IsOk, nat_lt, eq-eqb, eqb-true, le-ltb, lit<, if◌then◌else◌, refl, sym, ap, subst, ◌∙◌, arith}
+use Rattle.std.proofs.Common.{◌≡◌, ◌<◌, ◌≤◌, ◌==◌, ◌+◌, ◌-◌, ◌*◌, ◌/◌, ◌↔◌, ℕ, Bool, true, false, List, [], length, drop, take, Option, None, Some, Result, Ok, Err, IfOk, IsOk, eqb-true, nat_lt, le-ltb, lit<, if◌then◌else◌, refl, sym, ap, subst, ◌∙◌, arith}
 use Rattle.std.proofs.Math.Nat.{mul-div_cancel}
-use Rattle.std.proofs.lemmas.List.{drop-drop, drop-take, take-take}
+use Rattle.std.specs.Option.{ok_or}
 use Rattle.elf_base.proofs.lemmas.RecordLemmas.{length-records}
 use Rattle.elf_base.specs.FileHeader.{file_class, file_order}
 use Rattle.elf_base.specs.Refusal.{and_then}
@@ -9,18 +9,19 @@ use Rattle.elf_base.specs.Table.{records}
 use Rattle.elf_base.specs.declared.bytes.Order.{Order}
 use Rattle.elf_base.specs.declared.error.ElfError.{ElfError}
 use Rattle.elf_base.specs.declared.error.ElfError.TheVariants.{DataRange, NullData}
-use Rattle.elf_linking.proofs.LoadedBytes.{first_segment_at}
+use Rattle.elf_linking.proofs.LoadedBytes.{first_segment_at, part_by}
 use Rattle.elf_linking.proofs.SymbolCounts.{symbol_count_once}
-use Rattle.elf_linking.specs.DynamicView.{AreSymbols, IsSymbolCount, dynamic_entries_of, number_with, symbol_bytes}
-use Rattle.elf_linking.specs.Loaded.{bytes_at_of, bytes_of_segment, part_of, segment_at_of}
+use Rattle.elf_linking.specs.DynamicView.{AreSymbols, IsSymbolCount, as_link_error, dynamic_entries_of, number_with}
+use Rattle.elf_linking.specs.Loaded.{bytes_at_of, bytes_of_segment, segment_at_of}
 use Rattle.elf_linking.specs.declared.error.LinkError.{LinkError}
+use Rattle.elf_linking.specs.declared.error.LinkError.TheVariants.{NoEntry}
 use Rattle.elf_records.specs.declared.dynamic.Dynamic.{Dynamic}
 use Rattle.elf_linking.specs.declared.view.tags.TheConstants.{DT_SYMTAB}
 use Rattle.elf_records.specs.ProgramNumbers.{is_ph_type}
 use Rattle.elf_records.specs.declared.program.Type as the_type
 use Rattle.elf_records.specs.declared.program.Type.TheVariants.{Null}
 use Rattle.xmas_elf.specs.ProgramHeader.{IsSegmentData, program_fields, segment_data_of, segment_type}
-use Rattle.xmas_elf.specs.Ranges.{IsRange, range_of}
+use Rattle.xmas_elf.specs.Ranges.{range_of}
 use Rattle.xmas_elf.specs.Symbol.{SymbolFields, dyn_entry_32, dyn_entry_32_fields, dyn_entry_64, dyn_entry_64_fields, entry_32, entry_32_fields, entry_64, entry_64_fields, symbol_32, symbol_64}
 use Rattle.xmas_elf.specs.Types.{ElfFile, ProgramHeader, ProgramHeader64}
 use Rattle.elf_c.specs.Addresses.{range_at_address, range_in_segment}
@@ -93,19 +94,11 @@ are_at file address count range is = by_segment (segment_at_of file address coun
         let none : count ≡ 0 = (let begins = holds.begins in let ends = holds.ends in omega (arith, begins, ends, size)) in
         ap (λ n. take n (drop (0 + start) file.input.now)) none ∙ sym (ap (λ n. take n (drop start kept)) none)
     by_size program kept false at kept_are test =
-        let input = file.input.now in
-        let size = (program_fields program).file_size in
-        let offset = (program_fields program).offset in
-        let start = address - (program_fields program).virtual_addr in
+        let segment = program_fields program in
+        let start = address - segment.virtual_addr in
         let holds = (first_segment_at file address count program at).holds in
-        let within : start + count ≤ size = (let begins = holds.begins in let ends = holds.ends in omega (arith, begins, ends)) in
-        let lies : IsRange input offset size kept = kept_are.lies_there (λ none. (let zero_is : (size == 0) ≡ true = eq-eqb size 0 none in cc)) in
-        let left : ℕ = size - start in
-        let whole : size ≡ start + left = omega (arith, within) in
-        let enough : count ≤ left = omega (arith, within) in
-        let cut : drop start kept ≡ take left (drop (offset + start) input) =
-        ap (drop start) lies.bytes_are ∙ ap (λ n. drop start (take n (drop offset input))) whole ∙ drop-take start left (drop offset input) ∙ ap (take left) (drop-drop start offset input) in
-        sym (ap (take count) cut ∙ take-take count left (drop (offset + start) input) enough)
+        let within : start + count ≤ segment.file_size = (let begins = holds.begins in let ends = holds.ends in omega (arith, begins, ends)) in
+        sym (part_by file.input.now kept segment.offset segment.file_size start count kept_are.lies_there within)
 
     by_data : (program : ProgramHeader) (found : Result (List ℕ) ElfError) → segment_at_of file address count ≡ Some program → segment_data_of file (program_fields program) ≡ found → and_so (and_then found (λ _. Ok (range_at (if (program_fields program).file_size == 0 then 0 else (program_fields program).offset) (program_fields program).file_size))) (λ part. Ok (range_at (part.offset + (address - (program_fields program).virtual_addr)) count)) ≡ Ok range → AreAt file address count range
     by_data program (Err error) at kept_are same = absurd (cc)
@@ -119,7 +112,7 @@ are_at file address count range is = by_segment (segment_at_of file address coun
         let in_place : range_of input place count ≡ Ok (take count (drop start kept)) = in_range_of input place count fits
         ∙ ap (λ b. Ok b) (by_size program kept ((program_fields program).file_size == 0) at (data_kept file (program_fields program) kept kept_are) refl) in record {
           bytes = take count (drop start kept);
-          at = ap (bytes_of_segment file address count) at ∙ ap (part_of start count) kept_are;
+          at = ap (bytes_of_segment file address (take count)) at ∙ ap (λ read. and_then (as_link_error read) (λ bytes. Ok (take count (drop start bytes)))) kept_are;
           in_range = subst (λ r. range_of input r.offset r.size ≡ Ok (take count (drop start kept))) own in_place;
           long = (part_within input place count (take count (drop start kept)) in_place).1;
         }
@@ -164,7 +157,7 @@ same_name input (Err why) place = by_test (refusal_number why == 0) refl
     by_test false is = refl
 
 -- a number of symbols of the entries, which lie in a range
-record AreOpened (file : ElfFile) (table : SymbolTable) : Type 0 where
+pub record AreOpened (file : ElfFile) (table : SymbolTable) : Type 0 where
   pub entries : List (Dynamic ℕ)
   pub count : ℕ
   pub range : Range
@@ -176,15 +169,15 @@ record AreOpened (file : ElfFile) (table : SymbolTable) : Type 0 where
   pub long : length bytes ≡ count * symbol_size file
   pub only : (other : Result (List ℕ) LinkError) → AreDynamicSymbols file other → other ≡ Ok bytes
 
-are_opened : (file : ElfFile) (table : SymbolTable) → IsSegmentTable file (Ok table) → AreOpened file table
+pub are_opened : (file : ElfFile) (table : SymbolTable) → IsSegmentTable file (Ok table) → AreOpened file table
 are_opened file table is = by_entries (dynamic_entries_of file) refl is.0 is.1 is.2
   where
     only_one : (entries : List (Dynamic ℕ)) (count address : ℕ) (bytes : List ℕ) → dynamic_entries_of file ≡ Ok entries → IsSymbolCount file entries (Ok count) → number_with DT_SYMTAB entries ≡ Some address → bytes_at_of file address (count * symbol_size file) ≡ Ok bytes → (other : Result (List ℕ) LinkError) → AreDynamicSymbols file other → other ≡ Ok bytes
     only_one entries count address bytes at counted addressed there other are =
         let here : AreSymbols file entries (symbol_size file) other = subst (λ found. AreSymbolsBy file found other) at are in
         here.bytes_are
-        ∙ ap (λ c. symbol_bytes file (symbol_size file) c (number_with DT_SYMTAB entries)) (symbol_count_once file entries here.count (Ok count) here.counted counted)
-        ∙ ap (λ place. symbol_bytes file (symbol_size file) (Ok count) place) addressed
+        ∙ ap (λ c. and_then c (λ many. and_then (ok_or (number_with DT_SYMTAB entries) NoEntry) (λ address. bytes_at_of file address (many * symbol_size file)))) (symbol_count_once file entries here.count (Ok count) here.counted counted)
+        ∙ ap (λ place. and_then (ok_or place NoEntry) (λ address. bytes_at_of file address (count * symbol_size file))) addressed
         ∙ there
 
     by_range : (entries : List (Dynamic ℕ)) (count address : ℕ) (range : Result Range Refusal) → dynamic_entries_of file ≡ Ok entries → IsSymbolCount file entries (Ok count) → number_with DT_SYMTAB entries ≡ Some address → range_at_address file address (count * symbol_size file) ≡ range → Ok table ≡ table_in_range file (strings_range file entries) count range → AreOpened file table

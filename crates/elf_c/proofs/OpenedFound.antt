@@ -5,6 +5,7 @@ use Rattle.std.specs.Prelude.{slice_get}
 use Rattle.std.specs.Str.{is_utf8}
 use Rattle.elf_base.specs.FileHeader.{file_class, file_order}
 use Rattle.elf_base.specs.Table.{records}
+use Rattle.elf_linking.proofs.lemmas.Objects.{class_symbols}
 use Rattle.elf_linking.specs.AnyTable.{LooksWhereBy}
 use Rattle.elf_linking.specs.DynamicView.{AreSymbols, as_link_error, dynamic_entries_of}
 use Rattle.elf_linking.specs.Find.{DynamicSymbols, IsAsked, IsDefault, IsFound, IsShown, accepted, faulty, asked_first, none_shown, one_shown, otherwise, two_shown}
@@ -21,8 +22,9 @@ use Rattle.xmas_elf.specs.HashTable as gabi
 use Rattle.xmas_elf.specs.Symbol.{dyn_entry_32, dyn_entry_32_fields, dyn_entry_64, dyn_entry_64_fields}
 use Rattle.xmas_elf.specs.Types.{ElfError, ElfFile, HashTable}
 use Rattle.elf_c.specs.DynamicSymbols.{AreDynamicSymbols, AreSymbolsBy, IsSegmentTable}
-use Rattle.elf_c.specs.FoundSymbols.{IsByClass, IsFoundBy, IsFoundSymbol, IsSearched, found_answer, found_symbol, refused, searched}
+use Rattle.elf_c.specs.FoundSymbols.{IsByClass, IsFoundBy, IsFoundSymbol, IsSearched, found_answer, found_symbol, none_found, refused, searched, serving_symbol}
 use Rattle.elf_c.specs.LookUps.{IfUtf8}
+use Rattle.elf_linking.specs.Serves.{serves_others}
 use Rattle.elf_c.specs.Records.{found_in, taken_for}
 use Rattle.elf_c.specs.SymbolTables.{symbol_by}
 use Rattle.elf_c.specs.Symbols.{symbol_record}
@@ -62,7 +64,7 @@ module _ {E : Type 0} (P : ℕ × E → Type 0) (at : ℕ × E) where
   linked_is (Ok other) is = let same : Some at ≡ other = cc in ap (λ o. Ok o) (sym same)
   linked_is (Err error) is = absurd (cc)
 
-  by_table : (table : AnyTable) (symbols : List E) (name : List ℕ) (n : ℕ) → LooksWhereBy P table symbols name (Ok (Some at)) n → slice_get symbols at.0 ≡ Some at.1
+  pub by_table : (table : AnyTable) (symbols : List E) (name : List ℕ) (n : ℕ) → LooksWhereBy P table symbols name (Ok (Some at)) n → slice_get symbols at.0 ≡ Some at.1
   by_table (Sysv table) symbols name n looks = by_chain table symbols (gabi.start_of table name) n looks.0 looks.1 (linked_is looks.0 looks.2)
   by_table (Gnu table) symbols name n looks = by_run table symbols name n (Ok (Some at)) looks refl
 
@@ -94,14 +96,19 @@ module _ {E : Type 0} (file : DynamicSymbols E) (name : List ℕ) (at : ℕ × E
 found_there : {E : Type 0} (all : DynamicSymbols E) (name version : List ℕ) (said : FoundSymbol) → IsSearched all name version (Ok said) → said.found ≡ 1 → found_in (λ e. symbol_record (all.symbols.fields e)) all.symbols.items said.index ≡ Ok said.symbol
 found_there {E} all name version said is one = by_found is.found is.is_found is.numbers
   where
+    by_serving : (at : ℕ × E) → slice_get all.symbols.items at.0 ≡ Some at.1 → (serves : Bool) → said ≡ (if serves then record { symbol = symbol_record (all.symbols.fields at.1); found = 1; index = at.0 } else none_found) → found_in (λ e. symbol_record (all.symbols.fields e)) all.symbols.items said.index ≡ Ok said.symbol
+    by_serving at stands true same =
+        subst (λ s. found_in (λ e. symbol_record (all.symbols.fields e)) all.symbols.items s.index ≡ Ok s.symbol) (sym same)
+        (ap (taken_for (λ e. symbol_record (all.symbols.fields e))) stands)
+    by_serving at stands false same = absurd (let none : said.found ≡ 0 = ap (λ s. s.found) same in cc)
+
     by_found : (found : Result (Option (ℕ × E)) LinkError) → IsFound all name is.wanted Any found → Ok said ≡ found_answer all.symbols.fields found → found_in (λ e. symbol_record (all.symbols.fields e)) all.symbols.items said.index ≡ Ok said.symbol
     by_found (Err error) finds numbers = absurd (cc)
     by_found (Ok None) finds numbers = absurd (let same : said ≡ found_symbol all.symbols.fields None = cc in let none : said.found ≡ 0 = ap (λ s. s.found) same in cc)
     by_found (Ok (Some at)) finds numbers =
-        let same : said ≡ found_symbol all.symbols.fields (Some at) = cc in
+        let same : said ≡ serving_symbol at.0 (all.symbols.fields at.1) = cc in
         let stands = found_stands all name at is.wanted (Ok (Some at)) finds refl in
-        subst (λ s. found_in (λ e. symbol_record (all.symbols.fields e)) all.symbols.items s.index ≡ Ok s.symbol) (sym same)
-        (ap (taken_for (λ e. symbol_record (all.symbols.fields e))) stands)
+        by_serving at stands (serves_others (all.symbols.fields at.1)) same
 
 module _ (file : ElfFile) (table : SymbolTable) (made : IsSegmentTable file (Ok table)) (said : FoundSymbol) (one : said.found ≡ 1) where
   -- by the bytes of the symbols
@@ -119,12 +126,12 @@ module _ (file : ElfFile) (table : SymbolTable) (made : IsSegmentTable file (Ok 
   by_class name version true class _ is (refused error why) = absurd (cc)
   by_class name version true class _ is (searched all answer are finds) =
       let found = found_there all name version said (subst (IsSearched all name version) is finds) one in
-      by_bytes are.entries are.bytes true class are.entries_are are.bytes_are.symbols_are
+      by_bytes are.entries are.bytes true class are.entries_are (class_symbols _ _ file are.entries are.bytes are.bytes_are)
       (subst (λ symbols. found_in (λ e. symbol_record (symbols.fields e)) symbols.items said.index ≡ Ok said.symbol) are.symbols_are found)
   by_class name version false class _ is (refused error why) = absurd (cc)
   by_class name version false class _ is (searched all answer are finds) =
       let found = found_there all name version said (subst (IsSearched all name version) is finds) one in
-      by_bytes are.entries are.bytes false class are.entries_are are.bytes_are.symbols_are
+      by_bytes are.entries are.bytes false class are.entries_are (class_symbols _ _ file are.entries are.bytes are.bytes_are)
       (subst (λ symbols. found_in (λ e. symbol_record (symbols.fields e)) symbols.items said.index ≡ Ok said.symbol) are.symbols_are found)
 
 -- a name that is no text finds nothing

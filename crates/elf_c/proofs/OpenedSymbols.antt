@@ -14,6 +14,7 @@ use Rattle.elf_records.specs.Note.{note_header}
 use Rattle.elf_records.specs.declared.sections.ShType.TheVariants as sh_type
 use Rattle.xmas_elf.specs.Content.{Content, TableKind, by_class, dyn_symbols_32, dyn_symbols_64, dynamic_32, dynamic_64, empty, functions_32, functions_64, group, hash_table, hash_table_content, note_64, record_size, rel_32, rel_64, rela_32, rela_64, section_indices, symbols_32, symbols_64, table_of, whole_table}
 use Rattle.xmas_elf.specs.Prelude.{ShType}
+use Rattle.xmas_elf.proofs.FirstNamed.{went_on}
 use Rattle.xmas_elf.specs.Ranges.{range_of}
 use Rattle.xmas_elf.specs.SectionContent.{content_in, content_of_section, has_no_bytes, section_content_of}
 use Rattle.xmas_elf.specs.SectionHeader.{section_fields, section_of, section_type}
@@ -122,27 +123,22 @@ pub record AreReadIn (file : ElfFile) (header : SectionHeader) (content : Conten
 
 pub content_read : (file : ElfFile) (header : SectionHeader) (content : Content) → (empty ≡ content → ⊥) → section_content_of file header ≡ Ok content → AreReadIn file header content
 unfolding section_content_of
-content_read file header content filled is = by_type (section_type header) is
+content_read file header content filled is =
+    let (kind, typed, answered) = went_on (section_type header) (content_in file header) content is in
+    by_bytes kind (has_no_bytes kind) answered
   where
     by_content : (bytes : List ℕ) (found : Result Content ElfError) → IfOk found (AreRead (file_class file.header) (file_order file.header) bytes) → found ≡ Ok content → AreRead (file_class file.header) (file_order file.header) bytes content
     by_content bytes (Ok other) has same = let one : other ≡ content = cc in subst (AreRead (file_class file.header) (file_order file.header) bytes) one has
     by_content bytes (Err error) has same = absurd (cc)
 
-    by_range : (kind : ShType) (range : Result (List ℕ) ElfError) → range_of file.input.now (section_fields header).offset (section_fields header).size ≡ range → and_then range (content_of_section kind (file_class file.header) (file_order file.header)) ≡ Ok content → AreReadIn file header content
-    by_range kind (Err error) ranged same = absurd (cc)
-    by_range kind (Ok bytes) ranged same = record {
-      bytes = bytes;
-      in_range = ranged;
-      are_read = by_content bytes (content_of_section kind (file_class file.header) (file_order file.header) bytes) (read_by_type kind (file_class file.header) (file_order file.header) bytes) same;
-    }
-
     by_bytes : (kind : ShType) (none : Bool) → (if none then Ok empty else and_then (range_of file.input.now (section_fields header).offset (section_fields header).size) (content_of_section kind (file_class file.header) (file_order file.header))) ≡ Ok content → AreReadIn file header content
     by_bytes kind true same = let none : empty ≡ content = cc in absurd (filled none)
-    by_bytes kind false same = by_range kind (range_of file.input.now (section_fields header).offset (section_fields header).size) refl same
-
-    by_type : (kind : Result ShType ElfError) → and_then kind (content_in file header) ≡ Ok content → AreReadIn file header content
-    by_type (Err error) same = absurd (cc)
-    by_type (Ok kind) same = by_bytes kind (has_no_bytes kind) same
+    by_bytes kind false same =
+        let (bytes, ranged, read) = went_on (range_of file.input.now (section_fields header).offset (section_fields header).size) _ content same in record {
+          bytes = bytes;
+          in_range = ranged;
+          are_read = by_content bytes (content_of_section kind (file_class file.header) (file_order file.header) bytes) (read_by_type kind (file_class file.header) (file_order file.header) bytes) read;
+        }
 
 pub section_read : (file : ElfFile) (header : SectionHeader) (content : Content) (count : ℕ) → section_content_of file header ≡ Ok content → count_in content ≡ Ok count → AreReadIn file header content
 section_read file header content count is counted = content_read file header content filled is
@@ -167,7 +163,7 @@ module _ {T : Type 0} (value wanted : SymbolFields → T) (same : (fields : Symb
   among_64 : (class == 1) ≡ false → symbol_among value class order bytes index ≡ wide
   among_64 is = ap (λ (b : Bool). if b then narrow else wide) is
 
-  among_read : (content : Content) (count : ℕ) → count_in content ≡ Ok count → AreRead class order bytes content → symbol_among value class order bytes index ≡ symbol_at wanted index content
+  pub among_read : (content : Content) (count : ℕ) → count_in content ≡ Ok count → AreRead class order bytes content → symbol_among value class order bytes index ≡ symbol_at wanted index content
   unfolding entry_32_fields entry_64_fields dyn_entry_32_fields dyn_entry_64_fields
   among_read (table_of symbols_32 own all) count counted are = among_32 are.0
       ∙ found_as 16 (entry_32 order) (entry_32 order) (λ e. value (entry_32_fields e)) (λ e. wanted (entry_32_fields e)) (λ part. same (symbol_32 order part)) bytes index

@@ -1,5 +1,5 @@
 -- A look-up by the record of a hash table is one in the section that it was read from.
-use Rattle.std.proofs.Common.{◌≡◌, ◌<◌, ◌≤◌, ◌==◌, ◌⊎◌, inl, inr, ℕ, Bool, true, false, List, [], ◌∷◌, ◌++◌, length, codes, Option, None, Some, Result, Ok, Err, MatchResult, eqb-true, le-ltb, if◌then◌else◌, refl, sym, ap, subst, ◌∙◌, arith}
+use Rattle.std.proofs.Common.{◌≡◌, ◌<◌, ◌≤◌, ◌==◌, ◌⊎◌, inl, inr, ℕ, Bool, true, List, [], ◌∷◌, ◌++◌, length, codes, Option, None, Some, Result, Ok, Err, MatchResult, eqb-true, le-ltb, if◌then◌else◌, refl, sym, ap, subst, ◌∙◌, arith}
 use Rattle.std.specs.Option.{ok_or}
 use Rattle.std.proofs.Math.Path.{fun_ext}
 use Rattle.std.proofs.lemmas.Bool.{lt-ltb}
@@ -12,9 +12,9 @@ use Rattle.elf_base.specs.Table.{records}
 use Rattle.elf_base.specs.Text.{text_of}
 use Rattle.elf_base.specs.declared.bytes.Order.{Order}
 use Rattle.elf_base.specs.declared.error.ElfError.{ElfError}
-use Rattle.elf_base.specs.declared.error.ElfError.TheVariants.{DataRange, NoDynstr, NullData, ShortData}
+use Rattle.elf_base.specs.declared.error.ElfError.TheVariants.{DataRange, NoDynstr, ShortData}
 use Rattle.elf_linking.specs.DynamicObject.{symbols_with}
-use Rattle.elf_linking.specs.DynamicView.{as_link_error, checked, passed}
+use Rattle.elf_linking.specs.DynamicView.{as_link_error, checked}
 use Rattle.elf_linking.specs.GnuHash.{gnu_data}
 use Rattle.elf_linking.specs.Layouts.{gnu_table_of}
 use Rattle.elf_linking.specs.declared.any_table.AnyTable.{AnyTable}
@@ -25,8 +25,8 @@ use Rattle.elf_records.specs.declared.sections.ShType.TheVariants.{Null}
 use Rattle.xmas_elf.specs.Content.{Content, dyn_symbols_32, dyn_symbols_64, empty, hash_table, hash_table_content, table_of}
 use Rattle.xmas_elf.specs.NameTable.{section_named}
 use Rattle.xmas_elf.specs.HashTable.{hash_data, hash_order}
-use Rattle.xmas_elf.specs.Prelude.{ShType}
 use Rattle.xmas_elf.specs.Ranges.{range_of}
+use Rattle.xmas_elf.proofs.FirstNamed.{not_refused, went_on}
 use Rattle.xmas_elf.specs.ReportHash.{content_at}
 use Rattle.xmas_elf.specs.SectionContent.{section_content_of}
 use Rattle.xmas_elf.specs.SectionData.{section_data_of}
@@ -76,17 +76,11 @@ no_bytes : (input : List ℕ) → range_of input 0 0 ≡ Ok []
 no_bytes input = ap (λ (b : Bool). if b then Err DataRange else Ok []) (le-ltb (length input) 0 (omega arith))
 
 -- the data of a section are a range of the input
-data_in : (file : ElfFile) (header : SectionHeader) (bytes : List ℕ) → section_data_of file header ≡ Ok bytes → range_of file.input.now (section_fields header).offset (section_fields header).size ≡ Ok bytes
+pub data_in : (file : ElfFile) (header : SectionHeader) (bytes : List ℕ) → section_data_of file header ≡ Ok bytes → range_of file.input.now (section_fields header).offset (section_fields header).size ≡ Ok bytes
 unfolding section_data_of
-data_in file header bytes is = by_type (section_type header) is
-  where
-    by_null : (null : Bool) → (if null then Err NullData else range_of file.input.now (section_fields header).offset (section_fields header).size) ≡ Ok bytes → range_of file.input.now (section_fields header).offset (section_fields header).size ≡ Ok bytes
-    by_null true same = absurd (cc)
-    by_null false same = same
-
-    by_type : (kind : Result ShType ElfError) → and_then kind (λ one. if is_sh_type Null one then Err NullData else range_of file.input.now (section_fields header).offset (section_fields header).size) ≡ Ok bytes → range_of file.input.now (section_fields header).offset (section_fields header).size ≡ Ok bytes
-    by_type (Err error) same = absurd (cc)
-    by_type (Ok kind) same = by_null (is_sh_type Null kind) same
+data_in file header bytes is =
+    let (kind, typed, answered) = went_on (section_type header) _ bytes is in
+    (not_refused (is_sh_type Null kind) _ _ bytes answered).1
 
 -- the string table of a record: its texts are those of `.dynstr`
 record AreTexts (file : ElfFile) (range : Range) : Type 0 where
@@ -137,7 +131,7 @@ sysv_refused order bytes error short is =
     subst (λ (b : Bool). IsSysvTable (if b then Err ShortData else Ok (hash_table order bytes)) (Err (Elf error))) (sym (lt-ltb (length bytes) 12 short)) (ap (λ e. Err (Elf e)) is)
 
 -- the section has a hash table of a kind: it is the one in the range of the section
-record IsRead (kind : Kind) (file : ElfFile) (header : SectionHeader) : Type 0 where
+pub record IsRead (kind : Kind) (file : ElfFile) (header : SectionHeader) : Type 0 where
   pub bytes : List ℕ
   pub in_range : range_of file.input.now (section_fields header).offset (section_fields header).size ≡ Ok bytes
   pub same : (one : Result AnyTable Refusal) → IsTableIn kind (class_of (file_class file.header)) (file_order file.header) bytes one → IsTableOf kind file header one
@@ -174,7 +168,7 @@ gnu_read file header (any_table.Gnu table) is = by_data (section_data_of file he
     as_gnu own (Err (Elf error)) same passes reads = absurd reads
     as_gnu own (Err _) same passes reads = absurd reads
 
-    by_check : (own : List ℕ) (check : Result (Unit {0}) LinkError) → gnu_table_of (class_of (file_class file.header)) (file_order file.header) own ≡ check → section_data_of file header ≡ Ok own → passed own check ≡ Ok (gnu_data table) → IsRead Gnu file header
+    by_check : (own : List ℕ) (check : Result (Unit {0}) LinkError) → gnu_table_of (class_of (file_class file.header)) (file_order file.header) own ≡ check → section_data_of file header ≡ Ok own → and_then check (λ _. Ok own) ≡ Ok (gnu_data table) → IsRead Gnu file header
     by_check own (Err error) tested at held = absurd (cc)
     by_check own (Ok u) tested at held =
         let same : own ≡ gnu_data table = cc in record {
@@ -197,25 +191,29 @@ same_class n (inl one) = subst (λ k. class_by k ≡ class_of k) (sym one) refl
 same_class n (inr two) = subst (λ k. class_by k ≡ class_of k) (sym two) refl
 
 -- contents with dynamic symbols are contents with symbols
-dynamic_counts : (content : Content) (count : ℕ) → dynamic_count_in content ≡ Ok count → count_in content ≡ Ok count
+pub dynamic_counts : (content : Content) (count : ℕ) → dynamic_count_in content ≡ Ok count → count_in content ≡ Ok count
 dynamic_counts (table_of dyn_symbols_32 order bytes) count is = is
 dynamic_counts (table_of dyn_symbols_64 order bytes) count is = is
 dynamic_counts _ count is = absurd (cc)
 
 -- the sections and their contents that a record was read from
-record AreOpened (kind : Kind) (file : ElfFile) (index : ℕ) (header linked : SectionHeader) (content : Content) (count : ℕ) : Type 0 where
+pub record AreOpened (kind : Kind) (file : ElfFile) (index : ℕ) (header linked : SectionHeader) (content : Content) (count : ℕ) : Type 0 where
   pub at : section_of file index ≡ Ok header
   pub table : IsRead kind file header
   pub linked_at : section_of file (section_fields header).link ≡ Ok linked
   pub holds : section_content_of file linked ≡ Ok content
   pub counted : dynamic_count_in content ≡ Ok count
 
+-- the record of these sections
+abbrev pub opened_record : ElfFile → SectionHeader → SectionHeader → ℕ → OpenedTable
+opened_record file header linked count = record {
+  table = range_at (section_fields header).offset (section_fields header).size;
+  symbols = dynamic_with file linked count;
+}
+
 module _ (kind : Kind) (file : ElfFile) (index : ℕ) (header linked : SectionHeader) (content : Content) (count : ℕ) (are : AreOpened kind file index header linked content count) (name : List ℕ) (answer : Result LookUp Refusal) where
   abbrev record_of : OpenedTable
-  record_of = record {
-    table = range_at (section_fields header).offset (section_fields header).size;
-    symbols = dynamic_with file linked count;
-  }
+  record_of = opened_record file header linked count
 
   -- a look-up among the symbols, by the contents that they are
   among : (table : AnyTable) (strings part : List ℕ) → ((n : ℕ) → result_ok (text_of strings n) ≡ result_ok (dyn_string_of file n)) → (holding : Content) → dynamic_count_in holding ≡ Ok count → AreRead (file_class file.header) (file_order file.header) part holding → LooksByClass (file_class file.header == 1) (file_order file.header) strings part table name answer → OfSymbols file (λ E symbols. IsLookUp table name symbols) (Ok holding) answer
@@ -273,45 +271,46 @@ module _ (kind : Kind) (file : ElfFile) (index : ℕ) (header linked : SectionHe
   looks_there : LooksBy kind file.input.now record_of name answer → WithTable kind file index (LooksAmong file name) answer
   looks_there looks = rw are.at (by_table looks.table looks.is_table looks.looks)
 
-module _ (kind : Kind) (file : ElfFile) (index : ℕ) (opened : OpenedTable) (name : List ℕ) (answer : Result LookUp Refusal) where
-  abbrev LooksSo : Type 0
-  LooksSo = LooksBy kind file.input.now opened name answer → WithTable kind file index (LooksAmong file name) answer
-
-  by_count : (header linked : SectionHeader) (content : Content) (symbols : SymbolTable) (count : Result ℕ Refusal) → section_of file index ≡ Ok header → IsRead kind file header → section_of file (section_fields header).link ≡ Ok linked → section_content_of file linked ≡ Ok content → dynamic_count_in content ≡ count → dynamic_if file linked count ≡ Ok symbols → Ok opened ≡ opened_with header (Ok symbols) → LooksSo
+-- what holds of the record of such sections holds of a record that was opened
+module _ (kind : Kind) (file : ElfFile) (index : ℕ) (opened : OpenedTable) (P : OpenedTable → Type 0)
+    (so : (header linked : SectionHeader) (content : Content) (count : ℕ) → AreOpened kind file index header linked content count → P (opened_record file header linked count)) where
+  by_count : (header linked : SectionHeader) (content : Content) (symbols : SymbolTable) (count : Result ℕ Refusal) → section_of file index ≡ Ok header → IsRead kind file header → section_of file (section_fields header).link ≡ Ok linked → section_content_of file linked ≡ Ok content → dynamic_count_in content ≡ count → dynamic_if file linked count ≡ Ok symbols → Ok opened ≡ opened_with header (Ok symbols) → P opened
   by_count header linked content symbols (Err why) at table linked_at holds counted made whole = absurd (cc)
   by_count header linked content symbols (Ok count) at table linked_at holds counted made whole =
       let own : dynamic_with file linked count ≡ symbols = cc in
       let made_of : record { table = range_at (section_fields header).offset (section_fields header).size; symbols = symbols } ≡ opened = cc in
       let are : AreOpened kind file index header linked content count = record { at = at; table = table; linked_at = linked_at; holds = holds; counted = counted } in
-      subst (λ o. LooksBy kind file.input.now o name answer → WithTable kind file index (LooksAmong file name) answer) made_of
-      (subst (λ s. LooksBy kind file.input.now (record { table = range_at (section_fields header).offset (section_fields header).size; symbols = s }) name answer → WithTable kind file index (LooksAmong file name) answer) own
-      (looks_there kind file index header linked content count are name answer))
+      subst P made_of (subst (λ s. P (record { table = range_at (section_fields header).offset (section_fields header).size; symbols = s })) own (so header linked content count are))
 
-  by_content : (header linked : SectionHeader) (symbols : SymbolTable) (content : Result Content ElfError) → section_of file index ≡ Ok header → IsRead kind file header → section_of file (section_fields header).link ≡ Ok linked → section_content_of file linked ≡ content → and_so content (λ c. dynamic_if file linked (dynamic_count_in c)) ≡ Ok symbols → Ok opened ≡ opened_with header (Ok symbols) → LooksSo
+  by_content : (header linked : SectionHeader) (symbols : SymbolTable) (content : Result Content ElfError) → section_of file index ≡ Ok header → IsRead kind file header → section_of file (section_fields header).link ≡ Ok linked → section_content_of file linked ≡ content → and_so content (λ c. dynamic_if file linked (dynamic_count_in c)) ≡ Ok symbols → Ok opened ≡ opened_with header (Ok symbols) → P opened
   by_content header linked symbols (Err error) at table linked_at holds made whole = absurd (cc)
   by_content header linked symbols (Ok content) at table linked_at holds made whole = by_count header linked content symbols (dynamic_count_in content) at table linked_at holds refl made whole
 
-  by_linked : (header : SectionHeader) (symbols : SymbolTable) (linked : Result SectionHeader ElfError) → section_of file index ≡ Ok header → IsRead kind file header → section_of file (section_fields header).link ≡ linked → and_so linked (λ one. and_so (section_content_of file one) (λ c. dynamic_if file one (dynamic_count_in c))) ≡ Ok symbols → Ok opened ≡ opened_with header (Ok symbols) → LooksSo
+  by_linked : (header : SectionHeader) (symbols : SymbolTable) (linked : Result SectionHeader ElfError) → section_of file index ≡ Ok header → IsRead kind file header → section_of file (section_fields header).link ≡ linked → and_so linked (λ one. and_so (section_content_of file one) (λ c. dynamic_if file one (dynamic_count_in c))) ≡ Ok symbols → Ok opened ≡ opened_with header (Ok symbols) → P opened
   by_linked header symbols (Err error) at table linked_at made whole = absurd (cc)
   by_linked header symbols (Ok linked) at table linked_at made whole = by_content header linked symbols (section_content_of file linked) at table linked_at refl made whole
 
-  by_symbols : (header : SectionHeader) (symbols : Result SymbolTable Refusal) → section_of file index ≡ Ok header → IsRead kind file header → dynamic_table file (section_fields header).link ≡ symbols → Ok opened ≡ opened_with header symbols → LooksSo
+  by_symbols : (header : SectionHeader) (symbols : Result SymbolTable Refusal) → section_of file index ≡ Ok header → IsRead kind file header → dynamic_table file (section_fields header).link ≡ symbols → Ok opened ≡ opened_with header symbols → P opened
   by_symbols header (Err why) at table made whole = absurd (cc)
   by_symbols header (Ok symbols) at table made whole = by_linked header symbols (section_of file (section_fields header).link) at table refl made whole
 
-  by_own : (header : SectionHeader) (own : Result AnyTable Refusal) → section_of file index ≡ Ok header → IsTableOf kind file header own → MatchResult own (λ _. Ok opened ≡ opened_with header (dynamic_table file (section_fields header).link)) (λ why. Ok opened ≡ Err why) → LooksSo
+  by_own : (header : SectionHeader) (own : Result AnyTable Refusal) → section_of file index ≡ Ok header → IsTableOf kind file header own → MatchResult own (λ _. Ok opened ≡ opened_with header (dynamic_table file (section_fields header).link)) (λ why. Ok opened ≡ Err why) → P opened
   by_own header (Err why) at is made = absurd (cc)
   by_own header (Ok table) at is made = by_symbols header (dynamic_table file (section_fields header).link) at (table_read kind file header table is) refl made
 
-  by_header : (found : Result SectionHeader ElfError) → section_of file index ≡ found → MatchResult found (λ header. (own : Result AnyTable Refusal) × IsTableOf kind file header own × MatchResult own (λ _. Ok opened ≡ opened_with header (dynamic_table file (section_fields header).link)) (λ why. Ok opened ≡ Err why)) (λ error. Ok opened ≡ Err (Elf error)) → LooksSo
+  by_header : (found : Result SectionHeader ElfError) → section_of file index ≡ found → MatchResult found (λ header. (own : Result AnyTable Refusal) × IsTableOf kind file header own × MatchResult own (λ _. Ok opened ≡ opened_with header (dynamic_table file (section_fields header).link)) (λ why. Ok opened ≡ Err why)) (λ error. Ok opened ≡ Err (Elf error)) → P opened
   by_header (Err error) at made = absurd (cc)
   by_header (Ok header) at made = by_own header made.0 at made.1 made.2
 
-  pub opened_looks : IsOpened kind file index (Ok opened) → IfUtf8 (LooksBy kind file.input.now opened) name answer → IsLookUpBy kind file index name answer
-  opened_looks made looks = record {
-    utf8 = λ utf8. by_header (section_of file index) refl made (looks.0 utf8);
-    not_utf8 = looks.1;
-  }
+  pub opened_so : IsOpened kind file index (Ok opened) → P opened
+  opened_so made = by_header (section_of file index) refl made
+
+pub opened_looks : (kind : Kind) (file : ElfFile) (index : ℕ) (opened : OpenedTable) (name : List ℕ) (answer : Result LookUp Refusal) → IsOpened kind file index (Ok opened) → IfUtf8 (LooksBy kind file.input.now opened) name answer → IsLookUpBy kind file index name answer
+opened_looks kind file index opened name answer made looks = record {
+  utf8 = λ utf8. opened_so kind file index opened (λ o. LooksBy kind file.input.now o name answer → WithTable kind file index (LooksAmong file name) answer)
+      (λ header linked content count are. looks_there kind file index header linked content count are name answer) made (looks.0 utf8);
+  not_utf8 = looks.1;
+}
 
 -- the result for the header at an index
 pub opened_at : (kind : Kind) (file : ElfFile) (index : ℕ) (header : SectionHeader) (answer : Result OpenedTable Refusal) → section_of file index ≡ Ok header → (found : Result AnyTable Refusal) × IsTableOf kind file header found × MatchResult found (λ _. answer ≡ opened_with header (dynamic_table file (section_fields header).link)) (λ why. answer ≡ Err why) → IsOpened kind file index answer

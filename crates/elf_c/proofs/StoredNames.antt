@@ -1,12 +1,12 @@
 -- The names that a call stores lie in the input.
 use Rattle.std.proofs.Common.{◌≡◌, ◌<◌, ◌≤◌, ◌+◌, ◌-◌, ◌==◌, ℕ, zero, suc, Bool, true, false, List, [], ◌∷◌, length, slice_get, Option, None, Some, Result, Ok, Err, IfOk, drop, take, if◌then◌else◌, refl, sym, ap, subst, ◌∙◌, arith}
 use Rattle.std.proofs.lemmas.List.{length-take-le, length-drop}
-use Rattle.elf_base.proofs.TextRanges.{text_ends}
+use Rattle.elf_base.proofs.Texts.{zero_within}
 use Rattle.elf_base.proofs.lemmas.TextLemmas.{text_of-is}
 use Rattle.elf_base.specs.Refusal.{and_then}
 use Rattle.elf_base.specs.Text.{text_of}
 use Rattle.elf_base.specs.declared.error.ElfError.{ElfError}
-use Rattle.elf_base.specs.declared.error.ElfError.TheVariants.{DataRange, NullName}
+use Rattle.elf_base.specs.declared.error.ElfError.TheVariants.{NullName}
 use Rattle.elf_records.specs.Dynamic.{dynamic_tag, dynamic_value}
 use Rattle.elf_records.specs.declared.dynamic.Dynamic.{Dynamic}
 use Rattle.elf_linking.specs.declared.view.tags.TheConstants.{DT_NEEDED}
@@ -14,6 +14,7 @@ use Rattle.elf_records.specs.SectionNumbers.{is_sh_type}
 use Rattle.elf_records.specs.declared.sections.ShType.TheVariants.{Null}
 use Rattle.std.proofs.lemmas.Bool.{ltb-false}
 use Rattle.std.specs.Prelude.{nat_lt}
+use Rattle.xmas_elf.proofs.FirstNamed.{not_refused}
 use Rattle.xmas_elf.specs.Ranges.{range_of}
 use Rattle.xmas_elf.specs.SectionHeader.{section_fields, section_type}
 use Rattle.xmas_elf.specs.declared.sections.section_header.SectionHeader.{SectionHeader}
@@ -46,15 +47,12 @@ stored_lie input value items first old answer new fills has =
 
 -- a text lies in the part that it is read from
 pub part_within : (input : List ℕ) (start count : ℕ) (part : List ℕ) → range_of input start count ≡ Ok part → (start + count ≤ length input) × (length part ≡ count)
-part_within input start count part is = by_test (nat_lt (length input) (start + count)) refl is
-  where
-    by_test : (b : Bool) → nat_lt (length input) (start + count) ≡ b → (if b then Err DataRange else Ok (take count (drop start input))) ≡ Ok part → (start + count ≤ length input) × (length part ≡ count)
-    by_test true test same = absurd (cc)
-    by_test false test same =
-        let fits : start + count ≤ length input = ltb-false _ _ test in
-        let taken : take count (drop start input) ≡ part = cc in
-        let rest : length (drop start input) ≡ length input - start = length-drop start input in
-        (fits, ap length (sym taken) ∙ length-take-le count (drop start input) (omega (arith, fits, rest)))
+part_within input start count part is =
+    let (short, taken) = not_refused (nat_lt (length input) (start + count)) _ _ part is in
+    let fits : start + count ≤ length input = ltb-false _ _ short in
+    let same : take count (drop start input) ≡ part = cc in
+    let rest : length (drop start input) ≡ length input - start = length-drop start input in
+    (fits, ap length (sym same) ∙ length-take-le count (drop start input) (omega (arith, fits, rest)))
 
 text_lies : (input : List ℕ) (part : Range) (index : ℕ) → IfOk (text_range input part index) (LiesIn input)
 text_lies input part index = by_part (range_of input part.offset part.size) refl
@@ -63,7 +61,7 @@ text_lies input part index = by_part (range_of input part.offset part.size) refl
     by_text bytes (Err error) is read = tt
     by_text bytes (Ok text) is read =
         let (fits, long) = part_within input part.offset part.size bytes is in
-        let ends = text_ends bytes index text (length text) (text_of-is bytes index text read) refl in
+        let ends = zero_within bytes index text (text_of-is bytes index text read).ended in
         let sum : part.offset + index + length text ≤ length input = omega (arith, fits, long, ends) in sum
 
     by_part : (r : Result (List ℕ) ElfError) → range_of input part.offset part.size ≡ r → IfOk (and_then r (λ bytes. and_then (text_of bytes index) (λ text. Ok (range_at (part.offset + index) (length text))))) (LiesIn input)

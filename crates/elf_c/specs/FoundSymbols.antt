@@ -1,12 +1,13 @@
 -- The symbol that a reference gets by its name and version, as numbers (gABI, "Dynamic Section"; LSB, "Symbol
 -- Versioning").
-use Rattle.std.specs.Prelude.{◌≡◌, ◌≢◌, ◌==◌, ℕ, Bool, true, false, List, [], Option, None, Some, Result, Ok, Err}
+use Rattle.std.specs.Prelude.{◌≡◌, ◌≢◌, ◌==◌, ℕ, Bool, true, false, List, [], Option, None, Some, Result, Ok, Err, if◌then◌else◌}
 use Rattle.elf_base.specs.FileHeader.{file_class}
 use Rattle.elf_base.specs.declared.bytes.Order.{Order}
 use Rattle.elf_records.specs.HashNumber.{hash_number}
 use Rattle.elf_linking.specs.AnyTable.{IsGoodBy}
 use Rattle.elf_linking.specs.DynamicObject.{AreDynamicSymbols, IsObjectRefused}
 use Rattle.elf_linking.specs.Find.{AreReadable, DynamicSymbols, FindsRight, IsFound}
+use Rattle.elf_linking.specs.Serves.{serves_others}
 use Rattle.elf_linking.specs.declared.error.LinkError.{LinkError}
 use Rattle.elf_linking.specs.declared.find.Use.TheVariants.{Any}
 use Rattle.elf_linking.specs.declared.find.Wanted.{Wanted}
@@ -24,22 +25,30 @@ use Rattle.elf_c.specs.declared.symbols.Symbol.{Symbol}
 abbrev pub no_symbol : Symbol
 no_symbol = record { value = 0; size = 0; name = 0; shndx = 0; info = 0; other = 0 }
 
--- the numbers of the symbol that a search found, if any
+-- that no symbol is found
+abbrev pub none_found : FoundSymbol
+none_found = record { symbol = no_symbol; found = 0; index = 0 }
+
+-- the numbers of the symbol at an index, if it serves other files than its own
+abbrev pub serving_symbol : ℕ → SymbolFields → FoundSymbol
+serving_symbol index e = if serves_others e then record { symbol = symbol_record e; found = 1; index = index } else none_found
+
+-- the numbers of the symbol that a search found, if any, and if it serves other files
 abbrev pub found_symbol : {E : Type 0} → (E → SymbolFields) → Option (ℕ × E) → FoundSymbol
-found_symbol fields None = record { symbol = no_symbol; found = 0; index = 0 }
-found_symbol fields (Some at) = record { symbol = symbol_record (fields at.1); found = 1; index = at.0 }
+found_symbol fields None = none_found
+found_symbol fields (Some at) = serving_symbol at.0 (fields at.1)
 
 -- the numbers of the result of a search
 abbrev pub found_answer : {E : Type 0} → (E → SymbolFields) → Result (Option (ℕ × E)) LinkError → Result FoundSymbol Refusal
 found_answer fields (Ok found) = Ok (found_symbol fields found)
 found_answer fields (Err error) = Err (Link error)
 
--- what a name of a version asks for: that version, which isn't hidden; the empty one asks as `dlsym` does
+-- what a name of a version asks for: that version and no other, as `dlvsym` does; the empty one asks as `dlsym` does
 abbrev pub IsWanted : List ℕ → Wanted → Type 0
 IsWanted version Newest = version ≡ []
 IsWanted version Unversioned = ⊥
 IsWanted version (Version name hash hidden) =
-    (version ≢ []) × (name.now ≡ version) × (hash ≡ hash_number version) × (hidden ≡ false)
+    (version ≢ []) × (name.now ≡ version) × (hash ≡ hash_number version) × (hidden ≡ true)
 
 -- the result of a search among dynamic symbols for a name and a version; if look-ups find all that they must
 -- and the versions can be read, the right one

@@ -11,7 +11,7 @@ use Rattle.elf_c.specs.declared.names.Range.{Range}
 use Rattle.elf_c.specs.declared.status.Refusal.{Refusal}
 use Rattle.elf_c.specs.declared.status.Refusal.TheVariants.{Elf}
 
--- the answer for the result of a look-up: its numbers, or the number of its error and zeros
+-- the record for the result of a look-up: its numbers, or the number of its error and zeros
 abbrev pub answered : Result LookUp Refusal → Answer
 answered (Ok said) = record { status = 0; found = said.found; index = said.index; looked_at = said.looked_at }
 answered (Err why) = record { status = refusal_number why; found = 0; index = 0; looked_at = 0 }
@@ -29,8 +29,8 @@ IsForRange P names range answer =
 abbrev pub IsNamed : List ℕ → Result (Bor (List ℕ)) Refusal → Type 0
 IsNamed name answer = IsOkAnd answer (λ text. text.now ≡ name)
 
--- each item of the slice with a range is an answer that satisfies P for its name, and the others are
--- unchanged
+-- each item of the slice that has a range is the record of a result that satisfies P for its name; the other
+-- items are unchanged
 pub record AreAnswered (P : List ℕ → Result LookUp Refusal → Type 0) (names : List ℕ) (ranges : List Range) (old new : List Answer) : Type 0 where
   pub long : length new ≡ length old
   pub each : (k : ℕ) (range : Range) → slice_get ranges k ≡ Some range → k < length old

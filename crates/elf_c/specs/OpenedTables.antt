@@ -18,6 +18,7 @@ use Rattle.elf_linking.specs.declared.any_table.AnyTable.TheVariants as any_tabl
 use Rattle.xmas_elf.specs.Content.{Content, dyn_symbols_32, dyn_symbols_64, hash_table_content, table_of}
 use Rattle.xmas_elf.specs.NameTable.{section_named}
 use Rattle.xmas_elf.specs.Ranges.{range_of}
+use Rattle.xmas_elf.specs.ReportHash.{content_at}
 use Rattle.xmas_elf.specs.SectionContent.{section_content_of}
 use Rattle.xmas_elf.specs.SectionHeader.{section_fields, section_of}
 use Rattle.xmas_elf.specs.Symbol.{Symbols, dyn_entry_32, dyn_entry_32_fields, dyn_entry_64, dyn_entry_64_fields}
@@ -25,8 +26,9 @@ use Rattle.xmas_elf.specs.declared.ElfFile.{ElfFile}
 use Rattle.xmas_elf.specs.declared.sections.section_header.SectionHeader.{SectionHeader}
 use Rattle.elf_c.specs.HashTables.{IsSysvTable, IsTableOf}
 use Rattle.elf_c.specs.Lookup.{IsLookUp}
-use Rattle.elf_c.specs.Records.{name_answer, range_at, section_range}
+use Rattle.elf_c.specs.Records.{LiesIn, name_answer, range_at, section_range}
 use Rattle.elf_c.specs.Status.{and_so}
+use Rattle.elf_c.specs.SymbolTables.{LieWithin}
 use Rattle.elf_c.specs.declared.hash.LookUp.{LookUp}
 use Rattle.elf_c.specs.declared.hash_tables.Kind.{Kind}
 use Rattle.elf_c.specs.declared.hash_tables.Kind.TheVariants.{Gnu, Sysv}
@@ -128,3 +130,11 @@ IsOpened kind file index answer = MatchResult (section_of file index)
     × MatchResult found (λ _. answer ≡ opened_with header (dynamic_table file (section_fields header).link))
     (λ why. answer ≡ Err why))
     (λ error. answer ≡ Err (Elf error))
+
+-- the contents of the section that the section at an index links to (sh_link), or why they can't be read
+abbrev pub linked_content : ElfFile → ℕ → Result Content ElfError
+linked_content file index = and_then (section_of file index) (λ header. content_at file (section_fields header).link)
+
+-- the ranges of a record lie in the input
+abbrev pub LieWithinBy : List ℕ → OpenedTable → Type 0
+LieWithinBy input opened = LiesIn input opened.table × LieWithin input opened.symbols

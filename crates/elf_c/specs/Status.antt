@@ -23,7 +23,7 @@ refusal_number refusal = (refusal_row refusal).0
 abbrev pub refusal_message : Refusal → List ℕ
 refusal_message refusal = (refusal_row refusal).1
 
--- the rest of an export after a call of the library that was not refused
+-- the rest of an export after a call of the library that returned no error
 abbrev pub and_so : {A B : Type 0} → Result A ElfError → (A → Result B Refusal) → Result B Refusal
 and_so (Ok value) next = next value
 and_so (Err error) next = Err (Elf error)

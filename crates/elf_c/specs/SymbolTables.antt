@@ -11,7 +11,7 @@ use Rattle.xmas_elf.specs.SectionHeader.{section_fields, section_of}
 use Rattle.xmas_elf.specs.Symbol.{SymbolFields, dyn_entry_32, dyn_entry_64, entry_32, entry_32_fields, entry_64, entry_64_fields}
 use Rattle.xmas_elf.specs.declared.ElfFile.{ElfFile}
 use Rattle.xmas_elf.specs.declared.sections.section_header.SectionHeader.{SectionHeader}
-use Rattle.elf_c.specs.Records.{found_in, name_answer, range_at, text_range}
+use Rattle.elf_c.specs.Records.{LiesIn, found_in, name_answer, range_at, text_range}
 use Rattle.elf_c.specs.Status.{and_so, refusal_number}
 use Rattle.elf_c.specs.Symbols.{linked_range}
 use Rattle.elf_c.specs.declared.names.Name.{Name}
@@ -71,3 +71,7 @@ name_by input table fields = if table.strings_status == 0
 abbrev pub range_or_status : Result Name Refusal → Result Range ℕ
 range_or_status (Ok name) = if name.status == 0 then Ok name.range else Err name.status
 range_or_status (Err why) = Err (refusal_number why)
+
+-- the ranges of a record lie in the input
+abbrev pub LieWithin : List ℕ → SymbolTable → Type 0
+LieWithin input table = LiesIn input table.symbols × LiesIn input table.strings

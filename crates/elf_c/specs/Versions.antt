@@ -43,7 +43,7 @@ version_name input strings (Err error) = linked_name (Err (Link error))
 abbrev pub hidden_number : Bool → ℕ
 hidden_number hidden = if hidden then 1 else 0
 
--- a number that nothing bears
+-- a version whose number no definition and no need has
 abbrev pub unnamed : ℕ → Bool → Version
 unnamed number hidden = record {
   name = range_at 0 0;
@@ -73,7 +73,7 @@ unreadable error = record {
   hash = 0;
 }
 
--- a number that a definition bears
+-- a version whose number a definition has
 abbrev pub defined_as : List ℕ → Result Range Refusal → ℕ → Bool → DefinitionParts → Version
 defined_as input strings number hidden d = let name = version_name input strings d.name_offset in record {
   name = name.range;
@@ -88,7 +88,7 @@ defined_as input strings number hidden d = let name = version_name input strings
   hash = d.hash;
 }
 
--- a number that a need bears
+-- a version whose number a need has
 abbrev pub needed_as : List ℕ → Result Range Refusal → ℕ → Bool → NeedParts → Version
 needed_as input strings number hidden need =
     let name = version_name input strings (Ok need.name_offset) in
@@ -143,7 +143,7 @@ need_in file index (Err error) = Err (Link error)
 abbrev pub need_at : ElfFile → ℕ → Result Version Refusal
 need_at file index = need_in file index (tables_of file 0)
 
--- what bears the number of a symbol
+-- the definition or the need with the number of a symbol
 abbrev pub version_by : List ℕ → Result Range Refusal → ℕ → Bool → Option NamedParts → Version
 version_by input strings number hidden None = unnamed number hidden
 version_by input strings number hidden (Some (Defined d)) = defined_as input strings number hidden d

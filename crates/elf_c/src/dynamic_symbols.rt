@@ -13,7 +13,7 @@ ghost use Rattle.elf_c.specs.FoundSymbols.{IsFoundBy};
 ghost use Rattle.elf_c.specs.Parsed.{file_of};
 ghost use Rattle.elf_c.specs.Records.{AllLieIn, found_in};
 ghost use Rattle.elf_c.specs.Status.{GivesBy, GivesHere};
-ghost use Rattle.elf_c.specs.SymbolTables.{name_by, symbol_by};
+ghost use Rattle.elf_c.specs.SymbolTables.{LieWithin, name_by, symbol_by};
 ghost use Rattle.elf_c.specs.Symbols.{symbol_record};
 ghost use Rattle.elf_c.specs.declared.found_symbols.FoundSymbol.{FoundSymbol};
 ghost use Rattle.elf_c.specs.declared.status.Refusal.{Refusal};
@@ -241,7 +241,8 @@ fn table_of_segment(file: &ElfFile<'_>) -> Result<SymbolTable, Refusal>
 }
 
 /// The symbols of the dynamic segment and the string table of their names, found once, for
-/// `xmas_elf_symbol_of` and `xmas_elf_symbol_name_of`. It needs no section headers.
+/// `xmas_elf_symbol_of` and `xmas_elf_symbol_name_of`. Both ranges lie in the input. It needs no
+/// section headers.
 ///
 /// Errors: those of `xmas_elf_dynamic_symbols` up to `NoRecord`. `strings_status` is 0, or an error
 /// of a name of `xmas_elf_dynamic_symbol_names` for the string table.
@@ -254,6 +255,7 @@ pub extern "C" fn xmas_elf_dynamic_symbols_open(
     ensures exact { (answer : Result SymbolTable Refusal)
         × IsSegmentTable (file_of input.entry header.now) answer
         × GivesHere answer out.old result out.new }
+    ensures within { result ≡ 0 → LieWithin input.now out.new }
     ensures symbols { result ≡ 0 → (bytes : Result (List ℕ) LinkError)
         → AreDynamicSymbols (file_of input.entry header.now) bytes → (index : ℕ)
         → symbol_by symbol_record input.now out.new index

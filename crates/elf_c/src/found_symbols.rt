@@ -3,7 +3,8 @@
 
 ghost use Rattle.std.specs.Prelude.{◌≡◌, Result};
 ghost use Rattle.elf_c.specs.FoundSymbols.{IsFoundBy, IsFoundSymbol, IsSearch, IsWanted};
-ghost use Rattle.elf_c.specs.FoundSymbols.{found_answer, found_symbol};
+ghost use Rattle.elf_c.specs.FoundSymbols.{found_answer, found_symbol, none_found};
+ghost use Rattle.elf_c.specs.FoundSymbols.{serving_symbol};
 ghost use Rattle.elf_c.specs.LookUps.{IfUtf8, IsNamed};
 ghost use Rattle.elf_c.specs.Parsed.{file_of};
 ghost use Rattle.elf_c.specs.Status.{GivesHere};
@@ -17,7 +18,7 @@ use crate::symbols::Symbol;
 use elf_base::ElfError;
 use elf_linking::find::{Use, Wanted};
 use elf_linking::view::LinkedSymbol;
-use elf_linking::{DynamicObject, LinkError};
+use elf_linking::{DynamicObject, LinkError, serves_others};
 use std::str::from_utf8;
 use xmas_elf::ElfFile;
 use xmas_elf::bytes::Record;
@@ -46,21 +47,39 @@ pub struct FoundSymbol {
 }
 
 impl FoundSymbol {
-    // The numbers of the symbol that a search found, if any.
+    // That no symbol is found.
+    fn none() -> FoundSymbol
+        ensures { result ≡ none_found }
+    {
+        FoundSymbol {
+            symbol: NO_SYMBOL,
+            found: 0,
+            index: 0,
+        }
+    }
+
+    // The numbers of the symbol that a search found, if any, and if it serves other files.
     fn of<E: Entry + Record>(found: Option<(u32, E)>) -> FoundSymbol
         ensures { result ≡ found_symbol E.fields found }
     {
         match found {
-            Some((index, entry)) => FoundSymbol {
-                symbol: Symbol::of(&entry),
+            Some((index, entry)) => FoundSymbol::if_serving(index, &entry),
+            None => FoundSymbol::none(),
+        }
+    }
+
+    // The numbers of the symbol at an index, if it serves other files than its own.
+    fn if_serving<E: Entry + Record>(index: u32, entry: &E) -> FoundSymbol
+        ensures { result ≡ serving_symbol index (E.fields entry.now) }
+    {
+        if serves_others(entry) {
+            FoundSymbol {
+                symbol: Symbol::of(entry),
                 found: 1,
                 index,
-            },
-            None => FoundSymbol {
-                symbol: NO_SYMBOL,
-                found: 0,
-                index: 0,
-            },
+            }
+        } else {
+            FoundSymbol::none()
         }
     }
 }
@@ -81,7 +100,7 @@ fn wanted_of(version: &str) -> Wanted<'_>
     if version.is_empty() {
         Wanted::Newest
     } else {
-        Wanted::version(version)
+        Wanted::exact(version)
     }
 }
 
@@ -126,10 +145,10 @@ fn search_by(file: &ElfFile<'_>, name: &[u8], version: &[u8]) -> Result<FoundSym
     search_by_class(file, name, text_of(version)?)
 }
 
-/// The symbol that a reference gets by a name and the name of a version: the result of
-/// `DynamicObject::find` for `Wanted::version`, and with an empty version, of which the pointer may
-/// be null, for `Wanted::Newest`, as `dlsym` asks; the use is `Use::Any`. It needs no section
-/// headers.
+/// The symbol of a file that `dlvsym` finds by a name and the name of a version, and with an empty
+/// version, of which the pointer may be null, the one that `dlsym` finds: the result of
+/// `DynamicObject::find` for `Wanted::exact` or `Wanted::Newest` and for `Use::Any`, if that symbol
+/// serves other files than its own (`serves_others`). It needs no section headers.
 ///
 /// Errors: `TextUtf8` if the name or the version is not UTF-8; those of `DynamicObject::read`; those
 /// of `DynamicObject::find`.

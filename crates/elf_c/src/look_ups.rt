@@ -24,7 +24,7 @@ pub struct Answer {
 }
 
 impl Answer {
-    // The answer for the result of a look-up.
+    // The record for the result of a look-up.
     #[inline(always)]
     pub(crate) fn of(answer: Result<LookUp, Refusal>) -> Answer
         ensures { result ≡ answered answer }

@@ -1,17 +1,19 @@
 //! The hash table of a section with its symbols, found once for many look-ups (gABI, "Hash Table";
 //! the convention of GNU binutils and glibc).
 
-ghost use Rattle.std.specs.Prelude.{◌≡◌, ◌==◌, ℕ, List, Result};
+ghost use Rattle.std.specs.Prelude.{◌≡◌, ◌==◌, ℕ, IsOk, List, Ok, Result};
 ghost use Rattle.elf_base.specs.FileHeader.{order_of};
 ghost use Rattle.elf_c.specs.HashTables.{IsSysvTable};
 ghost use Rattle.elf_c.specs.LookUps.{IfUtf8};
 ghost use Rattle.elf_c.specs.Lookup.{IsLookUpBy};
 ghost use Rattle.elf_c.specs.OpenedTables.{IsGnuOf, IsOpened, IsTableBy, IsTableIn, LooksAmong};
-ghost use Rattle.elf_c.specs.OpenedTables.{LooksBy, LooksByClass, LooksWithin, class_by};
-ghost use Rattle.elf_c.specs.OpenedTables.{dynamic_count_in, dynamic_strings, dynamic_table};
-ghost use Rattle.elf_c.specs.OpenedTables.{opened_with};
+ghost use Rattle.elf_c.specs.OpenedTables.{LieWithinBy, LooksBy, LooksByClass, LooksWithin};
+ghost use Rattle.elf_c.specs.OpenedTables.{class_by, dynamic_count_in, dynamic_strings};
+ghost use Rattle.elf_c.specs.OpenedTables.{dynamic_table, linked_content, opened_with};
 ghost use Rattle.elf_c.specs.Parsed.{file_of};
-ghost use Rattle.elf_c.specs.Status.{GivesHere};
+ghost use Rattle.elf_c.specs.Status.{GivesHere, and_so};
+ghost use Rattle.elf_c.specs.SymbolTables.{symbol_by};
+ghost use Rattle.elf_c.specs.Symbols.{symbol_in, symbol_record};
 ghost use Rattle.elf_c.specs.declared.hash.LookUp.{LookUp};
 ghost use Rattle.elf_c.specs.declared.hash_tables.Kind.TheVariants.{Gnu, Sysv};
 ghost use Rattle.elf_c.specs.declared.opened_tables.OpenedTable.{OpenedTable};
@@ -120,7 +122,8 @@ fn opened_of(kind: Kind, file: &ElfFile<'_>, section: u64) -> Result<OpenedTable
 }
 
 /// The hash table of the ELF standard in the section at an index, and the symbols for dynamic linking
-/// that this section is linked to (sh_link): found once, for `xmas_elf_hash_look_up_of`.
+/// that this section is linked to (sh_link): found once, for `xmas_elf_hash_look_up_of`. All ranges lie
+/// in the input, and `xmas_elf_symbol_of` reads a symbol of `symbols` by the index that a look-up finds.
 ///
 /// Errors: those of `ElfFile::section_header_at` and `SectionHeader::get_data` for the section,
 /// `OtherData` if it holds no hash table; the same for the linked section, `OtherData` if it is of
@@ -136,6 +139,13 @@ pub extern "C" fn xmas_elf_hash_open(
     ensures exact { (answer : Result OpenedTable Refusal)
         × IsOpened Sysv (file_of input.entry header.now) section answer
         × GivesHere answer out.old result out.new }
+    ensures within { result ≡ 0 → LieWithinBy input.now out.new }
+    ensures symbols { result ≡ 0 → (index : ℕ)
+        → symbol_by symbol_record input.now out.new.symbols index
+        ≡ and_so (linked_content (file_of input.entry header.now) section) (symbol_in index) }
+    ensures found { result ≡ 0 → (name : List ℕ) (said : LookUp)
+        → IsLookUpBy Sysv (file_of input.entry header.now) section name (Ok said) → said.found ≡ 1
+        → IsOk (symbol_by symbol_record input.now out.new.symbols said.index) }
     ensures looks { result ≡ 0 → (name : List ℕ) (answer : Result LookUp Refusal)
         → IfUtf8 (LooksBy Sysv input.now out.new) name answer
         → IsLookUpBy Sysv (file_of input.entry header.now) section name answer }
@@ -144,7 +154,8 @@ pub extern "C" fn xmas_elf_hash_open(
 }
 
 /// The GNU hash table in the section at an index, and the symbols for dynamic linking that this
-/// section is linked to (sh_link): found once, for `xmas_elf_gnu_look_up_of`.
+/// section is linked to (sh_link): found once, for `xmas_elf_gnu_look_up_of`. All ranges lie in the
+/// input, and `xmas_elf_symbol_of` reads a symbol of `symbols` by the index that a look-up finds.
 ///
 /// Errors: those of `ElfFile::section_header_at` for the section, `OtherData` if it is of another
 /// type than 0x6ffffff6, those of `SectionHeader::raw_data` and `GnuHashTable::read`; those of
@@ -160,6 +171,13 @@ pub extern "C" fn xmas_elf_gnu_open(
     ensures exact { (answer : Result OpenedTable Refusal)
         × IsOpened Gnu (file_of input.entry header.now) section answer
         × GivesHere answer out.old result out.new }
+    ensures within { result ≡ 0 → LieWithinBy input.now out.new }
+    ensures symbols { result ≡ 0 → (index : ℕ)
+        → symbol_by symbol_record input.now out.new.symbols index
+        ≡ and_so (linked_content (file_of input.entry header.now) section) (symbol_in index) }
+    ensures found { result ≡ 0 → (name : List ℕ) (said : LookUp)
+        → IsLookUpBy Gnu (file_of input.entry header.now) section name (Ok said) → said.found ≡ 1
+        → IsOk (symbol_by symbol_record input.now out.new.symbols said.index) }
     ensures looks { result ≡ 0 → (name : List ℕ) (answer : Result LookUp Refusal)
         → IfUtf8 (LooksBy Gnu input.now out.new) name answer
         → IsLookUpBy Gnu (file_of input.entry header.now) section name answer }

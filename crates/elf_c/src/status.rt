@@ -63,26 +63,7 @@ impl Numbered for LinkError {
     ghost number_of = { link_number };
 
     fn number(self) -> u32 {
-        match self {
-            LinkError::Elf(error) => error.number(),
-            LinkError::ShortTable => 101,
-            LinkError::UnknownClass => 102,
-            LinkError::BloomCount => 103,
-            LinkError::BucketIndex => 104,
-            LinkError::ChainIndex => 105,
-            LinkError::ChainData => 106,
-            LinkError::SymbolIndex => 107,
-            LinkError::Missing => 108,
-            LinkError::NoDynamic => 109,
-            LinkError::NoEntry => 110,
-            LinkError::Address => 111,
-            LinkError::ShortNote => 112,
-            LinkError::NotMultiple => 113,
-            LinkError::ShortVersion => 114,
-            LinkError::VersionCount => 115,
-            LinkError::RelocationKind => 116,
-            LinkError::ObjectIndex => 117,
-        }
+        LinkError::number(&self)
     }
 }
 

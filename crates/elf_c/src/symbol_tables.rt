@@ -7,8 +7,8 @@ ghost use Rattle.elf_base.specs.Table.{records};
 ghost use Rattle.elf_c.specs.Parsed.{file_of};
 ghost use Rattle.elf_c.specs.Records.{LiesIn, found_in};
 ghost use Rattle.elf_c.specs.Status.{GivesBy, GivesHere, and_so};
-ghost use Rattle.elf_c.specs.SymbolTables.{count_in, name_by, range_or_status, symbol_by};
-ghost use Rattle.elf_c.specs.SymbolTables.{table_of_section};
+ghost use Rattle.elf_c.specs.SymbolTables.{LieWithin, count_in, name_by, range_or_status};
+ghost use Rattle.elf_c.specs.SymbolTables.{symbol_by, table_of_section};
 ghost use Rattle.elf_c.specs.Symbols.{symbol_in, symbol_name_at, symbol_record};
 ghost use Rattle.xmas_elf.specs.SectionContent.{section_content, section_content_of};
 ghost use Rattle.xmas_elf.specs.SectionHeader.{section_of};
@@ -76,7 +76,8 @@ fn table_of_section(file: &ElfFile<'_>, section: u64) -> Result<SymbolTable, Ref
 }
 
 /// The symbols of the section at an index, and the data of the section that it links to (sh_link),
-/// which contains their names: found once, for `xmas_elf_symbol_of` and `xmas_elf_symbol_name_of`.
+/// which contains their names: found once, for `xmas_elf_symbol_of` and `xmas_elf_symbol_name_of`. Both
+/// ranges lie in the input.
 ///
 /// Errors: those of `ElfFile::section_header_at` and `SectionHeader::get_data`; `OtherData` if the
 /// section does not contain symbols. `strings_status` is 0, or an error of `xmas_elf_section_data`
@@ -90,6 +91,7 @@ pub extern "C" fn xmas_elf_symbols_open(
 ) -> u32
     ensures exact { GivesHere (table_of_section (file_of input.entry header.now) section)
         out.old result out.new }
+    ensures within { result ≡ 0 → LieWithin input.now out.new }
     ensures symbols { result ≡ 0 → (index : ℕ) → symbol_by symbol_record input.now out.new index
         ≡ and_so (and_then (section_of (file_of input.entry header.now) section)
         (section_content_of (file_of input.entry header.now))) (symbol_in index) }

@@ -31,11 +31,11 @@ use elf_linking::versions::{
 use elf_linking::view::DynamicView;
 use xmas_elf::ElfFile;
 
-/// Nothing bears the number of a version.
+/// No definition and no need has the number of a version.
 pub const UNNAMED: u32 = 0;
-/// A definition of the file bears the number of a version.
+/// A definition of the file has the number of a version.
 pub const DEFINED: u32 = 1;
-/// A need of the file bears the number of a version.
+/// A need of the file has the number of a version.
 pub const NEEDED: u32 = 2;
 
 // The range of no text.
@@ -56,7 +56,7 @@ pub struct Version {
     pub name_status: u32,
     /// 0, or the number of the error for the library's name.
     pub file_status: u32,
-    /// What bears the number: `UNNAMED`, `DEFINED` or `NEEDED`.
+    /// What has the number: `UNNAMED` (nothing), `DEFINED` or `NEEDED`.
     pub kind: u32,
     /// The number of the version: that of a symbol or of a need without its bit 15.
     pub number: u32,
@@ -83,7 +83,7 @@ fn version_name(
 }
 
 impl Version {
-    // A number that nothing bears.
+    // A version whose number nothing has.
     fn unnamed(number: u16, hidden: bool) -> Version
         ensures { result ≡ unnamed number hidden }
     {
@@ -111,7 +111,7 @@ impl Version {
         }
     }
 
-    // A number that a definition bears.
+    // A version whose number a definition has.
     fn defined(
         input: &[u8],
         strings: Result<Range, Refusal>,
@@ -133,7 +133,7 @@ impl Version {
         }
     }
 
-    // A number that a need bears.
+    // A version whose number a need has.
     fn needed(
         input: &[u8],
         strings: Result<Range, Refusal>,

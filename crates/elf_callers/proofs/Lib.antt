@@ -1,3 +1,5 @@
+pub mod Shapes
 pub mod Sizes
 pub mod Steps
+pub mod TextErrors
 pub mod Totals

@@ -4,18 +4,18 @@ use Rattle.std.proofs.Common.{◌≡◌, ◌≢◌, ◌⊎◌, inl, inr, ℕ, Li
 use Rattle.std.proofs.lemmas.Bool.Decides.{eqb_tells}
 use Rattle.std.specs.Borrow.{Bor}
 use Rattle.std.specs.Fn.{Shared, FnReturnsAt}
-use Rattle.elf_base.specs.declared.error.ElfError.{ElfError}
 use Rattle.elf_base.specs.declared.error.ElfError.TheVariants.{HashCycle}
-use Rattle.elf_linking.specs.AnyTable.{FindsAllBy, IsFor, IsSameCountBy, LooksWhereBy}
+use Rattle.elf_linking.specs.AnyTable.{FindsAllBy, IsFor, LooksWhereBy}
+use Rattle.elf_linking.proofs.Looks.{looks_once}
 use Rattle.elf_linking.specs.DynamicView.{as_link_error}
 use Rattle.elf_linking.specs.declared.any_table.AnyTable.{AnyTable}
 use Rattle.elf_linking.specs.declared.any_table.AnyTable.TheVariants.{Gnu, Sysv}
 use Rattle.elf_linking.specs.declared.error.LinkError.{LinkError}
 use Rattle.elf_linking.specs.declared.error.LinkError.TheVariants.{Elf}
 use Rattle.xmas_elf.specs.HashTable as gabi
+use Rattle.xmas_elf.proofs.lemmas.ChainOnce as gabi_once
 use Rattle.xmas_elf.specs.Symbol.{Symbols}
 use Rattle.xmas_elf.specs.Symbols.{IsMatch}
-use Rattle.xmas_elf.specs.Types.{HashTable}
 
 -- a number that isn't other than 0 is 0
 pub zero_or : (n : ℕ) → (n ≢ 0 → ⊥) → n ≡ 0
@@ -39,17 +39,14 @@ module _ {F E : Type 0} (test : Shared F (Bor E × Unit {0}) Bool) (f : F) (P : 
       let passed : FnReturnsAt test f e true = record { shown = record { ref_ptr = (0, 0); now = e }; shows = refl; says = record { met = passes (record { ref_ptr = (0, 0); now = e }) has } } in
       none i e is_for (named_for table symbols i e name is_for, passed)
 
--- a look-up in a table of the standard has only one result, with its error in `Elf`
-pub only_sysv : {E : Type 0} (P : ℕ × E → Type 0) (table : HashTable) (items : List E) (name : List ℕ) (result : Result (Option (ℕ × E)) ElfError) (n : ℕ)
-    → ((other : Result (Option (ℕ × E)) ElfError) (count : ℕ) → gabi.LooksWhere P table items name other count → (other ≡ result) × (other ≢ Err HashCycle → count ≡ n))
-    → (other : Result (Option (ℕ × E)) LinkError) (count : ℕ) → LooksWhereBy P (Sysv table) items name other count → (other ≡ as_link_error result) × (other ≢ Err (Elf HashCycle) → count ≡ n)
-only_sysv P table items name result n only other count (found, looks, is) =
-    let (same, counted) = only found count looks in (is ∙ ap as_link_error same, λ unlike. counted (λ cycle. unlike (is ∙ ap as_link_error cycle)))
+-- the number read is this one, except in a chain of the standard's table that never ends
+abbrev pub IsSameCountBy : {E : Type 0} → AnyTable → Result (Option (ℕ × E)) LinkError → ℕ → ℕ → Type 0
+IsSameCountBy (Sysv table) answer count same = answer ≢ Err (Elf HashCycle) → count ≡ same
+IsSameCountBy (Gnu table) answer count same = count ≡ same
 
--- the same where it is refused
-pub only_refused : {E : Type 0} (P : ℕ × E → Type 0) (any : AnyTable) (table : HashTable) (items : List E) (name : List ℕ) (result : Result (Option (ℕ × E)) ElfError) (n : ℕ) (error : ElfError) → any ≡ Sysv table → result ≡ Err error
-    → ((other : Result (Option (ℕ × E)) ElfError) (count : ℕ) → gabi.LooksWhere P table items name other count → (other ≡ result) × (other ≢ Err HashCycle → count ≡ n))
-    → (other : Result (Option (ℕ × E)) LinkError) (count : ℕ) → LooksWhereBy P any items name other count → (other ≡ Err (Elf error)) × IsSameCountBy any other count n
-only_refused P any table items name result n error is refused only other count looks =
-    let (same, counted) = only_sysv P table items name result n only other count (subst (λ t. LooksWhereBy P t items name other count) is looks) in
-    (same ∙ ap as_link_error refused, subst (λ t. IsSameCountBy t other count n) (sym is) counted)
+-- a look-up by a table of either kind has only one result
+pub looks_once_by : {E : Type 0} (P : ℕ × E → Type 0) (table : AnyTable) (items : List E) (name : List ℕ) (a b : Result (Option (ℕ × E)) LinkError) (n m : ℕ) → LooksWhereBy P table items name a n → LooksWhereBy P table items name b m → (a ≡ b) × IsSameCountBy table a n m
+looks_once_by P (Sysv table) items name a b n m (one, looks, is) (other, looks', is') =
+    let (same, counted) = gabi_once.looks_once P (gabi.chains_of table items) (gabi.start_of table name) one other n m looks looks' in
+    (is ∙ ap as_link_error same ∙ sym is', λ unlike. counted (λ cycle. unlike (is ∙ ap as_link_error cycle)))
+looks_once_by P (Gnu table) items name a b n m looks looks' = looks_once P table items name a b n m looks looks'

@@ -1,12 +1,15 @@
 -- The class of a file, by its number.
 use Rattle.std.proofs.Common.{◌≡◌, ◌≢◌, ℕ, ◌==◌, Bool, true, false, List, Option, None, Some, Result, Ok, Err, if◌then◌else◌, refl, ap}
 use Rattle.std.proofs.lemmas.Bool.{eqb-true, ne_eqb}
+use Rattle.std.specs.Prelude.{ok_or}
 use Rattle.elf_base.specs.FileHeader.{class_of, file_class, file_order}
 use Rattle.elf_base.specs.declared.header.numbers.Class.TheVariants as class
+use Rattle.elf_base.specs.Refusal.{and_then}
 use Rattle.elf_base.specs.declared.error.ElfError.{ElfError}
-use Rattle.elf_linking.specs.DynamicView.{before_null, dynamic_entries_of, dynamic_segment_of, entries_in, entries_of_segment, whole_entries}
+use Rattle.elf_linking.specs.DynamicView.{all_entries, as_link_error, dynamic_entries_of, dynamic_segment_of, until_null, whole_entries}
 use Rattle.elf_records.specs.Dynamic.{dynamic_32, dynamic_64}
 use Rattle.elf_linking.specs.declared.error.LinkError.{LinkError}
+use Rattle.elf_linking.specs.declared.error.LinkError.TheVariants.{NoDynamic}
 use Rattle.elf_records.specs.declared.dynamic.Dynamic.{Dynamic}
 use Rattle.xmas_elf.specs.ProgramHeader.{program_fields, segment_data_of}
 use Rattle.xmas_elf.specs.Types.{ElfFile, ProgramHeader}
@@ -32,25 +35,25 @@ is_wide n e = eqb-true n 2 (wide_pick (n == 0) (n == 1) (n == 2) n e)
 pub narrow_is : (n : ℕ) → n ≡ 1 → class_of n ≡ class.ThirtyTwo
 narrow_is n e = ap class_of e
 
-pub wide_is : (n : ℕ) → n ≡ 2 → class_of n ≡ class.SixtyFour
-wide_is n e = ap class_of e
-
 -- a file that has dynamic entries, and isn't of class 32, is of class 64
 pick : (b : Bool) (class : ℕ) (one two : Result (List (Dynamic ℕ)) LinkError) (entries : List (Dynamic ℕ)) (error : LinkError) → (class == 2) ≡ b → (class == 1) ≡ false
-    → before_null (if class == 1 then one else (if class == 2 then two else Err error)) ≡ Ok entries → class ≡ 2
+    → and_then (if class == 1 then one else (if class == 2 then two else Err error)) (λ found. Ok (until_null found)) ≡ Ok entries → class ≡ 2
 pick true class one two entries error is other found = eqb-true class 2 is
 pick false class one two entries error is other found =
-    let none : before_null (if class == 1 then one else (if class == 2 then two else Err error)) ≡ Err error = rw other (rw is refl) in absurd (cc)
+    let none : and_then (if class == 1 then one else (if class == 2 then two else Err error)) (λ found. Ok (until_null found)) ≡ Err error = rw other (rw is refl) in absurd (cc)
 
-wide_in : (file : ElfFile) (entries : List (Dynamic ℕ)) (found : Result (List ℕ) ElfError) → entries_in file found ≡ Ok entries → file_class file.header ≢ 1 → file_class file.header ≡ 2
-wide_in file entries (Ok bytes) found other =
-    pick (file_class file.header == 2) (file_class file.header) (whole_entries 8 (dynamic_32 (file_order file.header)) bytes) (whole_entries 16 (dynamic_64 (file_order file.header)) bytes) entries _ refl (ne_eqb (file_class file.header) 1 other) found
-wide_in file entries (Err error) found other = absurd (cc)
-
-wide_of : (file : ElfFile) (entries : List (Dynamic ℕ)) (segment : Option ProgramHeader) → entries_of_segment file segment ≡ Ok entries → file_class file.header ≢ 1 → file_class file.header ≡ 2
-wide_of file entries (Some program) found other = wide_in file entries (segment_data_of file (program_fields program)) found other
-wide_of file entries None found other = absurd (cc)
+wide_in : (file : ElfFile) (entries : List (Dynamic ℕ)) (segment : Option ProgramHeader)
+    → and_then (ok_or segment NoDynamic) (λ program. and_then (as_link_error (segment_data_of file (program_fields program))) (λ bytes.
+    and_then (all_entries (file_class file.header) (file_order file.header) bytes) (λ all. Ok (until_null all)))) ≡ Ok entries → file_class file.header ≢ 1 → file_class file.header ≡ 2
+wide_in file entries None found other = absurd (cc)
+wide_in file entries (Some program) found other = by_data (segment_data_of file (program_fields program)) found
+  where
+    by_data : (read : Result (List ℕ) ElfError)
+        → and_then (as_link_error read) (λ bytes. and_then (all_entries (file_class file.header) (file_order file.header) bytes) (λ all. Ok (until_null all))) ≡ Ok entries → file_class file.header ≡ 2
+    by_data (Ok bytes) read =
+        pick (file_class file.header == 2) (file_class file.header) (whole_entries 8 (dynamic_32 (file_order file.header)) bytes) (whole_entries 16 (dynamic_64 (file_order file.header)) bytes) entries _ refl (ne_eqb (file_class file.header) 1 other) read
+    by_data (Err error) read = absurd (cc)
 
 pub wide_else : (file : ElfFile) (entries : List (Dynamic ℕ)) → dynamic_entries_of file ≡ Ok entries → file_class file.header ≢ 1 → file_class file.header ≡ 2
 unfolding dynamic_entries_of
-wide_else file entries found other = wide_of file entries (dynamic_segment_of file) found other
+wide_else file entries found other = wide_in file entries (dynamic_segment_of file) found other

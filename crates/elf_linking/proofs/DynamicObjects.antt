@@ -8,7 +8,7 @@ use Rattle.elf_base.specs.declared.error.ElfError.{ElfError}
 use Rattle.elf_base.specs.FileHeader.{file_class, file_order}
 use Rattle.elf_base.specs.Table.{table_data, table_order}
 use Rattle.elf_base.specs.declared.bytes.table.Table.{Table}
-use Rattle.elf_linking.specs.DynamicObject.{AreOfClass, AreRefused, IsNameAt, unreadable}
+use Rattle.elf_linking.specs.DynamicObject.{AreOfClass, IsNameAt, same_class}
 use Rattle.elf_linking.specs.DynamicView.{AreSymbols, as_link_error, text_in_strings}
 use Rattle.elf_linking.specs.Loaded.{lent}
 use Rattle.elf_linking.specs.VersionTables.{VersionTables, version_tables_of}
@@ -21,9 +21,9 @@ use Rattle.xmas_elf.specs.declared.ElfFile.{ElfFile}
 -- the symbols that were read are those of the class of the file
 pub of_class : {E : Type 0} → {r : _} → (class size : ℕ) (file : ElfFile) (entries : List (Dynamic ℕ)) (found : Result (Table E r) LinkError) → file_class file.header ≡ class
     → MatchResult found (λ symbols. AreSymbols file entries size (Ok (table_data symbols)) × (table_order symbols ≡ file_order file.header)) (λ error. AreSymbols file entries size (Err error))
-    → MatchResult found (λ symbols. AreOfClass class size file entries (table_data symbols) × (table_order symbols ≡ file_order file.header)) (AreRefused class size file entries)
-of_class class size file entries (Ok symbols) same (are, order) = (record { class_is = same; symbols_are = are }, order)
-of_class class size file entries (Err error) same are = unreadable error same are
+    → MatchResult found (λ symbols. AreOfClass class size file entries (Ok (table_data symbols)) × (table_order symbols ≡ file_order file.header)) (λ error. AreOfClass class size file entries (Err error))
+of_class class size file entries (Ok symbols) same (are, order) = (same_class (Ok (table_data symbols)) same are, order)
+of_class class size file entries (Err error) same are = same_class (Err error) same are
 
 -- the number of records in bytes that are a whole number of records
 count_in : (count size : ℕ) (bytes : List ℕ) → 0 < size → count * size ≡ length bytes → length bytes / size ≡ count

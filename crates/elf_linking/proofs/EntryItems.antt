@@ -12,19 +12,18 @@ use Rattle.elf_linking.specs.declared.view.tags.TheConstants.{DT_NULL}
 pub left_ended : (iter : DynamicEntries) → iter.ended ≡ true → entries_left iter ≡ []
 left_ended iter is = rw is refl
 
-pub left_none : (iter : DynamicEntries) → pairs_left iter.rest ≡ [] → entries_left iter ≡ []
-left_none iter is = by_end iter.ended
+nothing_left : (iter : DynamicEntries) → until_null (pairs_left iter.rest) ≡ [] → entries_left iter ≡ []
+nothing_left iter is = by_end iter.ended
   where
     by_end : (b : Bool) → (if b then [] else until_null (pairs_left iter.rest)) ≡ []
     by_end true = refl
-    by_end false = ap until_null is
+    by_end false = is
+
+pub left_none : (iter : DynamicEntries) → pairs_left iter.rest ≡ [] → entries_left iter ≡ []
+left_none iter is = nothing_left iter (ap until_null is)
 
 pub left_null : (iter : DynamicEntries) (entry : Dynamic ℕ) (others : List (Dynamic ℕ)) → pairs_left iter.rest ≡ entry ∷ others → dynamic_tag entry ≡ DT_NULL → entries_left iter ≡ []
-left_null iter entry others is null = by_end iter.ended
-  where
-    by_end : (b : Bool) → (if b then [] else until_null (pairs_left iter.rest)) ≡ []
-    by_end true = refl
-    by_end false = ap until_null is ∙ rw (eq-eqb (dynamic_tag entry) DT_NULL null) refl
+left_null iter entry others is null = nothing_left iter (ap until_null is ∙ rw (eq-eqb (dynamic_tag entry) DT_NULL null) refl)
 
 pub left_first : (iter : DynamicEntries) (entry : Dynamic ℕ) (others : List (Dynamic ℕ)) → iter.ended ≡ false → pairs_left iter.rest ≡ entry ∷ others → dynamic_tag entry ≢ DT_NULL → entries_left iter ≡ entry ∷ until_null others
 left_first iter entry others going is other = rw going (ap until_null is ∙ rw (ne_eqb (dynamic_tag entry) DT_NULL other) refl)

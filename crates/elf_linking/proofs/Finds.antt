@@ -15,19 +15,16 @@ use Rattle.elf_linking.specs.declared.any_table.AnyTable.TheVariants.{Gnu, Sysv}
 use Rattle.elf_linking.specs.declared.error.LinkError.{LinkError}
 use Rattle.elf_linking.specs.declared.find.Use as uses
 use Rattle.elf_linking.specs.declared.find.Wanted.{Wanted}
-use Rattle.elf_linking.proofs.AnyTables.{named_for}
+use Rattle.elf_linking.proofs.AnyTables.{looks_once_by, named_for}
 use Rattle.elf_linking.proofs.Looks as gnu
 use Rattle.elf_linking.proofs.VersionsRead.{accepted_read, not_refused}
-use Rattle.xmas_elf.specs.HashTable.{FindsAllWhere, chains_of, start_of}
+use Rattle.xmas_elf.specs.HashTable.{FindsAllWhere, start_of}
 use Rattle.xmas_elf.specs.Symbol.{Symbols}
 use Rattle.xmas_elf.proofs.ChainFinds as chain_finds
-use Rattle.xmas_elf.proofs.ChainOnce as chain_once
 
 -- a look-up has only one result
 seeks_once : {E : Type 0} (P : ℕ × E → Type 0) (table : AnyTable) (symbols : List E) (name : List ℕ) (a b : Result (Option (ℕ × E)) LinkError) → (n : ℕ) × LooksWhereBy P table symbols name a n → (m : ℕ) × LooksWhereBy P table symbols name b m → a ≡ b
-seeks_once P (Sysv table) symbols name a b (n, (c, looks, is)) (m, (d, looks', is')) =
-    is ∙ ap as_link_error (chain_once.looks_once P (chains_of table symbols) (start_of table name) c d n m looks looks').0 ∙ sym is'
-seeks_once P (Gnu table) symbols name a b (n, looks) (m, looks') = (gnu.looks_once P table symbols name a b n m looks looks').0
+seeks_once P table symbols name a b (n, looks) (m, looks') = (looks_once_by P table symbols name a b n m looks looks').0
 
 -- in a table whose look-ups find what they must, a look-up finds it
 seeks_finds : {E : Type 0} (P : ℕ × E → Type 0) (table : AnyTable) (symbols : Symbols E) (name : List ℕ) (a : Result (Option (ℕ × E)) LinkError) → IsGoodBy table symbols → (n : ℕ) × LooksWhereBy P table symbols.items name a n → FindsAllWhereBy table symbols name P a

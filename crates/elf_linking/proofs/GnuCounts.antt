@@ -2,7 +2,7 @@
 use Rattle.std.proofs.Common.{◌≡◌, ◌≢◌, ◌+◌, ◌<◌, ◌≤◌, ℕ, ◌⊎◌, inl, inr, Result, Ok, Err, refl, sym, ap, ◌∙◌, subst, arith, below_more}
 use Rattle.std.proofs.lemmas.Bool.{cases_lt, cases_order, le-ltb}
 use Rattle.std.specs.Prelude.{IfOk, if◌then◌else◌, nat_lt, Bool, true, false, length}
-use Rattle.elf_linking.specs.GnuCount.{CountStops, CountsFrom, GoesTo, IsAboveRuns, IsGnuCount, IsLastRun, IsReachedByRun, counted, ended, no_run, refused, too_long}
+use Rattle.elf_linking.specs.GnuCount.{CountStops, GoesTo, IsAboveRuns, IsGnuCount, IsLastRun, IsReachedByRun, counted, ended, no_run, refused, too_long}
 use Rattle.elf_linking.specs.GnuHash.{EndsRun, HasChain, bucket_word, chain_of, chain_place, chain_word, first_symbol_of, gnu_data}
 use Rattle.elf_linking.specs.declared.error.LinkError.{LinkError}
 use Rattle.elf_linking.specs.declared.error.LinkError.TheVariants.{ChainData, ChainIndex}
@@ -86,13 +86,13 @@ module _ (table : GnuHashTable) where
   stops_once i _ _ (too_long large) (too_long large') = refl
 
   -- a count from an index on has only one result
-  counts_once : (from : ℕ) (one other : Result ℕ LinkError) → CountsFrom table from one → CountsFrom table from other → one ≡ other
-  counts_once from one other c d = go (cases_order c.last d.last)
+  counts_once : (from i j : ℕ) (one other : Result ℕ LinkError) → GoesTo table from i → CountStops table i one → GoesTo table from j → CountStops table j other → one ≡ other
+  counts_once from i j one other goes stop goes' stop' = go (cases_order i j)
     where
-      go : (c.last ≡ d.last) ⊎ ((c.last < d.last) ⊎ (d.last < c.last)) → one ≡ other
-      go (inl same) = stops_once d.last one other (subst (λ i. CountStops table i one) same c.stop) d.stop
-      go (inr (inl before)) = absurd (stop_passed c.last d.last one c.stop before (d.goes.words c.last c.goes.ordered before) (d.goes.goes_on c.last c.goes.ordered before) other d.stop)
-      go (inr (inr behind)) = absurd (stop_passed d.last c.last other d.stop behind (c.goes.words d.last d.goes.ordered behind) (c.goes.goes_on d.last d.goes.ordered behind) one c.stop)
+      go : (i ≡ j) ⊎ ((i < j) ⊎ (j < i)) → one ≡ other
+      go (inl same) = stops_once j one other (subst (λ k. CountStops table k one) same stop) stop'
+      go (inr (inl before)) = absurd (stop_passed i j one stop before (goes'.words i goes.ordered before) (goes'.goes_on i goes.ordered before) other stop')
+      go (inr (inr behind)) = absurd (stop_passed j i other stop' behind (goes.words j goes'.ordered behind) (goes.goes_on j goes'.ordered behind) one stop)
 
   -- there is only one greatest start of a run
   begins_below : (one other : ℕ) → IsLastRun table one → IsLastRun table other → one ≤ other
@@ -112,10 +112,10 @@ module _ (table : GnuHashTable) where
   -- the whole count has only one result
   pub count_once : (one other : Result ℕ LinkError) → IsGnuCount table one → IsGnuCount table other → one ≡ other
   count_once _ _ (no_run last) (no_run last') = refl
-  count_once _ _ (no_run last) (counted from answer above last' counts) = absurd (let same : 0 ≡ from = last_run_once 0 from last last' in omega arith)
-  count_once _ _ (counted from answer above last counts) (no_run last') = absurd (let same : from ≡ 0 = last_run_once from 0 last last' in omega arith)
-  count_once _ _ (counted from answer above last counts) (counted from' answer' above' last' counts') =
-      counts_once from' answer answer' (subst (λ n. CountsFrom table n answer) (last_run_once from from' last last') counts) counts'
+  count_once _ _ (no_run last) (counted from at answer above last' goes stop) = absurd (let same : 0 ≡ from = last_run_once 0 from last last' in omega arith)
+  count_once _ _ (counted from at answer above last goes stop) (no_run last') = absurd (let same : from ≡ 0 = last_run_once from 0 last last' in omega arith)
+  count_once _ _ (counted from at answer above last goes stop) (counted from' at' answer' above' last' goes' stop') =
+      counts_once from' at at' answer answer' (subst (λ n. GoesTo table n at) (last_run_once from from' last last') goes) stop goes' stop'
 
   -- no run reaches an index after the end of the last
   none_begins : (i : ℕ) → IsLastRun table 0 → IsReachedByRun table i → ⊥
@@ -123,19 +123,19 @@ module _ (table : GnuHashTable) where
       let h : bucket_word table reached.bucket ≤ 0 = last.each reached.bucket reached.below in
       reached.begins (omega (arith, h))
 
-  behind_end : (from count i : ℕ) → IsLastRun table from → CountsFrom table from (Ok count) → IsReachedByRun table i → i < count
-  behind_end from count i last counts reached = go (Ok count) refl counts.stop (cases_lt counts.last i)
+  behind_end : (from at count i : ℕ) → IsLastRun table from → GoesTo table from at → CountStops table at (Ok count) → IsReachedByRun table i → i < count
+  behind_end from at count i last goes stop reached = go (Ok count) refl stop (cases_lt at i)
     where
-      go : (answer : Result ℕ LinkError) → answer ≡ Ok count → CountStops table counts.last answer → (counts.last < i) ⊎ (i ≤ counts.last) → i < count
-      go _ is (ended small word ends) (inr fine) = let same : counts.last + 1 ≡ count = cc in omega (arith, same, fine)
+      go : (answer : Result ℕ LinkError) → answer ≡ Ok count → CountStops table at answer → (at < i) ⊎ (i ≤ at) → i < count
+      go _ is (ended small word ends) (inr fine) = let same : at + 1 ≡ count = cc in omega (arith, same, fine)
       go _ is (ended small word ends) (inl past) =
           let h : bucket_word table reached.bucket ≤ from = last.each reached.bucket reached.below in
-          let h' : from ≤ counts.last = counts.goes.ordered in
-          absurd (reached.goes.goes_on counts.last (omega (arith, h, h')) past ends)
+          let h' : from ≤ at = goes.ordered in
+          absurd (reached.goes.goes_on at (omega (arith, h, h')) past ends)
       go _ is (refused error small lacks) side = absurd (cc)
       go _ is (too_long large) side = absurd (cc)
 
   pub count_above : (answer : Result ℕ LinkError) → IsGnuCount table answer → IfOk answer (IsAboveRuns table)
   count_above _ (no_run last) = λ i reached. absurd (none_begins i last reached)
-  count_above (Ok count) (counted from _ above last counts) = λ i reached. behind_end from count i last counts reached
-  count_above (Err error) (counted from _ above last counts) = tt
+  count_above (Ok count) (counted from at _ above last goes stop) = λ i reached. behind_end from at count i last goes stop reached
+  count_above (Err error) (counted from at _ above last goes stop) = tt

@@ -79,7 +79,7 @@ missing_holds file address count None is = no_segment_at file address count (sym
 missing_holds file address count (Some program) is = tt
 
 -- bytes of the data of a segment are bytes of the file
-part_by : (input kept : List ℕ) (offset size start count : ℕ) → (size ≢ 0 → IsRange input offset size kept) → start + count ≤ size → take count (drop start kept) ≡ take count (drop (offset + start) input)
+pub part_by : (input kept : List ℕ) (offset size start count : ℕ) → (size ≢ 0 → IsRange input offset size kept) → start + count ≤ size → take count (drop start kept) ≡ take count (drop (offset + start) input)
 part_by input kept offset size start zero range within = refl
 part_by input kept offset size start (suc more) range within =
     let count : ℕ = suc more in

@@ -1,22 +1,17 @@
 -- The places of definitions that are kept: they are those that a search of the list finds.
 use Rattle.std.proofs.Common.{◌≡◌, ◌≢◌, ℕ, zero, suc, ◌+◌, ◌-◌, ◌%◌, ◌<◌, ◌≤◌, ◌==◌, ◌&&◌, ◌⊎◌, inl, inr, Bool, true, false, not, nat_lt, List, length, map, Option, Some, None, Result, Ok, refl, sym, ap, subst, ◌∙◌, slice_index, if◌then◌else◌, arith}
 use Rattle.std.specs.Prelude.{replicate, slice_set}
-use Rattle.std.proofs.lemmas.Bool.{cases_order, eq-eqb, eqb-true, eqb-false, le-ltb, lt-ltb, ltb-false, ltb-true, ne_eqb}
+use Rattle.std.proofs.lemmas.Bool.{and_parts, cases_order, eq-eqb, eqb-true, eqb-false, le-ltb, lt-ltb, ltb-false, ltb-true, ne_eqb}
 use Rattle.std.proofs.lemmas.List.{get_or-replicate, get_or_past, get_or-set_other, get_or-set_same, length-set}
 use Rattle.elf_base.specs.Number.{number}
 use Rattle.elf_base.specs.declared.bytes.Order.{Order}
 use Rattle.elf_linking.specs.MarkedVersions.{AreMarks, bears_at, first_place, marked_at}
-use Rattle.elf_linking.specs.VersionTables.{DefinitionParts, VersionRecords, definition_at, result_map, places_of}
+use Rattle.elf_linking.specs.VersionTables.{DefinitionParts, VersionRecords, definition_at, result_map, places_of, version_number}
 use Rattle.elf_linking.specs.Versions.{BearsDefined, bears_defined, first_item}
 use Rattle.elf_linking.specs.declared.error.LinkError.{LinkError}
 use Rattle.elf_linking.proofs.VersionPlaces.{more_suc, place_first}
 use Rattle.elf_linking.proofs.VersionSearch.{bears_hits}
 use Rattle.elf_linking.proofs.lemmas.FirstItems.{search_found, search_other}
-
-both_of : (a b : Bool) → (a && b) ≡ true → (a ≡ true) × (b ≡ true)
-both_of true true is = (refl, refl)
-both_of true false is = absurd (cc)
-both_of false b is = absurd (cc)
 
 not_of : (a : Bool) → not a ≡ true → a ≡ false
 not_of true is = absurd (cc)
@@ -24,7 +19,7 @@ not_of false is = refl
 
 -- a definition at a place bears a number, and the first of some definitions that does so is at a place
 abbrev pub BearsAt : Order → List ℕ → ℕ → ℕ → Type 0
-BearsAt order bytes n place = (number order 2 (place + 4) bytes ≡ n) × (number order 2 (place + 2) bytes % 2 ≢ 1)
+BearsAt order bytes n place = (version_number (number order 2 (place + 4) bytes) ≡ n) × (number order 2 (place + 2) bytes % 2 ≢ 1)
 
 pub data LeadsTo (order : Order) (bytes : List ℕ) (n : ℕ) : ℕ → ℕ → ℕ → Type 0 where
   here : (start count : ℕ) → start + 20 ≤ length bytes → BearsAt order bytes n start → LeadsTo order bytes n start (suc count) start
@@ -33,14 +28,14 @@ pub data LeadsTo (order : Order) (bytes : List ℕ) (n : ℕ) : ℕ → ℕ → 
 module _ (order : Order) (bytes : List ℕ) (n : ℕ) where
   bears_yes : (place : ℕ) → BearsAt order bytes n place → bears_at order bytes n place ≡ true
   bears_yes place bears =
-      let one : (number order 2 (place + 4) bytes == n) ≡ true = eq-eqb (number order 2 (place + 4) bytes) n bears.0 in
+      let one : (version_number (number order 2 (place + 4) bytes) == n) ≡ true = eq-eqb (version_number (number order 2 (place + 4) bytes)) n bears.0 in
       let base : (number order 2 (place + 2) bytes % 2 == 1) ≡ false = ne_eqb (number order 2 (place + 2) bytes % 2) 1 bears.1 in
       rw (one, base) refl
 
   bears_hit : (place : ℕ) → bears_at order bytes n place ≡ true → BearsAt order bytes n place
   bears_hit place is =
-      let both = both_of (number order 2 (place + 4) bytes == n) (not (number order 2 (place + 2) bytes % 2 == 1)) is in
-      (eqb-true (number order 2 (place + 4) bytes) n both.0, eqb-false (number order 2 (place + 2) bytes % 2) 1 (not_of (number order 2 (place + 2) bytes % 2 == 1) both.1))
+      let both = and_parts (version_number (number order 2 (place + 4) bytes) == n) (not (number order 2 (place + 2) bytes % 2 == 1)) is in
+      (eqb-true (version_number (number order 2 (place + 4) bytes)) n both.0, eqb-false (number order 2 (place + 2) bytes % 2) 1 (not_of (number order 2 (place + 2) bytes % 2 == 1) both.1))
 
   bears_miss : (place : ℕ) → bears_at order bytes n place ≡ false → BearsAt order bytes n place → ⊥
   bears_miss place is bears = let so : bears_at order bytes n place ≡ true = bears_yes place bears in cc
@@ -85,9 +80,9 @@ module _ (order : Order) (bytes : List ℕ) (n : ℕ) where
       by_cut start count place (first_place order bytes n (start + number order 4 (start + 16) bytes) count) (place_leads (start + number order 4 (start + 16) bytes) count place) (nat_lt (length bytes) (start + 20)) refl is
 
 -- what a test of a definition says
-bears_so : (n : ℕ) (d : DefinitionParts) → d.number ≡ n → d.flags % 2 ≢ 1 → bears_defined n d ≡ true
+bears_so : (n : ℕ) (d : DefinitionParts) → version_number d.number ≡ n → d.flags % 2 ≢ 1 → bears_defined n d ≡ true
 bears_so n d one other =
-    let same : (d.number == n) ≡ true = eq-eqb d.number n one in
+    let same : (version_number d.number == n) ≡ true = eq-eqb (version_number d.number) n one in
     let base : (d.flags % 2 == 1) ≡ false = ne_eqb (d.flags % 2) 1 other in
     rw (same, base) refl
 
@@ -157,7 +152,7 @@ marking_start order bytes count = record {
 -- one more definition
 module _ (order : Order) (bytes : List ℕ) (count place left : ℕ) (marks : List ℕ) (marking : Marking order bytes count place (suc left) marks) (whole : place + 20 ≤ length bytes) where
   abbrev num : ℕ
-  num = number order 2 (place + 4) bytes
+  num = version_number (number order 2 (place + 4) bytes)
 
   abbrev flags : ℕ
   flags = number order 2 (place + 2) bytes
@@ -173,13 +168,13 @@ module _ (order : Order) (bytes : List ℕ) (count place left : ℕ) (marks : Li
 
   -- what the test says
   low : is_marked ≡ true → num < 64
-  low is = ltb-true num 64 (both_of (nat_lt num 64) (slice_index marks num == 0 && not (flags % 2 == 1)) is).0
+  low is = ltb-true num 64 (and_parts (nat_lt num 64) (slice_index marks num == 0 && not (flags % 2 == 1)) is).0
 
   bare : is_marked ≡ true → slice_index marks num ≡ 0
-  bare is = eqb-true (slice_index marks num) 0 (both_of (slice_index marks num == 0) (not (flags % 2 == 1)) (both_of (nat_lt num 64) (slice_index marks num == 0 && not (flags % 2 == 1)) is).1).0
+  bare is = eqb-true (slice_index marks num) 0 (and_parts (slice_index marks num == 0) (not (flags % 2 == 1)) (and_parts (nat_lt num 64) (slice_index marks num == 0 && not (flags % 2 == 1)) is).1).0
 
   no_base : is_marked ≡ true → flags % 2 ≢ 1
-  no_base is = eqb-false (flags % 2) 1 (not_of (flags % 2 == 1) (both_of (slice_index marks num == 0) (not (flags % 2 == 1)) (both_of (nat_lt num 64) (slice_index marks num == 0 && not (flags % 2 == 1)) is).1).1)
+  no_base is = eqb-false (flags % 2) 1 (not_of (flags % 2 == 1) (and_parts (slice_index marks num == 0) (not (flags % 2 == 1)) (and_parts (nat_lt num 64) (slice_index marks num == 0 && not (flags % 2 == 1)) is).1).1)
 
   tests : num < 64 → slice_index marks num ≡ 0 → flags % 2 ≢ 1 → is_marked ≡ true
   tests below none other =

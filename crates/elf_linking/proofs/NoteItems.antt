@@ -1,7 +1,7 @@
 -- The notes of bytes: the computed items are the notes.
-use Rattle.std.proofs.Common.{◌≡◌, ℕ, zero, suc, ◌+◌, ◌-◌, ◌≤◌, ◌*◌, ◌/◌, ◌<◌, ◌==◌, ◌&&◌, Bool, true, false, if◌then◌else◌, List, [], ◌∷◌, length, length-drop, Result, Ok, Err, refl, sym, ap, ◌∙◌, arith}
+use Rattle.std.proofs.Common.{◌≡◌, ℕ, zero, suc, ◌+◌, ◌-◌, ◌≤◌, ◌*◌, ◌/◌, ◌<◌, ◌==◌, Bool, true, false, if◌then◌else◌, List, [], ◌∷◌, length, length-drop, Result, Ok, Err, refl, sym, ap, ◌∙◌, arith}
 use Rattle.std.specs.Prelude.{min, nat_le}
-use Rattle.std.proofs.lemmas.Bool.{eq-eqb, eqb-true, eqb-false, ne_eqb, leb-true, le-leb}
+use Rattle.std.proofs.lemmas.Bool.{and_parts, eq-eqb, eqb-true, eqb-false, ne_eqb, leb-true, le-leb}
 use Rattle.std.specs.Borrow.{Bor}
 use Rattle.elf_base.specs.declared.bytes.Order.{Order}
 use Rattle.elf_linking.specs.declared.error.LinkError.{LinkError}
@@ -39,15 +39,9 @@ fewer_left align order bytes count enough most =
     let left = length-drop (min (next_note align order bytes.now) (length bytes.now)) bytes.now in
     omega (arith, above, left, enough, most)
 
--- if the test passes, both conditions hold
-test_of : (twelve all : Bool) → (twelve && all) ≡ true → (twelve ≡ true) × (all ≡ true)
-test_of true true is = (refl, refl)
-test_of true false is = cc
-test_of false all is = cc
-
 begins_is : (align : ℕ) (order : Order) (bytes : List ℕ) → begins_with_note align order bytes ≡ true → BeginsWithNote align order bytes
 begins_is align order bytes is =
-    let both = test_of (nat_le 12 (length bytes)) (nat_le (desc_end align order bytes) (length bytes)) is in
+    let both = and_parts (nat_le 12 (length bytes)) (nat_le (desc_end align order bytes) (length bytes)) is in
     (leb-true _ _ both.0, leb-true _ _ both.1)
 
 is_begins : (align : ℕ) (order : Order) (bytes : List ℕ) → BeginsWithNote align order bytes → begins_with_note align order bytes ≡ true

@@ -1,21 +1,26 @@
 -- The remaining references of an iterator, relocation by relocation.
-use Rattle.std.proofs.Common.{◌≡◌, ◌≢◌, ℕ, ◌<◌, ◌≤◌, ◌*◌, ◌^◌, suc, length, arith, Bool, true, false, if◌then◌else◌, List, [], ◌∷◌, ◌++◌, length-append, filter, map, mul-le-mul_left, refl, ap, ◌∙◌}
-use Rattle.std.proofs.lemmas.Bool.{eq-eqb, ne_eqb}
+use Rattle.std.proofs.Common.{◌≡◌, ℕ, ◌<◌, ◌≤◌, ◌*◌, ◌^◌, suc, length, arith, Bool, true, false, if◌then◌else◌, List, [], ◌∷◌, ◌++◌, length-append, filter, map, mul-le-mul_left, sym, ap, ◌∙◌}
 use Rattle.std.proofs.lemmas.List.{length-map}
 use Rattle.elf_linking.specs.References.{names_symbol}
 use Rattle.elf_linking.specs.declared.references.Reference.{Reference}
 
 -- the first of the relocations, which names a symbol or doesn't
-pub named_none : (relocations : List Reference) → relocations ≡ [] → filter names_symbol relocations ≡ []
-named_none relocations is = ap (filter names_symbol) is
+pub named_none : (machine : ℕ) (relocations : List Reference) → relocations ≡ [] → filter (names_symbol machine) relocations ≡ []
+named_none machine relocations is = ap (filter (names_symbol machine)) is
 
-pub named_first : (relocations others : List Reference) (relocation : Reference) → relocations ≡ relocation ∷ others → relocation.symbol ≢ 0
-    → filter names_symbol relocations ≡ relocation ∷ filter names_symbol others
-named_first relocations others relocation is named = ap (filter names_symbol) is ∙ rw (ne_eqb relocation.symbol 0 named) refl
+pub named_first : (machine after : ℕ) (relocations others : List Reference) (relocation : Reference) → after ≡ machine → relocations ≡ relocation ∷ others → names_symbol machine relocation ≡ true
+    → filter (names_symbol machine) relocations ≡ relocation ∷ filter (names_symbol after) others
+named_first machine after relocations others relocation same is named =
+    ap (filter (names_symbol machine)) is
+    ∙ ap (λ b. if b then relocation ∷ filter (names_symbol machine) others else filter (names_symbol machine) others) named
+    ∙ ap (λ m. relocation ∷ filter (names_symbol m) others) (sym same)
 
-pub named_other : (relocations others : List Reference) (relocation : Reference) → relocations ≡ relocation ∷ others → relocation.symbol ≡ 0
-    → filter names_symbol relocations ≡ filter names_symbol others
-named_other relocations others relocation is none = ap (filter names_symbol) is ∙ rw (eq-eqb relocation.symbol 0 none) refl
+pub named_other : (machine after : ℕ) (relocations others : List Reference) (relocation : Reference) → after ≡ machine → relocations ≡ relocation ∷ others → names_symbol machine relocation ≡ false
+    → filter (names_symbol machine) relocations ≡ filter (names_symbol after) others
+named_other machine after relocations others relocation same is none =
+    ap (filter (names_symbol machine)) is
+    ∙ ap (λ b. if b then relocation ∷ filter (names_symbol machine) others else filter (names_symbol machine) others) none
+    ∙ ap (λ m. filter (names_symbol m) others) (sym same)
 
 -- the first relocation of a table and of those after it, and those after a table without any
 pub begins : (table others later : List Reference) (relocation : Reference) → table ≡ relocation ∷ others → table ++ later ≡ relocation ∷ (others ++ later)
@@ -37,14 +42,14 @@ few_by : (b : Bool) (x : Reference) (kept : List Reference) (count : ℕ) → le
 few_by true x kept count few = omega (arith, few)
 few_by false x kept count few = omega (arith, few)
 
-references_few : (relocations : List Reference) → length (filter names_symbol relocations) ≤ length relocations
-references_few [] = omega arith
-references_few (x ∷ relocations) = few_by (names_symbol x) x (filter names_symbol relocations) (length relocations) (references_few relocations)
+references_few : (machine : ℕ) (relocations : List Reference) → length (filter (names_symbol machine) relocations) ≤ length relocations
+references_few machine [] = omega arith
+references_few machine (x ∷ relocations) = few_by (names_symbol machine x) x (filter (names_symbol machine) relocations) (length relocations) (references_few machine relocations)
 
-pub references_fit : (rela rel plt : List Reference) → length rela < 2 ^ 61 → length rel < 2 ^ 61 → length plt < 2 ^ 61
-    → length (filter names_symbol (rela ++ (rel ++ plt))) < 2 ^ 64
-references_fit rela rel plt a b c =
-    let few = references_few (rela ++ (rel ++ plt)) in
+pub references_fit : (machine : ℕ) (rela rel plt : List Reference) → length rela < 2 ^ 61 → length rel < 2 ^ 61 → length plt < 2 ^ 61
+    → length (filter (names_symbol machine) (rela ++ (rel ++ plt))) < 2 ^ 64
+references_fit machine rela rel plt a b c =
+    let few = references_few machine (rela ++ (rel ++ plt)) in
     let both = length-append rela (rel ++ plt) in
     let last = length-append rel plt in
     omega (arith, few, both, last, a, b, c)

@@ -1,10 +1,14 @@
 -- The number of symbols of a dynamic segment has only one result: GNU hash tables with the same bytes count the
 -- same.
-use Rattle.std.proofs.Common.{◌≡◌, ◌+◌, ◌%◌, ◌<◌, ◌≤◌, ℕ, List, length, Result, Ok, Err, sym, ap, ◌∙◌, subst}
-use Rattle.elf_linking.specs.GnuCount.{CountStops, CountsFrom, GoesTo, IsGnuCount, IsLastRun, counted, ended, no_run, refused, too_long}
-use Rattle.elf_linking.specs.DynamicView.{AreSymbols, IsSymbolCount, by_gnu, by_hash, gnu_hash_table_of, no_table, number_with, symbol_bytes}
+use Rattle.std.proofs.Common.{◌≡◌, ◌+◌, ◌*◌, ◌%◌, ◌<◌, ◌≤◌, ℕ, List, length, Result, Ok, Err, sym, ap, ◌∙◌, subst}
+use Rattle.std.specs.Prelude.{ok_or}
+use Rattle.elf_base.specs.Refusal.{and_then}
+use Rattle.elf_linking.specs.GnuCount.{CountStops, GoesTo, IsGnuCount, IsLastRun, counted, ended, no_run, refused, too_long}
+use Rattle.elf_linking.specs.DynamicView.{AreSymbols, IsSymbolCount, by_gnu, by_hash, gnu_hash_table_of, no_table, number_with}
 use Rattle.elf_linking.specs.GnuHash.{EndsRun, HasChain, bucket_count_of, bucket_word, chain_of, chain_place, chain_word, first_symbol_of, gnu_class, gnu_data, gnu_order}
+use Rattle.elf_linking.specs.Loaded.{bytes_at_of}
 use Rattle.elf_linking.specs.declared.error.LinkError.{LinkError}
+use Rattle.elf_linking.specs.declared.error.LinkError.TheVariants.{NoEntry}
 use Rattle.elf_linking.specs.declared.gnu_hash.GnuHashTable.{GnuHashTable}
 use Rattle.elf_records.specs.declared.dynamic.Dynamic.{Dynamic}
 use Rattle.elf_linking.specs.declared.view.tags.TheConstants.{DT_SYMTAB}
@@ -53,9 +57,6 @@ module _ (one other : GnuHashTable) (bytes : gnu_data one ≡ gnu_data other) (c
   stops i _ (refused error small is) = refused error small (sym (same_chain i) ∙ is)
   stops i _ (too_long large) = too_long large
 
-  counts_from : (from : ℕ) (answer : Result ℕ LinkError) → CountsFrom one from answer → CountsFrom other from answer
-  counts_from from answer counts = record { last = counts.last; goes = goes_to from counts.last counts.goes; stop = stops counts.last answer counts.stop }
-
   last_run : (from : ℕ) → IsLastRun one from → IsLastRun other from
   last_run from last = record {
     each = λ k below. subst (λ w. w ≤ from) (same_bucket k) (last.each k (subst (λ n. k < n) (sym same_buckets) below));
@@ -65,7 +66,7 @@ module _ (one other : GnuHashTable) (bytes : gnu_data one ≡ gnu_data other) (c
   -- the count of one table is that of the other
   count_of : (answer : Result ℕ LinkError) → IsGnuCount one answer → IsGnuCount other answer
   count_of _ (no_run last) = subst (λ n. IsGnuCount other (Ok n)) (sym same_first) (no_run (last_run 0 last))
-  count_of answer (counted from _ above last counts) = counted from answer above (last_run from last) (counts_from from answer counts)
+  count_of answer (counted from at _ above last goes stop) = counted from at answer above (last_run from last) (goes_to from at goes) (stops at answer stop)
 
 -- equal results have equal bytes
 same_bytes : (found : Result (List ℕ) LinkError) (one other : List ℕ) → found ≡ Ok one → found ≡ Ok other → one ≡ other
@@ -91,4 +92,4 @@ module _ (file : ElfFile) (entries : List (Dynamic ℕ)) where
   -- the bytes of the symbols are only one
   pub symbols_once : (size : ℕ) (one other : Result (List ℕ) LinkError) → AreSymbols file entries size one → AreSymbols file entries size other → one ≡ other
   symbols_once size one other are are' =
-      are.bytes_are ∙ ap (λ count. symbol_bytes file size count (number_with DT_SYMTAB entries)) (symbol_count_once are.count are'.count are.counted are'.counted) ∙ sym are'.bytes_are
+      are.bytes_are ∙ ap (λ count. and_then count (λ many. and_then (ok_or (number_with DT_SYMTAB entries) NoEntry) (λ address. bytes_at_of file address (many * size)))) (symbol_count_once are.count are'.count are.counted are'.counted) ∙ sym are'.bytes_are

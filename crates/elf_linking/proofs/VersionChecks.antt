@@ -9,6 +9,15 @@ use Rattle.elf_linking.specs.Versions.{CanBeRead, lacks_numbers, name_error, num
 use Rattle.elf_linking.specs.declared.error.LinkError.{LinkError}
 use Rattle.elf_linking.specs.declared.error.LinkError.TheVariants.{SymbolIndex}
 
+-- a result after another is no error exactly if neither is one
+both_ok : {A B : Type 0} (one : Result A LinkError) (other : Result B LinkError) → IsOk (and_then one (λ _. other)) → IsOk one × IsOk other
+both_ok (Ok item) other ok = (refl, ok)
+both_ok (Err error) other ok = absurd (cc)
+
+ok_both : {A B : Type 0} (one : Result A LinkError) (other : Result B LinkError) → IsOk one → IsOk other → IsOk (and_then one (λ _. other))
+ok_both (Ok item) other first ok = ok
+ok_both (Err error) other first ok = absurd (cc)
+
 module _ {A : Type 0} (name : A → Result (List ℕ) LinkError) where
   pub names_end : (items : List (Result A LinkError)) → items ≡ [] → name_error name items ≡ Ok tt
   names_end items is = ap (name_error name) is
@@ -23,63 +32,43 @@ module _ {A : Type 0} (name : A → Result (List ℕ) LinkError) where
   names_other items others item text is good = ap (name_error name) is ∙ rw good refl
 
   -- there is no error exactly if each item is there and has a name
-  one_named : (found : Result (List ℕ) LinkError) (rest : Result (Unit {0}) LinkError) → IsOk (and_then found (λ _. rest)) → IsOk found × IsOk rest
-  one_named (Ok text) rest ok = (refl, ok)
-  one_named (Err error) rest ok = absurd (cc)
-
-  both_named : (found : Result (List ℕ) LinkError) (rest : Result (Unit {0}) LinkError) → IsOk found → IsOk rest → IsOk (and_then found (λ _. rest))
-  both_named (Ok text) rest one ok = ok
-  both_named (Err error) rest one ok = absurd (cc)
-
   pub names_all : (items : List (Result A LinkError)) → IsOk (name_error name items) → All (λ item. IsOkAnd item (λ x. IsOk (name x))) items
   names_all [] ok = All-nil (λ item. IsOkAnd item (λ x. IsOk (name x)))
   names_all (Err error ∷ items) ok = absurd (cc)
   names_all (Ok item ∷ items) ok =
-      let both = one_named (name item) (name_error name items) ok in
+      let both = both_ok (name item) (name_error name items) ok in
       All-cons (λ item. IsOkAnd item (λ x. IsOk (name x))) (Ok item) items both.0 (names_all items both.1)
 
   pub all_names : (items : List (Result A LinkError)) → All (λ item. IsOkAnd item (λ x. IsOk (name x))) items → IsOk (name_error name items)
   all_names [] all = refl
   all_names (Err error ∷ items) all = absurd (All-head (λ item. IsOkAnd item (λ x. IsOk (name x))) (Err error) items all)
   all_names (Ok item ∷ items) all =
-      both_named (name item) (name_error name items) (All-head (λ item. IsOkAnd item (λ x. IsOk (name x))) (Ok item) items all) (all_names items (All-tail (λ item. IsOkAnd item (λ x. IsOk (name x))) (Ok item) items all))
+      ok_both (name item) (name_error name items) (All-head (λ item. IsOkAnd item (λ x. IsOk (name x))) (Ok item) items all) (all_names items (All-tail (λ item. IsOkAnd item (λ x. IsOk (name x))) (Ok item) items all))
 
 -- each of some symbols has a number exactly if there are no fewer numbers than symbols
 module _ (tables : VersionTables) where
-  number_there : (numbers : List ℕ) (i : ℕ) (short : Bool) → nat_lt (length numbers) (i * 2 + 2) ≡ short → i * 2 + 2 ≤ length numbers → IsOk (if short then Err SymbolIndex else Ok (Some (number tables.definitions.order 2 (i * 2) numbers)))
-  number_there numbers i false is within = refl
-  number_there numbers i true is within = absurd (let below = ltb-true (length numbers) (i * 2 + 2) is in omega arith)
-
-  number_within : (numbers : List ℕ) (i : ℕ) (short : Bool) → nat_lt (length numbers) (i * 2 + 2) ≡ short → IsOk (if short then Err SymbolIndex else Ok (Some (number tables.definitions.order 2 (i * 2) numbers))) → i * 2 + 2 ≤ length numbers
-  number_within numbers i false is ok = ltb-false (length numbers) (i * 2 + 2) is
-  number_within numbers i true is ok = absurd (cc)
+  number_at : (numbers : List ℕ) (i : ℕ) (short : Bool) → nat_lt (length numbers) (i * 2 + 2) ≡ short → IsOk (if short then Err SymbolIndex else Ok (Some (number tables.definitions.order 2 (i * 2) numbers))) ↔ (i * 2 + 2 ≤ length numbers)
+  number_at numbers i false is = (λ ok. ltb-false (length numbers) (i * 2 + 2) is, λ within. refl)
+  number_at numbers i true is = (λ ok. absurd (cc), λ within. absurd (let below = ltb-true (length numbers) (i * 2 + 2) is in omega arith))
 
   enough : (numbers : Option (List ℕ)) (count : ℕ) → lacks_numbers numbers count ≡ false → (i : ℕ) → i < count → IsOk (number_in tables numbers i)
   enough None count is i below = refl
   enough (Some numbers) count is i below =
       let all = ltb-false (length numbers) (count * 2) is in
-      number_there numbers i (nat_lt (length numbers) (i * 2 + 2)) refl (omega arith)
+      (number_at numbers i (nat_lt (length numbers) (i * 2 + 2)) refl).1 (omega arith)
 
   too_few : (numbers : Option (List ℕ)) (count : ℕ) → lacks_numbers numbers count ≡ true → ((i : ℕ) → i < count → IsOk (number_in tables numbers i)) → ⊥
   too_few None count is there = absurd (cc)
   too_few (Some numbers) count is there =
       let few = ltb-true (length numbers) (count * 2) is in
       let last : count - 1 < count = omega arith in
-      let within = number_within numbers (count - 1) (nat_lt (length numbers) ((count - 1) * 2 + 2)) refl (there (count - 1) last) in
+      let within = (number_at numbers (count - 1) (nat_lt (length numbers) ((count - 1) * 2 + 2)) refl).0 (there (count - 1) last) in
       omega arith
-
-  read_names : (definitions needs : Result (Unit {0}) LinkError) → IsOk (and_then definitions (λ _. needs)) → IsOk definitions × IsOk needs
-  read_names (Ok _) needs ok = (refl, ok)
-  read_names (Err error) needs ok = absurd (cc)
-
-  names_read : (definitions needs : Result (Unit {0}) LinkError) → IsOk definitions → IsOk needs → IsOk (and_then definitions (λ _. needs))
-  names_read (Ok _) needs one ok = ok
-  names_read (Err error) needs one ok = absurd (cc)
 
   to_read : (count : ℕ) (lacks : Bool) → lacks_numbers tables.numbers count ≡ lacks → IsOk (if lacks then Err SymbolIndex else and_then (name_error (λ d. d.name) (definitions_in tables.definitions)) (λ _. name_error (λ need. need.name) (needs_in tables.needs))) → CanBeRead tables count
   to_read count true is ok = absurd (cc)
   to_read count false is ok =
-      let names = read_names (name_error (λ d. d.name) (definitions_in tables.definitions)) (name_error (λ need. need.name) (needs_in tables.needs)) ok in
+      let names = both_ok (name_error (λ d. d.name) (definitions_in tables.definitions)) (name_error (λ need. need.name) (needs_in tables.needs)) ok in
       record {
         numbers = enough tables.numbers count is;
         definitions = names_all (λ d. d.name) (definitions_in tables.definitions) names.0;
@@ -89,7 +78,7 @@ module _ (tables : VersionTables) where
   from_read : (count : ℕ) (lacks : Bool) → lacks_numbers tables.numbers count ≡ lacks → CanBeRead tables count → IsOk (if lacks then Err SymbolIndex else and_then (name_error (λ d. d.name) (definitions_in tables.definitions)) (λ _. name_error (λ need. need.name) (needs_in tables.needs)))
   from_read count true is read = absurd (too_few tables.numbers count is read.numbers)
   from_read count false is read =
-      names_read (name_error (λ d. d.name) (definitions_in tables.definitions)) (name_error (λ need. need.name) (needs_in tables.needs))
+      ok_both (name_error (λ d. d.name) (definitions_in tables.definitions)) (name_error (λ need. need.name) (needs_in tables.needs))
       (all_names (λ d. d.name) (definitions_in tables.definitions) read.definitions) (all_names (λ need. need.name) (needs_in tables.needs) read.needs)
 
   pub error_read : (count : ℕ) (answer : Result (Unit {0}) LinkError) → answer ≡ versions_error tables count → IsOk answer ↔ CanBeRead tables count

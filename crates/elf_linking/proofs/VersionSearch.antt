@@ -16,12 +16,12 @@ both_of false base is = cc
 
 pub bears_hits : (n : ℕ) (d : DefinitionParts) → bears_defined n d ≡ true → BearsDefined n d
 bears_hits n d is =
-    let both = both_of (d.number == n) (d.flags % 2 == 1) is in
-    (eqb-true d.number n both.0, λ base. let no : (d.flags % 2 == 1) ≡ true = eq-eqb (d.flags % 2) 1 base in let other = both.1 in cc)
+    let both = both_of (version_number d.number == n) (d.flags % 2 == 1) is in
+    (eqb-true (version_number d.number) n both.0, λ base. let no : (d.flags % 2 == 1) ≡ true = eq-eqb (d.flags % 2) 1 base in let other = both.1 in cc)
 
 bears_misses : (n : ℕ) (d : DefinitionParts) → bears_defined n d ≡ false → BearsDefined n d → ⊥
 bears_misses n d is holds =
-    let same : (d.number == n) ≡ true = eq-eqb d.number n holds.0 in
+    let same : (version_number d.number == n) ≡ true = eq-eqb (version_number d.number) n holds.0 in
     let other : (d.flags % 2 == 1) ≡ false = ne_eqb (d.flags % 2) 1 holds.1 in
     let passes : bears_defined n d ≡ true = rw (same, other) refl in cc
 

@@ -1,12 +1,12 @@
 -- Versions that can be read: what a reference accepts is then no error.
-use Rattle.std.proofs.Common.{◌≡◌, ℕ, ◌<◌, ◌==◌, Bool, true, false, List, [], ◌∷◌, length, nat_lt, Option, Some, None, Result, Ok, Err, refl, All, IfSome, IsOk, IsOkAnd, if◌then◌else◌}
+use Rattle.std.proofs.Common.{◌≡◌, ℕ, ◌<◌, ◌==◌, Bool, true, false, List, [], ◌∷◌, length, nat_lt, Option, Some, None, Result, Ok, Err, refl, sym, subst, All, IfSome, IsOk, IsOkAnd, if◌then◌else◌}
 use Rattle.std.proofs.lemmas.List.Elements.{All-head, All-tail}
 use Rattle.std.specs.Prelude.{option_map, ◌||◌}
 use Rattle.std.specs.Str.{bytes_eq}
 use Rattle.elf_base.specs.Refusal.{and_then}
 use Rattle.elf_linking.specs.Find.{AreReadable, DynamicSymbols, accepted, accepts_version, is_below, is_open, is_version}
 use Rattle.elf_linking.specs.VersionTables.{DefinitionParts, NeedParts, VersionTables, definitions_in, result_map, needs_in, version_number}
-use Rattle.elf_linking.specs.Versions.{NamedParts, Needed, VersionParts, bears_defined, bears_needed, first_item, named_hash, named_name, named_of, number_of, or_needed, version_at, version_by, version_with}
+use Rattle.elf_linking.specs.Versions.{CanBeRead, HasReadableName, NamedParts, Needed, VersionParts, bears_defined, bears_needed, first_item, named_hash, named_name, named_of, number_of, or_needed, version_at, version_by, version_with}
 use Rattle.elf_linking.specs.declared.error.LinkError.{LinkError}
 use Rattle.elf_linking.specs.declared.find.Wanted.{Wanted}
 use Rattle.elf_linking.specs.declared.find.Wanted.TheVariants.{Newest, Unversioned, Version}
@@ -81,3 +81,8 @@ accepted_read file readable Newest i below = item_ok (is_below 2) (number_of fil
 pub not_refused : {A : Type 0} (answer : Result A LinkError) → IsOk answer → (error : LinkError) → answer ≡ Err error → ⊥
 not_refused (Ok item) ok error is = cc
 not_refused (Err other) ok error is = cc
+
+-- the version of a symbol, if the versions of so many symbols can be read
+pub version_readable : (tables : VersionTables) (index count : ℕ) (answer : Result (Option VersionParts) LinkError) → answer ≡ version_at tables index → CanBeRead tables count → index < count → IsOkAnd answer HasReadableName
+version_readable tables index count answer is readable below =
+    subst (λ result. IsOkAnd result HasReadableName) (sym is) (version_read tables readable.definitions readable.needs (number_of tables index) (readable.numbers index below))

@@ -6,12 +6,12 @@ use Rattle.std.specs.Int.{is_power_of_two}
 use Rattle.elf_base.specs.declared.bytes.Order.{Order}
 use Rattle.elf_base.specs.declared.header.numbers.Class.{Class}
 use Rattle.elf_base.specs.Number.{number}
-use Rattle.elf_linking.specs.DynamicView.{LieAsSymbols, chain_count_in, checked, number_with, passed}
+use Rattle.elf_linking.specs.DynamicView.{LieAsSymbols, checked, number_with}
 use Rattle.elf_linking.specs.Layouts.{IsGnuTable, bloom_count_in, chains_in, gnu_table_of, is_known}
 use Rattle.elf_linking.specs.Loaded.{IsAt, LiesAsLoaded}
 use Rattle.elf_records.specs.declared.dynamic.Dynamic.{Dynamic}
 use Rattle.elf_linking.specs.declared.view.tags.TheConstants.{DT_SYMTAB}
-use Rattle.elf_base.specs.Refusal.{unless}
+use Rattle.elf_base.specs.Refusal.{and_then, unless}
 use Rattle.elf_linking.specs.declared.error.LinkError.{LinkError}
 use Rattle.elf_linking.specs.declared.error.LinkError.TheVariants.{BloomCount, ShortTable, UnknownClass}
 use Rattle.xmas_elf.specs.declared.ElfFile.{ElfFile}
@@ -34,12 +34,12 @@ gnu_accepted class order bytes is =
 -- the bytes that were found to be GNU's hash table are accepted
 pub gnu_read : (found : Result (List ℕ) LinkError) (class known : Class) (order kept : Order) (bytes held : List ℕ) → found ≡ Ok bytes → class ≡ known → order ≡ kept → IsGnuTable class order bytes → held ≡ bytes → checked (gnu_table_of known kept) found ≡ Ok held
 gnu_read found class known order kept bytes held e c o is same =
-    let here : checked (gnu_table_of class order) found ≡ Ok held = ap (checked (gnu_table_of class order)) e ∙ ap (passed bytes) (gnu_accepted class order bytes is) ∙ ap (λ b. Ok b) (sym same) in
+    let here : checked (gnu_table_of class order) found ≡ Ok held = ap (checked (gnu_table_of class order)) e ∙ ap (λ test. and_then test (λ _. Ok bytes)) (gnu_accepted class order bytes is) ∙ ap (λ b. Ok b) (sym same) in
     subst (λ k. checked (gnu_table_of k kept) found ≡ Ok held) c (subst (λ w. checked (gnu_table_of class w) found ≡ Ok held) o here)
 
 -- the chain count of the table that was found
-pub count_read : (found : Result (List ℕ) LinkError) (kept order : Order) (bytes : List ℕ) (n : ℕ) → found ≡ Ok bytes → kept ≡ order → n ≡ number kept 4 4 bytes → Ok n ≡ chain_count_in order found
-count_read found kept order bytes n e same is = ap (λ m. Ok m) (is ∙ ap (λ w. number w 4 4 bytes) same) ∙ sym (ap (chain_count_in order) e)
+pub count_read : (found : Result (List ℕ) LinkError) (kept order : Order) (bytes : List ℕ) (n : ℕ) → found ≡ Ok bytes → kept ≡ order → n ≡ number kept 4 4 bytes → Ok n ≡ and_then found (λ own. Ok (number order 4 4 own))
+count_read found kept order bytes n e same is = ap (λ m. Ok m) (is ∙ ap (λ w. number w 4 4 bytes) same) ∙ sym (ap (λ r. and_then r (λ own. Ok (number order 4 4 own))) e)
 
 -- the bytes of a number of symbols are a whole number of symbols
 pub whole_at : (file : ElfFile) (address count size : ℕ) → 0 < size → (found : Result (Bor (List ℕ)) LinkError) → IfOk found (λ part. IsAt file address (count * size) part.now) → IfOk found (λ part. length part.now % size ≡ 0)

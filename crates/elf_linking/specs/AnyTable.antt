@@ -2,7 +2,6 @@
 -- and glibc).
 use Rattle.std.specs.Prelude.{◌≡◌, ◌≢◌, ◌<◌, ◌≤◌, ℕ, List, Option, Some, None, MatchOption, MatchResult, Result, Ok, Err, slice_get}
 use Rattle.elf_base.specs.FileHeader.{file_order}
-use Rattle.elf_base.specs.declared.error.ElfError.TheVariants.{HashCycle}
 use Rattle.xmas_elf.specs.HashTable.{chain_count_of, hash_data, hash_order}
 use Rattle.xmas_elf.specs.Types.{ElfError, ElfFile, HashTable}
 use Rattle.xmas_elf.specs.Symbol.{IsGlobal, Symbols}
@@ -18,20 +17,17 @@ use Rattle.elf_linking.specs.declared.view.tags.TheConstants.{DT_GNU_HASH}
 use Rattle.elf_linking.specs.GnuHash as gnu
 use Rattle.xmas_elf.specs.HashTable as gabi
 
--- the table is GNU's if there is an entry for it (DT_GNU_HASH), otherwise that of the standard
-pub data IsLinkedTable (file : ElfFile) (entries : List (Dynamic ℕ)) : AnyTable → Type 0 where
+-- the table is GNU's if there is an entry for it (DT_GNU_HASH), otherwise that of the standard; or why there is none
+pub data IsLinkedTable (file : ElfFile) (entries : List (Dynamic ℕ)) : Result AnyTable LinkError → Type 0 where
   by_gnu : (address : ℕ) (table : GnuHashTable) → number_with DT_GNU_HASH entries ≡ Some address
-      → IsGnuTableBy file entries table → IsLinkedTable file entries (Gnu table)
+      → IsGnuTableBy file entries table → IsLinkedTable file entries (Ok (Gnu table))
   by_hash : (table : HashTable) → number_with DT_GNU_HASH entries ≡ None
       → hash_table_of file entries ≡ Ok (hash_data table) → hash_order table ≡ file_order file.header
-      → IsLinkedTable file entries (Sysv table)
-
--- why there is no such table
-pub data IsTableRefused (file : ElfFile) (entries : List (Dynamic ℕ)) : LinkError → Type 0 where
+      → IsLinkedTable file entries (Ok (Sysv table))
   no_gnu : (address : ℕ) (error : LinkError) → number_with DT_GNU_HASH entries ≡ Some address
-      → gnu_hash_table_of file entries ≡ Err error → IsTableRefused file entries error
+      → gnu_hash_table_of file entries ≡ Err error → IsLinkedTable file entries (Err error)
   no_hash : (error : LinkError) → number_with DT_GNU_HASH entries ≡ None
-      → hash_table_of file entries ≡ Err error → IsTableRefused file entries error
+      → hash_table_of file entries ≡ Err error → IsLinkedTable file entries (Err error)
 
 -- look-ups in the table find what they must
 abbrev pub IsGoodBy : {E : Type 0} → AnyTable → Symbols E → Type 0
@@ -61,11 +57,6 @@ LooksBy P table symbols name = LooksWhereBy (λ at. P at.1) table symbols name
 abbrev pub IsCountBy : AnyTable → ℕ → Type 0
 IsCountBy (Sysv table) count = count ≤ chain_count_of table
 IsCountBy (Gnu table) count = Unit {0}
-
--- the number read is this one, except in a chain of the standard's table that never ends
-abbrev pub IsSameCountBy : {E : Type 0} → AnyTable → Result (Option (ℕ × E)) LinkError → ℕ → ℕ → Type 0
-IsSameCountBy (Sysv table) answer count same = answer ≢ Err (Elf HashCycle) → count ≡ same
-IsSameCountBy (Gnu table) answer count same = count ≡ same
 
 -- look-ups for the name must find symbol e at index i
 abbrev pub IsFor : {E : Type 0} → AnyTable → Symbols E → ℕ → E → List ℕ → Type 0

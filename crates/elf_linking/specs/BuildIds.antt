@@ -50,12 +50,12 @@ unfoldable pub id_of_segment : ElfFile → ProgramHeader → Result (Option (Bor
 id_of_segment file program = let segment = program_fields program in
     id_in segment.align (file_order file.header) file.input segment.offset (segment_data_of file segment)
 
--- the build id of a file by its section headers: that in the first section with the name
+-- the build id in the section that was found by its name; nothing if there is no such section
 abbrev pub id_of_named : ElfFile → Option SectionHeader → Result (Option (Bor (List ℕ))) LinkError
 id_of_named file None = Ok None
 id_of_named file (Some section) = id_of_section file section
 
--- the same by the name `.note.gnu.build-id`
+-- the build id of a file by its section headers: that in the first section `.note.gnu.build-id`
 abbrev pub id_by_sections : ElfFile → Result (Option (Bor (List ℕ))) LinkError
 id_by_sections file = id_of_named file (section_named file (codes ".note.gnu.build-id"))
 

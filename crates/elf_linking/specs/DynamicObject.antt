@@ -3,14 +3,15 @@
 use Rattle.std.specs.Prelude.{◌≡◌, ◌≢◌, ◌/◌, ℕ, List, Option, Some, None, Result, Ok, Err, IfOk, MatchResult, length, slice_get}
 use Rattle.std.specs.Borrow.{Bor}
 use Rattle.std.specs.Result.{result_ok}
-use Rattle.elf_base.specs.FileHeader.{file_class, file_order, header_fields, machine_number}
+use Rattle.elf_base.specs.FileHeader.{file_class, file_order}
 use Rattle.elf_base.specs.Table.{records, table_bytes, table_data, table_items, table_order}
 use Rattle.elf_base.specs.Text.{text_of}
 use Rattle.elf_base.specs.declared.bytes.Order.{Order}
 use Rattle.elf_base.specs.declared.bytes.table.Table.{Table}
-use Rattle.elf_linking.specs.AnyTable.{IsLinkedTable, IsTableRefused}
+use Rattle.elf_linking.specs.AnyTable.{IsLinkedTable}
 use Rattle.elf_linking.specs.DynamicView.{AreSymbols, LieAsSymbols, LiesAsFileStrings, LiesAsStrings, bytes_in_strings, dynamic_entries_of, strings_by, dynamic_strings_of, text_in_strings, view_entries, view_strings, view_table}
 use Rattle.elf_linking.specs.Find.{DynamicSymbols, dynamic_symbols}
+use Rattle.elf_linking.specs.References.{file_machine}
 use Rattle.elf_linking.specs.VersionTables.{version_tables, version_tables_of}
 use Rattle.elf_linking.specs.declared.any_table.AnyTable.{AnyTable}
 use Rattle.elf_linking.specs.declared.error.LinkError.{LinkError}
@@ -56,28 +57,23 @@ abbrev pub object_dynamic_symbols : {E : Type 0} → {r : _} → (E → SymbolFi
 object_dynamic_symbols fields object =
     dynamic_symbols (object_table object) (object_symbols fields object) (version_tables (object_versions object))
 
--- the bytes of the symbols of a file of this class, which have this size each
-pub record AreOfClass (class size : ℕ) (file : ElfFile) (entries : List (Dynamic ℕ)) (bytes : List ℕ) : Type 0 where
-  pub class_is : file_class file.header ≡ class
-  pub symbols_are : AreSymbols file entries size (Ok bytes)
-
--- why there are none
-pub data AreRefused (class size : ℕ) (file : ElfFile) (entries : List (Dynamic ℕ)) : LinkError → Type 0 where
-  other_class : file_class file.header ≢ class → AreRefused class size file entries UnknownClass
-  unreadable : (error : LinkError) → file_class file.header ≡ class
-      → AreSymbols file entries size (Err error) → AreRefused class size file entries error
+-- the bytes of the symbols of a file of this class, which have this size each, or why there are none
+pub data AreOfClass (class size : ℕ) (file : ElfFile) (entries : List (Dynamic ℕ)) : Result (List ℕ) LinkError → Type 0 where
+  same_class : (bytes : Result (List ℕ) LinkError) → file_class file.header ≡ class
+      → AreSymbols file entries size bytes → AreOfClass class size file entries bytes
+  other_class : file_class file.header ≢ class → AreOfClass class size file entries (Err UnknownClass)
 
 -- the machine of the file (e_machine)
 abbrev pub object_machine : {E : Type 0} → {r : _} → DynamicObject E r → ℕ
-object_machine object = machine_number (header_fields (object_file object).header.pt2).machine
+object_machine object = file_machine (object_file object)
 
 -- the object is that of a file of this class, with symbols of this size: each part is what the calls of the
 -- dynamic segment return
 pub record IsObject {E : Type 0} {r : _} (class size : ℕ) (file : ElfFile) (object : DynamicObject E r) : Type 0 where
   pub file_is : object_file object ≡ file
   pub entries_are : dynamic_entries_of file ≡ Ok (view_entries (object_view object))
-  pub table_is : IsLinkedTable file (view_entries (object_view object)) (object_table object)
-  pub symbols_are : AreOfClass class size file (view_entries (object_view object)) (table_data (object_records object))
+  pub table_is : IsLinkedTable file (view_entries (object_view object)) (Ok (object_table object))
+  pub symbols_are : AreOfClass class size file (view_entries (object_view object)) (Ok (table_data (object_records object)))
   pub order_is : table_order (object_records object) ≡ file_order file.header
   pub symbols_lie : LieAsSymbols file (view_entries (object_view object)) (table_bytes (object_records object))
   pub strings_are : dynamic_strings_of file ≡ Ok (object_strings object).now
@@ -102,28 +98,28 @@ pub record AreDynamicSymbols {E : Type 0} (class size : ℕ) (entry : Order → 
   pub bytes : List ℕ
   pub strings : List ℕ
   pub entries_are : dynamic_entries_of file ≡ Ok entries
-  pub table_is : IsLinkedTable file entries all.table
-  pub bytes_are : AreOfClass class size file entries bytes
+  pub table_is : IsLinkedTable file entries (Ok all.table)
+  pub bytes_are : AreOfClass class size file entries (Ok bytes)
   pub strings_are : strings_by file entries ≡ Ok strings
   pub symbols_are : all.symbols ≡ symbols_with size (entry (file_order file.header)) fields strings bytes
   pub versions_are : version_tables_of file entries (Ok strings) (length all.symbols.items) ≡ Ok all.versions
 
--- why there is no such object: the first refusal, of the entries, of the hash table, of the symbols, of the
+-- why there is no such object: the first error, of the entries, of the hash table, of the symbols, of the
 -- string table, or of the version tables
 pub data IsObjectRefused (class size : ℕ) (file : ElfFile) : LinkError → Type 0 where
   no_entries : (error : LinkError) → dynamic_entries_of file ≡ Err error → IsObjectRefused class size file error
   no_table : (entries : List (Dynamic ℕ)) (error : LinkError) → dynamic_entries_of file ≡ Ok entries
-      → IsTableRefused file entries error → IsObjectRefused class size file error
+      → IsLinkedTable file entries (Err error) → IsObjectRefused class size file error
   no_symbols : (entries : List (Dynamic ℕ)) (table : AnyTable) (error : LinkError)
-      → dynamic_entries_of file ≡ Ok entries → IsLinkedTable file entries table
-      → AreRefused class size file entries error → IsObjectRefused class size file error
+      → dynamic_entries_of file ≡ Ok entries → IsLinkedTable file entries (Ok table)
+      → AreOfClass class size file entries (Err error) → IsObjectRefused class size file error
   no_strings : (entries : List (Dynamic ℕ)) (table : AnyTable) (symbols : List ℕ) (error : LinkError)
-      → dynamic_entries_of file ≡ Ok entries → IsLinkedTable file entries table
-      → AreOfClass class size file entries symbols → strings_by file entries ≡ Err error
+      → dynamic_entries_of file ≡ Ok entries → IsLinkedTable file entries (Ok table)
+      → AreOfClass class size file entries (Ok symbols) → strings_by file entries ≡ Err error
       → IsObjectRefused class size file error
   no_versions : (entries : List (Dynamic ℕ)) (table : AnyTable) (symbols strings : List ℕ) (error : LinkError)
-      → dynamic_entries_of file ≡ Ok entries → IsLinkedTable file entries table
-      → AreOfClass class size file entries symbols → strings_by file entries ≡ Ok strings
+      → dynamic_entries_of file ≡ Ok entries → IsLinkedTable file entries (Ok table)
+      → AreOfClass class size file entries (Ok symbols) → strings_by file entries ≡ Ok strings
       → version_tables_of file entries (Ok strings) (length symbols / size) ≡ Err error
       → IsObjectRefused class size file error
 

@@ -1,13 +1,12 @@
 -- What the dynamic segment of a file leads to (gABI, "Dynamic Section"): its entries, the string table, the hash
 -- tables, and the symbols with their number and their names.
-use Rattle.std.specs.Prelude.{ℕ, ◌==◌, Bool, List, [], ◌∷◌, length, Option, Result, Err, option_map, if◌then◌else◌, ◌≡◌, None, Some, IsSomeAnd, Ok, IsOkAnd, nat_lt, ◌*◌}
+use Rattle.std.specs.Prelude.{ℕ, ◌==◌, Bool, List, [], ◌∷◌, length, Option, Result, Err, option_map, ok_or, if◌then◌else◌, ◌≡◌, None, Some, IfOk, IsSomeAnd, Ok, IsOkAnd, nat_lt, ◌*◌}
 use Rattle.std.specs.List.{find}
 use Rattle.std.specs.Borrow.{Bor}
-use Rattle.elf_base.specs.declared.bytes.Order.{Order}
-use Rattle.elf_base.specs.Refusal.{unless}
+use Rattle.elf_base.specs.Refusal.{and_then, unless}
 use Rattle.elf_base.specs.FileHeader.{class_of, file_class, file_order}
+use Rattle.elf_base.specs.Lent.{LiesAt}
 use Rattle.elf_base.specs.Text.{as_text, bytes_up_to_zero_of, text_of}
-use Rattle.elf_base.specs.declared.error.ElfError.{ElfError}
 use Rattle.elf_records.specs.ProgramNumbers.{has_ph_type}
 use Rattle.elf_records.specs.declared.program.Type.TheVariants as segment_type_variants
 use Rattle.xmas_elf.specs.ProgramHeader.{program_fields, segment_type, program_list, segment_data_of}
@@ -20,6 +19,7 @@ use Rattle.elf_linking.specs.declared.error.LinkError.TheVariants.{Elf, NoDynami
 use Rattle.elf_records.specs.Dynamic.{dynamic_tag, dynamic_value}
 use Rattle.elf_records.specs.declared.dynamic.Dynamic.{Dynamic}
 use Rattle.elf_linking.specs.declared.view.tags.TheConstants.{DT_NEEDED, DT_STRSZ, DT_STRTAB, DT_GNU_HASH, DT_HASH, DT_SYMTAB}
+pub use Rattle.elf_linking.specs.Loaded.{as_link_error}
 use Rattle.elf_linking.specs.Loaded.{LiesAsLoaded, bytes_at_of, lent, bytes_from_of}
 use Rattle.elf_linking.specs.declared.view.dynamic.DynamicView.{DynamicView}
 use Rattle.elf_linking.specs.declared.view.needed.Needed.{Needed}
@@ -41,38 +41,16 @@ is_dynamic program = has_ph_type segment_type_variants.Dynamic (segment_type (pr
 unfoldable pub dynamic_segment_of : ElfFile → Option ProgramHeader
 dynamic_segment_of file = find is_dynamic (program_list file)
 
--- a result of the port, with its error in `Elf`
-abbrev pub as_link_error : {A : Type 0} → Result A ElfError → Result A LinkError
-as_link_error (Ok value) = Ok value
-as_link_error (Err error) = Err (Elf error)
-
--- the entries before the first with tag Null, if there are entries
-abbrev pub before_null : Result (List (Dynamic ℕ)) LinkError → Result (List (Dynamic ℕ)) LinkError
-before_null (Ok entries) = Ok (until_null entries)
-before_null (Err error) = Err error
-
--- the entries in a segment's data before the first with tag Null
-abbrev pub entries_in : ElfFile → Result (List ℕ) ElfError → Result (List (Dynamic ℕ)) LinkError
-entries_in file (Ok bytes) = before_null (all_entries (file_class file.header) (file_order file.header) bytes)
-entries_in file (Err error) = Err (Elf error)
-
--- the entries in a segment, if there is one
-abbrev pub entries_of_segment : ElfFile → Option ProgramHeader → Result (List (Dynamic ℕ)) LinkError
-entries_of_segment file None = Err NoDynamic
-entries_of_segment file (Some program) = entries_in file (segment_data_of file (program_fields program))
-
--- the entries of a file, or why there are none
+-- the entries of a file before the first with tag Null, or why there are none
 unfoldable pub dynamic_entries_of : ElfFile → Result (List (Dynamic ℕ)) LinkError
-dynamic_entries_of file = entries_of_segment file (dynamic_segment_of file)
+dynamic_entries_of file = and_then (ok_or (dynamic_segment_of file) NoDynamic) (λ program.
+    and_then (as_link_error (segment_data_of file (program_fields program))) (λ bytes.
+    and_then (all_entries (file_class file.header) (file_order file.header) bytes) (λ entries. Ok (until_null entries))))
 
--- the bytes of a string table, by its address and its size
-abbrev pub table_at : ElfFile → Option ℕ → Option ℕ → Result (List ℕ) LinkError
-table_at file (Some address) (Some size) = bytes_at_of file address size
-table_at file _ _ = Err NoEntry
-
--- the string table of the entries (DT_STRTAB and DT_STRSZ)
+-- the string table of the entries, by its address and its size (DT_STRTAB and DT_STRSZ)
 abbrev pub strings_by : ElfFile → List (Dynamic ℕ) → Result (List ℕ) LinkError
-strings_by file entries = table_at file (number_with DT_STRTAB entries) (number_with DT_STRSZ entries)
+strings_by file entries = and_then (ok_or (number_with DT_STRTAB entries) NoEntry) (λ address.
+    and_then (ok_or (number_with DT_STRSZ entries) NoEntry) (bytes_at_of file address))
 
 -- the string table of a file's entries, or why there is none
 abbrev pub strings_of_entries : ElfFile → Result (List (Dynamic ℕ)) LinkError → Result (List ℕ) LinkError
@@ -162,44 +140,36 @@ needed_left iter = needed_in (lent iter.strings) (entries_left iter.entries)
 abbrev pub needed_bytes_left : NeededBytes → List (Result (List ℕ) LinkError)
 needed_bytes_left iter = needed_bytes_in (lent iter.strings) (entries_left iter.entries)
 
+-- the string table in which it finds them, with its place, or why there is none
+abbrev pub needed_table : NeededBytes → Result (Bor (List ℕ)) LinkError
+needed_table iter = iter.strings
+
+-- the next name lies in the string table at the number in its entry
+abbrev pub LiesAsNeeded : NeededBytes → Result (Bor (List ℕ)) LinkError → Type 0
+LiesAsNeeded iter item = IfOk item (λ name. IsOkAnd (needed_table iter) (λ table.
+    IsSomeAnd (number_with DT_NEEDED (entries_left iter.entries)) (λ place. LiesAt table place name)))
+
 -- The hash tables of a dynamic segment (DT_HASH; DT_GNU_HASH of GNU binutils and glibc).
-
--- the bytes from an address on, if there is one
-abbrev pub bytes_from_some : ElfFile → Option ℕ → Result (List ℕ) LinkError
-bytes_from_some file None = Err NoEntry
-bytes_from_some file (Some address) = bytes_from_of file address
-
--- the bytes from the address in the first entry with a tag on
-abbrev pub bytes_with : ℕ → ElfFile → List (Dynamic ℕ) → Result (List ℕ) LinkError
-bytes_with tag file entries = bytes_from_some file (number_with tag entries)
-
--- the bytes, if their check succeeds
-abbrev pub passed : List ℕ → Result (Unit {0}) LinkError → Result (List ℕ) LinkError
-passed bytes (Ok done) = Ok bytes
-passed bytes (Err error) = Err error
 
 -- the bytes, if there are some and their check succeeds, or the first error
 abbrev pub checked : (List ℕ → Result (Unit {0}) LinkError) → Result (List ℕ) LinkError → Result (List ℕ) LinkError
-checked check (Ok bytes) = passed bytes (check bytes)
+checked check (Ok bytes) = and_then (check bytes) (λ _. Ok bytes)
 checked check (Err error) = Err error
 
 -- the bytes of the ELF standard's hash table, at the address in the entry Hash (DT_HASH)
 abbrev pub hash_table_of : ElfFile → List (Dynamic ℕ) → Result (List ℕ) LinkError
 hash_table_of file entries =
-    checked (λ bytes. unless ((nat_lt (length bytes) 12, Elf ShortData) ∷ []) tt) (bytes_with DT_HASH file entries)
+    checked (λ bytes. unless ((nat_lt (length bytes) 12, Elf ShortData) ∷ []) tt)
+    (and_then (ok_or (number_with DT_HASH entries) NoEntry) (bytes_from_of file))
 
 -- the bytes of GNU's hash table, at the address in the entry GnuHash (DT_GNU_HASH)
 abbrev pub gnu_hash_table_of : ElfFile → List (Dynamic ℕ) → Result (List ℕ) LinkError
 gnu_hash_table_of file entries =
-    checked (gnu_table_of (class_of (file_class file.header)) (file_order file.header)) (bytes_with DT_GNU_HASH file entries)
+    checked (gnu_table_of (class_of (file_class file.header)) (file_order file.header))
+    (and_then (ok_or (number_with DT_GNU_HASH entries) NoEntry) (bytes_from_of file))
 
 -- The symbols of a dynamic segment, and their number (DT_SYMTAB, and gABI, "Hash Table", nchain; that the chain
 -- count of the standard's table has precedence is this project's own).
-
--- the chain count of the standard's hash table
-abbrev pub chain_count_in : Order → Result (List ℕ) LinkError → Result ℕ LinkError
-chain_count_in order (Ok bytes) = Ok (number order 4 4 bytes)
-chain_count_in order (Err error) = Err error
 
 -- the table is GNU's hash table of the entries
 pub record IsGnuTableBy (file : ElfFile) (entries : List (Dynamic ℕ)) (table : GnuHashTable) : Type 0 where
@@ -207,27 +177,22 @@ pub record IsGnuTableBy (file : ElfFile) (entries : List (Dynamic ℕ)) (table :
   pub class_is : gnu_class table ≡ class_of (file_class file.header)
   pub order_is : gnu_order table ≡ file_order file.header
 
--- the number of symbols: by the standard's hash table if there is an entry for it, otherwise by GNU's
+-- the number of symbols: the chain count of the standard's hash table if there is an entry for it, otherwise by GNU's
 pub data IsSymbolCount (file : ElfFile) (entries : List (Dynamic ℕ)) : Result ℕ LinkError → Type 0 where
   by_hash : (address : ℕ) (answer : Result ℕ LinkError) → number_with DT_HASH entries ≡ Some address
-      → answer ≡ chain_count_in (file_order file.header) (hash_table_of file entries)
+      → answer ≡ and_then (hash_table_of file entries) (λ bytes. Ok (number (file_order file.header) 4 4 bytes))
       → IsSymbolCount file entries answer
   by_gnu : (table : GnuHashTable) (answer : Result ℕ LinkError) → number_with DT_HASH entries ≡ None
       → IsGnuTableBy file entries table → IsGnuCount table answer → IsSymbolCount file entries answer
   no_table : (error : LinkError) → number_with DT_HASH entries ≡ None
       → gnu_hash_table_of file entries ≡ Err error → IsSymbolCount file entries (Err error)
 
--- the bytes of a number of symbols of a size, at an address
-abbrev pub symbol_bytes : ElfFile → ℕ → Result ℕ LinkError → Option ℕ → Result (List ℕ) LinkError
-symbol_bytes file size (Err error) address = Err error
-symbol_bytes file size (Ok count) None = Err NoEntry
-symbol_bytes file size (Ok count) (Some address) = bytes_at_of file address (count * size)
-
--- the bytes of the symbols, which have this size each, or why there are none
+-- the bytes of the symbols at the address in the entry SymTab, which have this size each, or why there are none
 pub record AreSymbols (file : ElfFile) (entries : List (Dynamic ℕ)) (size : ℕ) (answer : Result (List ℕ) LinkError) : Type 0 where
   pub count : Result ℕ LinkError
   pub counted : IsSymbolCount file entries count
-  pub bytes_are : answer ≡ symbol_bytes file size count (number_with DT_SYMTAB entries)
+  pub bytes_are : answer ≡ and_then count (λ many.
+      and_then (ok_or (number_with DT_SYMTAB entries) NoEntry) (λ address. bytes_at_of file address (many * size)))
 
 -- why there are no symbols with names: there are no symbols, or there is no string table
 pub data AreSymbolsRefused (file : ElfFile) (entries : List (Dynamic ℕ)) (strings : Result (List ℕ) LinkError) (size : ℕ) : LinkError → Type 0 where

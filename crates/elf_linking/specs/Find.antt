@@ -50,13 +50,13 @@ IsCandidate file name purpose e = (file.symbols.text e ≡ Some name) × (serves
 
 -- Which versions a reference accepts.
 
--- what bears a version has the hash number and the name; the name is read only if it has the hash number
+-- the definition or need of a version has the hash number and the name; the name is read only if it has the hash number
 abbrev pub is_version : List ℕ → ℕ → Option NamedParts → Result Bool LinkError
 is_version name hash None = Ok false
 is_version name hash (Some named) = if named_hash named == hash
     then result_map (λ other. bytes_eq other name) (named_name named) else Ok false
 
--- a version by no hash number: nothing bears it, or what does has hash number 0
+-- a version by no hash number: it has no definition or need, or one with hash number 0
 abbrev pub has_no_hash : Option NamedParts → Bool
 has_no_hash None = true
 has_no_hash (Some named) = named_hash named == 0
@@ -74,6 +74,10 @@ accepts_version name hash hidden (Some version) =
 -- the version with a name, which isn't hidden
 abbrev pub version_wanted : Bor (List ℕ) → Wanted
 version_wanted name = Version name (hash_number name.now) false
+
+-- the version with a name and no other (as glibc's `dlvsym` asks): one without a hash number is not accepted for it
+abbrev pub exact_version : Bor (List ℕ) → Wanted
+exact_version name = Version name (hash_number name.now) true
 
 -- the number of a version is below the least one that needs a name; in a file without numbers of symbols that
 -- of each symbol is

@@ -31,17 +31,12 @@ pub data CountStops (table : GnuHashTable) (i : ℕ) : Result ℕ LinkError → 
   refused : (error : LinkError) → i < 2 ^ 32 → chain_of table i ≡ Err error → CountStops table i (Err error)
   too_long : i ≡ 2 ^ 32 → CountStops table i (Err SymbolIndex)
 
--- the result of a count from an index on: that of the stop that its run comes to
-pub record CountsFrom (table : GnuHashTable) (from : ℕ) (answer : Result ℕ LinkError) : Type 0 where
-  pub last : ℕ
-  pub goes : GoesTo table from last
-  pub stop : CountStops table last answer
-
--- the result of the count: the index after the last run, or the first index of the table if there is no run
+-- the result of the count: the first index of the table if there is no run; otherwise that of the stop that the last
+-- run comes to
 pub data IsGnuCount (table : GnuHashTable) : Result ℕ LinkError → Type 0 where
   no_run : IsLastRun table 0 → IsGnuCount table (Ok (first_symbol_of table))
-  counted : (from : ℕ) (answer : Result ℕ LinkError) → 0 < from → IsLastRun table from
-      → CountsFrom table from answer → IsGnuCount table answer
+  counted : (from last : ℕ) (answer : Result ℕ LinkError) → 0 < from → IsLastRun table from
+      → GoesTo table from last → CountStops table last answer → IsGnuCount table answer
 
 -- each index that a run reaches is below the count
 abbrev pub IsAboveRuns : GnuHashTable → ℕ → Type 0

@@ -6,7 +6,7 @@ use Rattle.std.specs.Int.{bit_at}
 use Rattle.elf_base.specs.Number.{number}
 use Rattle.elf_base.specs.declared.bytes.Order.{Order}
 use Rattle.elf_base.specs.declared.header.numbers.Class.{Class}
-use Rattle.elf_linking.specs.Layouts.{bloom_count_in, bloom_shift_in, bloom_size, bucket_count_in, buckets_in, chains_in, first_symbol_in, gnu_hash_number}
+use Rattle.elf_linking.specs.Layouts.{bloom_count_in, bloom_size, bucket_count_in, buckets_in, chains_in, gnu_hash_number}
 use Rattle.elf_base.specs.Refusal.{unless}
 use Rattle.elf_linking.specs.declared.error.LinkError.{LinkError}
 use Rattle.elf_linking.specs.declared.error.LinkError.TheVariants.{BucketIndex, ChainData, ChainIndex, SymbolIndex, Missing}
@@ -31,17 +31,17 @@ gnu_order table = table.order
 abbrev pub bucket_count_of : GnuHashTable → ℕ
 bucket_count_of table = bucket_count_in (gnu_order table) (gnu_data table)
 
--- the index of the first symbol
+-- the index of the first symbol: the second of the four words
 abbrev pub first_symbol_of : GnuHashTable → ℕ
-first_symbol_of table = first_symbol_in (gnu_order table) (gnu_data table)
+first_symbol_of table = number (gnu_order table) 4 4 (gnu_data table)
 
 -- the number of Bloom words
 abbrev pub bloom_count_of : GnuHashTable → ℕ
 bloom_count_of table = bloom_count_in (gnu_order table) (gnu_data table)
 
--- the shift of the hash number for the second bit
+-- the shift of the hash number for the second bit: the fourth word
 abbrev pub bloom_shift_of : GnuHashTable → ℕ
-bloom_shift_of table = bloom_shift_in (gnu_order table) (gnu_data table)
+bloom_shift_of table = number (gnu_order table) 4 12 (gnu_data table)
 
 -- Bloom word k, as a number
 unfoldable pub bloom_word : GnuHashTable → ℕ → ℕ

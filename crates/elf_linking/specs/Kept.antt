@@ -28,7 +28,7 @@ pub data GoesOn {E : Type 0} (file : DynamicSymbols E) (name : List ℕ) (wanted
       → IsShown file name wanted purpose None (i, e)
       → GoesOn file name wanted purpose kept i (kept_with i e kept)
 
--- a search ends with an answer at index i, whose symbol is asked
+-- a search ends with a result at index i, whose symbol is asked
 pub record EndsAt {E : Type 0} (file : DynamicSymbols E) (name : List ℕ) (wanted : Wanted) (purpose : uses.Use) (i : ℕ) (answer : Result (Option (ℕ × E)) LinkError) : Type 0 where
   pub entry : E
   pub symbol : slice_get file.symbols.items i ≡ Some entry

@@ -10,13 +10,9 @@ use Rattle.elf_base.specs.Refusal.{unless}
 use Rattle.elf_linking.specs.declared.error.LinkError.{LinkError}
 use Rattle.elf_linking.specs.declared.error.LinkError.TheVariants.{BloomCount, ShortTable, UnknownClass}
 
--- the hash number after one more byte
-abbrev pub gnu_hash_step : ℕ → ℕ → ℕ
-gnu_hash_step h c = (33 * h + c) % 2 ^ 32
-
--- the hash number of the bytes of a text
+-- the hash number of the bytes of a text: with each byte it is multiplied by 33, and the byte is added
 unfoldable pub gnu_hash_number : List ℕ → ℕ
-gnu_hash_number bytes = fold gnu_hash_step 5381 bytes
+gnu_hash_number bytes = fold (λ h c. (33 * h + c) % 2 ^ 32) 5381 bytes
 
 -- whether the class is 32 or 64
 abbrev pub is_known : Class → Bool
@@ -33,17 +29,9 @@ bloom_size _ = 8
 abbrev pub bucket_count_in : Order → List ℕ → ℕ
 bucket_count_in order bytes = number order 4 0 bytes
 
--- the second: the index of the first symbol
-abbrev pub first_symbol_in : Order → List ℕ → ℕ
-first_symbol_in order bytes = number order 4 4 bytes
-
 -- the third: the number of Bloom words
 abbrev pub bloom_count_in : Order → List ℕ → ℕ
 bloom_count_in order bytes = number order 4 8 bytes
-
--- the fourth: the shift of the hash number for the second bit
-abbrev pub bloom_shift_in : Order → List ℕ → ℕ
-bloom_shift_in order bytes = number order 4 12 bytes
 
 -- the offset of the buckets, after the Bloom words
 abbrev pub buckets_in : Class → Order → List ℕ → ℕ

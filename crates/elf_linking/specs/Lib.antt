@@ -14,6 +14,7 @@ pub mod LinkedSections
 pub mod VersionTables
 pub mod MarkedVersions
 pub mod Versions
+pub mod Serves
 pub mod Find
 pub mod Kept
 pub mod DynamicObject

@@ -1,9 +1,10 @@
 -- The bytes of a file at addresses of its loaded segments (gABI, "Program Header": PT_LOAD, p_vaddr and
 -- p_filesz; that the first segment with all of the bytes is the one read is this project's own).
-use Rattle.std.specs.Prelude.{◌≡◌, ◌≢◌, ℕ, ◌+◌, ◌-◌, ◌<◌, ◌≤◌, ◌&&◌, nat_le, Bool, List, Option, None, Some, Result, Ok, Err, drop, take, length}
+use Rattle.std.specs.Prelude.{◌≡◌, ◌≢◌, ℕ, ◌+◌, ◌-◌, ◌<◌, ◌≤◌, ◌&&◌, nat_le, Bool, List, Option, Result, Ok, Err, ok_or, drop, take, length}
 use Rattle.std.specs.Borrow.{Bor}
 use Rattle.std.specs.List.{find}
 use Rattle.elf_base.specs.Lent.{LiesAt}
+use Rattle.elf_base.specs.Refusal.{and_then}
 use Rattle.elf_base.specs.declared.error.ElfError.{ElfError}
 use Rattle.elf_linking.specs.declared.error.LinkError.{LinkError}
 use Rattle.elf_linking.specs.declared.error.LinkError.TheVariants.{Address, Elf}
@@ -13,7 +14,12 @@ use Rattle.xmas_elf.specs.HeaderTable.{EachBelow}
 use Rattle.xmas_elf.specs.ProgramHeader.{program_fields, program_list, program_of, segment_data_of, segment_type}
 use Rattle.xmas_elf.specs.Types.{ElfFile, ProgramHeader, ProgramHeader64}
 
--- the lent bytes, or the error
+-- a result of the port, with its error in `Elf`
+abbrev pub as_link_error : {A : Type 0} → Result A ElfError → Result A LinkError
+as_link_error (Ok value) = Ok value
+as_link_error (Err error) = Err (Elf error)
+
+-- the returned bytes, or the error
 abbrev pub lent : Result (Bor (List ℕ)) LinkError → Result (List ℕ) LinkError
 lent (Ok part) = Ok part.now
 lent (Err error) = Err error
@@ -64,32 +70,16 @@ pub record LiesAsLoaded (file : ElfFile) (address count : ℕ) (part : Bor (List
   pub holder : IsFirstWithBytes file address count program
   pub lies : count ≢ 0 → LiesAt file.input (place_of (program_fields program) address) part
 
--- `count` bytes of a segment's data from `start` on
-abbrev pub part_of : ℕ → ℕ → Result (List ℕ) ElfError → Result (List ℕ) LinkError
-part_of start count (Ok bytes) = Ok (take count (drop start bytes))
-part_of start count (Err error) = Err (Elf error)
-
--- the bytes at addresses in the segment with these bytes
-abbrev pub bytes_of_segment : ElfFile → ℕ → ℕ → Option ProgramHeader → Result (List ℕ) LinkError
-bytes_of_segment file address count None = Err Address
-bytes_of_segment file address count (Some program) = let segment = program_fields program in
-    part_of (address - segment.virtual_addr) count (segment_data_of file segment)
+-- what `keep` leaves of the bytes from an address on in a segment, if there is one
+abbrev pub bytes_of_segment : ElfFile → ℕ → (List ℕ → List ℕ) → Option ProgramHeader → Result (List ℕ) LinkError
+bytes_of_segment file address keep found = and_then (ok_or found Address) (λ program.
+    let segment = program_fields program in and_then (as_link_error (segment_data_of file segment))
+    (λ bytes. Ok (keep (drop (address - segment.virtual_addr) bytes))))
 
 -- the bytes at addresses, or why there are none, as a function
 unfoldable pub bytes_at_of : ElfFile → ℕ → ℕ → Result (List ℕ) LinkError
-bytes_at_of file address count = bytes_of_segment file address count (segment_at_of file address count)
-
--- the bytes of a segment's data from `start` on
-abbrev pub rest_of : ℕ → Result (List ℕ) ElfError → Result (List ℕ) LinkError
-rest_of start (Ok bytes) = Ok (drop start bytes)
-rest_of start (Err error) = Err (Elf error)
-
--- the bytes from an address on in the segment with a byte there
-abbrev pub rest_of_segment : ElfFile → ℕ → Option ProgramHeader → Result (List ℕ) LinkError
-rest_of_segment file address None = Err Address
-rest_of_segment file address (Some program) = let segment = program_fields program in
-    rest_of (address - segment.virtual_addr) (segment_data_of file segment)
+bytes_at_of file address count = bytes_of_segment file address (take count) (segment_at_of file address count)
 
 -- the bytes from an address on, or why there are none, as a function
 unfoldable pub bytes_from_of : ElfFile → ℕ → Result (List ℕ) LinkError
-bytes_from_of file address = rest_of_segment file address (segment_at_of file address 1)
+bytes_from_of file address = bytes_of_segment file address (λ bytes. bytes) (segment_at_of file address 1)

@@ -17,11 +17,11 @@ next_step align n = if align == 8 then (n + 7) / 8 * 8 else (n + 3) / 4 * 4
 abbrev pub name_size : Order → List ℕ → ℕ
 name_size order bytes = number order 4 0 bytes
 
--- n_descsz: the second word
+-- n_descsz: the second word of a note
 abbrev pub desc_size : Order → List ℕ → ℕ
 desc_size order bytes = number order 4 4 bytes
 
--- n_type: the third word
+-- n_type: the third word of a note
 abbrev pub type_word : Order → List ℕ → ℕ
 type_word order bytes = number order 4 8 bytes
 
@@ -29,11 +29,11 @@ type_word order bytes = number order 4 8 bytes
 abbrev pub desc_start : ℕ → Order → List ℕ → ℕ
 desc_start align order bytes = next_step align (12 + name_size order bytes)
 
--- the end of the description
+-- the end of the description in the note at the start of the bytes
 abbrev pub desc_end : ℕ → Order → List ℕ → ℕ
 desc_end align order bytes = desc_start align order bytes + desc_size order bytes
 
--- the start of the next note
+-- the start of the note after the one at the start of the bytes
 abbrev pub next_note : ℕ → Order → List ℕ → ℕ
 next_note align order bytes = next_step align (desc_end align order bytes)
 
@@ -105,14 +105,14 @@ note_item (Err error) = Err error
 abbrev pub notes_bytes : Notes → Bor (List ℕ)
 notes_bytes notes = notes.rest
 
--- its byte order
+-- the byte order of an iterator over notes
 abbrev pub notes_order : Notes → Order
 notes_order notes = notes.order
 
--- its alignment
+-- the alignment of an iterator over notes
 abbrev pub notes_align : Notes → ℕ
 notes_align notes = notes.align
 
--- the items in it
+-- the items that an iterator over notes has not yet returned
 abbrev pub notes_left : Notes → List (Result NoteParts LinkError)
 notes_left notes = notes_of (notes_align notes) (notes_order notes) (notes_bytes notes)

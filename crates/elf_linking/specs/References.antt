@@ -1,6 +1,6 @@
 -- The relocations of a file that name a symbol (gABI, "Relocation" and "Dynamic Section").
-use Rattle.std.specs.Prelude.{ℕ, ◌%◌, ◌==◌, ◌||◌, not, Bool, true, false, List, [], ◌∷◌, ◌++◌, length, map, filter, Option, None, Some, Result, Ok, Err, if◌then◌else◌}
-use Rattle.elf_base.specs.FileHeader.{file_class, file_order}
+use Rattle.std.specs.Prelude.{ℕ, ◌%◌, ◌==◌, ◌&&◌, ◌||◌, not, Bool, true, false, List, [], ◌∷◌, ◌++◌, length, map, filter, Option, None, Some, Result, Ok, Err, if◌then◌else◌}
+use Rattle.elf_base.specs.FileHeader.{file_class, file_order, header_fields, machine_number}
 use Rattle.elf_base.specs.Refusal.{and_then, unless}
 use Rattle.elf_base.specs.Table.{records, table_items, table_rest}
 use Rattle.elf_base.specs.declared.bytes.Order.{Order}
@@ -95,15 +95,33 @@ abbrev pub plt_table : ElfFile → List (Dynamic ℕ) → Result (List Reference
 plt_table file entries =
     relocations_by file (number_with DT_JMPREL entries) (number_with DT_PLTRELSZ entries) (number_with DT_PLTREL entries)
 
--- a relocation names a symbol: its symbol isn't number 0 (STN_UNDEF)
-abbrev pub names_symbol : Reference → Bool
-names_symbol relocation = not (relocation.symbol == 0)
+-- whether a number is in a list
+abbrev pub is_listed : ℕ → List ℕ → Bool
+is_listed n [] = false
+is_listed n (m ∷ ms) = n == m || is_listed n ms
+
+-- a relocation of this type, in a file for this machine, takes no symbol (the processor supplements of the System V
+-- ABI): on x86-64 (machine 62) R_X86_64_NONE, R_X86_64_RELATIVE and R_X86_64_RELATIVE64; on 386 (machine 3) R_386_NONE
+-- and R_386_RELATIVE; on AArch64 (machine 183) R_AARCH64_NONE, also with its older number 256, and R_AARCH64_RELATIVE. One of
+-- the type IRELATIVE takes the symbol at its index, as glibc's linker has it.
+abbrev pub takes_no_symbol : ℕ → ℕ → Bool
+takes_no_symbol machine kind = if machine == 62 then is_listed kind (0 ∷ 8 ∷ 38 ∷ [])
+    else (if machine == 3 then is_listed kind (0 ∷ 8 ∷ [])
+    else (machine == 183 && is_listed kind (0 ∷ 256 ∷ 1027 ∷ [])))
+
+-- a relocation in a file for a machine names a symbol: its symbol isn't number 0 (STN_UNDEF), and its type takes one
+abbrev pub names_symbol : ℕ → Reference → Bool
+names_symbol machine relocation = not (relocation.symbol == 0) && not (takes_no_symbol machine relocation.kind)
+
+-- the machine of a file (gABI, "ELF Header": e_machine)
+abbrev pub file_machine : ElfFile → ℕ
+file_machine file = machine_number (header_fields file.header.pt2).machine
 
 -- the relocations that name a symbol, of the three tables in this order, or the first error
 unfoldable pub references_of : ElfFile → List (Dynamic ℕ) → Result (List Reference) LinkError
 references_of file entries = and_then (rela_table file entries) (λ rela.
     and_then (rel_table file entries) (λ rel.
-    and_then (plt_table file entries) (λ plt. Ok (filter names_symbol (rela ++ (rel ++ plt))))))
+    and_then (plt_table file entries) (λ plt. Ok (filter (names_symbol (file_machine file)) (rela ++ (rel ++ plt))))))
 
 -- the relocations that an iterator over one table has not yet read
 abbrev pub relocations_left : Relocations → List Reference
@@ -119,15 +137,10 @@ tables_left iter = relocations_left iter.rela ++ (relocations_left iter.rel ++ r
 
 -- the references that it has not yet returned
 abbrev pub references_left : References → List Reference
-references_left iter = filter names_symbol (tables_left iter)
+references_left iter = filter (names_symbol iter.machine) (tables_left iter)
 
 -- What a relocation of a type wants of its symbol, by the machine (the processor supplements of the System V
 -- ABI, tables of relocation types; that these types want a defined symbol is the rule of glibc's linker).
-
--- whether a number is in a list
-abbrev pub is_listed : ℕ → List ℕ → Bool
-is_listed n [] = false
-is_listed n (m ∷ ms) = n == m || is_listed n ms
 
 -- the use by a relocation of a type, where one type copies a symbol's object, and others want a defined symbol
 abbrev pub use_among : ℕ → List ℕ → ℕ → Use

@@ -80,7 +80,7 @@ abbrev pub marks_left : Relr → List ℕ
 marks_left iter = let size = word_size iter.words in
     marked size iter.base iter.bitmap iter.looked_at (marks size - iter.looked_at)
 
--- all remaining addresses: those, and those of the remaining words
+-- all remaining addresses: those of the current bitmap, and those of the remaining words
 abbrev pub relr_rest : Relr → List ℕ
 relr_rest iter = marks_left iter ++ addresses (word_size iter.words) iter.place (words_left iter.words)
 

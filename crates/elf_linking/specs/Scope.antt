@@ -1,6 +1,6 @@
 -- Which symbol of which file a reference gets (gABI, "Dynamic Section", DT_SYMBOLIC, and "Symbol Table"; LSB,
 -- "Symbol Versioning"; the order of files, and which symbols of them serve, as glibc's linker has it).
-use Rattle.std.specs.Prelude.{◌≡◌, ◌≢◌, ℕ, ◌/◌, ◌%◌, ◌<◌, ◌==◌, ◌||◌, not, Bool, true, false, List, length, slice_get, Option, Some, None, option_map, Result, Ok, Err, MatchOption, MatchResult, IsOk, IsOkAnd, IsSomeAnd, if◌then◌else◌}
+use Rattle.std.specs.Prelude.{◌≡◌, ◌≢◌, ℕ, ◌/◌, ◌%◌, ◌<◌, ◌==◌, ◌||◌, Bool, true, false, List, length, slice_get, Option, Some, None, option_map, Result, Ok, Err, MatchOption, MatchResult, IfSome, IsOk, IsOkAnd, IsSomeAnd, if◌then◌else◌}
 use Rattle.std.specs.Borrow.{Bor}
 use Rattle.elf_base.specs.Refusal.{and_then}
 use Rattle.elf_base.specs.Table.{table_items}
@@ -9,12 +9,14 @@ use Rattle.elf_linking.specs.DynamicObject.{object_dynamic_symbols, object_machi
 use Rattle.elf_linking.specs.DynamicView.{is_symbolic, view_entries}
 use Rattle.elf_linking.specs.Find.{AreReadable, DynamicSymbols, FindsRight, IsFound}
 use Rattle.elf_linking.specs.References.{use_of}
+use Rattle.elf_linking.specs.Serves.{serves_others}
 use Rattle.elf_linking.specs.VersionTables.{result_map, version_tables}
-use Rattle.elf_linking.specs.Versions.{Defined, NamedParts, Needed, VersionParts, named_hash, named_name, version_at}
+use Rattle.elf_linking.specs.Versions as versions
+use Rattle.elf_linking.specs.Versions.{NamedParts, VersionParts, named_hash, named_name, version_at}
 use Rattle.elf_linking.specs.declared.error.LinkError.{LinkError}
 use Rattle.elf_linking.specs.declared.error.LinkError.TheVariants.{ObjectIndex, SymbolIndex}
 use Rattle.elf_linking.specs.declared.find.Use as uses
-use Rattle.elf_linking.specs.declared.find.Use.TheVariants.{Copy}
+use Rattle.elf_linking.specs.declared.find.Use.TheVariants.{Copy, Defined}
 use Rattle.elf_linking.specs.declared.find.Wanted.{Wanted}
 use Rattle.elf_linking.specs.declared.find.Wanted.TheVariants.{Newest, Unversioned, Version}
 use Rattle.elf_linking.specs.declared.object.DynamicObject.{DynamicObject}
@@ -27,10 +29,14 @@ use Rattle.xmas_elf.specs.Symbol.{SymbolFields}
 
 -- What a reference asks for.
 
--- a reference to the symbol gets the symbol itself: its binding is local (STB_LOCAL, 0), or its visibility isn't
--- the default (STV_DEFAULT, 0)
+-- a reference to the symbol gets the symbol itself: its binding is local (STB_LOCAL, 0), or its visibility is
+-- internal (STV_INTERNAL, 1) or hidden (STV_HIDDEN, 2)
 abbrev pub binds_to_itself : SymbolFields → Bool
-binds_to_itself e = e.info / 16 == 0 || not (e.other % 4 == 0)
+binds_to_itself e = e.info / 16 == 0 || (e.other % 4 == 1 || e.other % 4 == 2)
+
+-- the symbol of a reference, if it is protected (STV_PROTECTED, 3)
+abbrev pub if_protected : {E : Type 0} → (E → SymbolFields) → E → Option E
+if_protected fields symbol = if (fields symbol).other % 4 == 3 then Some symbol else None
 
 -- a text as it is asked for, wherever it lies
 abbrev pub text_alone : List ℕ → Bor (List ℕ)
@@ -45,15 +51,15 @@ wanted_parts Newest = Newest
 -- a question with its texts alone
 abbrev pub asked_parts : {E : Type 0} → Asked E → Asked E
 asked_parts (Own symbol) = Own symbol
-asked_parts (Look name wanted purpose) = Look (text_alone name.now) (wanted_parts wanted) purpose
+asked_parts (Look name wanted purpose own) = Look (text_alone name.now) (wanted_parts wanted) purpose own
 
 -- a need can be hidden (bit 15 of its number)
 abbrev pub is_hidden_need : NamedParts → Bool
-is_hidden_need (Defined d) = false
-is_hidden_need (Needed need) = need.hidden
+is_hidden_need (versions.Defined d) = false
+is_hidden_need (versions.Needed need) = need.hidden
 
--- the version that is wanted, by what bears the version of the symbol: that version, if it has a hash number other
--- than 0
+-- the version that is wanted, by the definition or need of the symbol's version: that version, if it has a hash
+-- number other than 0
 abbrev pub wanted_by : Option NamedParts → Result Wanted LinkError
 wanted_by None = Ok Unversioned
 wanted_by (Some named) = if named_hash named == 0 then Ok Unversioned
@@ -64,15 +70,15 @@ abbrev pub wanted_of : Option VersionParts → Result Wanted LinkError
 wanted_of None = Ok Unversioned
 wanted_of (Some version) = wanted_by version.named
 
--- what a reference to a symbol asks for: the symbol itself, or its name and its version for a use; or why these
--- can't be read
+-- what a reference to a symbol asks for: the symbol itself, or its name and its version for a use, with the symbol
+-- if it is protected; or why these can't be read
 abbrev pub asked_with : {E : Type 0} → {r : _} → (E → SymbolFields) → DynamicObject E r → Reference → Option E → Result (Asked E) LinkError
 asked_with fields object reference None = Err SymbolIndex
 asked_with fields object reference (Some symbol) = if binds_to_itself (fields symbol) then Ok (Own symbol)
     else and_then (object_name fields object reference.symbol) (λ name.
     and_then (version_at (version_tables (object_versions object)) reference.symbol) (λ version.
     and_then (wanted_of version) (λ wanted.
-    Ok (Look (text_alone name) wanted (use_of (object_machine object) reference.kind)))))
+    Ok (Look (text_alone name) wanted (use_of (object_machine object) reference.kind) (if_protected fields symbol)))))
 
 -- what a reference asks for
 abbrev pub asked_of : {E : Type 0} → {r : _} → (E → SymbolFields) → DynamicObject E r → Reference → Result (Asked E) LinkError
@@ -91,24 +97,15 @@ abbrev pub ComesBefore : Bool → ℕ → ℕ → ℕ → Type 0
 ComesBefore false from one other = one < other
 ComesBefore true from one other = (other ≢ from) × (one ≢ from → one < other)
 
--- a symbol serves references of other objects: its binding is global (STB_GLOBAL), weak (STB_WEAK) or unique
--- (STB_GNU_UNIQUE)
-abbrev pub can_bind : SymbolFields → Bool
-can_bind e = let binding = e.info / 16 in binding == 1 || (binding == 2 || binding == 10)
-
--- what an object gives, by what a search in it finds: a symbol that serves, or nothing; or the error of the search
+-- what an object gives, by what a search in it finds: that symbol if it serves references of other files, otherwise
+-- nothing, even if another symbol of the object serves them; or the error of the search
 pub data Gives {E : Type 0} (Finds : DynamicSymbols E → Result (Option (ℕ × E)) LinkError → Type 0) (file : DynamicSymbols E) : Result (Option (ℕ × E)) LinkError → Type 0 where
-  serves : (at : ℕ × E) → Finds file (Ok (Some at)) → can_bind (file.symbols.fields at.1) ≡ true
+  serves : (at : ℕ × E) → Finds file (Ok (Some at)) → serves_others (file.symbols.fields at.1) ≡ true
       → Gives Finds file (Ok (Some at))
-  serves_none : (at : ℕ × E) → Finds file (Ok (Some at)) → can_bind (file.symbols.fields at.1) ≡ false
+  serves_none : (at : ℕ × E) → Finds file (Ok (Some at)) → serves_others (file.symbols.fields at.1) ≡ false
       → Gives Finds file (Ok None)
   lacks : Finds file (Ok None) → Gives Finds file (Ok None)
   fails : (error : LinkError) → Finds file (Err error) → Gives Finds file (Err error)
-
--- the same as a function: the symbol that was found, if it serves
-abbrev pub if_serving : {E : Type 0} → (E → SymbolFields) → Option (ℕ × E) → Option (ℕ × E)
-if_serving fields None = None
-if_serving fields (Some at) = if can_bind (fields at.1) then Some at else None
 
 -- a copy relocation of the program, at index 0, wants a symbol of a library
 abbrev pub is_passed_over : uses.Use → ℕ → Bool
@@ -165,32 +162,59 @@ abbrev pub AreGood : {E : Type 0} → {r : _} → (E → SymbolFields) → List 
 AreGood {E} fields objects = (i : ℕ) (file : DynamicSymbols E) → symbols_at fields objects i ≡ Some file
     → IsGoodBy file.table file.symbols × AreReadable file
 
--- there is no error, and the symbol is that of the first object in whose list of symbols there is one; nothing only
--- if there is none in any object
+-- there is no error, and the symbol is that of the first object that gives one, by the lists of symbols; nothing only
+-- if no object gives one
 abbrev pub BindsRight : {E : Type 0} → {r : _} → (E → SymbolFields) → List (DynamicObject E r) → ℕ → List ℕ → Wanted → uses.Use → Result (Option (Bound E)) LinkError → Type 0
 BindsRight fields objects from name wanted purpose answer = IsOkAnd answer (λ bound.
     IsFirstFor (HasAt fields objects name wanted purpose) objects from (Ok bound))
+
+-- the symbol that a reference to a protected symbol gets, where `Finds` is what a look-up for a use finds: none, if
+-- the look-up for its use finds none; otherwise its own symbol, if the look-up for a defined symbol finds one in
+-- another object, and the one that was found for its use if not
+pub data IsProtectedBound {E : Type 0} (Finds : uses.Use → Result (Option (Bound E)) LinkError → Type 0) (own : Bound E) (purpose : uses.Use) : Result (Option (Bound E)) LinkError → Type 0 where
+  unfound : Finds purpose (Ok None) → IsProtectedBound Finds own purpose (Ok None)
+  elsewhere : (found defined : Bound E) → Finds purpose (Ok (Some found)) → Finds Defined (Ok (Some defined))
+      → defined.object ≢ own.object → IsProtectedBound Finds own purpose (Ok (Some own))
+  at_home : (found : Bound E) (defined : Option (Bound E)) → Finds purpose (Ok (Some found)) → Finds Defined (Ok defined)
+      → IfSome defined (λ at. at.object ≡ own.object) → IsProtectedBound Finds own purpose (Ok (Some found))
+  unread : (error : LinkError) → Finds purpose (Err error) → IsProtectedBound Finds own purpose (Err error)
+  undefined : (found : Bound E) (error : LinkError) → Finds purpose (Ok (Some found)) → Finds Defined (Err error)
+      → IsProtectedBound Finds own purpose (Err error)
 
 -- the result of what a reference of the object at index `from` asks for, by what a search in the objects finds
 abbrev pub AnswersAsked : {E : Type 0} → (List ℕ → Wanted → uses.Use → Result (Option (Bound E)) LinkError → Type 0) → ℕ → ℕ → Asked E → Result (Option (Bound E)) LinkError → Type 0
 AnswersAsked Finds from index (Own symbol) answer =
     answer ≡ Ok (Some (record { object = from; index = index; symbol = symbol }))
-AnswersAsked Finds from index (Look name wanted purpose) answer = Finds name.now wanted purpose answer
+AnswersAsked Finds from index (Look name wanted purpose None) answer = Finds name.now wanted purpose answer
+AnswersAsked Finds from index (Look name wanted purpose (Some own)) answer =
+    IsProtectedBound (Finds name.now wanted) (record { object = from; index = index; symbol = own }) purpose answer
 
--- the symbol that a reference of the object at index `from` gets, or why there is no answer
+-- the symbol that a reference of the object at index `from` gets, or the error
 abbrev pub IsReferenceBound : {E : Type 0} → {r : _} → (E → SymbolFields) → List (DynamicObject E r) → ℕ → Reference → Result (Option (Bound E)) LinkError → Type 0
 IsReferenceBound fields objects from reference answer = MatchOption (slice_get objects from)
     (answer ≡ Err ObjectIndex) (λ asking. MatchResult (asked_of fields asking reference)
-    (λ asked. AnswersAsked (IsBound fields objects from) from reference.symbol asked answer)
+    (λ question. AnswersAsked (IsBound fields objects from) from reference.symbol question answer)
     (λ error. answer ≡ Err error))
 
--- there is an object at index `from`, and the name of the reference's symbol can be read
+-- the object has the symbol of a reference, and its name can be read unless the reference gets the symbol itself
+abbrev pub HasNameFor : {E : Type 0} → {r : _} → (E → SymbolFields) → DynamicObject E r → Reference → Type 0
+HasNameFor fields asking reference =
+    IsSomeAnd (slice_get (table_items (object_records asking)) reference.symbol) (λ symbol.
+    binds_to_itself (fields symbol) ≡ false → IsOk (object_name fields asking reference.symbol))
+
+-- there is an object at index `from`, which has the symbol of the reference, with a name that can be read if it is
+-- looked up
 abbrev pub HasNamedSymbol : {E : Type 0} → {r : _} → (E → SymbolFields) → List (DynamicObject E r) → ℕ → Reference → Type 0
 HasNamedSymbol fields objects from reference =
-    IsSomeAnd (slice_get objects from) (λ asking. IsOk (object_name fields asking reference.symbol))
+    IsSomeAnd (slice_get objects from) (λ asking. HasNameFor fields asking reference)
+
+-- the result of what a reference asks for is no error, and is right by the lists of symbols
+abbrev pub AnswersRight : {E : Type 0} → {r : _} → (E → SymbolFields) → List (DynamicObject E r) → ℕ → ℕ → Asked E → Result (Option (Bound E)) LinkError → Type 0
+AnswersRight fields objects from index question answer = IsOkAnd answer (λ bound.
+    AnswersAsked (BindsRight fields objects from) from index question (Ok bound))
 
 -- there is no error, and a reference that isn't to its own symbol gets the one that the lists of symbols say
 abbrev pub BindsReference : {E : Type 0} → {r : _} → (E → SymbolFields) → List (DynamicObject E r) → ℕ → Reference → Result (Option (Bound E)) LinkError → Type 0
 BindsReference fields objects from reference answer = IsSomeAnd (slice_get objects from) (λ asking.
-    IsOkAnd (asked_of fields asking reference) (λ asked. IsOkAnd answer (λ bound.
-    AnswersAsked (BindsRight fields objects from) from reference.symbol asked (Ok bound))))
+    IsOkAnd (asked_of fields asking reference) (λ question.
+    AnswersRight fields objects from reference.symbol question answer))

@@ -68,12 +68,12 @@ goes_on records offset follows [] = follows
 goes_on records offset follows (place ∷ places) =
     goes_on records offset (not (field records 4 place offset == 0)) places
 
--- the refusal after the last record, if the record that follows it is cut off
+-- the error after the last record, if the record that follows it is cut off
 abbrev pub refusal_at_end : Bool → List (Result ℕ LinkError)
 refusal_at_end true = Err ShortVersion ∷ []
 refusal_at_end false = []
 
--- the items are the places of the longest list of records, and a refusal at the end if there are fewer than
+-- the items are the places of the longest list of records, and an error at the end if there are fewer than
 -- `count` and another one follows the last, which is cut off then
 pub record ArePlaces (records : VersionRecords) (offset start count : ℕ) (items : List (Result ℕ LinkError)) : Type 0 where
   pub places : List ℕ
@@ -88,7 +88,7 @@ places_of records offset start (suc count) = let next = field records 4 start of
     if is_cut records offset start then Err ShortVersion ∷ []
     else Ok start ∷ (if next == 0 then [] else places_of records offset (start + next) count)
 
--- what is made of an item, or the refusal
+-- what is made of an item, or the error
 abbrev pub result_map : {A B : Type 0} → (A → B) → Result A LinkError → Result B LinkError
 result_map make (Ok item) = Ok (make item)
 result_map make (Err error) = Err error
@@ -107,7 +107,7 @@ abbrev pub name_offset : VersionRecords → ℕ → Result ℕ LinkError
 name_offset records place =
     if nat_lt (length records.bytes) (place + 8) then Err ShortVersion else Ok (field records 4 place 0)
 
--- the text at an offset in the string table, or the refusal
+-- the text at an offset in the string table, or the error
 abbrev pub text_at_offset : Result (List ℕ) LinkError → Result ℕ LinkError → Result (List ℕ) LinkError
 text_at_offset strings (Ok offset) = text_in_strings strings offset
 text_at_offset strings (Err error) = Err error
@@ -189,13 +189,13 @@ file_offset records place = field records 4 place 4
 abbrev pub first_part : VersionRecords → ℕ → ℕ
 first_part records place = place + field records 4 place 8
 
--- the items up to the first refusal, which is the last, and then those of the rest if there was none
+-- the items up to the first error, which is the last, and then those of the rest if there was none
 abbrev pub joined : {A : Type 0} → List (Result A LinkError) → List (Result A LinkError) → List (Result A LinkError)
 joined [] rest = rest
 joined (Ok item ∷ items) rest = Ok item ∷ joined items rest
 joined (Err error ∷ items) rest = Err error ∷ []
 
--- the items are the parts of the needs at some places, in order, up to the first refusal: that of a need or a
+-- the items are the parts of the needs at some places, in order, up to the first error: that of a need or a
 -- part that is cut off, or, where the needs so far have more parts than `room`, `VersionCount`
 pub data AreParts (records : VersionRecords) : ℕ → List (Result ℕ LinkError) → List (Result NeedParts LinkError) → Type 0 where
   ended : (room : ℕ) → AreParts records room [] []
@@ -255,7 +255,7 @@ records_by file strings (Some address) None = Err NoEntry
 records_by file strings (Some address) (Some count) = and_then (bytes_from_of file address)
     (λ bytes. Ok (record { bytes = bytes; count = count; order = file_order file.header; strings = strings }))
 
--- the tables of the entries, with the string table and the number of symbols, or the first refusal: of the
+-- the tables of the entries, with the string table and the number of symbols, or the first error: of the
 -- numbers, of the definitions (DT_VERDEF and DT_VERDEFNUM), of the needs (DT_VERNEED and DT_VERNEEDNUM)
 unfoldable pub version_tables_of : ElfFile → List (Dynamic ℕ) → Result (List ℕ) LinkError → ℕ → Result VersionTables LinkError
 version_tables_of file entries strings count =

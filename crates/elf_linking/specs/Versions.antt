@@ -1,6 +1,6 @@
--- The version of a symbol: its number, and what bears that number (LSB, "Symbol Versioning"; that the
+-- The version of a symbol: its number, and the definition or need with that number (LSB, "Symbol Versioning"; that the
 -- definitions go before the needs, and the first that fits, is this project's own).
-use Rattle.std.specs.Prelude.{All, IsOk, IsOkAnd, false, ◌≡◌, ◌≢◌, ℕ, ◌+◌, ◌*◌, ◌%◌, ◌<◌, ◌≤◌, ◌==◌, ◌&&◌, nat_lt, not, Bool, List, [], ◌∷◌, length, slice_get, Option, Some, None, option_map, Result, Ok, Err, if◌then◌else◌}
+use Rattle.std.specs.Prelude.{All, IfSome, IsOk, IsOkAnd, false, ◌≡◌, ◌≢◌, ℕ, ◌+◌, ◌*◌, ◌%◌, ◌<◌, ◌≤◌, ◌==◌, ◌&&◌, nat_lt, not, Bool, List, [], ◌∷◌, length, slice_get, Option, Some, None, option_map, Result, Ok, Err, if◌then◌else◌}
 use Rattle.elf_base.specs.Number.{number}
 use Rattle.elf_base.specs.Refusal.{and_then}
 use Rattle.elf_linking.specs.VersionTables.{DefinitionParts, NeedParts, VersionTables, definition_parts, definitions_in, is_hidden, result_map, need_parts, needs_in, version_number}
@@ -10,7 +10,7 @@ use Rattle.elf_linking.specs.declared.versions.symbol.NamedVersion as named_vers
 use Rattle.elf_linking.specs.declared.versions.symbol.NamedVersion.TheVariants as variants
 use Rattle.elf_linking.specs.declared.versions.symbol.SymbolVersion.{SymbolVersion}
 
--- the number of a symbol as it stands in the file, by its index, if the file has numbers
+-- the number of a symbol as the file has it, by its index, if the file has numbers
 abbrev pub number_in : VersionTables → Option (List ℕ) → ℕ → Result (Option ℕ) LinkError
 number_in tables None index = Ok None
 number_in tables (Some numbers) index = if nat_lt (length numbers) (index * 2 + 2) then Err SymbolIndex
@@ -20,12 +20,12 @@ number_in tables (Some numbers) index = if nat_lt (length numbers) (index * 2 + 
 abbrev pub number_of : VersionTables → ℕ → Result (Option ℕ) LinkError
 number_of tables index = number_in tables tables.numbers index
 
--- the first items are no refusals, and none of them has the property
+-- the first items are no errors, and none of them has the property
 abbrev pub NoneBefore : {A : Type 0} → (A → Type 0) → List (Result A LinkError) → ℕ → Type 0
 NoneBefore {A} P items high =
     (i : ℕ) → i < high → (item : A) × (slice_get items i ≡ Some (Ok item)) × (P item → ⊥)
 
--- the first item with the property, nothing if there is none, or the refusal before it
+-- the first item with the property, nothing if there is none, or the error before it
 pub data IsFirst {A : Type 0} (P : A → Type 0) (items : List (Result A LinkError)) : Result (Option A) LinkError → Type 0 where
   found : (i : ℕ) (item : A) → NoneBefore P items i → slice_get items i ≡ Some (Ok item) → P item
       → IsFirst P items (Ok (Some item))
@@ -43,9 +43,9 @@ first_item test (Ok item ∷ items) = if test item then Ok (Some item) else firs
 abbrev pub is_base : ℕ → Bool
 is_base flags = flags % 2 == 1
 
--- a definition that is not the base has a number
+-- a definition that is not the base has a number, in bits 0 to 14 of its own
 abbrev pub BearsDefined : ℕ → DefinitionParts → Type 0
-BearsDefined n d = (d.number ≡ n) × (d.flags % 2 ≢ 1)
+BearsDefined n d = (version_number d.number ≡ n) × (d.flags % 2 ≢ 1)
 
 -- a part of a need has a number
 abbrev pub BearsNeeded : ℕ → NeedParts → Type 0
@@ -53,19 +53,19 @@ BearsNeeded n need = need.number ≡ n
 
 -- the first of these as a function
 abbrev pub bears_defined : ℕ → DefinitionParts → Bool
-bears_defined n d = d.number == n && not (is_base d.flags)
+bears_defined n d = version_number d.number == n && not (is_base d.flags)
 
 -- the second as a function
 abbrev pub bears_needed : ℕ → NeedParts → Bool
 bears_needed n need = need.number == n
 
--- what bears the number of a symbol: a definition, or a part of a need
+-- what the number of a symbol names: a definition, or a part of a need
 pub data NamedParts : Type 0 where
   Defined : DefinitionParts → NamedParts
   Needed : NeedParts → NamedParts
 
--- what bears a number: nothing bears 0, of local symbols, and 1, of global ones; otherwise the first definition
--- that isn't the base, or if there is none the first part of a need, or else nothing
+-- the definition or need with a number: none for 0, of local symbols, and 1, of global ones; otherwise the first
+-- definition that isn't the base, or if there is none the first part of a need, or else nothing
 pub data IsNamed (tables : VersionTables) (n : ℕ) : Result (Option NamedParts) LinkError → Type 0 where
   reserved : n < 2 → IsNamed tables n (Ok None)
   defined : (d : DefinitionParts) → 2 ≤ n → IsFirst (BearsDefined n) (definitions_in tables.definitions) (Ok (Some d))
@@ -89,17 +89,17 @@ abbrev pub named_of : VersionTables → ℕ → Result (Option NamedParts) LinkE
 named_of tables n = if nat_lt n 2 then Ok None
     else and_then (first_item (bears_defined n) (definitions_in tables.definitions)) (or_needed tables n)
 
--- the version of a symbol: its number, whether it is hidden, and what bears the number
+-- the version of a symbol: its number, whether it is hidden, and the definition or need with that number
 pub record VersionParts : Type 0 where
   pub number : ℕ
   pub hidden : Bool
   pub named : Option NamedParts
 
--- the version of a number as it stands in the file, with what bears it
+-- the version of a number as the file has it, with its definition or need
 abbrev pub version_by : ℕ → Option NamedParts → VersionParts
 version_by raw named = record { number = version_number raw; hidden = is_hidden raw; named = named }
 
--- the version of the symbol at an index, nothing if the file has no numbers of symbols, or the refusal
+-- the version of the symbol at an index, nothing if the file has no numbers of symbols, or the error
 pub data IsVersion (tables : VersionTables) (index : ℕ) : Result (Option VersionParts) LinkError → Type 0 where
   no_numbers : number_of tables index ≡ Ok None → IsVersion tables index (Ok None)
   no_number : (error : LinkError) → number_of tables index ≡ Err error → IsVersion tables index (Err error)
@@ -163,3 +163,7 @@ name_error name (Ok item ∷ items) = and_then (name item) (λ _. name_error nam
 abbrev pub versions_error : VersionTables → ℕ → Result (Unit {0}) LinkError
 versions_error tables count = if lacks_numbers tables.numbers count then Err SymbolIndex
     else and_then (name_error (λ d. d.name) (definitions_in tables.definitions)) (λ _. name_error (λ need. need.name) (needs_in tables.needs))
+
+-- the definition or need of a version, if there is one, has a name that can be read
+abbrev pub HasReadableName : Option VersionParts → Type 0
+HasReadableName parts = IfSome parts (λ v. IfSome v.named (λ named. IsOk (named_name named)))

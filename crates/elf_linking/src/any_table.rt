@@ -2,9 +2,8 @@
 //! GNU binutils and glibc).
 
 ghost use Rattle.std.specs.Borrow.{Bor};
-ghost use Rattle.std.specs.Prelude.{◌≡◌, ◌≢◌, ◌≤◌, ◌<◌, ◌^◌, ◌↔◌, ℕ, Contains, IsOk, IsTrue};
-ghost use Rattle.std.specs.Prelude.{MatchResult, Option, Result, Some, length, slice_get};
-ghost use Rattle.elf_linking.specs.declared.error.LinkError.{LinkError};
+ghost use Rattle.std.specs.Prelude.{◌≡◌, ◌≢◌, ◌≤◌, ◌<◌, ◌^◌, ◌↔◌, ℕ, Contains, Err, IfOk, IsOk, IsTrue};
+ghost use Rattle.std.specs.Prelude.{MatchResult, Some, length, slice_get};
 ghost use Rattle.elf_linking.specs.DynamicView.{view_entries};
 ghost use Rattle.xmas_elf.specs.SymbolTable.{table_symbols};
 ghost use Rattle.xmas_elf.specs.Symbols.{Decides, DecidesWhere, IsMatch, IsMatchWhere};
@@ -29,8 +28,7 @@ pub enum AnyTable<'a> {
 impl<'a> AnyTable<'a> {
     ghost use Rattle.elf_linking.specs.AnyTable.{FindsAllBy, FindsAllWhereBy, IsCheckBy, IsCountBy};
     ghost use Rattle.elf_linking.specs.AnyTable.{IsDefinedBy, IsGoodBy, IsLinkedTable};
-    ghost use Rattle.elf_linking.specs.AnyTable.{IsSameCountBy, IsTableRefused, LooksBy};
-    ghost use Rattle.elf_linking.specs.AnyTable.{LooksForDefined, LooksWhereBy};
+    ghost use Rattle.elf_linking.specs.AnyTable.{LooksBy, LooksForDefined, LooksWhereBy};
 
     /// The hash table of the dynamic segment: GNU's if there is an entry GnuHash, otherwise that of
     /// the ELF standard.
@@ -38,9 +36,7 @@ impl<'a> AnyTable<'a> {
     /// Errors: those of `DynamicView::gnu_hash_table` if there is such an entry, otherwise those of
     /// `hash_table`.
     pub fn read(view: &DynamicView<'a>, file: &ElfFile<'a>) -> Result<AnyTable<'a>, LinkError>
-        ensures { MatchResult result
-            (IsLinkedTable file.now (view_entries view.now))
-            (IsTableRefused file.now (view_entries view.now)) }
+        ensures { IsLinkedTable file.now (view_entries view.now) result }
     {
         match view.entry(DT_GNU_HASH) {
             Some(_) => match view.gnu_hash_table(file) {
@@ -80,10 +76,6 @@ impl<'a> AnyTable<'a> {
             → F.pre f e }
         ensures answer { let all = table_symbols symbols.now in Decides all F.Fn f → (count : ℕ)
             × LooksBy (IsMatch all F.Fn f name.now) self.now all.items name.now result count }
-        ensures only { let all = table_symbols symbols.now in
-            Decides all F.Fn f → (other : Result (Option (ℕ × E)) LinkError) (count : ℕ)
-            → LooksBy (IsMatch all F.Fn f name.now) self.now all.items name.now other count
-            → other ≡ result }
         ensures good { let all = table_symbols symbols.now in Decides all F.Fn f
             → IsGoodBy self.now all
             → FindsAllBy self.now all name.now (IsMatch all F.Fn f name.now) result }
@@ -104,10 +96,6 @@ impl<'a> AnyTable<'a> {
         ensures in_symbols { result.1 ≤ length (table_symbols symbols.now).items }
         ensures answer { let all = table_symbols symbols.now in Decides all F.Fn f
             → LooksBy (IsMatch all F.Fn f name.now) self.now all.items name.now result.0 result.1 }
-        ensures only { let all = table_symbols symbols.now in
-            Decides all F.Fn f → (other : Result (Option (ℕ × E)) LinkError) (count : ℕ)
-            → LooksBy (IsMatch all F.Fn f name.now) self.now all.items name.now other count
-            → (other ≡ result.0) × IsSameCountBy self.now other count result.1 }
         ensures good { let all = table_symbols symbols.now in Decides all F.Fn f
             → IsGoodBy self.now all
             → FindsAllBy self.now all name.now (IsMatch all F.Fn f name.now) result.0 }
@@ -136,10 +124,6 @@ impl<'a> AnyTable<'a> {
         ensures answer { let all = table_symbols symbols.now in DecidesWhere all F.Fn f
             → (count : ℕ) × LooksWhereBy (IsMatchWhere all F.Fn f name.now) self.now all.items
             name.now result count }
-        ensures only { let all = table_symbols symbols.now in
-            DecidesWhere all F.Fn f → (other : Result (Option (ℕ × E)) LinkError) (count : ℕ)
-            → LooksWhereBy (IsMatchWhere all F.Fn f name.now) self.now all.items name.now other
-            count → other ≡ result }
         ensures good { let all = table_symbols symbols.now in DecidesWhere all F.Fn f
             → IsGoodBy self.now all
             → FindsAllWhereBy self.now all name.now (IsMatchWhere all F.Fn f name.now) result }
@@ -153,17 +137,24 @@ impl<'a> AnyTable<'a> {
         }
     }
 
-    /// The first defined symbol with this name that a look-up comes to, by a table that has passed
-    /// its check; `None` if it comes to none, and then no symbol that look-ups must find is one.
+    /// The first defined symbol with this name that a look-up comes to, after the check of the
+    /// table; `None` if it comes to none, and then no symbol that look-ups must find is one. For
+    /// many names call `check` once, and then `lookup`.
+    ///
+    /// Errors: those of `check`.
     pub fn defined_symbol<E: Entry + Record>(
         &self,
         name: &str,
         symbols: &SymbolTable<'_, E>,
-    ) -> Option<(u32, E)>
-        requires good { IsGoodBy self.now (table_symbols symbols.now) }
-        ensures found { IsDefinedBy self.now (table_symbols symbols.now) name.now result }
-        ensures answer { LooksForDefined self.now (table_symbols symbols.now) name.now result }
+    ) -> Result<Option<(u32, E)>, LinkError>
+        ensures checked { let all = table_symbols symbols.now in MatchResult result
+            (λ _. IsGoodBy self.now all) (λ error. IsCheckBy self.now all (Err error)) }
+        ensures found { IfOk result
+            (IsDefinedBy self.now (table_symbols symbols.now) name.now) }
+        ensures answer { IfOk result
+            (LooksForDefined self.now (table_symbols symbols.now) name.now) }
     {
+        self.check(symbols)?;
         match self.lookup(
             name,
             symbols,
@@ -171,8 +162,8 @@ impl<'a> AnyTable<'a> {
                 ensures { IsTrue result ↔ ((E.fields symbol.now).shndx ≢ 0) }
             { symbol.shndx() != 0 },
         ) {
-            Ok(Some(found)) => Some(found),
-            Ok(None) => None,
+            Ok(Some(found)) => Ok(Some(found)),
+            Ok(None) => Ok(None),
             Err(_) => unreachable!(),
         }
     }

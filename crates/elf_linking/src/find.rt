@@ -47,9 +47,11 @@ pub enum Wanted<'v> {
 }
 
 impl<'v> Wanted<'v> {
-    ghost use Rattle.elf_linking.specs.Find.{version_wanted};
+    ghost use Rattle.elf_linking.specs.Find.{exact_version, version_wanted};
 
-    /// The version with this name, whose hash number is computed here; it is not hidden.
+    /// The version with this name, whose hash number is computed here; it is not hidden. A version
+    /// without a hash number that isn't hidden is accepted in its place, as for a reference of a
+    /// program.
     pub fn version(name: &'v str) -> Wanted<'v>
         ensures { result ≡ version_wanted name.entry }
     {
@@ -57,6 +59,19 @@ impl<'v> Wanted<'v> {
             name,
             hash: hash(name),
             hidden: false,
+        }
+    }
+
+    /// The version with this name and no other, as `dlvsym` asks; its hash number is computed here.
+    /// A symbol with another version, or with the number 0 or 1, is not accepted. In a file without
+    /// numbers of symbols each symbol is.
+    pub fn exact(name: &'v str) -> Wanted<'v>
+        ensures { result ≡ exact_version name.entry }
+    {
+        Wanted::Version {
+            name,
+            hash: hash(name),
+            hidden: true,
         }
     }
 
@@ -119,7 +134,7 @@ fn accepts_version(
     Ok(is_version(name, hash, version.named)? || is_open(hidden, &version))
 }
 
-// Whether what bears a version has the hash number and the name.
+// Whether the definition or need of a version has the hash number and the name.
 fn is_version(name: &str, hash: u32, named: Option<NamedVersion<'_>>) -> Result<bool, LinkError>
     ensures { result ≡ is_version name.now hash (option_map named_parts named.entry) }
 {

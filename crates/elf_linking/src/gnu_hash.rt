@@ -140,7 +140,7 @@ impl<'a> GnuHashTable<'a> {
         read_u32(self.bytes, 4, self.order)
     }
 
-    /// The number of Bloom words. `read` refuses one that is not a power of two.
+    /// The number of Bloom words. `read` returns an error for one that is not a power of two.
     #[inline(always)]
     pub fn bloom_count(&self) -> u32
         ensures value { result ≡ bloom_count_of self.now }

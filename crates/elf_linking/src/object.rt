@@ -2,7 +2,7 @@
 //! Table"; LSB, "Symbol Versioning").
 
 ghost use Rattle.std.specs.Borrow.{Bor};
-ghost use Rattle.std.specs.Prelude.{◌≡◌, ◌↔◌, ℕ, Contains, Err, IfOk, IfSome, IsOk, MatchOption};
+ghost use Rattle.std.specs.Prelude.{◌≡◌, ◌↔◌, ℕ, Contains, Err, IfOk, IfSome, IsOk, IsOkAnd, MatchOption};
 ghost use Rattle.std.specs.Prelude.{MatchResult, Ok, Option, Result, Some, length, slice_get};
 ghost use Rattle.std.specs.Prelude.{◌<◌, ◌^◌};
 ghost use Rattle.elf_base.specs.FileHeader.{file_order};
@@ -36,14 +36,12 @@ pub struct DynamicObject<'a, E: Record> {
     strings: &'a [u8],
     versions: Versions<'a>,
     file: ElfFile<'a>,
-    symbolic: bool,
-    ghost symbolic_is: { symbolic ≡ is_symbolic (view_entries view) },
 }
 
 impl<'a, E: LinkedSymbol> DynamicObject<'a, E> {
     ghost use Rattle.elf_linking.specs.AnyTable.{FindsAllBy, IsCheckBy, IsDefinedBy, IsGoodBy};
     ghost use Rattle.elf_linking.specs.AnyTable.{LooksBy, LooksForDefined};
-    ghost use Rattle.elf_linking.specs.DynamicObject.{AreOfClass, AreRefused, IsNameAt, IsObject};
+    ghost use Rattle.elf_linking.specs.DynamicObject.{AreOfClass, IsNameAt, IsObject};
     ghost use Rattle.elf_linking.specs.DynamicObject.{IsObjectRefused, object_dynamic_symbols};
     ghost use Rattle.elf_linking.specs.DynamicObject.{object_file, object_machine, object_name};
     ghost use Rattle.elf_linking.specs.DynamicObject.{object_name_bytes, object_records};
@@ -53,7 +51,8 @@ impl<'a, E: LinkedSymbol> DynamicObject<'a, E> {
     ghost use Rattle.elf_linking.specs.Find.{AreReadable, FindsRight, IsFound};
     ghost use Rattle.elf_linking.specs.References.{references_left, references_of};
     ghost use Rattle.elf_linking.specs.VersionTables.{version_tables};
-    ghost use Rattle.elf_linking.specs.Versions.{IsVersion, version_at, version_item};
+    ghost use Rattle.elf_linking.specs.Versions.{HasReadableName, IsVersion, version_at};
+    ghost use Rattle.elf_linking.specs.Versions.{version_item};
     ghost use Rattle.elf_linking.specs.Versions.{versions_error};
     ghost use Rattle.xmas_elf.specs.SymbolTable.{carried_strings, carried_table, table_symbols};
     ghost use Rattle.xmas_elf.specs.Symbols.{Decides, IsMatch};
@@ -65,42 +64,25 @@ impl<'a, E: LinkedSymbol> DynamicObject<'a, E> {
     /// `DynamicView::strings`; those of `Versions::read`.
     #[tactic(auto, unfolding(crate::specs::DynamicView::dynamic_strings_of))]
     pub fn read(file: &ElfFile<'a>) -> Result<Self, LinkError>
-        ensures exact { MatchResult result (IsObject E.CLASS E.SIZE file.now)
+        ensures { MatchResult result (IsObject E.CLASS E.SIZE file.now)
             (IsObjectRefused E.CLASS E.SIZE file.now) }
-        ensures only { (error : LinkError) → IsObjectRefused E.CLASS E.SIZE file.now error
-            → result ≡ Err error }
     {
-        let view = match DynamicView::read(file) {
-            Ok(view) => view,
-            Err(error) => return Err(error),
-        };
-        let table = match AnyTable::read(&view, file) {
-            Ok(table) => table,
-            Err(error) => return Err(error),
-        };
-        let symbols = match Self::symbols_of_class(&view, file) {
-            Ok(symbols) => symbols,
-            Err(error) => return Err(error),
-        };
-        let strings = match view.strings() {
-            Ok(strings) => strings,
-            Err(error) => return Err(error),
-        };
-        match Versions::read(&view, file, symbols.len() as u64) {
-            Ok(versions) => Ok(Self {
-                view,
-                table,
-                symbols,
-                strings,
-                versions,
-                file: ElfFile {
-                    input: file.input,
-                    header: file.header,
-                },
-                symbolic: view.is_symbolic(),
-            }),
-            Err(error) => Err(error),
-        }
+        let view = DynamicView::read(file)?;
+        let table = AnyTable::read(&view, file)?;
+        let symbols = Self::symbols_of_class(&view, file)?;
+        let strings = view.strings()?;
+        let versions = Versions::read(&view, file, symbols.len() as u64)?;
+        Ok(Self {
+            view,
+            table,
+            symbols,
+            strings,
+            versions,
+            file: ElfFile {
+                input: file.input,
+                header: file.header,
+            },
+        })
     }
 
     /// The dynamic segment: its entries, the libraries that the file needs, and the file's own name.
@@ -124,12 +106,12 @@ impl<'a, E: LinkedSymbol> DynamicObject<'a, E> {
         self.versions
     }
 
-    /// Whether references of the file are bound within it first, as `DynamicView::is_symbolic` says;
-    /// no entry is read again.
+    /// Whether references of the file are bound within it first: the result of
+    /// `DynamicView::is_symbolic`.
     pub fn is_symbolic(&self) -> bool
         ensures { result ≡ is_symbolic (view_entries (object_view self.now)) }
     {
-        self.symbolic
+        self.view.is_symbolic()
     }
 
     // The machine of the file (gABI, "ELF Header", e_machine).
@@ -200,12 +182,16 @@ impl<'a, E: LinkedSymbol> DynamicObject<'a, E> {
         }
     }
 
-    /// The version of the symbol at an index: the result of `Versions::version_of`.
+    /// The version of the symbol at an index: the result of `Versions::version_of`. If
+    /// `check_versions` is Ok and there is such a symbol, there is no error, and the name of the
+    /// version can be read.
     pub fn version(&self, index: u32) -> Result<Option<SymbolVersion<'a>>, LinkError>
         ensures answer { IsVersion (version_tables (object_versions self.now)) index
             (version_item result) }
         ensures exact { version_item result
             ≡ version_at (version_tables (object_versions self.now)) index }
+        ensures readable { let file = object_dynamic_symbols E.fields self.now in AreReadable file
+            → index < length file.symbols.items → IsOkAnd (version_item result) HasReadableName }
     {
         self.versions.version_of(index)
     }
@@ -252,10 +238,6 @@ impl<'a, E: LinkedSymbol> DynamicObject<'a, E> {
             Decides all F.Fn f → (count : ℕ)
             × LooksBy (IsMatch all F.Fn f name.now) (object_table self.now) all.items name.now
             result count }
-        ensures only { let all = object_symbols E.fields self.now in
-            Decides all F.Fn f → (other : Result (Option (ℕ × E)) LinkError) (count : ℕ)
-            → LooksBy (IsMatch all F.Fn f name.now) (object_table self.now) all.items name.now
-            other count → other ≡ result }
         ensures good { let all = object_symbols E.fields self.now in
             Decides all F.Fn f → IsGoodBy (object_table self.now) all
             → FindsAllBy (object_table self.now) all name.now (IsMatch all F.Fn f name.now) result }
@@ -264,13 +246,14 @@ impl<'a, E: LinkedSymbol> DynamicObject<'a, E> {
     }
 
     /// The result of `AnyTable::defined_symbol`, with the same contract.
-    pub fn defined_symbol(&self, name: &str) -> Option<(u32, E)>
-        requires good { IsGoodBy (object_table self.now)
-            (object_symbols E.fields self.now) }
-        ensures found { IsDefinedBy (object_table self.now)
-            (object_symbols E.fields self.now) name.now result }
-        ensures answer { LooksForDefined (object_table self.now)
-            (object_symbols E.fields self.now) name.now result }
+    pub fn defined_symbol(&self, name: &str) -> Result<Option<(u32, E)>, LinkError>
+        ensures checked { let all = object_symbols E.fields self.now in MatchResult result
+            (λ _. IsGoodBy (object_table self.now) all)
+            (λ error. IsCheckBy (object_table self.now) all (Err error)) }
+        ensures found { IfOk result (IsDefinedBy (object_table self.now)
+            (object_symbols E.fields self.now) name.now) }
+        ensures answer { IfOk result (LooksForDefined (object_table self.now)
+            (object_symbols E.fields self.now) name.now) }
     {
         self.table.defined_symbol(name, &self.symbols())
     }
@@ -296,9 +279,6 @@ impl<'a, E: LinkedSymbol> DynamicObject<'a, E> {
     ) -> Result<Option<(u32, E)>, LinkError>
         ensures answer { IsFound (object_dynamic_symbols E.fields self.now) name.now
             wanted.now use_ result }
-        ensures only { (other : Result (Option (ℕ × E)) LinkError)
-            → IsFound (object_dynamic_symbols E.fields self.now) name.now wanted.now use_
-            other → other ≡ result }
         ensures good { let file = object_dynamic_symbols E.fields self.now in
             IsGoodBy file.table file.symbols → AreReadable file
             → FindsRight file name.now wanted.now use_ result }
@@ -313,9 +293,9 @@ impl<'a, E: LinkedSymbol> DynamicObject<'a, E> {
         file: &ElfFile<'a>,
     ) -> Result<Table<'a, E>, LinkError>
         ensures exact { MatchResult result
-            (λ symbols. AreOfClass E.CLASS E.SIZE file.now (view_entries view.now) (table_data symbols)
-            × (table_order symbols ≡ file_order file.now.header))
-            (AreRefused E.CLASS E.SIZE file.now (view_entries view.now)) }
+            (λ symbols. AreOfClass E.CLASS E.SIZE file.now (view_entries view.now)
+            (Ok (table_data symbols)) × (table_order symbols ≡ file_order file.now.header))
+            (λ error. AreOfClass E.CLASS E.SIZE file.now (view_entries view.now) (Err error)) }
         ensures place { IfOk result (λ symbols.
             LieAsSymbols file.now (view_entries view.now) (table_bytes symbols)) }
     {

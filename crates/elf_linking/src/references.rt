@@ -1,14 +1,24 @@
 //! The relocations of a file that name a symbol (gABI, "Relocation" and "Dynamic Section").
 
-ghost use Rattle.std.specs.Prelude.{◌≡◌, ◌<◌, ◌^◌, Err, IfOk, IsOkAnd, List, MatchResult, Ok, length};
+ghost use Rattle.std.specs.Prelude.{◌≡◌, ◌<◌, ◌^◌, Err, IfOk, MatchResult, Ok, length};
 ghost use Rattle.std.specs.Iterator.{YieldsFirst, item_count};
-ghost use Rattle.elf_linking.specs.References.{references_left, references_of, tables_left, use_of};
+ghost use Rattle.elf_linking.specs.References.{names_symbol, references_left, references_of};
+ghost use Rattle.elf_linking.specs.References.{tables_left, takes_no_symbol, use_of};
+ghost use Rattle.elf_linking.specs.References.{use_of_386, use_of_aarch64, use_of_x86_64};
 
 mod tables;
+pub mod types;
 
 use crate::LinkError;
 use crate::find::Use;
 use crate::references::tables::Relocations;
+use crate::references::types::{
+    EM_386, EM_AARCH64, EM_X86_64, R_386_COPY, R_386_JMP_SLOT, R_386_TLS_DESC, R_386_TLS_DTPMOD32,
+    R_386_TLS_DTPOFF32, R_386_TLS_TPOFF, R_386_TLS_TPOFF32, R_AARCH64_COPY, R_AARCH64_JUMP_SLOT,
+    R_AARCH64_TLS_DTPMOD, R_AARCH64_TLS_DTPREL, R_AARCH64_TLS_TPREL, R_AARCH64_TLSDESC,
+    R_X86_64_COPY, R_X86_64_DTPMOD64, R_X86_64_DTPOFF64, R_X86_64_JUMP_SLOT, R_X86_64_TLSDESC,
+    R_X86_64_TPOFF64,
+};
 use crate::view::{
     DT_JMPREL, DT_PLTREL, DT_PLTRELSZ, DT_REL, DT_RELA, DT_RELASZ, DT_RELSZ, DynamicView,
 };
@@ -31,19 +41,19 @@ pub struct Reference {
 /// An iterator over the relocations of a file that name a symbol: those of the table Rela, then
 /// those of Rel, then those of the procedure linkage table (JmpRel), each table in order.
 ///
-/// A record whose symbol index is 0 names none and is passed over, so that a call of `next` takes
+/// A record names no symbol if its symbol index is 0, or if its type is `NONE` or `RELATIVE` of
+/// x86-64, 386 or AArch64, whatever the index is. It is passed over, so that a call of `next` takes
 /// constant time but for such records, and all calls together read each record once.
 #[derive(Clone, Debug, Drop)]
 pub struct References<'a> {
     rela: Relocations<'a>,
     rel: Relocations<'a>,
     plt: Relocations<'a>,
+    machine: u16,
 }
 
 impl<'a> DynamicView<'a> {
     ghost use Rattle.elf_linking.specs.DynamicView.{view_entries};
-    ghost use Rattle.elf_linking.specs.declared.error.LinkError.{LinkError};
-    ghost use Rattle.elf_linking.specs.declared.references.Reference.{Reference};
 
     /// An iterator over the relocations of the file that name a symbol, of the tables Rela, Rel and
     /// JmpRel in this order. A table without an entry for its address is absent. A record that lies
@@ -60,11 +70,6 @@ impl<'a> DynamicView<'a> {
         ensures exact { let answer = references_of file.now (view_entries self.now) in
             MatchResult result (λ references. answer ≡ Ok (references_left references))
             (λ error. answer ≡ Err error) }
-        ensures only { (items : List Reference)
-            → references_of file.now (view_entries self.now) ≡ Ok items
-            → IsOkAnd result (λ references. references_left references ≡ items) }
-        ensures refused { (error : LinkError)
-            → references_of file.now (view_entries self.now) ≡ Err error → result ≡ Err error }
         ensures fits { IfOk result (λ references. length (references_left references) < 2 ^ 64) }
     {
         let rela = self.entry(DT_RELA);
@@ -73,7 +78,13 @@ impl<'a> DynamicView<'a> {
         let rel = Relocations::read(file, rel, self.entry(DT_RELSZ), Some(DT_REL))?;
         let (size, kind) = (self.entry(DT_PLTRELSZ), self.entry(DT_PLTREL));
         let plt = Relocations::read(file, self.entry(DT_JMPREL), size, kind)?;
-        Ok(References { rela, rel, plt })
+        let machine = file.header.pt2.machine().raw();
+        Ok(References {
+            rela,
+            rel,
+            plt,
+            machine,
+        })
     }
 }
 
@@ -81,7 +92,8 @@ impl References<'_> {
     // The next relocation, which may name no symbol.
     #[tactic(auto, using(crate::proofs::ReferenceItems::begins, crate::proofs::ReferenceItems::goes_on))]
     fn next_relocation(&mut self) -> Option<Reference>
-        ensures { YieldsFirst tables_left self.old result self.new }
+        ensures first { YieldsFirst tables_left self.old result self.new }
+        ensures machine { self.new.machine ≡ self.old.machine }
     {
         if let Some(relocation) = self.rela.next() {
             return Some(relocation);
@@ -104,11 +116,29 @@ impl Iterator for References<'_> {
     fn next(&mut self) -> Option<Reference> {
         loop {
             let relocation = self.next_relocation()?;
-            if relocation.symbol != 0 {
+            if names_symbol(self.machine, &relocation) {
                 return Some(relocation);
             }
         }
     }
+}
+
+// Whether a relocation in a file for a machine names a symbol.
+fn names_symbol(machine: u16, relocation: &Reference) -> bool
+    ensures { result ≡ names_symbol machine relocation.now }
+{
+    relocation.symbol != 0 && !takes_no_symbol(machine, relocation.kind)
+}
+
+// Whether a relocation of this type takes no symbol. One of the type IRELATIVE takes the symbol at
+// its index, as glibc's linker has it: it is looked up, and what is found isn't used.
+fn takes_no_symbol(machine: u16, kind: u32) -> bool
+    ensures { result ≡ takes_no_symbol machine kind }
+{
+    matches!(
+        (machine, kind),
+        (62, 0 | 8 | 38) | (3, 0 | 8) | (183, 0 | 256 | 1027)
+    )
 }
 
 /// What a relocation of this type wants of its symbol, in a file for this machine (`e_machine`):
@@ -117,11 +147,43 @@ impl Iterator for References<'_> {
 pub fn use_of(machine: u16, kind: u32) -> Use
     ensures { result ≡ use_of machine kind }
 {
-    match (machine, kind) {
-        (62 | 3, 5) | (183, 1024) => Use::Copy,
-        (62, 7 | 16 | 17 | 18 | 36) => Use::Defined,
-        (3, 7 | 14 | 35 | 36 | 37 | 41) => Use::Defined,
-        (183, 1026 | 1028 | 1029 | 1030 | 1031) => Use::Defined,
+    match machine {
+        EM_X86_64 => use_of_x86_64(kind),
+        EM_386 => use_of_386(kind),
+        EM_AARCH64 => use_of_aarch64(kind),
+        _ => Use::Any,
+    }
+}
+
+fn use_of_x86_64(kind: u32) -> Use
+    ensures { result ≡ use_of_x86_64 kind }
+{
+    match kind {
+        R_X86_64_COPY => Use::Copy,
+        R_X86_64_JUMP_SLOT | R_X86_64_DTPMOD64 | R_X86_64_DTPOFF64 => Use::Defined,
+        R_X86_64_TPOFF64 | R_X86_64_TLSDESC => Use::Defined,
+        _ => Use::Any,
+    }
+}
+
+fn use_of_386(kind: u32) -> Use
+    ensures { result ≡ use_of_386 kind }
+{
+    match kind {
+        R_386_COPY => Use::Copy,
+        R_386_JMP_SLOT | R_386_TLS_TPOFF | R_386_TLS_DTPMOD32 => Use::Defined,
+        R_386_TLS_DTPOFF32 | R_386_TLS_TPOFF32 | R_386_TLS_DESC => Use::Defined,
+        _ => Use::Any,
+    }
+}
+
+fn use_of_aarch64(kind: u32) -> Use
+    ensures { result ≡ use_of_aarch64 kind }
+{
+    match kind {
+        R_AARCH64_COPY => Use::Copy,
+        R_AARCH64_JUMP_SLOT | R_AARCH64_TLS_DTPMOD | R_AARCH64_TLS_DTPREL => Use::Defined,
+        R_AARCH64_TLS_TPREL | R_AARCH64_TLSDESC => Use::Defined,
         _ => Use::Any,
     }
 }

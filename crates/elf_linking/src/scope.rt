@@ -2,21 +2,21 @@
 //! Table"; LSB, "Symbol Versioning"; the rules of glibc's linker).
 //!
 //! Not modelled: that glibc merges unique symbols (`STB_GNU_UNIQUE`) by their names over a process;
-//! preloading, filters, auditing, `dlopen` and namespaces. For an indirect function the answer is
+//! preloading, filters, auditing, `dlopen` and namespaces. For an indirect function the result is
 //! its symbol, and not what its resolver returns.
 
 ghost use Rattle.std.specs.Prelude.{◌≡◌};
-ghost use Rattle.elf_linking.specs.Scope.{can_bind, if_serving, is_passed_over};
+ghost use Rattle.elf_linking.specs.Scope.{is_passed_over};
 
 mod asking;
 
 use crate::find::{Use, Wanted};
 use crate::references::Reference;
 pub use crate::scope::asking::Asked;
+use crate::serving::if_serving;
 use crate::view::LinkedSymbol;
 use crate::{DynamicObject, LinkError};
 use elf_base::bytes::Record;
-use xmas_elf::symbol_table::Entry;
 
 /// A symbol of an object of a scope.
 #[derive(Clone, Copy, Debug)]
@@ -37,12 +37,11 @@ pub struct Scope<'s, 'a, E: Record> {
 }
 
 impl<'s, 'a, E: LinkedSymbol> Scope<'s, 'a, E> {
-    ghost use Rattle.std.specs.Prelude.{◌<◌, ℕ, IsOkAnd, Ok, Option, Result, false, length, true};
-    ghost use Rattle.elf_linking.specs.Scope.{AreGood, BindsReference, BindsRight, FindsAt, HasAt};
-    ghost use Rattle.elf_linking.specs.Scope.{HasNamedSymbol, IsBound, IsFirstGiven};
-    ghost use Rattle.elf_linking.specs.Scope.{IsReferenceBound, scope_objects};
-    ghost use Rattle.elf_linking.specs.declared.error.LinkError.{LinkError};
-    ghost use Rattle.elf_linking.specs.declared.scope.Bound.{Bound};
+    ghost use Rattle.std.specs.Prelude.{◌<◌, length, true, false};
+    ghost use Rattle.elf_linking.specs.Scope.{AnswersAsked, AnswersRight, AreGood, BindsReference};
+    ghost use Rattle.elf_linking.specs.Scope.{BindsRight, FindsAt, HasNamedSymbol, IsBound};
+    ghost use Rattle.elf_linking.specs.Scope.{IsFirstGiven, IsProtectedBound, IsReferenceBound};
+    ghost use Rattle.elf_linking.specs.Scope.{scope_objects};
 
     /// The scope of these objects, the program first.
     pub fn new(objects: &'s [DynamicObject<'a, E>]) -> Self
@@ -51,15 +50,18 @@ impl<'s, 'a, E: LinkedSymbol> Scope<'s, 'a, E> {
         Self { objects }
     }
 
-    /// The symbol that a look-up for the object at index `from` gets: that of the first object in
-    /// which `DynamicObject::find` finds a symbol whose binding is global, weak or unique.
+    /// The symbol that a look-up for the object at index `from` finds: that of the first object in
+    /// which `DynamicObject::find` returns a symbol that serves references of other files, as
+    /// `serves_others` says. An object in which it returns another symbol is passed over, even if
+    /// one that serves them comes after it in the chain of the name.
     ///
     /// The object at `from` is asked first if it is symbolic; then all objects in order. For
-    /// `Use::Copy` the program is passed over. The result is `None` if no object has such a symbol.
+    /// `Use::Copy` the program is passed over. The result is `None` if `find` returns such a symbol
+    /// in no object.
     ///
     /// Errors: `ObjectIndex` if there is no object at `from`; those of `DynamicObject::find` in an
     /// object before the first that has such a symbol. If `check` and `check_versions` are Ok for
-    /// all objects, there is no error, and no symbol is missed. A call asks each object once, and
+    /// all objects and there is one at `from`, there is no error. A call asks each object once, and
     /// the symbolic one twice.
     pub fn find(
         &self,
@@ -70,9 +72,6 @@ impl<'s, 'a, E: LinkedSymbol> Scope<'s, 'a, E> {
     ) -> Result<Option<Bound<E>>, LinkError>
         ensures answer { IsBound E.fields (scope_objects self.now).now from name.now
             wanted.now use_ result }
-        ensures only { (other : Result (Option (Bound E)) LinkError)
-            → IsBound E.fields (scope_objects self.now).now from name.now wanted.now use_
-            other → other ≡ result }
         ensures good { let objects = (scope_objects self.now).now in
             AreGood E.fields objects → from < length objects
             → BindsRight E.fields objects from name.now wanted.now use_ result }
@@ -83,19 +82,15 @@ impl<'s, 'a, E: LinkedSymbol> Scope<'s, 'a, E> {
         self.first_bound(asking.is_symbolic(), from, name, wanted, use_)
     }
 
-    /// The symbol that a reference of the object at index `from` gets: by what
-    /// `DynamicObject::asked` says, its own symbol, or that of `find`. The result is `None` if no
-    /// object has a symbol for it.
+    /// The symbol that a reference of the object at index `from` gets: the result of `answer` for
+    /// what `DynamicObject::asked` returns. The result is `None` if no object gives a symbol for it.
     ///
-    /// Errors: `ObjectIndex` if there is no object at `from`; those of `DynamicObject::asked`;
-    /// those of `find`. If `check` and `check_versions` are Ok for all objects, and the reference
-    /// has a symbol whose name can be read, there is no error, and no symbol is missed.
+    /// Errors: `ObjectIndex` if there is no object at `from`; those of `DynamicObject::asked`; those
+    /// of `answer`. If `check` and `check_versions` are Ok for all objects, and the reference has a
+    /// symbol whose name can be read, there is no error; the name is read only for a look-up.
     pub fn bind(&self, from: usize, reference: &Reference) -> Result<Option<Bound<E>>, LinkError>
         ensures answer { IsReferenceBound E.fields (scope_objects self.now).now from
             reference.now result }
-        ensures only { (other : Result (Option (Bound E)) LinkError)
-            → IsReferenceBound E.fields (scope_objects self.now).now from reference.now
-            other → other ≡ result }
         ensures good { let objects = (scope_objects self.now).now in
             AreGood E.fields objects → HasNamedSymbol E.fields objects from reference.now
             → BindsReference E.fields objects from reference.now result }
@@ -104,12 +99,88 @@ impl<'s, 'a, E: LinkedSymbol> Scope<'s, 'a, E> {
             return Err(LinkError::ObjectIndex);
         };
         match asking.asked(reference) {
-            Ok(Asked::Own(symbol)) => Ok(Some(Bound {
+            Ok(asked) => self.answer(from, reference.symbol, &asked),
+            Err(error) => Err(error),
+        }
+    }
+
+    /// The symbol that a reference of the object at index `from` to its symbol at `index` gets, by
+    /// what `DynamicObject::asked` returns for it: its own symbol, or that of `find`.
+    ///
+    /// A reference to a protected symbol gets none if `find` for its use returns none. Otherwise it
+    /// gets its own symbol if `find` for `Use::Defined` returns one of another object, and the one
+    /// that was found for its use if not. So a copy relocation of the program gets the symbol of a
+    /// library, and the address of a function of a library is that in the program if the program
+    /// takes it too.
+    ///
+    /// Errors: those of `find`, for its use and then for `Use::Defined`; among them `ObjectIndex` if
+    /// there is no object at `from`.
+    pub fn answer(
+        &self,
+        from: usize,
+        index: u32,
+        asked: &Asked<'_, E>,
+    ) -> Result<Option<Bound<E>>, LinkError>
+        ensures answer { AnswersAsked (IsBound E.fields (scope_objects self.now).now from) from
+            index asked.now result }
+        ensures good { let objects = (scope_objects self.now).now in
+            AreGood E.fields objects → from < length objects
+            → AnswersRight E.fields objects from index asked.now result }
+    {
+        match *asked {
+            Asked::Own(symbol) => Ok(Some(Bound {
                 object: from,
-                index: reference.symbol,
+                index,
                 symbol,
             })),
-            Ok(Asked::Look { name, wanted, use_ }) => self.find(from, name, &wanted, use_),
+            Asked::Look {
+                name,
+                wanted,
+                use_,
+                own: None,
+            } => self.find(from, name, &wanted, use_),
+            Asked::Look {
+                name,
+                wanted,
+                use_,
+                own: Some(symbol),
+            } => {
+                let own = Bound {
+                    object: from,
+                    index,
+                    symbol,
+                };
+                self.protected(own, name, &wanted, use_)
+            }
+        }
+    }
+
+    // The symbol that a reference to a protected symbol gets.
+    fn protected(
+        &self,
+        own: Bound<E>,
+        name: &str,
+        wanted: &Wanted<'_>,
+        use_: Use,
+    ) -> Result<Option<Bound<E>>, LinkError>
+        ensures { IsProtectedBound
+            (IsBound E.fields (scope_objects self.now).now own.object name.now wanted.now)
+            own use_ result }
+    {
+        let found = match self.find(own.object, name, wanted, use_) {
+            Ok(Some(found)) => found,
+            Ok(None) => return Ok(None),
+            Err(error) => return Err(error),
+        };
+        match self.find(own.object, name, wanted, Use::Defined) {
+            Ok(Some(defined)) => {
+                if defined.object == own.object {
+                    Ok(Some(found))
+                } else {
+                    Ok(Some(own))
+                }
+            }
+            Ok(None) => Ok(Some(found)),
             Err(error) => Err(error),
         }
     }
@@ -125,17 +196,9 @@ impl<'s, 'a, E: LinkedSymbol> Scope<'s, 'a, E> {
         use_: Use,
     ) -> Result<Option<Bound<E>>, LinkError>
         requires { from < length (scope_objects self.now).now }
-        ensures answer { let objects = (scope_objects self.now).now in IsFirstGiven
+        ensures { let objects = (scope_objects self.now).now in IsFirstGiven
             (FindsAt E.fields objects name.now wanted.now use_)
             (length objects) symbolic from result }
-        ensures only { let objects = (scope_objects self.now).now in
-            (other : Result (Option (Bound E)) LinkError) → IsFirstGiven
-            (FindsAt E.fields objects name.now wanted.now use_)
-            (length objects) symbolic from other → other ≡ result }
-        ensures good { let objects = (scope_objects self.now).now in
-            AreGood E.fields objects → IsOkAnd result (λ bound. IsFirstGiven
-            (HasAt E.fields objects name.now wanted.now use_)
-            (length objects) symbolic from (Ok bound)) }
     {
         if symbolic {
             self.first_with_own(from, name, wanted, use_)
@@ -153,17 +216,9 @@ impl<'s, 'a, E: LinkedSymbol> Scope<'s, 'a, E> {
         use_: Use,
     ) -> Result<Option<Bound<E>>, LinkError>
         requires { from < length (scope_objects self.now).now }
-        ensures answer { let objects = (scope_objects self.now).now in IsFirstGiven
+        ensures { let objects = (scope_objects self.now).now in IsFirstGiven
             (FindsAt E.fields objects name.now wanted.now use_)
             (length objects) true from result }
-        ensures only { let objects = (scope_objects self.now).now in
-            (other : Result (Option (Bound E)) LinkError) → IsFirstGiven
-            (FindsAt E.fields objects name.now wanted.now use_)
-            (length objects) true from other → other ≡ result }
-        ensures good { let objects = (scope_objects self.now).now in
-            AreGood E.fields objects → IsOkAnd result (λ bound. IsFirstGiven
-            (HasAt E.fields objects name.now wanted.now use_)
-            (length objects) true from (Ok bound)) }
     {
         match self.given(from, name, wanted, use_) {
             Ok(Some((index, symbol))) => Ok(Some(Bound {
@@ -184,17 +239,9 @@ impl<'s, 'a, E: LinkedSymbol> Scope<'s, 'a, E> {
         wanted: &Wanted<'_>,
         use_: Use,
     ) -> Result<Option<Bound<E>>, LinkError>
-        ensures answer { let objects = (scope_objects self.now).now in IsFirstGiven
+        ensures { let objects = (scope_objects self.now).now in IsFirstGiven
             (FindsAt E.fields objects name.now wanted.now use_)
             (length objects) false from result }
-        ensures only { let objects = (scope_objects self.now).now in
-            (other : Result (Option (Bound E)) LinkError) → IsFirstGiven
-            (FindsAt E.fields objects name.now wanted.now use_)
-            (length objects) false from other → other ≡ result }
-        ensures good { let objects = (scope_objects self.now).now in
-            AreGood E.fields objects → IsOkAnd result (λ bound. IsFirstGiven
-            (HasAt E.fields objects name.now wanted.now use_)
-            (length objects) false from (Ok bound)) }
     {
         for place in 0..self.objects.len() {
             match self.given(place, name, wanted, use_) {
@@ -213,7 +260,7 @@ impl<'s, 'a, E: LinkedSymbol> Scope<'s, 'a, E> {
     }
 
     // What the object at an index gives.
-    #[tactic(auto, using(crate::proofs::Scopes::over, crate::proofs::Scopes::over_once))]
+    #[tactic(auto, using(crate::proofs::Scopes::over))]
     fn given(
         &self,
         place: usize,
@@ -222,14 +269,8 @@ impl<'s, 'a, E: LinkedSymbol> Scope<'s, 'a, E> {
         use_: Use,
     ) -> Result<Option<(u32, E)>, LinkError>
         requires { place < length (scope_objects self.now).now }
-        ensures answer { let objects = (scope_objects self.now).now in
+        ensures { let objects = (scope_objects self.now).now in
             FindsAt E.fields objects name.now wanted.now use_ place result }
-        ensures only { let objects = (scope_objects self.now).now in
-            (other : Result (Option (ℕ × E)) LinkError)
-            → FindsAt E.fields objects name.now wanted.now use_ place other → other ≡ result }
-        ensures good { let objects = (scope_objects self.now).now in
-            AreGood E.fields objects
-            → HasAt E.fields objects name.now wanted.now use_ place result }
     {
         if is_passed_over(use_, place) {
             return Ok(None);
@@ -249,27 +290,4 @@ fn is_passed_over(use_: Use, place: usize) -> bool
     ensures { result ≡ is_passed_over use_ place }
 {
     use_ == Use::Copy && place == 0
-}
-
-// The symbol that was found, if it serves references of other objects.
-fn if_serving<E: Entry + Record>(found: &Option<(u32, E)>) -> Option<(u32, E)>
-    ensures { result ≡ if_serving E.fields found.now }
-{
-    match *found {
-        Some((index, symbol)) => {
-            if can_bind(&symbol) {
-                Some((index, symbol))
-            } else {
-                None
-            }
-        }
-        None => None,
-    }
-}
-
-// Whether a symbol serves references of other objects, by its binding.
-fn can_bind<E: Entry>(symbol: &E) -> bool
-    ensures { result ≡ can_bind (E.fields symbol.now) }
-{
-    matches!(symbol.info() / 16, 1 | 2 | 10)
 }

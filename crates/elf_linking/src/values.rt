@@ -1,7 +1,7 @@
 //! The value of a name in a file, found like a dynamic linker does: by the dynamic segment, without
 //! section headers (gABI, "Dynamic Section" and "Hash Table").
 
-ghost use Rattle.std.specs.Prelude.{◌≡◌, Err, MatchResult};
+ghost use Rattle.std.specs.Prelude.{◌≡◌, Err, MatchResult, Ok};
 ghost use Rattle.elf_base.specs.FileHeader.{header_of};
 ghost use Rattle.elf_linking.specs.DynamicObject.{object_dynamic_symbols};
 ghost use Rattle.elf_linking.specs.Values.{IsChecked, IsFileAnswer, IsValueOf};
@@ -9,6 +9,7 @@ ghost use Rattle.elf_linking.specs.declared.error.LinkError.TheVariants.{Elf};
 ghost use Rattle.xmas_elf.specs.Types.{ElfFile};
 
 use crate::find::{Use, Wanted};
+use crate::serving::if_serving;
 use crate::view::LinkedSymbol;
 use crate::{DynamicObject, LinkError};
 use elf_base::header::Class;
@@ -17,19 +18,20 @@ use xmas_elf::symbol_table::{DynEntry32, DynEntry64};
 
 impl<'a, E: LinkedSymbol> DynamicObject<'a, E> {
     /// The value of the symbol that a reference without a version gets (`Wanted::Newest`), after the
-    /// check of the hash table; `None` if it gets none.
+    /// check of the hash table; `None` if it gets none, or one that does not serve other files
+    /// (`serves_others`), as with `dlsym`. No other candidate is tried then. It is the value in the
+    /// symbol: for an indirect function that of the function that returns the address, and for a
+    /// thread-local symbol an offset.
     ///
     /// Errors: those of `check`; those of `find`.
     pub fn newest_value(&self, name: &str) -> Result<Option<u64>, LinkError>
-        ensures { IsChecked (object_dynamic_symbols E.fields self.now) name.now result }
+        ensures { IsChecked name.now (Ok (object_dynamic_symbols E.fields self.now)) result }
     {
-        match self.check() {
-            Ok(()) => match self.find(name, &Wanted::Newest, Use::Any) {
-                Ok(Some((_index, symbol))) => Ok(Some(symbol.value())),
-                Ok(None) => Ok(None),
-                Err(error) => Err(error),
-            },
-            Err(error) => Err(error),
+        self.check()?;
+        let found = self.find(name, &Wanted::Newest, Use::Any)?;
+        match if_serving(&found) {
+            Some((_index, symbol)) => Ok(Some(symbol.value())),
+            None => Ok(None),
         }
     }
 }
@@ -46,7 +48,8 @@ fn value_of<E: LinkedSymbol>(file: &ElfFile<'_>, name: &str) -> Result<Option<u6
 
 /// The value of the symbol with this name in a file that `dlsym` finds, by the dynamic segment: by
 /// GNU's table if there is one, otherwise by that of the ELF standard, after its check; of several
-/// versions the default. `None` if there is none.
+/// versions the default. `None` if there is none, or if it does not serve other files
+/// (`serves_others`).
 ///
 /// Errors, the first of these: those of `DynamicObject::read`; those of
 /// `DynamicObject::newest_value`.

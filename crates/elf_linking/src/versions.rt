@@ -56,22 +56,14 @@ impl<'a> Versions<'a> {
             (view_strings view.now) symbol_count in MatchResult result
             (λ versions. answer ≡ Ok (version_tables versions)) (λ error. answer ≡ Err error) }
     {
-        let numbers = match numbers_at(file, view.entry(DT_VERSYM), symbol_count) {
-            Ok(numbers) => numbers,
-            Err(error) => return Err(error),
-        };
-        let definitions = match records_by(view, file, DT_VERDEF, DT_VERDEFNUM) {
-            Ok(definitions) => definitions,
-            Err(error) => return Err(error),
-        };
-        match records_by(view, file, DT_VERNEED, DT_VERNEEDNUM) {
-            Ok(needs) => Ok(Versions {
-                numbers,
-                definitions: Marked::new(definitions),
-                needs,
-            }),
-            Err(error) => Err(error),
-        }
+        let numbers = numbers_at(file, view.entry(DT_VERSYM), symbol_count)?;
+        let definitions = records_by(view, file, DT_VERDEF, DT_VERDEFNUM)?;
+        let needs = records_by(view, file, DT_VERNEED, DT_VERNEEDNUM)?;
+        Ok(Versions {
+            numbers,
+            definitions: Marked::new(definitions),
+            needs,
+        })
     }
 
     /// An iterator over the versions that the file defines, in order, the base included.

@@ -1,7 +1,7 @@
 //! Prints each answer of the library over files: `elfanswers PATH..`, a line for each call.
 //!
 //! `oracle/answers` prints the same lines of the Rust crate,
-//! and `tools/compare_rust.py` compares them. Of a path that ends in `.rows` it prints how many
+//! and `tools/compare/rust.py` compares them. Of a path that ends in `.rows` it prints how many
 //! answers its rows want (`rows`), and on standard error each that is another.
 #![tactic(auto)]
 

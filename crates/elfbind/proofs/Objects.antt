@@ -9,8 +9,8 @@ use Rattle.elf_linking.specs.AnyTable.{IsGoodBy}
 use Rattle.elf_linking.specs.DynamicObject.{IsObject, IsObjectRefused, object_dynamic_symbols}
 use Rattle.elf_linking.specs.declared.error.LinkError.{LinkError}
 use Rattle.elf_linking.specs.Find.{AreReadable, DynamicSymbols}
-use Rattle.elf_linking.specs.Scope.{symbols_at}
 use Rattle.elf_linking.specs.declared.object.DynamicObject.{DynamicObject}
+use Rattle.elfbind.specs.Checks.{IsGoodAt}
 use Rattle.elfbind.specs.Files.{AreAccepted, AreObjectsOf, IsObjectOfBytes, IsRefusedAsObject, no_object}
 use Rattle.elfbind.specs.declared.files.Input.{Input}
 use Rattle.xmas_elf.specs.Symbol.{SymbolFields}
@@ -19,9 +19,6 @@ use Rattle.xmas_elf.specs.declared.ElfFile.{ElfFile}
 -- look-ups in a file find what they must, and its versions can be read
 abbrev pub IsGood : {E : Type 0} → DynamicSymbols E → Type 0
 IsGood file = IsGoodBy file.table file.symbols × AreReadable file
-
-abbrev pub IsGoodAt : {E : Type 0} → {r : _} → (E → SymbolFields) → List (DynamicObject E r) → ℕ → Type 0
-IsGoodAt {E} fields objects i = (file : DynamicSymbols E) → symbols_at fields objects i ≡ Some file → IsGood file
 
 -- a property of what is read at an index
 pub at_index : {A : Type 0} (P : A → Type 0) (items : List A) (index : ℕ) (item : A) → index < length items → item ≡ get_or items index item → P item → IsSomeAnd (slice_get items index) P

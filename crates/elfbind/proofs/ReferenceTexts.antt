@@ -6,7 +6,7 @@ use Rattle.elf_base.specs.Table.{table_items}
 use Rattle.elf_linking.specs.DynamicObject.{object_file, object_records, object_view}
 use Rattle.elf_linking.specs.DynamicView.{is_symbolic, view_entries}
 use Rattle.elf_linking.specs.References.{references_of}
-use Rattle.elf_linking.specs.Scope.{AreGood, BindsRight, FindsAt, IsBound, IsFirstGiven, asked_of, asked_parts}
+use Rattle.elf_linking.specs.Scope.{AnswersAsked, AnswersRight, AreGood, FindsAt, IsBound, IsFirstGiven, asked_of, asked_parts, at_home, elsewhere, unfound}
 use Rattle.elf_linking.specs.declared.error.LinkError.{LinkError}
 use Rattle.elf_linking.specs.declared.error.LinkError.TheVariants.{ObjectIndex}
 use Rattle.elf_linking.specs.declared.find.Use as uses
@@ -24,31 +24,44 @@ use Rattle.program_ends.specs.Appended.{AppendsSome}
 use Rattle.xmas_elf.specs.Symbol.{SymbolFields}
 
 module _ {E : Type 0} {r : _} (fields : E → SymbolFields) where
-  -- the object of what a look-up gets is one of the scope
-  pub bound_object : (kept objects : Bor (List (DynamicObject E r))) (count from : ℕ) (name : List ℕ) (wanted : Wanted) (purpose : uses.Use) (bound : Option (Bound E)) → kept ≡ objects → length objects.now ≡ count → IsBound fields kept.now from name wanted purpose (Ok bound) → IfSome bound (λ at. at.object < count)
-  bound_object kept objects count from name wanted purpose bound same counted answer =
-      subst (λ n. IfSome bound (λ at. at.object < n)) (ap (λ (o : Bor (List (DynamicObject E r))). length o.now) same ∙ counted) (go (slice_get kept.now from) answer)
-    where
-      go : (found : Option (DynamicObject E r)) → MatchOption found (◌≡◌ {A = Result (Option (Bound E)) LinkError} (Ok bound) (Err ObjectIndex)) (λ asking. IsFirstGiven (FindsAt fields kept.now name wanted purpose) (length kept.now) (is_symbolic (view_entries (object_view asking))) from (Ok bound)) → IfSome bound (λ at. at.object < length kept.now)
-      go None never = absurd (let no : ◌≡◌ {A = Result (Option (Bound E)) LinkError} (Ok bound) (Err ObjectIndex) = never in cc)
-      go (Some asking) first = first_below _ _ _ _ (Ok bound) first
+  module _ (objects : List (DynamicObject E r)) (from : ℕ) where
+    -- the object of what a look-up gets is one of the scope
+    look_object : (name : List ℕ) (wanted : Wanted) (purpose : uses.Use) (bound : Option (Bound E)) → IsBound fields objects from name wanted purpose (Ok bound) → IfSome bound (λ at. at.object < length objects)
+    look_object name wanted purpose bound answer = go (slice_get objects from) answer
+      where
+        go : (found : Option (DynamicObject E r)) → MatchOption found (◌≡◌ {A = Result (Option (Bound E)) LinkError} (Ok bound) (Err ObjectIndex)) (λ asking. IsFirstGiven (FindsAt fields objects name wanted purpose) (length objects) (is_symbolic (view_entries (object_view asking))) from (Ok bound)) → IfSome bound (λ at. at.object < length objects)
+        go None never = absurd (let no : ◌≡◌ {A = Result (Option (Bound E)) LinkError} (Ok bound) (Err ObjectIndex) = never in cc)
+        go (Some asking) first = first_below _ _ _ _ (Ok bound) first
+
+    -- so is that of what a reference gets
+    asked_object : (index : ℕ) (name : Bor (List ℕ)) (wanted : Wanted) (purpose : uses.Use) (protected : Option E) (bound : Option (Bound E)) → from < length objects → AnswersAsked (IsBound fields objects from) from index (Look name wanted purpose protected) (Ok bound) → IfSome bound (λ at. at.object < length objects)
+    asked_object index name wanted purpose None bound below answer = look_object name.now wanted purpose bound answer
+    asked_object index name wanted purpose (Some own) _ below (unfound none) = tt
+    asked_object index name wanted purpose (Some own) _ below (elsewhere found defined some there differs) = below
+    asked_object index name wanted purpose (Some own) _ below (at_home found defined some here same) = look_object name.now wanted purpose (Some found) some
+
+  pub bound_object : (kept objects : Bor (List (DynamicObject E r))) (count from index : ℕ) (name : Bor (List ℕ)) (wanted : Wanted) (purpose : uses.Use) (protected : Option E) (bound : Option (Bound E)) → kept ≡ objects → length objects.now ≡ count → from < length objects.now → AnswersAsked (IsBound fields kept.now from) from index (Look name wanted purpose protected) (Ok bound) → IfSome bound (λ at. at.object < count)
+  bound_object kept objects count from index name wanted purpose protected bound same counted below answer =
+      subst (λ n. IfSome bound (λ at. at.object < n)) counted (asked_object objects.now from index name wanted purpose protected bound below
+      (subst (λ (o : Bor (List (DynamicObject E r))). AnswersAsked (IsBound fields o.now from) from index (Look name wanted purpose protected) (Ok bound)) same answer))
 
   -- the line of a reference that is looked up, by the objects that the scope keeps
-  pub line_text_is : (inputs : List Input) (kept objects : Bor (List (DynamicObject E r))) (from : ℕ) (asking : DynamicObject E r) (reference : Reference) (name : Bor (List ℕ)) (wanted : Wanted) (purpose : uses.Use) (bound : Option (Bound E)) (missing : Bool) (line : List ℕ) → kept ≡ objects
-      → asked_of fields asking reference ≡ Ok (asked_parts (Look name wanted purpose))
-      → IsBound fields kept.now from name.now wanted purpose (Ok bound)
-      → (AreGood fields kept.now → from < length kept.now → BindsRight fields kept.now from name.now wanted purpose (Ok bound))
+  pub line_text_is : (inputs : List Input) (kept objects : Bor (List (DynamicObject E r))) (from : ℕ) (asking : DynamicObject E r) (reference : Reference) (name : Bor (List ℕ)) (wanted : Wanted) (purpose : uses.Use) (protected : Option E) (bound : Option (Bound E)) (missing : Bool) (line : List ℕ) → kept ≡ objects
+      → asked_of fields asking reference ≡ Ok (asked_parts (Look name wanted purpose protected))
+      → AnswersAsked (IsBound fields kept.now from) from reference.symbol (Look name wanted purpose protected) (Ok bound)
+      → (AreGood fields kept.now → from < length kept.now → AnswersRight fields kept.now from reference.symbol (Look name wanted purpose protected) (Ok bound))
       → AreGood fields objects.now → from < length objects.now → IsLineBy fields inputs from name.now wanted bound line
       → missing ≡ is_missing fields (slice_get (table_items (object_records asking)) reference.symbol) bound
       → IsReferenceText fields inputs objects.now from asking reference missing line
-  line_text_is inputs kept objects from asking reference name wanted purpose bound missing line same asked answer right good below line_is missing_is = looked_up missing line (record {
+  line_text_is inputs kept objects from asking reference name wanted purpose protected bound missing line same asked answer right good below line_is missing_is = looked_up missing line (record {
     name = name;
     wanted = wanted;
     purpose = purpose;
+    protected = protected;
     asked = asked;
     bound = bound;
-    answer = subst (λ (o : Bor (List (DynamicObject E r))). IsBound fields o.now from name.now wanted purpose (Ok bound)) same answer;
-    right = subst (λ (o : Bor (List (DynamicObject E r))). AreGood fields o.now → from < length o.now → BindsRight fields o.now from name.now wanted purpose (Ok bound)) same right good below;
+    answer = subst (λ (o : Bor (List (DynamicObject E r))). AnswersAsked (IsBound fields o.now from) from reference.symbol (Look name wanted purpose protected) (Ok bound)) same answer;
+    right = subst (λ (o : Bor (List (DynamicObject E r))). AreGood fields o.now → from < length o.now → AnswersRight fields o.now from reference.symbol (Look name wanted purpose protected) (Ok bound)) same right good below;
     line_is = line_is;
     missing_is = missing_is;
   })

@@ -1,6 +1,6 @@
 -- What is written of one more item, and of the items before those that are left.
-use Rattle.std.proofs.Common.{◌≡◌, ◌<◌, ◌+◌, ◌++◌, ◌∷◌, [], ◌||◌, ℕ, Bool, false, List, length, take, Option, Some, None, Result, Ok, Err, refl, sym, ap, ◌∙◌, subst, arith, append_assoc}
-use Rattle.std.specs.Prelude.{IfOk, IsSomeAnd, slice_get}
+use Rattle.std.proofs.Common.{◌≡◌, ◌<◌, ◌+◌, ◌++◌, ◌∷◌, [], ◌||◌, ℕ, Bool, false, List, length, take, Option, Some, None, refl, sym, ap, ◌∙◌, subst, arith, append_assoc}
+use Rattle.std.specs.Prelude.{IsSomeAnd, slice_get}
 use Rattle.std.proofs.KnownBytes.{Appends-nil, Appends-trans}
 use Rattle.std.proofs.lemmas.List.{length-take-le, take_more}
 use Rattle.std.proofs.lemmas.Option.{get_or_from_slice_get, slice_get_within}
@@ -48,8 +48,3 @@ module _ {A : Type 0} (Is : ℕ → A → Bool → List ℕ → Type 0) where
         },
         Appends-trans _ _ _ _ _ grown further_grown,
       )
-
--- a text with one property, where that has another
-pub if_ok_so : {X : Type 0} (Is Was : Bool → List ℕ → Type 0) (answer : Result Bool X) (old new : Option (List ℕ)) → ((wrong : Bool) (text : List ℕ) → Was wrong text → Is wrong text) → IfOk answer (λ wrong. AppendsSome (Was wrong) old new) → IfOk answer (λ wrong. AppendsSome (Is wrong) old new)
-if_ok_so Is Was (Ok wrong) old new so (text, was, grown) = (text, so wrong text was, grown)
-if_ok_so Is Was (Err error) old new so written = tt

@@ -1,13 +1,20 @@
 -- What the program writes of its files (this project's own), by what is asked.
-use Rattle.std.specs.Prelude.{◌≡◌, ℕ, Bool, List}
+use Rattle.std.specs.Prelude.{◌≡◌, ℕ, Bool, true, false, cond, List, Result, Ok, Err, ⊤}
 use Rattle.elf_linking.specs.Scope.{AreGood}
 use Rattle.elf_linking.specs.declared.object.DynamicObject.{DynamicObject}
-use Rattle.elfbind.specs.Bindings.{IsObjectText}
-use Rattle.elfbind.specs.Checks.{IsCheckLine}
-use Rattle.elfbind.specs.Files.{AreObjectsOf, AreWritten}
+use Rattle.elfbind.specs.Bindings.{AreBindingsBegun, AreBindingsRefused, IsObjectText}
+use Rattle.elfbind.specs.Checks.{IsCheckLine, IsCheckRefused}
+use Rattle.elfbind.specs.Files.{AreObjectsOf, AreWritten, IsInputRefused, is_first_narrow}
+use Rattle.elfbind.specs.declared.Fault as faults
+use Rattle.elfbind.specs.declared.Fault.TheVariants as faults_are
 use Rattle.elfbind.specs.declared.Question as questions
 use Rattle.elfbind.specs.declared.Question.TheVariants.{Bindings, Checks}
 use Rattle.elfbind.specs.declared.files.Input.{Input}
+use Rattle.elfbind.specs.declared.files.Refused.{Refused}
+use Rattle.program_ends.specs.Appended.{AppendsSome}
+use Rattle.program_ends.specs.Stops.{HasBegun, IsStop}
+use Rattle.program_ends.specs.declared.Stop as stops
+use Rattle.program_ends.specs.declared.Stop.TheVariants as stops_are
 use Rattle.xmas_elf.specs.Symbol.{SymbolFields, dyn_entry_32_fields, dyn_entry_64_fields}
 use Rattle.xmas_elf.specs.Types.{DynEntry32, DynEntry64}
 
@@ -20,18 +27,72 @@ pub data IsAnswer {E : Type 0} {r : _} (fields : E → SymbolFields) (inputs : L
   checks : question ≡ Checks → AreWritten (IsCheckLine fields inputs) objects wrong text
       → IsAnswer fields inputs objects question wrong text
 
--- whether something is wrong with files of one class, whose symbols have this size: a text that may be written of their
--- objects says so
+-- why there is no output: a check fails, or an error of a reference; the lines of checks always have one
+pub data IsAnswerRefused {E : Type 0} {r : _} (fields : E → SymbolFields) (inputs : List Input) (objects : List (DynamicObject E r)) (question : questions.Question) (refused : Refused) : Type 0 where
+  by_check : question ≡ Bindings → IsCheckRefused fields inputs objects refused
+      → IsAnswerRefused fields inputs objects question refused
+  by_binding : question ≡ Bindings → AreGood fields objects → AreBindingsRefused fields inputs objects refused
+      → IsAnswerRefused fields inputs objects question refused
+
+-- how far the program has come when the first line is written
+pub data IsAnswerBegun {E : Type 0} {r : _} (fields : E → SymbolFields) (inputs : List Input) (objects : List (DynamicObject E r)) (question : questions.Question) : Type 0 where
+  bindings_begun : question ≡ Bindings → AreGood fields objects → AreBindingsBegun fields inputs objects
+      → IsAnswerBegun fields inputs objects question
+  checks_begun : question ≡ Checks → IsAnswerBegun fields inputs objects question
+
+-- the same, or the output was written whole before the flush failed
+abbrev pub IsAnswerWritten : {E : Type 0} → {r : _} → (E → SymbolFields) → List Input → List (DynamicObject E r) → questions.Question → Type 0
+IsAnswerWritten fields inputs objects question = HasBegun (IsAnswerBegun fields inputs objects question)
+    (λ old new. (wrong : Bool) × AppendsSome (IsAnswer fields inputs objects question wrong) old new)
+
+-- The same of files of one class, whose symbols have this size.
+
+-- whether something is wrong: a text that may be written of their objects says so
 pub record IsAnswerOf {E : Type 0} (r : _) (fields : E → SymbolFields) (class size : ℕ) (inputs : List Input) (question : questions.Question) (wrong : Bool) : Type 0 where
   pub objects : List (DynamicObject E r)
   pub objects_are : AreObjectsOf class size inputs objects
   pub text : List ℕ
   pub answer : IsAnswer fields inputs objects question wrong text
 
--- the same of files that are all of class 32, or all of class 64; the first two arguments say how the record of a symbol
--- of each class is read
-pub data IsAnswerByClass (narrow_record wide_record : _) (inputs : List Input) (question : questions.Question) (wrong : Bool) : Type 0 where
-  narrow : IsAnswerOf {E = DynEntry32} narrow_record dyn_entry_32_fields 1 16 inputs question wrong
-      → IsAnswerByClass narrow_record wide_record inputs question wrong
-  wide : IsAnswerOf {E = DynEntry64} wide_record dyn_entry_64_fields 2 24 inputs question wrong
-      → IsAnswerByClass narrow_record wide_record inputs question wrong
+-- the error of the files: one of them is no file of the class, or there is no output
+pub data AreFilesRefused {E : Type 0} (r : _) (fields : E → SymbolFields) (class size : ℕ) (inputs : List Input) (question : questions.Question) (refused : Refused) : Type 0 where
+  by_input : IsInputRefused {E = E} r class size inputs refused
+      → AreFilesRefused r fields class size inputs question refused
+  by_answer : (objects : List (DynamicObject E r)) → AreObjectsOf class size inputs objects
+      → IsAnswerRefused fields inputs objects question refused
+      → AreFilesRefused r fields class size inputs question refused
+
+-- how far the program has come when a write fails
+pub record AreFilesWritten {E : Type 0} (r : _) (fields : E → SymbolFields) (class size : ℕ) (inputs : List Input) (question : questions.Question) : Type 0 where
+  pub objects : List (DynamicObject E r)
+  pub objects_are : AreObjectsOf class size inputs objects
+  pub written : IsAnswerWritten fields inputs objects question
+
+-- what the program writes if the output isn't written to its end
+abbrev pub fault_of : stops.Stop Refused → faults.Fault
+fault_of (stops_are.Refused refused) = faults_are.Refused refused.path refused.error
+fault_of stops_are.Write = faults_are.Write
+fault_of stops_are.Memory = faults_are.Memory
+
+-- the result of the program for such files: whether something is wrong, or what it says of why it can't tell
+pub data IsEndOf {E : Type 0} (r : _) (fields : E → SymbolFields) (class size : ℕ) (inputs : List Input) (question : questions.Question) : Result Bool faults.Fault → Type 0 where
+  answered : (wrong : Bool) → IsAnswerOf r fields class size inputs question wrong
+      → IsEndOf r fields class size inputs question (Ok wrong)
+  stopped : (stop : stops.Stop Refused) → IsStop (AreFilesRefused r fields class size inputs question)
+      (AreFilesWritten r fields class size inputs question) ⊤ stop
+      → IsEndOf r fields class size inputs question (Err (fault_of stop))
+
+-- The same of files of the class of the first. The first two arguments say how the record of a symbol of each class is
+-- read.
+pub data IsEnd (narrow_record wide_record : _) (inputs : List Input) (question : questions.Question) (end : Result Bool faults.Fault) : Type 0 where
+  narrow : is_first_narrow inputs ≡ true
+      → IsEndOf {E = DynEntry32} narrow_record dyn_entry_32_fields 1 16 inputs question end
+      → IsEnd narrow_record wide_record inputs question end
+  wide : is_first_narrow inputs ≡ false
+      → IsEndOf {E = DynEntry64} wide_record dyn_entry_64_fields 2 24 inputs question end
+      → IsEnd narrow_record wide_record inputs question end
+
+-- the exit status: 0 if nothing is wrong, otherwise 1
+abbrev pub status_of : Result Bool faults.Fault → ℕ
+status_of (Ok wrong) = cond wrong 1 0
+status_of (Err fault) = 1

@@ -1,12 +1,16 @@
 //! A line for each reference that is looked up: the file and the value that it gets.
 
-ghost use Rattle.std.specs.Prelude.{◌≡◌, ◌<◌, IfOk, IfSome, IsSomeAnd, OnOk, Option, Some, length};
-ghost use Rattle.std.specs.Prelude.{slice_get};
+ghost use Rattle.std.specs.Prelude.{◌≡◌, ◌<◌, Bool, IfErr, IfSome, IsSomeAnd, List, MatchResult, OnOk};
+ghost use Rattle.std.specs.Prelude.{Option, Some, length, slice_get, ℕ};
 ghost use Rattle.elf_linking.specs.Scope.{AreGood};
-ghost use Rattle.elfbind.specs.Bindings.{IsLineBy, IsObjectText, IsReferenceText, is_missing, is_weak};
-ghost use Rattle.elfbind.specs.Bindings.{line_text, target_text, version_text};
+ghost use Rattle.elfbind.specs.Bindings.{AreBindingsBegun, AreBindingsRefused, IsLineBy};
+ghost use Rattle.elfbind.specs.Bindings.{IsObjectBegun, IsObjectRefused, IsObjectText};
+ghost use Rattle.elfbind.specs.Bindings.{IsReferenceRefused, IsReferenceText, is_missing, is_weak};
+ghost use Rattle.elfbind.specs.Bindings.{line_text, stop_in, target_text, version_text};
 ghost use Rattle.elfbind.specs.Files.{AreWritten};
 ghost use Rattle.program_ends.specs.Appended.{AppendsSome};
+ghost use Rattle.program_ends.specs.Stops.{IsStop};
+ghost use Rattle.program_ends.specs.declared.Stop.TheVariants as stops_are;
 
 use crate::files::{Input, Refused, either, refusal};
 use elf_linking::find::Wanted;
@@ -28,19 +32,31 @@ pub(crate) fn write_bindings<'s, E: LinkedSymbol, W: Write>(
 ) -> Result<bool, Stop<Refused<'s>>>
     requires same { length objects.now ≡ length inputs.now }
     requires good { AreGood E.fields objects.now }
-    ensures { IfOk result (λ missing. AppendsSome
+    ensures { MatchResult result (λ missing. AppendsSome
         (AreWritten (IsObjectText E.fields inputs.now objects.now) objects.now missing)
-        (W.contents out.old) (W.contents out.new)) }
+        (W.contents out.old) (W.contents out.new))
+        (IsStop (AreBindingsRefused E.fields inputs.now objects.now)
+        (AreBindingsBegun E.fields inputs.now objects.now) ⊥) }
 {
     let mut missing = false;
     for from in 0..objects.len() {
         match write_object(inputs, objects, from, out) {
             Ok(other) => missing = either(missing, other),
-            Err(Stop::Refused(error)) => return Err(refusal(inputs[from].path, error)),
-            Err(Stop::Write) => return Err(Stop::Write),
+            Err(stop) => return Err(stop_in(inputs[from].path, stop)),
         }
     }
     Ok(missing)
+}
+
+// Why the output ends, by why it ends in a file.
+fn stop_in<'a>(path: &'a str, stop: Stop<LinkError>) -> Stop<Refused<'a>>
+    ensures { result ≡ stop_in path.entry stop }
+{
+    match stop {
+        Stop::Refused(error) => refusal(path, error),
+        Stop::Write => Stop::Write,
+        Stop::Memory => Stop::Memory,
+    }
 }
 
 // The lines of the file at an index, and whether a reference of it is missing its symbol.
@@ -53,9 +69,12 @@ fn write_object<E: LinkedSymbol, W: Write>(
     requires same { length objects.now ≡ length inputs.now }
     requires good { AreGood E.fields objects.now }
     requires below { from < length objects.now }
-    ensures { IsSomeAnd (slice_get objects.now from) (λ asking. IfOk result (λ missing. AppendsSome
+    ensures { IsSomeAnd (slice_get objects.now from) (λ asking. MatchResult result
+        (λ missing. AppendsSome
         (IsObjectText E.fields inputs.now objects.now from asking missing)
-        (W.contents out.old) (W.contents out.new))) }
+        (W.contents out.old) (W.contents out.new))
+        (IsStop (IsObjectRefused E.fields inputs.now objects.now from asking)
+        (IsObjectBegun E.fields inputs.now objects.now from asking) ⊥)) }
 {
     let references = match objects[from].references() {
         Ok(references) => references,
@@ -63,8 +82,10 @@ fn write_object<E: LinkedSymbol, W: Write>(
     };
     let mut missing = false;
     for reference in references {
-        let other = write_reference(inputs, objects, from, &reference, out)?;
-        missing = either(missing, other);
+        match write_reference(inputs, objects, from, &reference, out) {
+            Ok(own) => missing = either(missing, own),
+            Err(stop) => return Err(stop),
+        }
     }
     Ok(missing)
 }
@@ -81,18 +102,39 @@ fn write_reference<E: LinkedSymbol, W: Write>(
     requires same { length objects.now ≡ length inputs.now }
     requires good { AreGood E.fields objects.now }
     requires below { from < length objects.now }
-    ensures { IsSomeAnd (slice_get objects.now from) (λ asking. IfOk result (λ missing. AppendsSome
+    ensures { IsSomeAnd (slice_get objects.now from) (λ asking. MatchResult result
+        (λ missing. AppendsSome
         (IsReferenceText E.fields inputs.now objects.now from asking reference.now missing)
-        (W.contents out.old) (W.contents out.new))) }
+        (W.contents out.old) (W.contents out.new))
+        (IsStop (IsReferenceRefused E.fields objects.now from asking reference.now)
+        ((missing : Bool) × (line : List ℕ)
+        × IsReferenceText E.fields inputs.now objects.now from asking reference.now missing line)
+        ⊥)) }
 {
     let asking = &objects[from];
     match asking.asked(reference) {
         Ok(Asked::Own(_)) => Ok(false),
-        Ok(Asked::Look { name, wanted, use_ }) => {
-            match Scope::new(objects).find(from, name, &wanted, use_) {
+        Ok(
+            Asked::Look {
+                name,
+                wanted,
+                use_,
+                own,
+            },
+        ) => {
+            let asked = Asked::Look {
+                name,
+                wanted,
+                use_,
+                own,
+            };
+            match Scope::new(objects).answer(from, reference.symbol, &asked) {
                 Ok(bound) => {
-                    write_line(inputs, from, name, &wanted, &bound, out)?;
-                    Ok(is_missing(&asking.symbol(reference.symbol), &bound))
+                    let missing = is_missing(&asking.symbol(reference.symbol), &bound);
+                    match write_line(inputs, from, name, &wanted, &bound, out) {
+                        Ok(()) => Ok(missing),
+                        Err(stop) => Err(stop),
+                    }
                 }
                 Err(error) => Err(Stop::Refused(error)),
             }
@@ -112,9 +154,10 @@ fn write_line<E: LinkedSymbol, W: Write>(
 ) -> Result<(), Stop<LinkError>>
     requires below { from < length inputs.now }
     requires object { IfSome bound.now (λ at. at.object < length inputs.now) }
-    ensures { OnOk result (AppendsSome
+    ensures written { OnOk result (AppendsSome
         (IsLineBy E.fields inputs.now from name.now wanted.now bound.now)
         (W.contents out.old) (W.contents out.new)) }
+    ensures stop { IfErr result (λ stop. stop ≡ stops_are.Write) }
 {
     let target = match bound {
         Some(bound) => Some((inputs[bound.object].path, bound.symbol.value())),
@@ -146,7 +189,7 @@ fn is_weak<E: Entry>(symbol: &Option<E>) -> bool
     }
 }
 
-// The version that is asked for, behind the name.
+// The version that is asked for, after the name.
 #[derive(Clone, Copy)]
 struct Version<'a>(Wanted<'a>);
 

@@ -1,9 +1,11 @@
 //! A line for each file: whether its checks pass.
 
-ghost use Rattle.std.specs.Prelude.{◌≡◌, ◌<◌, IfOk, IsSomeAnd, Some, length, slice_get};
+ghost use Rattle.std.specs.Prelude.{◌≡◌, ◌<◌, IsSomeAnd, MatchResult, Some, length};
+ghost use Rattle.std.specs.Prelude.{slice_get, ⊤};
 ghost use Rattle.elfbind.specs.Checks.{IsCheckLine, check_text};
 ghost use Rattle.elfbind.specs.Files.{AreWritten};
 ghost use Rattle.program_ends.specs.Appended.{AppendsSome};
+ghost use Rattle.program_ends.specs.Stops.{IsStop};
 
 use crate::files::{Input, Refused, check_object, either};
 use elf_linking::view::LinkedSymbol;
@@ -20,14 +22,16 @@ pub(crate) fn write_checks<'s, E: LinkedSymbol, W: Write>(
     out: &mut W,
 ) -> Result<bool, Stop<Refused<'s>>>
     requires same { length objects.now ≡ length inputs.now }
-    ensures { IfOk result (λ failing. AppendsSome
+    ensures { MatchResult result (λ failing. AppendsSome
         (AreWritten (IsCheckLine E.fields inputs.now) objects.now failing)
-        (W.contents out.old) (W.contents out.new)) }
+        (W.contents out.old) (W.contents out.new)) (IsStop (λ _. ⊥) ⊤ ⊥) }
 {
     let mut failing = false;
     for index in 0..objects.len() {
-        let other = write_check(inputs, objects, index, out)?;
-        failing = either(failing, other);
+        match write_check(inputs, objects, index, out) {
+            Ok(other) => failing = either(failing, other),
+            Err(stop) => return Err(stop),
+        }
     }
     Ok(failing)
 }
@@ -41,9 +45,9 @@ fn write_check<'s, E: LinkedSymbol, W: Write>(
 ) -> Result<bool, Stop<Refused<'s>>>
     requires same { length objects.now ≡ length inputs.now }
     requires below { index < length objects.now }
-    ensures { IsSomeAnd (slice_get objects.now index) (λ object. IfOk result (λ failing. AppendsSome
-        (IsCheckLine E.fields inputs.now index object failing)
-        (W.contents out.old) (W.contents out.new))) }
+    ensures { IsSomeAnd (slice_get objects.now index) (λ object. MatchResult result
+        (λ failing. AppendsSome (IsCheckLine E.fields inputs.now index object failing)
+        (W.contents out.old) (W.contents out.new)) (IsStop (λ _. ⊥) ⊤ ⊥)) }
 {
     let result = check_object(&objects[index]);
     let line = Line {

@@ -1,13 +1,17 @@
 //! The files that the program is given, and their objects.
 
-ghost use Rattle.std.specs.Prelude.{◌≡◌, ◌||◌, ◌↔◌, IfOk, IsOk, MatchResult, OnOk, length};
+ghost use Rattle.std.specs.Prelude.{◌≡◌, ◌||◌, ◌↔◌, IfErr, IfOk, IsOk, MatchResult, length};
+ghost use Rattle.std.specs.Prelude.{⊤};
 ghost use Rattle.elf_base.specs.FileHeader.{header_of};
 ghost use Rattle.elf_linking.specs.AnyTable.{IsGoodBy};
 ghost use Rattle.elf_linking.specs.DynamicObject.{object_dynamic_symbols};
 ghost use Rattle.elf_linking.specs.Find.{AreReadable};
 ghost use Rattle.elf_linking.specs.Scope.{AreGood};
-ghost use Rattle.elfbind.specs.Checks.{AreChecked};
-ghost use Rattle.elfbind.specs.Files.{AreObjectsOf, IsObjectOfBytes, IsRefusedAsObject};
+ghost use Rattle.elfbind.specs.Checks.{AreChecked, IsCheckRefused};
+ghost use Rattle.elfbind.specs.Files.{AreObjectsOf, IsInputRefused, IsObjectOfBytes};
+ghost use Rattle.elfbind.specs.Files.{IsRefusedAsObject};
+ghost use Rattle.program_ends.specs.Stops.{IsStop};
+ghost use Rattle.program_ends.specs.declared.Stop.TheVariants as stops_are;
 
 use elf_linking::view::LinkedSymbol;
 use elf_linking::{DynamicObject, LinkError};
@@ -24,7 +28,7 @@ pub struct Input<'a> {
     pub bytes: Vec<u8>,
 }
 
-// Why a file is refused.
+// The error of a file, with its path.
 #[derive(Clone, Copy, Debug, Drop)]
 pub(crate) struct Refused<'a> {
     pub(crate) path: &'a str,
@@ -38,13 +42,15 @@ pub(crate) fn read_objects<'a, E: LinkedSymbol>(
 ) -> Result<Vec<DynamicObject<'a, E>>, Stop<Refused<'a>>>
     ensures objects { IfOk result (λ objects. AreObjectsOf E.CLASS E.SIZE inputs.now objects.items) }
     ensures count { IfOk result (λ objects. length objects.items ≡ length inputs.now) }
+    ensures refused { IfErr result
+        (IsStop (IsInputRefused {E = E} E.Record E.CLASS E.SIZE inputs.now) ⊥ ⊤) }
 {
     let mut objects = Vec::new(alloc);
     for input in inputs {
         match read_object(&input.bytes) {
             Ok(object) => {
                 if objects.push(object).is_err() {
-                    return Err(Stop::Write);
+                    return Err(Stop::Memory);
                 }
             }
             Err(error) => return Err(refusal(input.path, error)),
@@ -53,8 +59,10 @@ pub(crate) fn read_objects<'a, E: LinkedSymbol>(
     Ok(objects)
 }
 
-// That a file is refused, and why.
-pub(crate) fn refusal<'a>(path: &'a str, error: LinkError) -> Stop<Refused<'a>> {
+// The error of a file as a reason to stop.
+pub(crate) fn refusal<'a>(path: &'a str, error: LinkError) -> Stop<Refused<'a>>
+    ensures { result ≡ stops_are.Refused (record { path = path.entry; error = error }) }
+{
     Stop::Refused(Refused { path, error })
 }
 
@@ -75,7 +83,8 @@ pub(crate) fn check_objects<'a, E: LinkedSymbol>(
     objects: &[DynamicObject<'_, E>],
 ) -> Result<(), Stop<Refused<'a>>>
     requires { length objects.now ≡ length inputs.now }
-    ensures { OnOk result (AreGood E.fields objects.now) }
+    ensures { MatchResult result (λ _. AreGood E.fields objects.now)
+        (IsStop (IsCheckRefused E.fields inputs.now objects.now) ⊥ ⊥) }
 {
     for index in 0..objects.len() {
         match check_object(&objects[index]) {

@@ -2,22 +2,26 @@
 //!
 //! `elfbind FILE..` takes a program and its libraries, in the order in which names are looked up. It
 //! writes a line for each reference that is looked up, `FILE NAME@VERSION -> FILE 0xVALUE`, or `FILE
-//! NAME@VERSION -> unresolved`; a name without a version stands alone. `elfbind --check FILE..`
+//! NAME@VERSION -> unresolved`; a name without a version is written without `@VERSION`. `elfbind --check FILE..`
 //! writes a line for each file, whether its hash table and its versions pass their checks.
 #![tactic(auto)]
 
-ghost use Rattle.std.specs.Prelude.{◌≡◌, ◌≤◌, [], IfOk, List, OnOk, false, length};
+ghost use Rattle.std.specs.Prelude.{◌≡◌, ◌≤◌, [], Bool, Err, IfErr, IfOk, List, MatchResult, Ok};
+ghost use Rattle.std.specs.Prelude.{OnOk, Result, length, ⊤};
 ghost use Rattle.std.specs.Io.Buffered.{writer_buffer, writer_inner};
+ghost use Rattle.elf_base.specs.FileHeader.{header_of};
 ghost use Rattle.elf_linking.specs.declared.object.DynamicObject.{DynamicObject};
-ghost use Rattle.elfbind.specs.Answers.{IsAnswer, IsAnswerByClass};
-ghost use Rattle.elfbind.specs.Files.{AreAccepted, AreObjectsOf};
+ghost use Rattle.elfbind.specs.Answers.{AreFilesRefused, AreFilesWritten, IsAnswer, IsAnswerBegun};
+ghost use Rattle.elfbind.specs.Answers.{IsAnswerRefused, IsAnswerWritten, IsEnd, fault_of, status_of};
+ghost use Rattle.elfbind.specs.Files.{AreAccepted, AreObjectsOf, is_first_narrow, is_narrow_header};
+ghost use Rattle.elfbind.specs.declared.Fault.{Fault};
 ghost use Rattle.program_ends.specs.Appended.{AppendsSome};
+ghost use Rattle.program_ends.specs.Stops.{IsStop};
 
 use crate::bindings::write_bindings;
 use crate::checks::write_checks;
 use crate::files::{Input, Refused, check_objects, read_objects};
 use elf_base::bytes::Record;
-use elf_base::header::Class;
 use elf_linking::view::LinkedSymbol;
 use elf_linking::{DynamicObject, LinkError};
 use program_ends::{Stop, read_whole, say};
@@ -48,6 +52,8 @@ enum Fault<'a> {
     Refused { path: &'a str, error: LinkError },
     #[error("elfbind: cannot write")]
     Write,
+    #[error("elfbind: not enough memory")]
+    Memory,
 }
 
 /// What is asked of the files.
@@ -59,12 +65,14 @@ pub enum Question {
     Checks,
 }
 
-/// Writes what is asked of the files to `out`, or says on `err` why it can't, and answers the exit
-/// status.
+/// Writes what is asked of the files to `out`, or the reason why it can't to `err`, and returns the
+/// exit status.
 ///
 /// The status is 0 once all is written and flushed, no reference is missing its symbol and no check
-/// fails, and 1 otherwise. The contract says that it is 0 only if each file is accepted and nothing
-/// is wrong, and nothing of what `out` and `err` hold.
+/// fails, and 1 otherwise. The contract says what can be the case then: a reference is missing its
+/// symbol, or a check fails; a file has an error, which file and which error; a write failed, if no
+/// error comes before the first line; or memory is short. It says nothing of what `out` and `err`
+/// hold.
 pub fn run<W: Write, E: Write>(
     alloc: Global,
     question: Question,
@@ -74,8 +82,9 @@ pub fn run<W: Write, E: Write>(
 ) -> u8
     ensures bound { result ≤ 1 }
     ensures accepted { result ≡ 0 → AreAccepted inputs.now }
-    ensures right { result ≡ 0 → IsAnswerByClass ⟦<DynEntry32 as Record>⟧
-        ⟦<DynEntry64 as Record>⟧ inputs.now question false }
+    ensures ends { (end : Result Bool Fault)
+        × IsEnd ⟦<DynEntry32 as Record>⟧ ⟦<DynEntry64 as Record>⟧ inputs.now question end
+        × (result ≡ status_of end) }
 {
     match answer(alloc, question, inputs, out) {
         Ok(false) => 0,
@@ -92,32 +101,59 @@ fn answer<'a, W: Write>(
     out: &mut W,
 ) -> Result<bool, Fault<'a>>
     ensures accepted { OnOk result (AreAccepted inputs.now) }
-    ensures answered { IfOk result (IsAnswerByClass ⟦<DynEntry32 as Record>⟧
-        ⟦<DynEntry64 as Record>⟧ inputs.now question) }
+    ensures end { IsEnd ⟦<DynEntry32 as Record>⟧ ⟦<DynEntry64 as Record>⟧ inputs.now question
+        result }
 {
-    let written = match class_of_first(inputs) {
-        Class::ThirtyTwo => print::<DynEntry32, _>(alloc, question, inputs, &mut *out),
-        // Other classes are refused there.
-        _ => print::<DynEntry64, _>(alloc, question, inputs, &mut *out),
-    };
-    match written {
-        Ok((_, wrong)) => Ok(wrong),
-        Err(Stop::Refused(refused)) => Err(Fault::Refused {
-            path: refused.path,
-            error: refused.error,
-        }),
-        Err(Stop::Write) => Err(Fault::Write),
+    if is_first_narrow(inputs) {
+        ended(print::<DynEntry32, _>(alloc, question, inputs, &mut *out))
+    } else {
+        // A file of another class than 64 has an error there.
+        ended(print::<DynEntry64, _>(alloc, question, inputs, &mut *out))
     }
 }
 
-// The class of the first file.
-fn class_of_first(inputs: &[Input<'_>]) -> Class {
-    let Some(input) = inputs.first() else {
-        return Class::SixtyFour;
-    };
-    match ElfFile::new(&input.bytes) {
-        Ok(file) => file.header.pt1.class(),
-        Err(_) => Class::SixtyFour,
+// Whether something is wrong, or what the program says, by how the output ended.
+fn ended<W: Drop>(written: Result<(W, bool), Stop<Refused<'_>>>) -> Result<bool, Fault<'_>>
+    ensures { MatchResult written.entry (λ back. result ≡ Ok back.1)
+        (λ stop. result ≡ Err (fault_of stop)) }
+{
+    match written {
+        Ok((_, wrong)) => Ok(wrong),
+        Err(stop) => Err(fault_of(stop)),
+    }
+}
+
+// What the program writes if the output isn't written to its end.
+fn fault_of(stop: Stop<Refused<'_>>) -> Fault<'_>
+    ensures { result ≡ fault_of stop.entry }
+{
+    match stop {
+        Stop::Refused(refused) => Fault::Refused {
+            path: refused.path,
+            error: refused.error,
+        },
+        Stop::Write => Fault::Write,
+        Stop::Memory => Fault::Memory,
+    }
+}
+
+// Whether the first file is of class 32.
+fn is_first_narrow(inputs: &[Input<'_>]) -> bool
+    ensures { result ≡ is_first_narrow inputs.now }
+{
+    match inputs.split_first() {
+        Some((input, _)) => is_narrow(&input.bytes),
+        None => false,
+    }
+}
+
+// Whether bytes begin with a header of class 32.
+fn is_narrow(bytes: &[u8]) -> bool
+    ensures { result ≡ is_narrow_header (header_of bytes.now) }
+{
+    match ElfFile::new(bytes) {
+        Ok(file) => file.header.pt1.class.raw() == DynEntry32::CLASS,
+        Err(_) => false,
     }
 }
 
@@ -134,8 +170,14 @@ fn print<'a, E: LinkedSymbol, W: Write + Drop>(
         × AreObjectsOf E.CLASS E.SIZE inputs.now objects
         × AppendsSome (IsAnswer E.fields inputs.now objects question back.1)
         (W.contents out) (W.contents back.0)) }
+    ensures stopped { IfErr result
+        (IsStop (AreFilesRefused E.Record E.fields E.CLASS E.SIZE inputs.now question)
+        (AreFilesWritten E.Record E.fields E.CLASS E.SIZE inputs.now question) ⊤) }
 {
-    let objects = read_objects::<E>(alloc, inputs)?;
+    let objects = match read_objects::<E>(alloc, inputs) {
+        Ok(objects) => objects,
+        Err(stop) => return Err(stop),
+    };
     print_objects(alloc, question, inputs, &objects, out)
 }
 
@@ -149,13 +191,15 @@ fn print_objects<'a, E: LinkedSymbol, W: Write + Drop>(
     out: W,
 ) -> Result<(W, bool), Stop<Refused<'a>>>
     requires same { length objects.now ≡ length inputs.now }
-    ensures { IfOk result (λ back. AppendsSome
+    ensures { MatchResult result (λ back. AppendsSome
         (IsAnswer E.fields inputs.now objects.now question back.1)
-        (W.contents out) (W.contents back.0)) }
+        (W.contents out) (W.contents back.0))
+        (IsStop (IsAnswerRefused E.fields inputs.now objects.now question)
+        (IsAnswerWritten E.fields inputs.now objects.now question) ⊤) }
 {
     let mut buffered = match BufWriter::new(alloc, out) {
         Ok(buffered) => buffered,
-        Err(_) => return Err(Stop::Write),
+        Err(_) => return Err(Stop::Memory),
     };
     let written = write_flushed(question, inputs, objects, &mut buffered);
     // Unlike a drop, this writes nothing more after a fault.
@@ -175,11 +219,16 @@ fn write_flushed<'s, E: LinkedSymbol, W: Write + Drop>(
 ) -> Result<bool, Stop<Refused<'s>>>
     requires same { length objects.now ≡ length inputs.now }
     requires empty { writer_buffer buffered.old ≡ [] }
-    ensures { IfOk result (λ wrong. AppendsSome
+    ensures { MatchResult result (λ wrong. AppendsSome
         (IsAnswer E.fields inputs.now objects.now question wrong)
-        (W.contents (writer_inner buffered.old)) (W.contents (writer_inner buffered.new))) }
+        (W.contents (writer_inner buffered.old)) (W.contents (writer_inner buffered.new)))
+        (IsStop (IsAnswerRefused E.fields inputs.now objects.now question)
+        (IsAnswerWritten E.fields inputs.now objects.now question) ⊥) }
 {
-    let wrong = write_answer(question, inputs, objects, buffered)?;
+    let wrong = match write_answer(question, inputs, objects, buffered) {
+        Ok(wrong) => wrong,
+        Err(stop) => return Err(stop),
+    };
     buffered.flush()?;
     Ok(wrong)
 }
@@ -192,15 +241,17 @@ fn write_answer<'s, E: LinkedSymbol, W: Write>(
     out: &mut W,
 ) -> Result<bool, Stop<Refused<'s>>>
     requires same { length objects.now ≡ length inputs.now }
-    ensures { IfOk result (λ wrong. AppendsSome
+    ensures { MatchResult result (λ wrong. AppendsSome
         (IsAnswer E.fields inputs.now objects.now question wrong)
-        (W.contents out.old) (W.contents out.new)) }
+        (W.contents out.old) (W.contents out.new))
+        (IsStop (IsAnswerRefused E.fields inputs.now objects.now question)
+        (IsAnswerBegun E.fields inputs.now objects.now question) ⊥) }
 {
     match question {
-        Question::Bindings => {
-            check_objects(inputs, objects)?;
-            write_bindings(inputs, objects, out)
-        }
+        Question::Bindings => match check_objects(inputs, objects) {
+            Ok(()) => write_bindings(inputs, objects, out),
+            Err(stop) => Err(stop),
+        },
         Question::Checks => write_checks(inputs, objects, out),
     }
 }

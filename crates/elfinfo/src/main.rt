@@ -2,10 +2,12 @@
 #![tactic(auto)]
 
 ghost use Rattle.std.specs.Borrow.{Bor};
-ghost use Rattle.std.specs.Prelude.{◌≡◌, ◌≤◌, ◌/◌, IfOk, IfSome, IsOk, IsSome, IsSomeAnd, List, length, ℕ};
+ghost use Rattle.std.specs.Prelude.{◌≡◌, ◌≢◌, ◌≤◌, ◌/◌, Err, IfOk, IfSome, IsOk, IsSome, IsSomeAnd};
+ghost use Rattle.std.specs.Prelude.{List, length, ℕ};
 ghost use Rattle.xmas_elf.proofs.lemmas.Flushes.{report_flushed};
 ghost use Rattle.xmas_elf.specs.FileHeader.{header_of};
 ghost use Rattle.xmas_elf.specs.Report.{WritesReport};
+ghost use Rattle.xmas_elf.specs.Types.{ElfError};
 
 use program_ends::{Output, Stop, read_whole, say, write_buffered};
 use std::alloc::Global;
@@ -31,6 +33,8 @@ enum Fault<'a> {
     Refused(ElfError),
     #[error("elfinfo: cannot write")]
     Write,
+    #[error("elfinfo: not enough memory")]
+    Memory,
 }
 
 /// Writes the report of the file to `out`, or says on `err` why it can't,
@@ -91,14 +95,19 @@ impl Output for Report<'_> {
 
     type Refusal = ElfError;
 
+    ghost Refuses = { λ report error. header_of report.input.now ≡ Err error };
+
+    ghost Begins = { λ report. (error : ElfError) → header_of report.input.now ≢ Err error };
+
     // Without memory for the words the report is the same, and the check of the hash table may take longer.
     fn write_to<W: Write>(&self, out: &mut W) -> Result<(), Stop<ElfError>> {
         let words = vec![in self.alloc; 0; chain_count(self.input)];
         let mut words = words.unwrap_or(Vec::new(self.alloc));
-        report_with(self.input, out, &mut words).map_err(|fault| match fault {
-            ReportFault::Elf(error) => Stop::Refused(error),
-            ReportFault::Write => Stop::Write,
-        })
+        match report_with(self.input, out, &mut words) {
+            Ok(()) => Ok(()),
+            Err(ReportFault::Elf(error)) => Err(Stop::Refused(error)),
+            Err(ReportFault::Write) => Err(Stop::Write),
+        }
     }
 }
 
@@ -123,6 +132,7 @@ fn print_report<'a, R: Read + Drop, W: Write + Drop>(
     write_buffered(alloc, &report, out).map_err(|stop| match stop {
         Stop::Refused(error) => Fault::Refused(error),
         Stop::Write => Fault::Write,
+        Stop::Memory => Fault::Memory,
     })
 }
 

@@ -35,6 +35,8 @@ enum Fault {
     Refused(ElfError),
     #[error("cannot write")]
     Write,
+    #[error("not enough memory")]
+    Memory,
 }
 
 // A name, and the end of its line.
@@ -198,6 +200,7 @@ fn print_path<R: Read + Drop, W: Write>(
     print_file(path, &input, out).map_err(|stop| match stop {
         Stop::Refused(error) => Fault::Refused(error),
         Stop::Write => Fault::Write,
+        Stop::Memory => Fault::Memory,
     })
 }
 

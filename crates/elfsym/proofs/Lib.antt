@@ -1,2 +1,4 @@
+mod Ended
 mod LibraryLines
 mod LineLists
+mod Stops

@@ -1,12 +1,11 @@
--- One more line behind the lines so far, and what the lines of a text are.
-use Rattle.std.proofs.Common.{◌≡◌, ℕ, List, [], ◌∷◌, ◌++◌, Result, Ok, Err, OnOk, Option, ap, ◌∙◌, subst, sym, append-nil}
+-- One more line behind the lines so far, and the lines for an input.
+use Rattle.std.proofs.Common.{◌≡◌, ℕ, List, [], ◌∷◌, ◌++◌, Result, Ok, ap, ◌∙◌, subst, sym, append-nil}
 use Rattle.std.specs.Borrow.{Bor}
 use Rattle.std.specs.List.{AllZip, concat}
 use Rattle.std.specs.Prelude.{IsOkAnd}
 use Rattle.std.proofs.lemmas.List.Folds.{concat-append}
 use Rattle.elf_base.specs.FileHeader.{header_of}
 use Rattle.elfsym.specs.Lines.{AreFileLines, AreInputLines}
-use Rattle.program_ends.specs.Appended.{AppendsSome}
 use Rattle.xmas_elf.specs.Types.{ElfError, ElfFile, Header}
 
 pub zip_one_more : {A B : Type 0} (R : A → B → Type 0) (xs : List A) (ys : List B) (x : A) (y : B) → AllZip R xs ys → R x y → AllZip R (xs ++ (x ∷ [])) (ys ++ (y ∷ []))
@@ -18,11 +17,7 @@ zip_one_more R (a ∷ xs) (b ∷ ys) x y all one = (all.0, zip_one_more R xs ys 
 pub concat_one_more : (lines : List (List ℕ)) (line : List ℕ) → concat (lines ++ (line ∷ [])) ≡ concat lines ++ line
 concat_one_more lines line = concat-append lines (line ∷ []) ∙ ap (λ l. concat lines ++ l) (append-nil line)
 
--- a text with one property, where that has another
-pub appends_so : {A E : Type 0} (Is Was : List ℕ → Type 0) (answer : Result A E) (old new : Option (List ℕ)) → ((text : List ℕ) → Was text → Is text) → OnOk answer (AppendsSome Was old new) → OnOk answer (AppendsSome Is old new)
-appends_so Is Was (Ok done) old new so (text, was, grown) = (text, so text was, grown)
-appends_so Is Was (Err error) old new so written = tt
-
+-- the lines for a file are those for its input
 pub for_input : {S : Type 0} (text_of : S → List ℕ) (input : Bor (List ℕ)) (file : ElfFile) (references : List S) (text : List ℕ) → file.input ≡ input → header_of input.now ≡ Ok file.header → AreFileLines text_of file references text → AreInputLines text_of input references text
 for_input text_of input file references text same header are =
     subst (λ (r : Result Header ElfError). IsOkAnd r (λ h. AreFileLines text_of (record { input = input; header = h }) references text)) (sym header)

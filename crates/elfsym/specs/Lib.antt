@@ -1,2 +1,3 @@
+pub mod Ends
 pub mod Libraries
 pub mod Lines

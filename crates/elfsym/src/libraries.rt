@@ -1,12 +1,16 @@
 //! A line for each library that a file needs: its name.
 
-ghost use Rattle.std.specs.Prelude.{OnOk};
+ghost use Rattle.std.specs.Prelude.{◌≡◌, Err, IsOk, MatchResult};
 ghost use Rattle.elf_linking.specs.DynamicView.{needed_bytes_of};
 ghost use Rattle.elf_linking.specs.Loaded.{lent};
-ghost use Rattle.elfsym.specs.Libraries.{AreFileLibraries, AreInputLibraries, AreLibraryLines};
-ghost use Rattle.elfsym.specs.Libraries.{IsLibraryLine};
+ghost use Rattle.elfsym.specs.Libraries.{AreFileLibraries, AreFileLibrariesBegun};
+ghost use Rattle.elfsym.specs.Libraries.{AreFileLibrariesRefused, AreInputLibraries};
+ghost use Rattle.elfsym.specs.Libraries.{AreInputLibrariesBegun, AreInputLibrariesRefused};
+ghost use Rattle.elfsym.specs.Libraries.{AreLibraryLines, HasFirstLibrary, IsLibraryLine};
+ghost use Rattle.elfsym.specs.Libraries.{IsNameRefused};
 ghost use Rattle.program_ends.proofs.Flushed.{appended_flushed};
 ghost use Rattle.program_ends.specs.Appended.{AppendsSome};
+ghost use Rattle.program_ends.specs.Stops.{IsStop};
 
 use elf_linking::LinkError;
 use elf_linking::view::DynamicView;
@@ -25,6 +29,10 @@ impl Output for Libraries<'_> {
 
     type Refusal = LinkError;
 
+    ghost Refuses = { λ libraries. AreInputLibrariesRefused libraries.0 };
+
+    ghost Begins = { λ libraries. AreInputLibrariesBegun libraries.0 };
+
     fn write_to<W: Write>(&self, out: &mut W) -> Result<(), Stop<LinkError>> {
         match ElfFile::new(self.0) {
             Ok(file) => write_libraries(&file, out),
@@ -35,8 +43,9 @@ impl Output for Libraries<'_> {
 
 // The lines of a file.
 fn write_libraries<W: Write>(file: &ElfFile<'_>, out: &mut W) -> Result<(), Stop<LinkError>>
-    ensures { OnOk result (AppendsSome (AreFileLibraries file.now)
-        (W.contents out.old) (W.contents out.new)) }
+    ensures { MatchResult result
+        (λ _. AppendsSome (AreFileLibraries file.now) (W.contents out.old) (W.contents out.new))
+        (IsStop (AreFileLibrariesRefused file.now) (AreFileLibrariesBegun file.now) ⊥) }
 {
     match DynamicView::read(file) {
         Ok(view) => write_needed(&view, out),
@@ -46,11 +55,15 @@ fn write_libraries<W: Write>(file: &ElfFile<'_>, out: &mut W) -> Result<(), Stop
 
 // The lines by a view of the dynamic segment.
 fn write_needed<W: Write>(view: &DynamicView<'_>, out: &mut W) -> Result<(), Stop<LinkError>>
-    ensures { OnOk result (AppendsSome (AreLibraryLines (needed_bytes_of view.now))
-        (W.contents out.old) (W.contents out.new)) }
+    ensures { let names = needed_bytes_of view.now in MatchResult result
+        (λ _. AppendsSome (AreLibraryLines names) (W.contents out.old) (W.contents out.new))
+        (IsStop (IsNameRefused names) (HasFirstLibrary names) ⊥) }
 {
     for name in view.needed_bytes() {
-        write_library(name, out)?;
+        match write_library(name, out) {
+            Ok(()) => {}
+            Err(stop) => return Err(stop),
+        }
     }
     Ok(())
 }
@@ -60,8 +73,10 @@ fn write_library<W: Write>(
     name: Result<&[u8], LinkError>,
     out: &mut W,
 ) -> Result<(), Stop<LinkError>>
-    ensures { OnOk result (AppendsSome (IsLibraryLine (lent name.entry))
-        (W.contents out.old) (W.contents out.new)) }
+    ensures { MatchResult result
+        (λ _. AppendsSome (IsLibraryLine (lent name.entry))
+        (W.contents out.old) (W.contents out.new))
+        (IsStop (λ error. lent name.entry ≡ Err error) (IsOk (lent name.entry)) ⊥) }
 {
     match name {
         Ok(name) => {

@@ -1,18 +1,22 @@
 //! A line for each reference: the value and the size of the symbol that it gets.
 
-ghost use Rattle.std.specs.Prelude.{MatchResult, OnOk, Some};
+ghost use Rattle.std.specs.Prelude.{◌≡◌, List, MatchResult, Some, ℕ};
 ghost use Rattle.elf_linking.specs.AnyTable.{IsGoodBy};
 ghost use Rattle.elf_linking.specs.DynamicObject.{object_dynamic_symbols, object_symbols};
 ghost use Rattle.elf_linking.specs.DynamicObject.{object_table};
-ghost use Rattle.elfsym.specs.Lines.{AreFileLines, AreInputLines, AreLines, AreNumbers, Asks};
-ghost use Rattle.elfsym.specs.Lines.{IsLine, IsSearchError, line_text};
+ghost use Rattle.elfsym.specs.Lines.{AreFileLines, AreFileLinesBegun, AreFileLinesRefused};
+ghost use Rattle.elfsym.specs.Lines.{AreInputLines, AreInputLinesBegun, AreInputLinesRefused};
+ghost use Rattle.elfsym.specs.Lines.{AreLines, AreLinesBegun, AreNumbers, AreSymbolsRefused, Asks};
+ghost use Rattle.elfsym.specs.Lines.{HasFirstLine, IsLine, IsSearchError, IsSearchRefused, line_text};
+ghost use Rattle.elfsym.specs.Lines.{numbers_if_serving};
 ghost use Rattle.program_ends.proofs.Flushed.{appended_flushed};
 ghost use Rattle.program_ends.specs.Appended.{AppendsSome};
+ghost use Rattle.program_ends.specs.Stops.{IsStop};
 
 use elf_base::header::Class;
 use elf_linking::find::{Use, Wanted};
 use elf_linking::view::LinkedSymbol;
-use elf_linking::{DynamicObject, LinkError};
+use elf_linking::{DynamicObject, LinkError, serves_others};
 use program_ends::{Output, Stop};
 use std::convert::AsStr;
 use std::fmt;
@@ -36,6 +40,11 @@ impl<S: AsStr> Output for Lines<'_, S> {
 
     type Refusal = LinkError;
 
+    ghost Refuses = { λ lines error. AreInputLinesRefused S.text lines.input lines.references.now
+        error };
+
+    ghost Begins = { λ lines. AreInputLinesBegun S.text lines.input lines.references.now };
+
     fn write_to<W: Write>(&self, out: &mut W) -> Result<(), Stop<LinkError>> {
         match ElfFile::new(self.input) {
             Ok(file) => write_lines(&file, self.references, out),
@@ -50,8 +59,11 @@ fn write_lines<S: AsStr, W: Write>(
     references: &[S],
     out: &mut W,
 ) -> Result<(), Stop<LinkError>>
-    ensures { OnOk result (AppendsSome (AreFileLines S.text file.now references.now)
-        (W.contents out.old) (W.contents out.new)) }
+    ensures { MatchResult result
+        (λ _. AppendsSome (AreFileLines S.text file.now references.now)
+        (W.contents out.old) (W.contents out.new))
+        (IsStop (AreFileLinesRefused S.text file.now references.now)
+        (AreFileLinesBegun S.text file.now references.now) ⊥) }
 {
     match file.header.pt1.class() {
         Class::ThirtyTwo => match DynamicObject::<DynEntry32>::read(file) {
@@ -72,9 +84,11 @@ fn write_checked<E: LinkedSymbol, S: AsStr, W: Write>(
     references: &[S],
     out: &mut W,
 ) -> Result<(), Stop<LinkError>>
-    ensures { OnOk result (AppendsSome
-        (AreLines S.text (object_dynamic_symbols E.fields object.now) references.now)
-        (W.contents out.old) (W.contents out.new)) }
+    ensures { let file = object_dynamic_symbols E.fields object.now in MatchResult result
+        (λ _. AppendsSome (AreLines S.text file references.now)
+        (W.contents out.old) (W.contents out.new))
+        (IsStop (AreSymbolsRefused S.text file references.now)
+        (AreLinesBegun S.text file references.now) ⊥) }
 {
     match object.check() {
         Ok(()) => write_each(object, references, out),
@@ -90,12 +104,17 @@ fn write_each<E: LinkedSymbol, S: AsStr, W: Write>(
 ) -> Result<(), Stop<LinkError>>
     requires good { IsGoodBy (object_table object.now)
         (object_symbols E.fields object.now) }
-    ensures { OnOk result (AppendsSome
-        (AreLines S.text (object_dynamic_symbols E.fields object.now) references.now)
-        (W.contents out.old) (W.contents out.new)) }
+    ensures { let file = object_dynamic_symbols E.fields object.now in MatchResult result
+        (λ _. AppendsSome (AreLines S.text file references.now)
+        (W.contents out.old) (W.contents out.new))
+        (IsStop (IsSearchRefused S.text file references.now)
+        (HasFirstLine S.text file references.now) ⊥) }
 {
     for reference in references {
-        write_line(object, reference.as_str(), out)?;
+        match write_line(object, reference.as_str(), out) {
+            Ok(()) => {}
+            Err(stop) => return Err(stop),
+        }
     }
     Ok(())
 }
@@ -108,9 +127,10 @@ fn write_line<E: LinkedSymbol, W: Write>(
 ) -> Result<(), Stop<LinkError>>
     requires good { IsGoodBy (object_table object.now)
         (object_symbols E.fields object.now) }
-    ensures { OnOk result (AppendsSome
-        (IsLine (object_dynamic_symbols E.fields object.now) reference.now)
-        (W.contents out.old) (W.contents out.new)) }
+    ensures { let file = object_dynamic_symbols E.fields object.now in MatchResult result
+        (λ _. AppendsSome (IsLine file reference.now) (W.contents out.old) (W.contents out.new))
+        (IsStop (IsSearchError file reference.now)
+        ((line : List ℕ) × IsLine file reference.now line) ⊥) }
 {
     match numbers_of(object, reference) {
         Ok(numbers) => Ok(write!(out, "{}", Line { reference, numbers })?),
@@ -118,7 +138,7 @@ fn write_line<E: LinkedSymbol, W: Write>(
     }
 }
 
-// The value and the size of the symbol that a reference gets.
+// The value and the size of the symbol that a reference gets, if it serves other files than its own.
 fn numbers_of<E: LinkedSymbol>(
     object: &DynamicObject<'_, E>,
     reference: &str,
@@ -130,9 +150,20 @@ fn numbers_of<E: LinkedSymbol>(
 {
     let (name, wanted) = asked(reference);
     match object.find(name, &wanted, Use::Any) {
-        Ok(Some((_index, symbol))) => Ok(Some((symbol.value(), symbol.size()))),
+        Ok(Some((_index, symbol))) => Ok(numbers_if_serving(&symbol)),
         Ok(None) => Ok(None),
         Err(error) => Err(error),
+    }
+}
+
+// The value and the size of a symbol, if it serves other files than its own.
+fn numbers_if_serving<E: LinkedSymbol>(symbol: &E) -> Option<(u64, u64)>
+    ensures { result ≡ numbers_if_serving (E.fields symbol.now) }
+{
+    if serves_others(symbol) {
+        Some((symbol.value(), symbol.size()))
+    } else {
+        None
     }
 }
 
@@ -141,7 +172,7 @@ fn asked(reference: &str) -> (&str, Wanted<'_>)
     ensures { Asks reference.now result.0.now result.1 }
 {
     match reference.split_once('@') {
-        Some((name, version)) => (name, Wanted::version(version)),
+        Some((name, version)) => (name, Wanted::exact(version)),
         None => (reference, Wanted::Newest),
     }
 }

@@ -2,18 +2,22 @@
 //! dynamic segment, with no section header.
 //!
 //! `elfsym PATH NAME..` writes a line for each name, with the value and the size of the symbol that
-//! `dlsym` finds by it: `ab 0x1016 0xb`, or `ab: none`. `NAME@VERSION` asks for the symbol with that
-//! version: `ab@V1 0x1016 0xb`. `elfsym --needed PATH` writes the names of the libraries that the
-//! file needs, a line for each: their bytes, with control characters escaped.
+//! `dlsym` finds by it: `ab 0x1016 0xb`, or `ab: none`. `NAME@VERSION` asks for the symbol that
+//! `dlvsym` finds by that name and version: `ab@V1 0x1016 0xb`. `elfsym --needed PATH` writes the
+//! names of the libraries that the file needs, a line for each: their bytes, with control characters
+//! escaped.
 #![tactic(auto)]
 
-ghost use Rattle.std.specs.Borrow.{Bor};
-ghost use Rattle.std.specs.Prelude.{◌≡◌, ◌≢◌, ◌≤◌, Err, IfOk, IfSome, IsOk, IsSomeAnd, List};
-ghost use Rattle.std.specs.Prelude.{OnOk, ℕ};
+ghost use Rattle.std.specs.Prelude.{◌≡◌, ◌≤◌, IfErr, IfOk, IfSome, IsOk, IsSomeAnd, OnOk};
+ghost use Rattle.std.specs.Prelude.{Result};
 ghost use Rattle.elf_base.specs.FileHeader.{header_of};
-ghost use Rattle.elfsym.specs.Libraries.{AreInputLibraries};
-ghost use Rattle.elfsym.specs.Lines.{AreInputLines};
+ghost use Rattle.elfsym.specs.Ends.{IsEnd, IsFault, OfFile, fault_of, status_of};
+ghost use Rattle.elfsym.specs.Libraries.{AreInputLibraries, AreInputLibrariesBegun};
+ghost use Rattle.elfsym.specs.Libraries.{AreInputLibrariesRefused};
+ghost use Rattle.elfsym.specs.Lines.{AreInputLines, AreInputLinesBegun, AreInputLinesRefused};
+ghost use Rattle.elfsym.specs.declared.Fault.{Fault};
 ghost use Rattle.program_ends.specs.Appended.{AppendsSome};
+ghost use Rattle.program_ends.specs.Stops.{HasBegun};
 
 use crate::libraries::Libraries;
 use crate::lines::Lines;
@@ -43,6 +47,8 @@ enum Fault<'a> {
     Refused { path: &'a str, error: LinkError },
     #[error("elfsym: cannot write")]
     Write,
+    #[error("elfsym: not enough memory")]
+    Memory,
 }
 
 /// What is asked of a file.
@@ -54,12 +60,13 @@ pub enum Question<'a, S> {
     Symbols(&'a [S]),
 }
 
-/// Writes what is asked of the file to `out`, or says on `err` why it can't,
-/// and answers the exit status.
+/// Writes what is asked of the file to `out`, or the reason why it can't to `err`,
+/// and returns the exit status.
 ///
 /// `file` is `None` where the path does not open. The status is 0 once all is written and flushed,
-/// and 1 otherwise. The contract says that the status is 0 only for a file that is accepted, and
-/// nothing of what `out` and `err` hold.
+/// and 1 otherwise. The contract says which fault there can be then: the error of the file; a write
+/// that failed, if no error comes before the first line; that the file can't be read; or that
+/// memory is short. It says nothing of what `out` and `err` hold.
 pub fn run<S: AsStr, R: Read + Drop, W: Write, E: Write>(
     alloc: Global,
     path: &str,
@@ -71,6 +78,8 @@ pub fn run<S: AsStr, R: Read + Drop, W: Write, E: Write>(
     ensures bound { result ≤ 1 }
     ensures accepted { result ≡ 0 → IsSomeAnd file (λ reader.
         IfSome (R.remaining reader) (λ bytes. IsOk (header_of bytes))) }
+    ensures ends { (end : Result (Unit {0}) Fault)
+        × IsEnd S.text path.entry question.entry R.remaining file end × (result ≡ status_of end) }
 {
     match answer(alloc, path, question, file, out) {
         Ok(()) => 0,
@@ -86,13 +95,20 @@ fn answer<'a, S: AsStr, R: Read + Drop, W: Write>(
     file: Option<R>,
     out: &mut W,
 ) -> Result<(), Fault<'a>>
-    ensures { OnOk result (IsSomeAnd file (λ reader.
+    ensures accepted { OnOk result (IsSomeAnd file (λ reader.
         IfSome (R.remaining reader) (λ bytes. IsOk (header_of bytes)))) }
+    ensures end { IsEnd S.text path.entry question.entry R.remaining file result }
 {
     match question {
-        Question::Needed => print_libraries(alloc, path, file, &mut *out).map(|_| ()),
+        Question::Needed => match print_libraries(alloc, path, file, &mut *out) {
+            Ok(_) => Ok(()),
+            Err(fault) => Err(fault),
+        },
         Question::Symbols(references) => {
-            print_lines(alloc, path, references, file, &mut *out).map(|_| ())
+            match print_lines(alloc, path, references, file, &mut *out) {
+                Ok(_) => Ok(()),
+                Err(fault) => Err(fault),
+            }
         }
     }
 }
@@ -105,14 +121,20 @@ fn print_libraries<'a, R: Read + Drop, W: Write + Drop>(
     file: Option<R>,
     out: W,
 ) -> Result<W, Fault<'a>>
-    ensures arguments { result ≢ Err Fault.Arguments }
-    ensures usage { result ≢ Err Fault.Usage }
-    ensures written { IfOk result (λ back. IsSomeAnd file (λ reader. IfSome (R.remaining reader)
-        (λ bytes. (input : Bor (List ℕ)) × (input.now ≡ bytes)
-        × AppendsSome (AreInputLibraries input) (W.contents out) (W.contents back)))) }
+    ensures written { IfOk result (λ back. OfFile R.remaining file (λ input.
+        AppendsSome (AreInputLibraries input) (W.contents out) (W.contents back))) }
+    ensures fault { IfErr result (IsFault path.entry
+        (λ error. OfFile R.remaining file (λ input. AreInputLibrariesRefused input error))
+        (OfFile R.remaining file (λ input. HasBegun (AreInputLibrariesBegun input)
+        (AppendsSome (AreInputLibraries input))))) }
 {
-    let input = read_whole(alloc, file).ok_or(Fault::Read { path })?;
-    write_buffered(alloc, &Libraries(&input), out).map_err(|stop| fault_of(stop, path))
+    let Some(input) = read_whole(alloc, file) else {
+        return Err(Fault::Read { path });
+    };
+    match write_buffered(alloc, &Libraries(&input), out) {
+        Ok(out) => Ok(out),
+        Err(stop) => Err(fault_of(stop, path)),
+    }
 }
 
 // Writes a line for each reference in the file that is all that the reader has left, and gives the
@@ -124,29 +146,37 @@ fn print_lines<'a, S: AsStr, R: Read + Drop, W: Write + Drop>(
     file: Option<R>,
     out: W,
 ) -> Result<W, Fault<'a>>
-    ensures arguments { result ≢ Err Fault.Arguments }
-    ensures usage { result ≢ Err Fault.Usage }
-    ensures written { IfOk result (λ back. IsSomeAnd file (λ reader. IfSome (R.remaining reader)
-        (λ bytes. (input : Bor (List ℕ)) × (input.now ≡ bytes)
-        × AppendsSome (AreInputLines S.text input references.now)
-        (W.contents out) (W.contents back)))) }
+    ensures written { IfOk result (λ back. OfFile R.remaining file (λ input.
+        AppendsSome (AreInputLines S.text input references.now)
+        (W.contents out) (W.contents back))) }
+    ensures fault { IfErr result (IsFault path.entry
+        (λ error. OfFile R.remaining file (λ input.
+        AreInputLinesRefused S.text input references.now error))
+        (OfFile R.remaining file (λ input.
+        HasBegun (AreInputLinesBegun S.text input references.now)
+        (AppendsSome (AreInputLines S.text input references.now))))) }
 {
-    let input = read_whole(alloc, file).ok_or(Fault::Read { path })?;
+    let Some(input) = read_whole(alloc, file) else {
+        return Err(Fault::Read { path });
+    };
     let lines = Lines {
         input: &input,
         references,
     };
-    write_buffered(alloc, &lines, out).map_err(|stop| fault_of(stop, path))
+    match write_buffered(alloc, &lines, out) {
+        Ok(out) => Ok(out),
+        Err(stop) => Err(fault_of(stop, path)),
+    }
 }
 
 // What the program says where an output isn't written to its end.
 fn fault_of(stop: Stop<LinkError>, path: &str) -> Fault<'_>
-    ensures arguments { result ≢ Fault.Arguments }
-    ensures usage { result ≢ Fault.Usage }
+    ensures { result ≡ fault_of path.entry stop }
 {
     match stop {
         Stop::Refused(error) => Fault::Refused { path, error },
         Stop::Write => Fault::Write,
+        Stop::Memory => Fault::Memory,
     }
 }
 

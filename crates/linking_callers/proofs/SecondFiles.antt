@@ -3,11 +3,12 @@ use Rattle.std.proofs.Common.{◌≡◌, ◌<◌, ℕ, zero, suc, false, List, [
 use Rattle.std.specs.Borrow.{Bor}
 use Rattle.std.specs.List.{AllWithin, HoldsAt}
 use Rattle.elf_linking.specs.AnyTable.{IsGoodBy}
-use Rattle.elf_linking.specs.DynamicObject.{object_dynamic_symbols, object_file, object_name, object_view}
+use Rattle.elf_base.specs.Table.{table_items}
+use Rattle.elf_linking.specs.DynamicObject.{name_of_symbol, object_dynamic_symbols, object_file, object_name, object_records, object_strings, object_view}
 use Rattle.elf_linking.specs.DynamicView.{view_entries}
 use Rattle.elf_linking.specs.Find.{AreReadable, DynamicSymbols}
 use Rattle.elf_linking.specs.References.{references_of}
-use Rattle.elf_linking.specs.Scope.{AreGood, BindsReference, HasNamedSymbol}
+use Rattle.elf_linking.specs.Scope.{AreGood, BindsReference, HasNameFor, HasNamedSymbol, binds_to_itself}
 use Rattle.elf_linking.specs.declared.error.LinkError.{LinkError}
 use Rattle.elf_linking.specs.declared.object.DynamicObject.{DynamicObject}
 use Rattle.elf_linking.specs.declared.references.Reference.{Reference}
@@ -31,10 +32,16 @@ module _ {E : Type 0} {r : _} (fields : E → SymbolFields) (program : DynamicOb
   found_is reference (Ok references) finds = finds.0
   found_is reference (Err error) is = absurd cc
 
-  -- so the name of its symbol can be read
+  -- so there is such a symbol, whose name can be read
+  has_symbol : (strings : List ℕ) (symbol : Option E) (read : Result (List ℕ) LinkError) → name_of_symbol fields strings symbol ≡ Ok name → IsOk read → IsSomeAnd symbol (λ e. binds_to_itself (fields e) ≡ false → IsOk read)
+  has_symbol strings None read is ok = absurd (cc)
+  has_symbol strings (Some e) read is ok = λ looked. ok
+
   pub named : (objects : List (DynamicObject E r)) (reference : Reference) → slice_get objects 0 ≡ Some program → FindsReference fields program name (Ok (Some reference)) → HasNamedSymbol fields objects 0 reference
-  named objects reference first finds = subst (λ object. IsSomeAnd object (λ asking. IsOk (object_name fields asking reference.symbol))) (sym first)
-      (subst (λ text. IsOk text) (sym (found_is reference (references_of (object_file program) (view_entries (object_view program))) finds)) refl)
+  named objects reference first finds =
+      let is = found_is reference (references_of (object_file program) (view_entries (object_view program))) finds in
+      subst (λ object. IsSomeAnd object (λ asking. HasNameFor fields asking reference)) (sym first)
+      (has_symbol (object_strings program).now (slice_get (table_items (object_records program)) reference.symbol) (object_name fields program reference.symbol) is (subst (λ text. IsOk text) (sym is) refl))
 
   module _ (objects : List (DynamicObject E r)) where
     -- the answer, by what is found

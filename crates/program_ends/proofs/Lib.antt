@@ -1,3 +1,4 @@
+pub mod Ends
 pub mod Flushed
 mod Names
 mod Unbuffered

@@ -1,4 +1,4 @@
--- What a writer holds behind an output, where it tells that.
+-- What a writer contains after an output, if that is known.
 use Rattle.std.specs.Prelude.{ℕ, List, Option}
 use Rattle.std.specs.Io.KnownBytes.{Appends}
 

@@ -1,13 +1,14 @@
 //! How the programs read a file, write names, write to their end, and say why they stop.
 #![tactic(auto)]
 
-ghost use Rattle.std.specs.Prelude.{◌≡◌, ◌+◌, ◌^◌, ◌<◌, [], IfOk, IfSome, IsSomeAnd, List};
-ghost use Rattle.std.specs.Prelude.{OnOk, Option, length, ℕ};
+ghost use Rattle.std.specs.Prelude.{◌≡◌, ◌+◌, ◌^◌, ◌<◌, [], IfSome, IsSomeAnd, List};
+ghost use Rattle.std.specs.Prelude.{MatchResult, OnOk, Option, length, ℕ, ⊤};
 ghost use Rattle.std.specs.Io.Buffered.{writer_buffer, writer_inner};
 ghost use Rattle.std.specs.Io.KnownBytes.{Appends, Keeps};
 ghost use Rattle.std.specs.Char.{is_ascii_control};
 ghost use Rattle.std.specs.List.{position_from};
 ghost use Rattle.program_ends.specs.Names.{escaped};
+ghost use Rattle.program_ends.specs.Stops.{HasBegun, IsStop};
 
 use std::alloc::Global;
 use std::fmt::Display;
@@ -17,13 +18,19 @@ use std::io::{BufWriter, Read, Write};
 /// Why an output isn't written to its end.
 #[derive(Clone, Copy, Debug, Drop)]
 pub enum Stop<E> {
-    /// The input is refused, and this is why.
+    /// The input has this error.
     Refused(E),
-    /// The writer failed, or there was no memory for its buffer.
+    /// The writer failed.
     Write,
+    /// There was not enough memory.
+    Memory,
 }
 
 impl<E> From<io::Error> for Stop<E> {
+    ghost use Rattle.program_ends.specs.declared.Stop.TheVariants.{Write};
+
+    ghost from_gives = { λ _ stop. stop ≡ Write };
+
     fn from(_error: io::Error) -> Self {
         Stop::Write
     }
@@ -31,19 +38,27 @@ impl<E> From<io::Error> for Stop<E> {
 
 /// What a program writes.
 pub trait Output {
-    /// What the writer holds before and after the whole output, where it tells that.
+    /// What the writer contains before and after the whole output, if that is known.
     ghost Writes: { Self → Option (List ℕ) → Option (List ℕ) → Type 0 };
 
-    /// A flush behind the output, which keeps what the writer holds, takes nothing from it.
+    /// A flush after the output changes nothing: the writer still contains it.
     ghost flushed: { (output : Self) (old new kept : Option (List ℕ)) → Writes output old new
         → Keeps new kept → Writes output old kept };
 
-    /// Why the input is refused that the output is of.
+    /// The error of the input.
     type Refusal;
+
+    /// The input has this error.
+    ghost Refuses: { Self → Self.Refusal → Type 0 };
+
+    /// The input has no error before the output begins.
+    ghost Begins: { Self → Type 0 };
 
     /// Writes the output.
     fn write_to<W: Write>(&self, out: &mut W) -> Result<(), Stop<Self::Refusal>>
-        ensures { OnOk result (Writes self.now (W.contents out.old) (W.contents out.new)) };
+        ensures { MatchResult result
+            (λ _. Writes self.now (W.contents out.old) (W.contents out.new))
+            (IsStop (Refuses self.now) (Begins self.now) ⊥) };
 }
 
 /// All bytes that a reader has left; `None` where there is no reader, a read fails or memory is
@@ -62,14 +77,22 @@ pub fn read_whole<R: Read + Drop>(alloc: Global, file: Option<R>) -> Option<Vec<
 
 /// Writes an output through a buffer, flushes it, and gives the writer back. After a fault the
 /// buffer is thrown away.
+///
+/// Errors: `Stop::Memory` if there is no memory for the buffer; those of `write_to`; `Stop::Write` if
+/// the flush fails.
 pub fn write_buffered<O: Output, W: Write + Drop>(
     alloc: Global,
     output: &O,
     out: W,
 ) -> Result<W, Stop<O::Refusal>>
-    ensures { IfOk result (λ back. O.Writes output.now (W.contents out) (W.contents back)) }
+    ensures { MatchResult result
+        (λ back. O.Writes output.now (W.contents out) (W.contents back))
+        (IsStop (O.Refuses output.now) (HasBegun (O.Begins output.now) (O.Writes output.now)) ⊤) }
 {
-    let mut buffered = BufWriter::new(alloc, out).map_err(|_| Stop::Write)?;
+    let mut buffered = match BufWriter::new(alloc, out) {
+        Ok(buffered) => buffered,
+        Err(_) => return Err(Stop::Memory),
+    };
     let written = write_flushed(output, &mut buffered);
     // Unlike a drop, this writes nothing more after a fault.
     let (out, _) = buffered.into_parts();
@@ -84,15 +107,20 @@ fn write_flushed<O: Output, W: Write + Drop>(
     buffered: &mut BufWriter<W>,
 ) -> Result<(), Stop<O::Refusal>>
     requires { writer_buffer buffered.old ≡ [] }
-    ensures { OnOk result (O.Writes output.now
-        (W.contents (writer_inner buffered.old)) (W.contents (writer_inner buffered.new))) }
+    ensures { MatchResult result
+        (λ _. O.Writes output.now
+        (W.contents (writer_inner buffered.old)) (W.contents (writer_inner buffered.new)))
+        (IsStop (O.Refuses output.now) (HasBegun (O.Begins output.now) (O.Writes output.now)) ⊥) }
 {
-    output.write_to(buffered)?;
+    match output.write_to(buffered) {
+        Ok(()) => {}
+        Err(stop) => return Err(stop),
+    }
     buffered.flush()?;
     Ok(())
 }
 
-/// Says why a program ends with status 1, as far as the writer takes it, and answers that status.
+/// Writes why a program ends with status 1, if the writer doesn't fail, and returns that status.
 pub fn say<F: Display, W: Write>(fault: &F, to: &mut W) -> u8
     ensures { result ≡ 1 }
 {

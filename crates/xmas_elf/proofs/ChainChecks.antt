@@ -8,7 +8,7 @@ use Rattle.xmas_elf.specs.Prelude.{ElfError, HashTable}
 use Rattle.xmas_elf.specs.HashTable.{Comes, EndsBelow, Held, IsAtFault, IsCheck, IsGood, IsReached, LooksFrom, Reaches, Walks, bad_bucket, bucket_count_of, bucket_of, chains_of, ends, faulty, good, missing, start_of, stops}
 use Rattle.xmas_elf.specs.Symbol.{IsGlobal, Symbols}
 use Rattle.xmas_elf.proofs.ChainFinds.{goes, not_at_fault}
-use Rattle.xmas_elf.proofs.ChainOnce.{looks_once}
+use Rattle.xmas_elf.proofs.lemmas.ChainOnce.{looks_once}
 use Rattle.xmas_elf.proofs.ChainStarts.{start_at}
 
 module _ {E : Type 0} (table : HashTable) (symbols : List E) where

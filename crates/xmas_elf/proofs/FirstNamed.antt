@@ -1,9 +1,9 @@
 -- A section by its name, in the list of sections and by its index.
-use Rattle.std.proofs.Common.{◌≡◌, ℕ, ◌↔◌, inl, inr, nat_lt, Bool, true, false, Result, Err, List, refl, length, Ok, if◌then◌else◌, Option, None, Some, IfSome, IfNone, ap, sym, subst, ◌∙◌, arith}
-use Rattle.std.proofs.lemmas.Bool.{cases_order, le-ltb, ltb-false}
+use Rattle.std.proofs.Common.{◌≡◌, ℕ, ◌↔◌, nat_lt, Bool, true, false, Result, Err, List, refl, length, Ok, if◌then◌else◌, Option, None, Some, IfSome, IfNone, ap, sym, subst, ◌∙◌, arith}
+use Rattle.std.proofs.lemmas.Bool.{le-ltb, ltb-false}
 use Rattle.std.specs.Borrow.{Bor}
 use Rattle.std.specs.Result.{ForErr, ForOk}
-use Rattle.elf_base.specs.Lent.{Answers, Lends, LendsOnly}
+use Rattle.elf_base.specs.Lent.{Answers, Lends}
 use Rattle.elf_base.specs.Refusal.{and_then}
 use Rattle.elf_base.specs.Text.{IsText}
 use Rattle.xmas_elf.specs.Prelude.{ElfError, ElfFile, SectionHeader}
@@ -11,7 +11,6 @@ use Rattle.xmas_elf.specs.SectionHeader.{section_count_of, section_fields, secti
 use Rattle.xmas_elf.specs.HeaderTable.{EachBelow}
 use Rattle.xmas_elf.specs.NameTable.{HasName, FindsNamed, IsFirstNamed, IsNameAt, IsNameTable, name_table_of, names_section_of}
 use Rattle.xmas_elf.proofs.HeaderLists.{header_list-longest}
-use Rattle.xmas_elf.proofs.SectionLists.{section_in_list}
 use Rattle.xmas_elf.proofs.lemmas.HeaderList.{sections_within}
 
 -- if `and_then` returns a value, the first call returned one, from which the second returned this one
@@ -46,9 +45,9 @@ name_at file index names name table = (
 )
 
 -- a stored result that equals a computed one has the property that the computed one has
-pub kept : (Is : List ℕ → Type 0) (answer : Result (List ℕ) ElfError) (r : Result (Bor (List ℕ)) ElfError) → ((part : List ℕ) → answer ≡ Ok part ↔ Is part) → ForOk r (λ part. answer ≡ Ok part.now) → ForErr r (λ error. answer ≡ Err error) → Lends Is r × LendsOnly Is r × Answers answer r
-kept Is answer (Ok part) same is isnt = let here = is part refl in ((same part.now).0 here, (λ other has. let one = (same other).1 has in cc), here)
-kept Is answer (Err error) same is isnt = let none = isnt error refl in (tt, (λ other has. let one = (same other).1 has in cc), none)
+pub kept : (Is : List ℕ → Type 0) (answer : Result (List ℕ) ElfError) (r : Result (Bor (List ℕ)) ElfError) → ((part : List ℕ) → answer ≡ Ok part → Is part) → ForOk r (λ part. answer ≡ Ok part.now) → ForErr r (λ error. answer ≡ Err error) → Lends Is r × Answers answer r
+kept Is answer (Ok part) has is isnt = let here = is part refl in (has part.now here, here)
+kept Is answer (Err error) has is isnt = (tt, isnt error refl)
 
 -- if a search finds nothing, no section has the name; what it finds is the first section that has it
 pub missing_named : (file : ElfFile) (name : List ℕ) (r : Option SectionHeader) → FindsNamed file name r → IfNone r (EachBelow (section_of file) (λ section. ¬ HasName file section name) (length (section_list file)))
@@ -68,15 +67,3 @@ found_named file name (Some section) (has, (i, below, at, none)) =
         first = sections_within file (λ earlier. ¬ HasName file earlier name) i (omega arith) none;
       },
     )
-
--- there is at most one first section with a name, and a search returns it
-pub only_named : (file : ElfFile) (name : List ℕ) (r : Option SectionHeader) → FindsNamed file name r → (index : ℕ) (section : SectionHeader) → IsFirstNamed file name index section → r ≡ Some section
-only_named file name None found index section first =
-    absurd (missing_named file name None found index section (section_in_list file index section first.below first.is_header) first.is_header first.named)
-only_named file name (Some other) found index section first =
-    let (i, is) = found_named file name (Some other) found in
-    elim (cases_order i index) [
-      | inl same ↦ let a = is.is_header in let b = first.is_header in cc
-      | inr (inl below) ↦ absurd (first.first i other below is.is_header is.named)
-      | inr (inr above) ↦ absurd (is.first index section above first.is_header first.named)
-    ]

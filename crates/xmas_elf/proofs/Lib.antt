@@ -15,7 +15,6 @@ pub mod ChainPaths
 pub mod ChainStarts
 pub mod ChainFinds
 mod ChainLinks
-pub mod ChainOnce
 pub mod ChainChecks
 pub mod ChainCounts
 pub mod HashSections

@@ -1,6 +1,6 @@
 -- The first section with a name, as it is computed.
-use Rattle.std.proofs.Common.{◌≡◌, ◌≢◌, ℕ, Bool, true, false, Decides, List, [], ◌∷◌, length, slice_get, Option, None, Some, Result, Ok, Err, refl, sym, ap, ◌∙◌, subst, arith}
-use Rattle.std.specs.List.{find, position_or_len}
+use Rattle.std.proofs.Common.{◌≡◌, ◌≢◌, ℕ, Bool, true, false, Decides, List, [], ◌∷◌, length, slice_get, get_or, Option, None, Some, Result, Ok, Err, refl, sym, ap, ◌∙◌, subst, arith}
+use Rattle.std.specs.List.{HoldsAt, find, position_or_len}
 use Rattle.std.proofs.lemmas.List.Folds.{find_at}
 use Rattle.std.proofs.lemmas.List.Sums.{position_or_len_is}
 use Rattle.std.proofs.lemmas.Option.{slice_get-get_or, slice_get_past}
@@ -9,10 +9,12 @@ use Rattle.elf_base.proofs.lemmas.TextLemmas.{is-text_of, text_of-is}
 use Rattle.elf_records.specs.SectionNumbers.{is_sh_type}
 use Rattle.elf_records.specs.declared.sections.ShType.TheVariants.{Null}
 use Rattle.xmas_elf.specs.Prelude.{ElfError, ElfFile, SectionHeader, ShType}
-use Rattle.xmas_elf.specs.First.{FindsFirst}
-use Rattle.xmas_elf.specs.NameTable.{HasName, FindsNamed, IsNameAt, is_name, name_of, name_table_of, section_named, shstr_of}
-use Rattle.xmas_elf.specs.SectionHeader.{section_fields, section_list, section_type}
+use Rattle.xmas_elf.specs.First.{FindsFirst, NoneBelow}
+use Rattle.xmas_elf.specs.NameTable.{HasName, FindsNamed, IsFirstNamed, IsNameAt, is_name, name_of, name_table_of, section_named, shstr_of}
+use Rattle.xmas_elf.specs.SectionHeader.{section_count_of, section_fields, section_list, section_of, section_type}
 use Rattle.xmas_elf.proofs.FirstNamed.{is-name_table, name_at, not_refused, went_on}
+use Rattle.xmas_elf.proofs.HeaderLists.{header_list-longest}
+use Rattle.xmas_elf.proofs.SectionLists.{section_in_list}
 
 -- a search by a test that decides a property finds the first item that has it
 module _ {H : Type 0} (test : H → Bool) (P : H → Type 0) (decides : (h : H) → Decides (test h) (P h)) where
@@ -30,24 +32,24 @@ module _ {H : Type 0} (test : H → Bool) (P : H → Type 0) (decides : (h : H) 
       find_at test items ∙ ap (slice_get items) position ∙ slice_get-get_or items i h below ∙ ap Some (at h)
 
 -- if `shstr_of` is a text, it is the text at that index of the name table
-shstr_of-is : (file : ElfFile) (index : ℕ) (name : List ℕ) → shstr_of file index ≡ Ok name → IsNameAt file index name
+pub shstr_of-is : (file : ElfFile) (index : ℕ) (name : List ℕ) → shstr_of file index ≡ Ok name → IsNameAt file index name
 unfolding shstr_of
 shstr_of-is file index name is =
     let (table, names, text) = went_on (name_table_of file) _ name is in
     (name_at file index table name names).1 (text_of-is table index name text)
 
-is-shstr_of : (file : ElfFile) (index : ℕ) (name : List ℕ) → IsNameAt file index name → shstr_of file index ≡ Ok name
+pub is-shstr_of : (file : ElfFile) (index : ℕ) (name : List ℕ) → IsNameAt file index name → shstr_of file index ≡ Ok name
 unfolding shstr_of
 is-shstr_of file index name at =
     let table : name_table_of file ≡ Ok at.table = is-name_table file at.table at.in_table in
     rw table (is-text_of at.table index name at.is_text)
 
 -- if `name_of` is a text, it is the name of the section
-null_test : (kind : ShType) → kind ≢ Null → is_sh_type Null kind ≡ false
+pub null_test : (kind : ShType) → kind ≢ Null → is_sh_type Null kind ≡ false
 null_test Null other = absurd (other refl)
 null_test _ other = refl
 
-name_of-has_name : (file : ElfFile) (section : SectionHeader) (name : List ℕ) → name_of file section ≡ Ok name → HasName file section name
+pub name_of-has_name : (file : ElfFile) (section : SectionHeader) (name : List ℕ) → name_of file section ≡ Ok name → HasName file section name
 unfolding name_of
 name_of-has_name file section name is =
     let (kind, typed, answered) = went_on (section_type section) _ name is in
@@ -59,7 +61,7 @@ name_of-has_name file section name is =
       named = shstr_of-is file (section_fields section).name name text;
     }
 
-has_name-name_of : (file : ElfFile) (section : SectionHeader) (name : List ℕ) → HasName file section name → name_of file section ≡ Ok name
+pub has_name-name_of : (file : ElfFile) (section : SectionHeader) (name : List ℕ) → HasName file section name → name_of file section ≡ Ok name
 unfolding name_of
 has_name-name_of file section name has =
     let typed : section_type section ≡ Ok has.kind = has.typed in
@@ -81,3 +83,13 @@ pub is-section_named : (file : ElfFile) (name : List ℕ) (r : Option SectionHea
 unfolding section_named
 is-section_named file name r found =
     sym (finds (λ s. is_name name (name_of file s)) (λ s. HasName file s name) (is_name-Decides file name) (section_list file) r found)
+
+-- a search finds the first section with a name
+pub first_named-is : (file : ElfFile) (name : List ℕ) (index : ℕ) (section : SectionHeader) → IsFirstNamed file name index section → section_named file name ≡ Some section
+first_named-is file name index section first =
+    let longest = header_list-longest (section_of file) (section_count_of file) in
+    let within = section_in_list file index section first.below first.is_header in
+    let at : HoldsAt (λ item. item ≡ section) (section_list file) index = λ d. (let is = longest.each index within d in let header = first.is_header in cc) in
+    let none : NoneBelow (λ earlier. HasName file earlier name) (section_list file) index =
+    λ i d low below. first.first i (get_or (section_list file) i d) below (longest.each i (omega arith) d) in
+    sym (is-section_named file name (Some section) (first.named, (index, within, at, none)))

@@ -85,14 +85,7 @@ agrees : (file : ElfFile) (segment : ProgramHeader64) (kind : SegmentType) → s
 agrees file segment ph_type.Null typed = null_agrees file segment
 agrees file segment ph_type.Dynamic typed = with_bytes file segment ph_type.Dynamic typed refl (says_by_class dynamic_32 dynamic_64 (file_class file.header) (file_order file.header))
 agrees file segment ph_type.Note typed = with_bytes file segment ph_type.Note typed refl (says_note (file_class file.header) (file_order file.header))
-agrees file segment ph_type.Load typed = with_bytes file segment ph_type.Load typed refl (λ b. says_ok (undefined b) (length b) tt)
-agrees file segment ph_type.Interp typed = with_bytes file segment ph_type.Interp typed refl (λ b. says_ok (undefined b) (length b) tt)
-agrees file segment ph_type.ShLib typed = with_bytes file segment ph_type.ShLib typed refl (λ b. says_ok (undefined b) (length b) tt)
-agrees file segment ph_type.Phdr typed = with_bytes file segment ph_type.Phdr typed refl (λ b. says_ok (undefined b) (length b) tt)
-agrees file segment ph_type.Tls typed = with_bytes file segment ph_type.Tls typed refl (λ b. says_ok (undefined b) (length b) tt)
-agrees file segment ph_type.GnuRelro typed = with_bytes file segment ph_type.GnuRelro typed refl (λ b. says_ok (undefined b) (length b) tt)
-agrees file segment (ph_type.OsSpecific n) typed = with_bytes file segment (ph_type.OsSpecific n) typed refl (λ b. says_ok (undefined b) (length b) tt)
-agrees file segment (ph_type.ProcessorSpecific n) typed = with_bytes file segment (ph_type.ProcessorSpecific n) typed refl (λ b. says_ok (undefined b) (length b) tt)
+agrees file segment kind typed = with_bytes file segment kind typed refl (λ b. says_ok (undefined b) (length b) tt)
 
 by_type : (file : ElfFile) (segment : ProgramHeader64) (wanted : Shape) (kind : Result SegmentType ElfError) → segment_type segment ≡ kind → IsOkAnd (and_then kind (content_by file segment)) (λ c. shape c ≡ wanted) ↔ HasSegmentShape file segment wanted
 by_type file segment wanted (Ok kind) typed = (

@@ -160,11 +160,7 @@ agrees file section sh_type.SymTabShIndex = with_bytes file section sh_type.SymT
 agrees file section sh_type.Group = with_bytes file section sh_type.Group refl (says_group (file_order file.header))
 agrees file section sh_type.Note = with_bytes file section sh_type.Note refl (says_note (file_class file.header) (file_order file.header))
 agrees file section sh_type.Hash = with_bytes file section sh_type.Hash refl (says_hash (file_order file.header))
-agrees file section sh_type.ProgBits = with_bytes file section sh_type.ProgBits refl (λ b. says_ok (undefined b) (length b) tt)
-agrees file section sh_type.ShLib = with_bytes file section sh_type.ShLib refl (λ b. says_ok (undefined b) (length b) tt)
-agrees file section (sh_type.OsSpecific n) = with_bytes file section (sh_type.OsSpecific n) refl (λ b. says_ok (undefined b) (length b) tt)
-agrees file section (sh_type.ProcessorSpecific n) = with_bytes file section (sh_type.ProcessorSpecific n) refl (λ b. says_ok (undefined b) (length b) tt)
-agrees file section (sh_type.User n) = with_bytes file section (sh_type.User n) refl (λ b. says_ok (undefined b) (length b) tt)
+agrees file section kind = with_bytes file section kind refl (λ b. says_ok (undefined b) (length b) tt)
 
 by_type : (file : ElfFile) (section : SectionHeader) (wanted : Shape) (kind : Result ShType ElfError) → section_type section ≡ kind → IsOkAnd (and_then kind (content_in file section)) (λ c. shape c ≡ wanted) ↔ HasShape file section wanted
 by_type file section wanted (Ok kind) typed = (

@@ -1,7 +1,9 @@
+pub mod ChainOnce
 pub mod HeaderList
 pub mod Equality
 pub mod HashTables
 pub mod Lent
+pub mod OnlyOne
 pub mod TypeNumbers
 pub mod Tags
 pub mod Walks

@@ -1,4 +1,4 @@
--- Words that a caller lends to the check of a hash table, one for each chain (this project's own).
+-- Words of memory that a caller passes to the check of a hash table, one for each chain (this project's own).
 use Rattle.std.specs.Prelude.{ℕ, ◌+◌, ◌^◌, ◌≡◌, List, slice_index_or}
 use Rattle.xmas_elf.specs.Prelude.{HashTable}
 use Rattle.xmas_elf.specs.HashTable.{Chains, Held, Reaches}
@@ -8,11 +8,11 @@ use Rattle.xmas_elf.specs.Symbol.{Symbols}
 abbrev pub Joins : List ℕ → ℕ → ℕ → Type 0
 Joins words i j = slice_index_or words i 0 ≡ 2 ^ 31 + j
 
--- a walk from each linked index comes to the index that it is linked to
+-- the chain leads from each linked index to the index that it is linked to
 abbrev pub AreLinks : {E : Type 0} → Chains E → List ℕ → Type 0
 AreLinks chains words = (i j : ℕ) → Joins words i j → Reaches chains i j
 
--- a walk from each linked index ends
+-- the chain from each linked index ends
 abbrev pub AreEnding : {E : Type 0} → Chains E → List ℕ → Type 0
 AreEnding chains words = (i j : ℕ) → Joins words i j → Reaches chains i 0
 

@@ -19,6 +19,6 @@ IsFirst P items first = P first
 abbrev pub FindsFirst : {A : Type 0} → (A → Type 0) → List A → Option A → Type 0
 FindsFirst P items found = MatchOption found (NoneBelow P items (length items)) (IsFirst P items)
 
--- the result of a search for its position
+-- the result of a search for the position of the first item with the property
 abbrev pub FindsFirstAt : {A : Type 0} → (A → Type 0) → List A → Option ℕ → Type 0
 FindsFirstAt P items found = MatchOption found (NoneBelow P items (length items)) (IsFirstAt P items)

@@ -1,4 +1,4 @@
--- Hash tables of symbols (gABI, "Hash Table"): their words, the chains that look-ups walk, and the tables in
+-- Hash tables of symbols (gABI, "Hash Table"): their words, the chains that look-ups follow, and the tables in
 -- which look-ups find every symbol that they must. The errors, and which tables are good, are this project's
 -- own.
 use Rattle.std.specs.Prelude.{ℕ, ◌+◌, ◌*◌, ◌%◌, ◌^◌, ◌<◌, ◌≤◌, Bool, nat_eq, nat_le, nat_lt, List, [], ◌∷◌, length, Option, Some, None, Result, if◌then◌else◌, ◌≡◌, ◌⊎◌, zero, suc, Ok, Err, slice_get, MatchResult, MatchOption}
@@ -78,9 +78,9 @@ unfoldable pub start_of : HashTable → List ℕ → Option (Result ℕ ElfError
 start_of table name = if nat_eq (bucket_count_of table) 0 then None
     else Some (bucket_of table (hash_number name % bucket_count_of table))
 
--- Chains: the steps of a walk, where it stops, and what it reaches.
+-- Chains: the steps of a search along one, where it stops, and what it reaches.
 
--- what a walk reads: the number of chains, each chain or why it can't be read, the symbols
+-- what a search reads: the number of chain words, each word or why it can't be read, the symbols
 pub record Chains (E : Type 0) : Type 0 where
   pub count : ℕ
   pub chain : ℕ → Result ℕ ElfError
@@ -97,28 +97,28 @@ pub record StandsAt {E : Type 0} (chains : Chains E) (i : ℕ) (e : E) : Type 0 
   pub below : i < chains.count
   pub symbol : slice_get chains.symbols i ≡ Some e
 
--- the step of a walk from i to j
+-- the chain leads from index i to index j
 pub record Links {E : Type 0} (chains : Chains E) (i j : ℕ) : Type 0 where
   pub entry : E
   pub stands : StandsAt chains i entry
   pub next : chains.chain i ≡ Ok j
 
--- a walk from the first index comes to another in a number of steps
+-- the chain leads from the first index to another in a number of steps
 pub data Comes {E : Type 0} (chains : Chains E) (first : ℕ) : ℕ → ℕ → Type 0 where
   starts : Comes chains first zero first
   goes : (n i j : ℕ) → Comes chains first n i → Links chains i j → Comes chains first (suc n) j
 
--- a walk from one index comes to the other
+-- the chain leads from one index to the other
 abbrev pub Reaches : {E : Type 0} → Chains E → ℕ → ℕ → Type 0
 Reaches chains first last = (n : ℕ) × Comes chains first n last
 
--- no symbol at an index that the walk comes to in fewer than n steps has P there
+-- no symbol at an index that is fewer than n steps from the first has P
 abbrev pub NoneBefore : {E : Type 0} → (ℕ × E → Type 0) → Chains E → ℕ → ℕ → Type 0
 NoneBefore {E} P chains first n =
     (m : ℕ) → m < n → (i : ℕ) (e : E) → Comes chains first m i → StandsAt chains i e → ¬ P (i, e)
 
--- a walk that looks for P, a property of a symbol and its index, stops at an index with a result, and compares a
--- number of symbols there
+-- a search for P, a property of a symbol and its index, stops at an index with a result, and tests a number of
+-- symbols there: 0 or 1
 pub data Stops {E : Type 0} (P : ℕ × E → Type 0) (chains : Chains E) : ℕ → Result (Option (ℕ × E)) ElfError → ℕ → Type 0 where
   at_end : Stops P chains 0 (Ok None) 0
   past_chains : (i : ℕ) → 0 < i → chains.count ≤ i → Stops P chains i (Err ChainIndex) 0
@@ -128,8 +128,8 @@ pub data Stops {E : Type 0} (P : ℕ × E → Type 0) (chains : Chains E) : ℕ 
   refused : (i : ℕ) (e : E) (error : ElfError) → StandsAt chains i e → (P (i, e) → ⊥)
       → chains.chain i ≡ Err error → Stops P chains i (Err error) 1
 
--- the result of a walk that begins at a bucket, and the number of symbols it compares: that of the first stop
--- that it reaches, or HashCycle if it reaches none
+-- the result of a search that begins at a bucket, and the number of symbols it tests: the result of the first
+-- stop that it reaches, or HashCycle if it reaches none
 pub data LooksFrom {E : Type 0} (P : ℕ × E → Type 0) (chains : Chains E) : Option (Result ℕ ElfError) → Result (Option (ℕ × E)) ElfError → ℕ → Type 0 where
   no_bucket : LooksFrom P chains None (Ok None) 0
   bad_bucket : (error : ElfError) → LooksFrom P chains (Some (Err error)) (Err error) 0
@@ -148,20 +148,20 @@ LooksWhere P table symbols name = LooksFrom P (chains_of table symbols) (start_o
 abbrev pub Looks : {E : Type 0} → (E → Type 0) → HashTable → List E → List ℕ → Result (Option (ℕ × E)) ElfError → ℕ → Type 0
 Looks P table symbols name = LooksWhere (λ at. P at.1) table symbols name
 
--- why a walk stops at an index that isn't the end, after `passed` symbols
+-- why a search stops at an index that isn't the end, after `passed` symbols
 pub data Halts {E : Type 0} (chains : Chains E) (passed i : ℕ) : ElfError → Type 0 where
   no_chain : chains.count ≤ i → Halts chains passed i ChainIndex
   no_symbol : i < chains.count → slice_get chains.symbols i ≡ None → Halts chains passed i SymbolIndex
   too_many : (e : E) → StandsAt chains i e → (chains.count ≤ passed) ⊎ (length chains.symbols ≤ passed)
       → Halts chains passed i HashCycle
 
--- a walk from the first index comes to index i in n steps, and each symbol before has Over: its test was
--- false
+-- the chain leads from the first index to index i in n steps, and each symbol before i has Over: its test
+-- was false
 pub record Walked {E : Type 0} (Over : ℕ × E → Type 0) (chains : Chains E) (first n i : ℕ) : Type 0 where
   pub comes : Comes chains first n i
   pub over : (m x : ℕ) (e : E) → m < n → Comes chains first m x → StandsAt chains x e → Over (x, e)
 
--- the result of a walk that tests each symbol, and the number of tests: the first symbol that passes, nothing
+-- the result of a search that tests each symbol, and the number of tests: the first symbol that passes, nothing
 -- at the end, or the error where it stops
 pub data Walks {E : Type 0} (Stop Over : ℕ × E → Type 0) (chains : Chains E) (first : ℕ) : Result (Option (ℕ × E)) ElfError → ℕ → Type 0 where
   ends : (n : ℕ) → Walked Over chains first n 0 → Walks Stop Over chains first (Ok None) n
@@ -172,7 +172,7 @@ pub data Walks {E : Type 0} (Stop Over : ℕ × E → Type 0) (chains : Chains E
   breaks : (n i : ℕ) (e : E) (error : ElfError) → Walked Over chains first n i → StandsAt chains i e → Over (i, e)
       → chains.chain i ≡ Err error → Walks Stop Over chains first (Err error) (n + 1)
 
--- a walk that looks for P begins at an index, and reaches no stop
+-- a search for P begins at an index, and reaches no stop
 abbrev pub IsEndless : {E : Type 0} → (ℕ × E → Type 0) → Chains E → Option (Result ℕ ElfError) → Type 0
 IsEndless {E} P chains start = (first : ℕ) × (start ≡ Some (Ok first))
     × ((last m more : ℕ) (answer : Result (Option (ℕ × E)) ElfError) → Comes chains first m last → NoneBefore P chains first m → Stops P chains last answer more → ⊥)
@@ -203,7 +203,7 @@ pub record IsGood {E : Type 0} (table : HashTable) (symbols : Symbols E) : Type 
   pub holds : (i : ℕ) (e : E) (name : List ℕ) → IsGlobal symbols i e name
       → IsReached table symbols.items name i
 
--- bucket k is at fault: a walk from it along the whole chain is refused with this error
+-- bucket k is at fault: its whole chain can't be followed, for the reason of this error
 abbrev pub IsAtFault : {E : Type 0} → HashTable → List E → ℕ → ElfError → Type 0
 IsAtFault table symbols k error =
     (n : ℕ) × LooksFrom (λ _. ⊥) (chains_of table symbols) (Some (bucket_of table k)) (Err error) n

@@ -21,10 +21,10 @@ abbrev pub strings_by : Names → Option (Result (Bor (List ℕ)) ElfError)
 strings_by (Strings found) = Some found
 strings_by (File file) = None
 
--- these names in one value: a ghost field holds no function, but may hold one that has a single value
+-- the names of symbols in one value: a ghost field can't have a function, but it can have a type of one value
 abbrev pub TextBy : {E : Type 0} → (E → SymbolFields) → (E → ElfFile → Option (List ℕ)) → Names → Type 0
 TextBy fields text_in names = Singl (text_by fields text_in names)
 
--- that there is one only, which a ghost field asks for
+-- `TextBy` has only one value, as the type of a ghost field must
 pub TextBy-prop : {E : Type 0} (fields : E → SymbolFields) (text_in : E → ElfFile → Option (List ℕ)) (names : Names) → IsProp (TextBy fields text_in names)
 TextBy-prop fields text_in names = λ one other. sym (contract one.1) ∙ contract other.1

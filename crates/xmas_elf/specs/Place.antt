@@ -1,4 +1,4 @@
--- The places in the input of the parts that are lent (this project's own): they share its memory.
+-- The places in the input of the returned slices (this project's own): they share its memory.
 use Rattle.std.specs.Prelude.{◌≢◌, ℕ, ◌+◌, Bool, true, false, List, codes, length, IsSomeAnd}
 use Rattle.std.specs.Borrow.{Bor}
 use Rattle.elf_base.specs.Lent.{LiesAt}
@@ -30,14 +30,14 @@ LiesAsSymbolStrings false file = LiesAsNamed file (codes ".strtab")
 abbrev pub LiesAsSegment : ElfFile → ProgramHeader64 → Bor (List ℕ) → Type 0
 LiesAsSegment file segment part = segment.file_size ≢ 0 → LiesAt file.input segment.offset part
 
--- the lent part of some data: nothing, all of it, or the bytes after the first `count`
+-- which bytes of some data are returned: none, all, or those after the first `count`
 pub data Part : Type 0 where
   nothing : Part
   all : Bor (List ℕ) → Part
   after : ℕ → Bor (List ℕ) → Part
 
--- the part that a value of `SectionData` lends: all data, or the bytes after the flags of a group or after
--- the header of a note
+-- the bytes that a value of `SectionData` borrows: all data, or those after the flags of a group or after the
+-- header of a note
 abbrev pub section_part : SectionData → Part
 section_part section_data.Empty = nothing
 section_part (section_data.Undefined bytes) = all bytes
@@ -59,7 +59,7 @@ section_part (section_data.Group flags table) = after 4 (table_bytes table)
 section_part (section_data.Note64 header body) = after 12 body
 section_part (section_data.HashTable table) = all (hash_bytes table)
 
--- the part that a value of `SegmentData` lends
+-- the bytes that a value of `SegmentData` borrows
 abbrev pub segment_part : SegmentData → Part
 segment_part segment_data.Empty = nothing
 segment_part (segment_data.Undefined bytes) = all bytes

@@ -58,7 +58,7 @@ pub record ReturnsWhere {F E : Type 0} (test : Shared F (ℕ × (Bor E × Unit {
   pub shows : shown.now ≡ at.1
   pub says : FnReturns test f (at.0, (shown, tt)) r
 
--- such a test has at most one result for each of the symbols at its index, if that fits in 32 bits
+-- a test of an index and a symbol has at most one result for each symbol at its index, if that fits in 32 bits
 abbrev pub DecidesWhere : {F E : Type 0} → Symbols E → Shared F (ℕ × (Bor E × Unit {0})) Bool → F → Type 0
 DecidesWhere {F} {E} symbols test f = (i : ℕ) (e : E) → i < 2 ^ 32 → slice_get symbols.items i ≡ Some e
     → ReturnsWhere test f (i, e) true → ReturnsWhere test f (i, e) false → ⊥

@@ -1,7 +1,7 @@
 -- Every public type, constant and error of the crate and of the two below it, for import by other crates:
 -- `Types.{ElfFile}`. Enums called `Type` are renamed by their subject, such as `SymbolType`. Variants of
 -- other enums than errors are in the `TheVariants` of their type. `P32` and `P64` are numbers: write `ℕ` for
--- them in a clause. `SymbolTable` is imported from its module. `tools/api.py --check` compares these names
+-- them in a clause. `SymbolTable` is imported from its module. `tools/pages/api.py --check` compares these names
 -- with the sources.
 pub use Rattle.xmas_elf.specs.Prelude.{Order, Table, TableIter, ElfError, Header, HeaderPt1, HeaderPt2, HeaderPt2_, Class, Class_, Data, Data_, Machine, Machine_, OsAbi, OsAbi_, HeaderType, HeaderType_, Version, Version_, Dynamic, Tag, Tag_, Flags, SegmentType, SegmentType_, ShType, ShType_, NoteHeader, Rel, Rela, Binding, Binding_, SymbolType, SymbolType_, Visibility, Visibility_}
 pub use Rattle.elf_base.specs.declared.error.ElfError.TheVariants.{BadAlign, BadMagic, BucketIndex, ChainIndex, ChainSum, ClassMismatch, DataRange, EntryPointRange, ExpectedShIndex, HashCycle, HashData, HashMissing, HeaderSize, InvalidBinding, InvalidClass, InvalidPhType, InvalidPtr, InvalidShType, InvalidSymbolType, InvalidTag, InvalidValue, NoClass, NoDataFormat, NoDynstr, NoMagic, NoProgramHeaders, NoShIndex, NoStrtab, NoVersion, NotMultiple, Note32, NoteDesc, NoteName, NullData, NullName, PhSizeMismatch, PhTableRange, ReservedIndex, ReservedSymbolIndex, ShLibUsed, ShTableRange, ShortData, ShortHeaders, ShortPart1, ShortProgramHeader, ShortSectionHeader, ShortSectionOffset, SmallEntry, StrtabType, SymbolIndex, TextEnd, TextStart, TextUtf8, UnknownClass, WideIndex}

@@ -24,8 +24,8 @@ pub const NT_GNU_BUILD_ID: u32 = 3;
 
 /// The GNU extensions of a file. The returned slices live as long as the input.
 ///
-/// A call returns `None` if the section is missing, its data is refused, or its contents are
-/// malformed.
+/// Each call searches the section headers, and reads the first note of its section. It returns
+/// `None` if the section is missing, its data can't be read, or its contents are malformed.
 pub trait Extensions<'a> {
     /// The specs of the build id, the debug link with its checksum, and the alternate debug link.
     ghost BuildId: { Self → List ℕ → Type 0 };

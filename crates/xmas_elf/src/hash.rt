@@ -110,8 +110,9 @@ impl<'a> HashTable<'a> {
         Some(self.get_bucket(hash(name) % bucket_count))
     }
 
-    // The symbol at an index, which isn't the end, of a walk after `passed` steps, or why it stops
-    // there. After as many steps as there are chains or symbols it has passed one twice.
+    // The symbol at an index, which isn't the end, of a pass along a chain after `passed` steps, or
+    // why the pass stops there. After as many steps as there are chains or symbols it has passed
+    // one twice.
     #[inline(always)]
     fn symbol_at<E: Entry + Record>(
         &self,
@@ -139,7 +140,7 @@ impl<'a> HashTable<'a> {
         Ok(entry)
     }
 
-    // The walk along a chain from an index on: the first symbol for which the test is true, with
+    // A pass along a chain from an index on: the first symbol for which the test is true, with
     // its index; `None` if the chain ends before one; or the error where it stops. And the number
     // of symbols tested.
     fn walk<E: Entry + Record, F: Fn(&(u32, E)) -> bool>(

@@ -2,17 +2,15 @@
 //! (gABI, "String Table" and "Sections", sh_name).
 
 ghost use Rattle.std.specs.Prelude.{◌≡◌, ◌↔◌, ◌+◌, ◌≤◌, Err, IfNone, IfOk, IfSome, IsTrue};
-ghost use Rattle.std.specs.Prelude.{List, Ok, Some, length, ℕ};
-ghost use Rattle.elf_base.specs.Lent.{Answers, Lends, LendsOnly};
-ghost use Rattle.elf_base.specs.Text.{TextIfUtf8, lent_text};
-ghost use Rattle.elf_base.specs.TextCompared.{TextCompared};
+ghost use Rattle.std.specs.Prelude.{Ok, length, ℕ};
+ghost use Rattle.elf_base.specs.Lent.{Answers, Lends};
+ghost use Rattle.elf_base.specs.Text.{lent_text};
 ghost use Rattle.xmas_elf.specs.HeaderTable.{EachBelow};
 ghost use Rattle.xmas_elf.specs.NameTable.{HasName, FindsNamed, IsFirstNamed, IsNameAt};
 ghost use Rattle.xmas_elf.specs.NameTable.{IsNameBytesAt, IsNameTable, LiesAsName};
 ghost use Rattle.xmas_elf.specs.NameTable.{LiesAsNameTable, NameCompared, name_table_of};
 ghost use Rattle.xmas_elf.specs.NameTable.{names_section_of, section_named, shstr_bytes_of, shstr_of};
 ghost use Rattle.xmas_elf.specs.SectionHeader.{section_list, section_of};
-ghost use Rattle.xmas_elf.specs.declared.sections.section_header.SectionHeader.{SectionHeader};
 
 use crate::bytes::{bytes_up_to_zero, text_at, text_is};
 use crate::sections::{SectionHeader, section_entry};
@@ -29,7 +27,6 @@ impl<'a> ElfFile<'a> {
     #[inline(always)]
     pub fn get_shstr(&self, index: u32) -> Result<&'a str, ElfError>
         ensures name { Lends (IsNameAt self.now index) result }
-        ensures only { LendsOnly (IsNameAt self.now index) result }
         ensures exact { Answers (shstr_of self.now index) result }
     {
         text_at(self.name_table()?, index as usize)
@@ -43,16 +40,11 @@ impl<'a> ElfFile<'a> {
     #[inline(always)]
     pub fn get_shstr_bytes(&self, index: u32) -> Result<&'a [u8], ElfError>
         ensures bytes { Lends (IsNameBytesAt self.now index) result }
-        ensures only { LendsOnly (IsNameBytesAt self.now index) result }
         ensures place { IfOk result (LiesAsName self.now index) }
-        ensures texts { TextIfUtf8 (IsNameAt self.now index) result }
         ensures as_text { shstr_of self.now index ≡ lent_text result }
         ensures exact { Answers (shstr_bytes_of self.now index) result }
     {
-        match self.name_table() {
-            Ok(names) => bytes_up_to_zero(names, index as usize),
-            Err(error) => Err(error),
-        }
+        bytes_up_to_zero(self.name_table()?, index as usize)
     }
 
     /// Whether the text at byte `index` of the name table equals `name`, and the number of bytes
@@ -61,9 +53,6 @@ impl<'a> ElfFile<'a> {
     pub fn shstr_is(&self, index: u32, name: &str) -> (bool, usize)
         ensures is { IsTrue result.0 ↔ IsNameAt self.now index name.now }
         ensures compared { NameCompared (name_table_of self.now) index name.now result.0 result.1 }
-        ensures in_table { (table : List ℕ) → IsNameTable self.now table
-            → TextCompared table index name.now result.0 result.1 }
-        ensures no_table { ((table : List ℕ) → ¬ IsNameTable self.now table) → result.1 ≡ 0 }
         ensures few { result.1 ≤ length name.now + 1 }
     {
         match self.name_table() {
@@ -88,7 +77,6 @@ impl<'a> ElfFile<'a> {
     pub(crate) fn name_table(&self) -> Result<&'a [u8], ElfError>
         ensures table { Lends (IsNameTable self.now) result }
         ensures place { IfOk result (LiesAsNameTable self.now) }
-        ensures only { LendsOnly (IsNameTable self.now) result }
         ensures exact { Answers (name_table_of self.now) result }
     {
         let offset = self.names_section()?.offset();
@@ -99,13 +87,11 @@ impl<'a> ElfFile<'a> {
     }
 
     /// The first section with this name, in the order of `section_iter`; names are compared in
-    /// place. A section has no name if its type is Null or an error of `get_type`.
+    /// place. A section is skipped if its type is Null, or an error of `get_type`: `.relr.dyn`.
     pub fn find_section_by_name(&self, name: &str) -> Option<SectionHeader>
         ensures list { FindsNamed self.now name.now result }
         ensures found { IfSome result (λ section. (index : ℕ)
             × IsFirstNamed self.now name.now index section) }
-        ensures only { (index : ℕ) (section : SectionHeader)
-            → IsFirstNamed self.now name.now index section → result ≡ Some section }
         ensures missing { IfNone result (EachBelow (section_of self.now)
             (λ section. ¬ HasName self.now section name.now) (length (section_list self.now))) }
         ensures exact { result ≡ section_named self.now name.now }

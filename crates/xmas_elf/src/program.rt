@@ -56,8 +56,8 @@ impl<'a> ElfFile<'a> {
 
     /// An iterator over the program headers, from index 0 on.
     ///
-    /// It ends before the first header that cannot be read, so there may be fewer items than
-    /// `program_count`.
+    /// It ends before the first header that can't be read. To notice that, compare
+    /// `program_iter().count()` with `program_count()`.
     pub fn program_iter(&self) -> ProgramIter<'_, 'a>
         ensures file { result.file.now ≡ self.now }
         ensures first { result.next_index ≡ 0 }

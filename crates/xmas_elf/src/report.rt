@@ -213,7 +213,7 @@ impl Display for FileReport<'_, '_> {
 
 /// Writes the report of the file in `input`.
 ///
-/// Errors: `Elf` if `ElfFile::new` refuses the input; `Write` if the writer fails, after any number
+/// Errors: `Elf` with the error of `ElfFile::new`; `Write` if the writer fails, after any number
 /// of bytes. The contract says what was written if the contents of the writer are known, as in
 /// memory. As in std's `write_all`, interrupted writes are retried, and a write of 0 bytes fails.
 pub fn report<W: io::Write>(input: &[u8], w: &mut W) -> Result<(), ReportFault>

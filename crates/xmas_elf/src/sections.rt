@@ -58,9 +58,10 @@ impl<'a> ElfFile<'a> {
 
     /// An iterator over the section headers, from index 0 on.
     ///
-    /// It ends before the first header that cannot be read, so there may be fewer items than
-    /// `section_count`. By the gABI section 0 has type Null, for which `get_name` and `raw_data`
-    /// are errors.
+    /// It ends before the first header that can't be read. To notice that, compare
+    /// `section_iter().count()` with `section_count()`. `get_name` and `raw_data` return an error
+    /// for section 0, which has type Null, and for a section of a type without a `ShType`, such as
+    /// `.relr.dyn`. So don't end a loop at the first error.
     pub fn section_iter(&self) -> SectionIter<'_, 'a>
         ensures file { result.file.now ≡ self.now }
         ensures first { result.next_index ≡ 0 }

@@ -1,7 +1,7 @@
 //! The string tables of symbols, found by name, and their texts (gABI, "String Table").
 
 ghost use Rattle.std.specs.Prelude.{IfOk, codes};
-ghost use Rattle.elf_base.specs.Lent.{Answers, Lends, LendsOnly};
+ghost use Rattle.elf_base.specs.Lent.{Answers, Lends};
 ghost use Rattle.xmas_elf.specs.Place.{LiesAsNamed};
 ghost use Rattle.xmas_elf.specs.StringTables.{IsDynString, IsDynstr, IsString, IsStrtab};
 ghost use Rattle.xmas_elf.specs.StringTables.{dyn_string_of, dynstr_of, string_of, strtab_of};
@@ -23,7 +23,6 @@ impl<'a> ElfFile<'a> {
     #[tactic(auto, unfolding(crate::specs::StringTables::string_of))]
     pub fn get_string(&self, index: u32) -> Result<&'a str, ElfError>
         ensures text { Lends (IsString self.now index) result }
-        ensures only { LendsOnly (IsString self.now index) result }
         ensures exact { Answers (string_of self.now index) result }
     {
         text_at(self.strtab()?, index as usize)
@@ -37,7 +36,6 @@ impl<'a> ElfFile<'a> {
     #[tactic(auto, unfolding(crate::specs::StringTables::dyn_string_of))]
     pub fn get_dyn_string(&self, index: u32) -> Result<&'a str, ElfError>
         ensures text { Lends (IsDynString self.now index) result }
-        ensures only { LendsOnly (IsDynString self.now index) result }
         ensures exact { Answers (dyn_string_of self.now index) result }
     {
         text_at(self.dynstr()?, index as usize)
@@ -48,7 +46,6 @@ impl<'a> ElfFile<'a> {
     pub(crate) fn strtab(&self) -> Result<&'a [u8], ElfError>
         ensures table { Lends (IsStrtab self.now) result }
         ensures place { IfOk result (LiesAsNamed self.now (codes ".strtab")) }
-        ensures only { LendsOnly (IsStrtab self.now) result }
         ensures exact { Answers (strtab_of self.now) result }
     {
         let Some(section) = self.find_section_by_name(".strtab") else {
@@ -65,7 +62,6 @@ impl<'a> ElfFile<'a> {
     pub(crate) fn dynstr(&self) -> Result<&'a [u8], ElfError>
         ensures table { Lends (IsDynstr self.now) result }
         ensures place { IfOk result (LiesAsNamed self.now (codes ".dynstr")) }
-        ensures only { LendsOnly (IsDynstr self.now) result }
         ensures exact { Answers (dynstr_of self.now) result }
     {
         let Some(section) = self.find_section_by_name(".dynstr") else {

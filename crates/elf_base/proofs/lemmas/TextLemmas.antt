@@ -1,10 +1,12 @@
--- `text_of` and `IsText` agree.
-use Rattle.std.proofs.Common.{◌≡◌, ◌≢◌, ℕ, zero, suc, ◌<◌, ◌==◌, Bool, true, false, ltb, not, is_none, unwrap_or, option_map, Option, None, Some, Result, Ok, Err, List, [], ◌∷◌, length, drop, slice_index, if◌then◌else◌, refl, subst, ap, arith}
+-- `text_of` and `IsText` agree, and so do the other texts that are computed of returned bytes.
+use Rattle.std.proofs.Common.{◌≡◌, ◌≢◌, ℕ, zero, suc, ◌<◌, ◌==◌, Bool, true, false, ltb, not, is_none, unwrap_or, option_map, Option, None, Some, Result, Ok, Err, Bor, List, [], ◌∷◌, length, drop, slice_index, if◌then◌else◌, refl, subst, sym, ap, ◌∙◌, arith}
 use Rattle.std.proofs.lemmas.Bool.{eqb-true, eqb-false}
+use Rattle.std.specs.Prelude.{IsErrOf, IsOkAnd}
 use Rattle.std.specs.Str.{IsUtf8, is_utf8}
 use Rattle.std.proofs.lemmas.Str.{IsUtf8-from_is_utf8, is_utf8-from_IsUtf8}
 use Rattle.elf_base.specs.Refusal.{and_then, unless}
-use Rattle.elf_base.specs.Text.{EndsInZero, IsText, as_text, before_zero, bytes_up_to_zero_of, text_of}
+use Rattle.elf_base.specs.Lent.{Answers}
+use Rattle.elf_base.specs.Text.{EndsInZero, IsText, TextIfUtf8, as_text, before_zero, bytes_up_to_zero_of, lent_text, text_of}
 use Rattle.elf_base.specs.declared.error.ElfError.{ElfError}
 use Rattle.elf_base.specs.declared.error.ElfError.TheVariants.{TextStart, TextEnd, TextUtf8}
 use Rattle.elf_base.proofs.Texts
@@ -58,16 +60,16 @@ unfolding bytes_up_to_zero_of
 ended-bytes bytes start part is =
     ended_by bytes start part (ltb (length bytes) start) (before_zero (drop start bytes)) refl is
 
-text_if : (bytes : List ℕ) (start : ℕ) (part text : List ℕ) (utf8 : Bool) → is_utf8 part ≡ utf8 → EndsInZero bytes start part → unless ((not utf8, TextUtf8) ∷ []) part ≡ Ok text → IsText bytes start text
-text_if bytes start part text false valid ended is = cc
-text_if bytes start part text true valid ended is =
-    let same : part ≡ text = cc in
-    subst (IsText bytes start) same (record { utf8 = IsUtf8-from_is_utf8 part valid; ended = ended })
+utf8_by : (bytes text : List ℕ) (utf8 : Bool) → is_utf8 bytes ≡ utf8 → unless ((not utf8, TextUtf8) ∷ []) bytes ≡ Ok text → (bytes ≡ text) × IsUtf8 text
+utf8_by bytes text false valid is = absurd (cc)
+utf8_by bytes text true valid is =
+    let same : bytes ≡ text = cc in (same, subst IsUtf8 same (IsUtf8-from_is_utf8 bytes valid))
 
 text_by : (bytes : List ℕ) (start : ℕ) (text : List ℕ) (found : Result (List ℕ) ElfError) → bytes_up_to_zero_of bytes start ≡ found → and_then found as_text ≡ Ok text → IsText bytes start text
 text_by bytes start text (Err error) before is = cc
 text_by bytes start text (Ok part) before is =
-    text_if bytes start part text (is_utf8 part) refl (ended-bytes bytes start part before) is
+    let (same, utf8) = utf8_by part text (is_utf8 part) refl is in
+    record { utf8 = utf8; ended = subst (EndsInZero bytes start) same (ended-bytes bytes start part before) }
 
 -- `text_of` is a text exactly if it is the text at `start`
 pub text_of-is : (bytes : List ℕ) (start : ℕ) (text : List ℕ) → text_of bytes start ≡ Ok text → IsText bytes start text
@@ -83,3 +85,29 @@ utf8-text bytes utf8 = rw (is_utf8-from_IsUtf8 bytes utf8) refl
 
 pub not_utf8-text : (bytes : List ℕ) → (IsUtf8 bytes → ⊥) → as_text bytes ≡ Err TextUtf8
 not_utf8-text bytes never = rw (Texts.not_utf8 bytes (is_utf8 bytes) refl never) refl
+
+-- only the returned bytes have the property, so that an error means that no bytes have it
+abbrev pub LendsOnly : (List ℕ → Type 0) → Result (Bor (List ℕ)) ElfError → Type 0
+LendsOnly Is result = (part : List ℕ) → Is part → IsOkAnd result (λ lent. lent.now ≡ part)
+
+-- that is so if only the computed bytes have it
+pub lends_only : (Is : List ℕ → Type 0) (answer : Result (List ℕ) ElfError) (r : Result (Bor (List ℕ)) ElfError) → Answers answer r → ((part : List ℕ) → Is part → answer ≡ Ok part) → LendsOnly Is r
+lends_only Is answer (Ok lent) exact computed part is = let same = computed part is in cc
+lends_only Is answer (Err error) exact computed part is = let same = computed part is in absurd (cc)
+
+-- only the computed error is returned
+pub refuses_only : (answer : Result (List ℕ) ElfError) (r : Result (Bor (List ℕ)) ElfError) (why : ElfError) → Answers answer r → answer ≡ Err why → IsErrOf r why
+refuses_only answer (Ok lent) why exact refused = absurd (cc)
+refuses_only answer (Err error) why exact refused = cc
+
+-- the texts with a property are the returned bytes, if these are UTF-8 and their text is the computed one
+pub lent_texts : (Is : List ℕ → Type 0) (answer : Result (List ℕ) ElfError) (r : Result (Bor (List ℕ)) ElfError) → answer ≡ lent_text r → ((text : List ℕ) → answer ≡ Ok text → Is text) → ((text : List ℕ) → Is text → answer ≡ Ok text) → TextIfUtf8 Is r
+lent_texts Is answer (Ok part) exact has computed text = (
+  λ is. utf8_by part.now text (is_utf8 part.now) refl (sym exact ∙ computed text is),
+  λ (same, utf8). has text (exact ∙ ap as_text same ∙ utf8-text text utf8),
+)
+lent_texts Is answer (Err error) exact has computed text = (λ is. let same = computed text is in absurd (cc), λ none. absurd none)
+
+-- the texts at `start` are those bytes up to the first zero byte that are UTF-8
+pub text_if_utf8 : (bytes : List ℕ) (start : ℕ) (r : Result (Bor (List ℕ)) ElfError) → text_of bytes start ≡ lent_text r → TextIfUtf8 (IsText bytes start) r
+text_if_utf8 bytes start r exact = lent_texts (IsText bytes start) (text_of bytes start) r exact (text_of-is bytes start) (is-text_of bytes start)

@@ -1,13 +1,11 @@
 //! Texts and bytes ended by a zero byte (gABI, "String Table").
 
-ghost use Rattle.std.specs.Prelude.{◌≡◌, ◌↔◌, ◌+◌, ◌<◌, ◌≤◌, ℕ, Err, IfErr, IfOk, IsErrOf, IsTrue};
-ghost use Rattle.std.specs.Prelude.{List, MatchResult, Ok, drop, length, take};
-ghost use Rattle.elf_base.specs.Lent.{Answers, Lends, LendsOnly, LiesAt};
-ghost use Rattle.elf_base.specs.Text.{BytesRefused, EndsInZero, IsText, NoZeroFrom, TextIfUtf8};
-ghost use Rattle.elf_base.specs.Text.{TextRefused, bytes_up_to_zero_of, lent_text, text_of};
-ghost use Rattle.std.specs.Str.{IsUtf8};
+ghost use Rattle.std.specs.Prelude.{◌≡◌, ◌↔◌, ◌+◌, ◌<◌, ◌≤◌, Err, IfErr, IfOk, IsTrue};
+ghost use Rattle.std.specs.Prelude.{MatchResult, Ok, drop, length, take};
+ghost use Rattle.elf_base.specs.Lent.{Answers, Lends, LiesAt};
+ghost use Rattle.elf_base.specs.Text.{BytesRefused, EndsInZero, IsText, TextRefused};
+ghost use Rattle.elf_base.specs.Text.{bytes_up_to_zero_of, lent_text, text_of};
 ghost use Rattle.elf_base.specs.TextCompared.{FrontCompared, TextCompared};
-ghost use Rattle.elf_base.specs.declared.error.ElfError.{ElfError};
 
 use crate::ElfError;
 use memchr::arch::all::is_equal;
@@ -19,11 +17,8 @@ use memchr::memchr;
 #[inline(always)]
 pub fn bytes_up_to_zero(data: &[u8], start: usize) -> Result<&[u8], ElfError>
     ensures bytes { Lends (EndsInZero «data».now start) result }
-    ensures only { LendsOnly (EndsInZero «data».now start) result }
     ensures place { IfOk result (LiesAt «data».entry start) }
     ensures refused { IfErr result (BytesRefused «data».now start) }
-    ensures refuses { (why : ElfError) → BytesRefused «data».now start why → IsErrOf result why }
-    ensures texts { TextIfUtf8 (IsText «data».now start) result }
     ensures as_text { text_of «data».now start ≡ lent_text result }
     ensures exact { Answers (bytes_up_to_zero_of «data».now start) result }
 {
@@ -44,14 +39,7 @@ pub fn bytes_up_to_zero(data: &[u8], start: usize) -> Result<&[u8], ElfError>
 #[inline(always)]
 pub fn text_at(data: &[u8], start: usize) -> Result<&str, ElfError>
     ensures text { Lends (IsText «data».now start) result }
-    ensures only { LendsOnly (IsText «data».now start) result }
     ensures refused { IfErr result (TextRefused «data».now start) }
-    ensures refuses { (why : ElfError) → TextRefused «data».now start why → IsErrOf result why }
-    ensures past { length «data».now < start → IsErrOf result ElfError.TextStart }
-    ensures endless { start ≤ length «data».now → NoZeroFrom «data».now start
-        → IsErrOf result ElfError.TextEnd }
-    ensures not_utf8 { (text : List ℕ) → EndsInZero «data».now start text → (IsUtf8 text → ⊥)
-        → IsErrOf result ElfError.TextUtf8 }
     ensures exact { Answers (text_of «data».now start) result }
 {
     if start > data.len() {

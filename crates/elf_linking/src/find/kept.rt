@@ -23,7 +23,7 @@ pub(crate) enum Kept<E> {
 }
 
 impl<E: Entry + Record> Kept<E> {
-    // What is kept after the symbol at an index; `Err` with the answer if the search ends there.
+    // What is kept after the symbol at an index; `Err` with the result if the search ends there.
     #[inline(always)]
     pub(crate) fn after(
         self,

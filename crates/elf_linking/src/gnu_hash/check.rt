@@ -40,9 +40,6 @@ impl<'a> GnuHashTable<'a> {
             ↔ IsGood self.now (symbols_of E.fields E.text_in symbols.now file.now) }
         ensures exact { IsCheck self.now
             (symbols_of E.fields E.text_in symbols.now file.now) result }
-        ensures only { (other : Result (Unit {0}) LinkError)
-            → IsCheck self.now (symbols_of E.fields E.text_in symbols.now file.now) other
-            → other ≡ result }
     {
         self.check_in(&SymbolTable::new(*symbols, file))
     }
@@ -51,8 +48,6 @@ impl<'a> GnuHashTable<'a> {
     pub fn check_in<E: Entry + Record>(&self, symbols: &SymbolTable<'_, E>) -> Result<(), LinkError>
         ensures accepts { IsOk result ↔ IsGood self.now (table_symbols symbols.now) }
         ensures exact { IsCheck self.now (table_symbols symbols.now) result }
-        ensures only { (other : Result (Unit {0}) LinkError)
-            → IsCheck self.now (table_symbols symbols.now) other → other ≡ result }
     {
         match self.check_buckets(symbols) {
             Ok(()) if self.holds_all(symbols) => Ok(()),
@@ -74,10 +69,7 @@ impl<'a> GnuHashTable<'a> {
     {
         let runs_end = self.runs_end(symbols);
         for bucket in 0..self.bucket_count() {
-            match self.check_bucket(bucket, runs_end, symbols) {
-                Ok(()) => {}
-                Err(error) => return Err(error),
-            }
+            self.check_bucket(bucket, runs_end, symbols)?;
         }
         Ok(())
     }

@@ -1,7 +1,7 @@
 //! The number of symbols of a GNU hash table (the convention of GNU binutils and glibc).
 
-ghost use Rattle.std.specs.Prelude.{◌≡◌, ◌^◌, ◌≤◌, IfOk, Result, ℕ};
-ghost use Rattle.elf_linking.specs.GnuCount.{CountsFrom, IsAboveRuns, IsGnuCount, IsLastRun};
+ghost use Rattle.std.specs.Prelude.{◌^◌, ◌≤◌, IfOk, ℕ};
+ghost use Rattle.elf_linking.specs.GnuCount.{CountStops, GoesTo, IsAboveRuns, IsGnuCount, IsLastRun};
 
 use crate::LinkError;
 use crate::gnu_hash::GnuHashTable;
@@ -18,7 +18,6 @@ impl GnuHashTable<'_> {
     /// of the run that begins last.
     pub fn symbol_count(&self) -> Result<u64, LinkError>
         ensures exact { IsGnuCount self.now result }
-        ensures only { (other : Result ℕ LinkError) → IsGnuCount self.now other → other ≡ result }
         ensures above { IfOk result (IsAboveRuns self.now) }
         ensures bound { IfOk result (λ count. count ≤ 2 ^ 32) }
     {
@@ -44,17 +43,13 @@ impl GnuHashTable<'_> {
 
     // The index after the end of the run from an index on.
     fn run_end(&self, from: u32) -> Result<u64, LinkError>
-        ensures exact { CountsFrom self.now from result }
+        ensures exact { (last : ℕ) × GoesTo self.now from last × CountStops self.now last result }
         ensures bound { IfOk result (λ count. count ≤ 2 ^ 32) }
     {
         for index in u64::from(from)..1 << 32 {
-            match self.get_chain(index as u32) {
-                Ok(word) => {
-                    if word % 2 == 1 {
-                        return Ok(index + 1);
-                    }
-                }
-                Err(error) => return Err(error),
+            let word = self.get_chain(index as u32)?;
+            if word % 2 == 1 {
+                return Ok(index + 1);
             }
         }
         Err(LinkError::SymbolIndex)

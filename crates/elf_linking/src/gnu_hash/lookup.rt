@@ -91,10 +91,6 @@ impl<'a> GnuHashTable<'a> {
         ensures answer { let all = symbols_of E.fields E.text_in symbols.now file.now in
             Decides all F.Fn f → (count : ℕ)
             × Looks (IsMatch all F.Fn f name.now) self.now all.items name.now result count }
-        ensures only { let all = symbols_of E.fields E.text_in symbols.now file.now in
-            Decides all F.Fn f → (other : Result (Option (ℕ × E)) LinkError) (count : ℕ)
-            → Looks (IsMatch all F.Fn f name.now) self.now all.items name.now other count
-            → other ≡ result }
         ensures good { let all = symbols_of E.fields E.text_in symbols.now file.now in
             Decides all F.Fn f → IsGood self.now all
             → FindsAll self.now all name.now (IsMatch all F.Fn f name.now) result }
@@ -116,10 +112,6 @@ impl<'a> GnuHashTable<'a> {
         ensures answer { let all = symbols_of E.fields E.text_in symbols.now file.now in
             Decides all F.Fn f
             → Looks (IsMatch all F.Fn f name.now) self.now all.items name.now result.0 result.1 }
-        ensures only { let all = symbols_of E.fields E.text_in symbols.now file.now in
-            Decides all F.Fn f → (other : Result (Option (ℕ × E)) LinkError) (count : ℕ)
-            → Looks (IsMatch all F.Fn f name.now) self.now all.items name.now other count
-            → (other ≡ result.0) × (count ≡ result.1) }
         ensures good { let all = symbols_of E.fields E.text_in symbols.now file.now in
             Decides all F.Fn f → IsGood self.now all
             → FindsAll self.now all name.now (IsMatch all F.Fn f name.now) result.0 }
@@ -141,10 +133,6 @@ impl<'a> GnuHashTable<'a> {
             → F.pre f e }
         ensures answer { let all = table_symbols symbols.now in Decides all F.Fn f → (count : ℕ)
             × Looks (IsMatch all F.Fn f name.now) self.now all.items name.now result count }
-        ensures only { let all = table_symbols symbols.now in
-            Decides all F.Fn f → (other : Result (Option (ℕ × E)) LinkError) (count : ℕ)
-            → Looks (IsMatch all F.Fn f name.now) self.now all.items name.now other count
-            → other ≡ result }
         ensures good { let all = table_symbols symbols.now in Decides all F.Fn f
             → IsGood self.now all
             → FindsAll self.now all name.now (IsMatch all F.Fn f name.now) result }
@@ -164,10 +152,6 @@ impl<'a> GnuHashTable<'a> {
         ensures in_symbols { result.1 ≤ length (table_symbols symbols.now).items }
         ensures answer { let all = table_symbols symbols.now in Decides all F.Fn f
             → Looks (IsMatch all F.Fn f name.now) self.now all.items name.now result.0 result.1 }
-        ensures only { let all = table_symbols symbols.now in
-            Decides all F.Fn f → (other : Result (Option (ℕ × E)) LinkError) (count : ℕ)
-            → Looks (IsMatch all F.Fn f name.now) self.now all.items name.now other count
-            → (other ≡ result.0) × (count ≡ result.1) }
         ensures good { let all = table_symbols symbols.now in Decides all F.Fn f
             → IsGood self.now all
             → FindsAll self.now all name.now (IsMatch all F.Fn f name.now) result.0 }
@@ -198,10 +182,6 @@ impl<'a> GnuHashTable<'a> {
         ensures answer { let all = table_symbols symbols.now in DecidesWhere all F.Fn f
             → (count : ℕ) × LooksWhere (IsMatchWhere all F.Fn f name.now) self.now all.items
             name.now result count }
-        ensures only { let all = table_symbols symbols.now in
-            DecidesWhere all F.Fn f → (other : Result (Option (ℕ × E)) LinkError) (count : ℕ)
-            → LooksWhere (IsMatchWhere all F.Fn f name.now) self.now all.items name.now other count
-            → other ≡ result }
         ensures good { let all = table_symbols symbols.now in DecidesWhere all F.Fn f
             → IsGood self.now all
             → FindsAllWhere self.now all name.now (IsMatchWhere all F.Fn f name.now) result }
@@ -209,7 +189,7 @@ impl<'a> GnuHashTable<'a> {
         self.search(name, symbols, &f).0
     }
 
-    // The look-up with a borrowed test: the walk from the bucket of the name.
+    // The look-up with a borrowed test: a pass over the run from the bucket of the name.
     #[inline(always)]
     fn search<E: Entry + Record, F: Fn(u32, &E) -> bool>(
         &self,
@@ -235,7 +215,7 @@ impl<'a> GnuHashTable<'a> {
         self.walk(from, hash, name, symbols, f)
     }
 
-    // The walk from an index on, by the hash number of the name.
+    // The pass over the run from an index on, by the hash number of the name.
     #[inline(always)]
     fn walk<E: Entry + Record, F: Fn(u32, &E) -> bool>(
         &self,

@@ -2,8 +2,8 @@
 //! linker).
 
 ghost use Rattle.std.specs.Prelude.{◌≡◌, option_map};
-ghost use Rattle.elf_linking.specs.Scope.{asked_of, asked_parts, binds_to_itself, wanted_by};
-ghost use Rattle.elf_linking.specs.Scope.{wanted_of, wanted_parts};
+ghost use Rattle.elf_linking.specs.Scope.{asked_of, asked_parts, binds_to_itself, if_protected};
+ghost use Rattle.elf_linking.specs.Scope.{wanted_by, wanted_of, wanted_parts};
 ghost use Rattle.elf_linking.specs.VersionTables.{result_map};
 ghost use Rattle.elf_linking.specs.Versions.{named_parts, version_parts};
 
@@ -17,10 +17,10 @@ use xmas_elf::symbol_table::Entry;
 /// What a reference asks for.
 #[derive(Clone, Copy, Debug)]
 pub enum Asked<'a, E> {
-    /// The symbol that it names, without a look-up: the symbol is local, or its visibility isn't
-    /// the default.
+    /// The symbol that it names, without a look-up: the symbol is local, hidden or internal.
     Own(E),
-    /// The symbol that a look-up finds.
+    /// The symbol that a look-up finds. `Scope::answer` says when a reference to a protected symbol
+    /// gets that symbol instead.
     Look {
         /// The name to look up.
         name: &'a str,
@@ -28,18 +28,21 @@ pub enum Asked<'a, E> {
         wanted: Wanted<'a>,
         /// Who asks.
         use_: Use,
+        /// The symbol that the reference names, if it is protected.
+        own: Option<E>,
     },
 }
 
 impl<'a, E: LinkedSymbol> DynamicObject<'a, E> {
-    /// What a reference of this file asks for. If its symbol is local or has another visibility
-    /// than the default, that is the symbol itself. Otherwise it is a look-up of the symbol's name,
-    /// for the use that the type of the relocation has by the machine of the file, and for the
-    /// symbol's own version if what bears that has a hash number other than 0. Such a version is
-    /// hidden if it is a need with bit 15 of its number set.
+    /// What a reference of this file asks for. If its symbol is local, hidden or internal, that is
+    /// the symbol itself, defined or not. Otherwise it is a look-up of the symbol's name, for the
+    /// use that the type of the relocation has by the machine of the file, and for the symbol's own
+    /// version if its definition or need has a hash number other than 0. Such a version is hidden if
+    /// it is a need with bit 15 of its number set.
     ///
-    /// Errors: `SymbolIndex` if there is no such symbol; those of `name`; those of `version`; those
-    /// of `NamedVersion::name`. A call goes through the definitions and the needs once at most.
+    /// Errors: `SymbolIndex` if there is no such symbol; for a look-up those of `name`, those of
+    /// `version`, and those of `NamedVersion::name`. A call goes through the definitions and the
+    /// needs once at most.
     pub fn asked(&self, reference: &Reference) -> Result<Asked<'a, E>, LinkError>
         ensures { result_map asked_parts result ≡ asked_of E.fields self.now reference.now }
     {
@@ -55,6 +58,7 @@ impl<'a, E: LinkedSymbol> DynamicObject<'a, E> {
             name,
             wanted,
             use_: use_of(self.machine(), reference.kind),
+            own: if_protected(symbol),
         })
     }
 }
@@ -63,7 +67,18 @@ impl<'a, E: LinkedSymbol> DynamicObject<'a, E> {
 fn binds_to_itself<E: Entry>(symbol: &E) -> bool
     ensures { result ≡ binds_to_itself (E.fields symbol.now) }
 {
-    symbol.info() / 16 == 0 || symbol.other().raw() % 4 != 0
+    symbol.info() / 16 == 0 || matches!(symbol.other().raw() % 4, 1 | 2)
+}
+
+// The symbol of a reference, if it is protected.
+fn if_protected<E: LinkedSymbol>(symbol: E) -> Option<E>
+    ensures { result ≡ if_protected E.fields symbol }
+{
+    if symbol.other().raw() % 4 == 3 {
+        Some(symbol)
+    } else {
+        None
+    }
 }
 
 // The version that a reference wants, by the version of its symbol.
@@ -76,7 +91,7 @@ fn wanted_of<'a>(version: Option<SymbolVersion<'a>>) -> Result<Wanted<'a>, LinkE
     }
 }
 
-// The version that a reference wants, by what bears the version of its symbol.
+// The version that a reference wants, by the definition or need of its symbol's version.
 fn wanted_by<'a>(named: Option<NamedVersion<'a>>) -> Result<Wanted<'a>, LinkError>
     ensures { result_map wanted_parts result ≡ wanted_by (option_map named_parts named.entry) }
 {

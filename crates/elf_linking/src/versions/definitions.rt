@@ -18,7 +18,7 @@ use crate::view::{is_text_by, text_by};
 pub struct Definition<'a> {
     /// The flags of the definition (vd_flags); the lowest marks the base.
     pub flags: u16,
-    /// The number of the version (vd_ndx), by which symbols refer to it.
+    /// The number of the version (vd_ndx) as it is in the file. Symbols refer to it by bits 0 to 14.
     pub number: u16,
     /// The hash number of the name (vd_hash), that of the ELF standard's hash tables.
     pub hash: u32,
@@ -34,12 +34,12 @@ impl<'a> Definition<'a> {
         self.flags % 2 == 1
     }
 
-    // Whether it bears a number, and isn't the base.
+    // Whether it has this number, and isn't the base.
     #[inline(always)]
     pub(crate) fn bears(&self, number: u16) -> bool
         ensures { result ≡ bears_defined number (definition_parts self.now) }
     {
-        self.number == number && !self.is_base()
+        self.number % 0x8000 == number && !self.is_base()
     }
 
     /// The offset of the name in the string table, in bytes, by the first record of names.

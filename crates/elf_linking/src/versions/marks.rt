@@ -75,7 +75,7 @@ fn mark(marks: &mut [u16], records: &Records<'_>, place: u16)
     let start = usize::from(place);
     mark_with(
         marks,
-        records.u16_at(start, 4),
+        records.u16_at(start, 4) % 0x8000,
         records.u16_at(start, 2),
         place,
     );

@@ -28,7 +28,7 @@ pub struct Need<'a> {
 }
 
 impl<'a> Need<'a> {
-    // Whether it bears a number.
+    // Whether it has this number.
     pub(crate) fn bears(&self, number: u16) -> bool
         ensures { result ≡ bears_needed number (need_parts self.now) }
     {

@@ -14,7 +14,7 @@ use crate::versions::definitions::definition_at;
 use crate::versions::{Definition, Need, Versions};
 use elf_base::bytes::read_u16;
 
-/// What bears the number of a symbol's version.
+/// The definition or the need that a symbol's version number names.
 #[derive(Clone, Copy, Debug)]
 pub enum NamedVersion<'a> {
     /// A version that the file defines.
@@ -35,7 +35,8 @@ impl<'a> NamedVersion<'a> {
         }
     }
 
-    /// The name; the errors are those of `Definition::name` and `Need::name`.
+    /// The name; the errors are those of `Definition::name` and `Need::name`. There is none for what
+    /// `Versions::version_of` returns, if `Versions::check` is Ok.
     #[inline(always)]
     pub fn name(&self) -> Result<&'a str, LinkError>
         ensures { lent result ≡ named_name (named_parts self.now) }
@@ -66,12 +67,12 @@ pub struct SymbolVersion<'a> {
     pub number: u16,
     /// Whether the version is hidden (bit 15): only a reference with a version finds the symbol.
     pub hidden: bool,
-    /// What bears the number; nothing bears 0 and 1.
+    /// The definition or need with the number; `None` for 0 and 1.
     pub named: Option<NamedVersion<'a>>,
 }
 
 impl<'a> Versions<'a> {
-    /// The number of the symbol at `index` as it stands in the file, in 16 bits; `None` if the file
+    /// The number of the symbol at `index` as the file has it, in 16 bits; `None` if the file
     /// has no numbers of symbols.
     ///
     /// The error is `SymbolIndex` if there is no number at this index.
@@ -89,12 +90,13 @@ impl<'a> Versions<'a> {
         Ok(Some(read_u16(numbers, place, self.definitions.records.order)))
     }
 
-    /// The version of the symbol at `index`, with what bears its number: the first definition with
-    /// it that isn't the base, otherwise the first need with it; `None` if the file has no numbers
-    /// of symbols.
+    /// The version of the symbol at `index`, with the definition or need that has its number: the
+    /// first definition that isn't the base, otherwise the first need; `None` if the file has no
+    /// numbers of symbols.
     ///
-    /// Errors: that of `number`; the error with which `definitions` or `needs` end before what
-    /// bears the number is found. A call goes through both lists once at most, and reads no name. A
+    /// Errors: that of `number`; the error with which `definitions` or `needs` end before the number
+    /// is found. If `check` is Ok for more symbols than `index`, there is no error, and the name of
+    /// the version can be read. A call goes through both lists once at most, and reads no name. A
     /// definition with a number below 64 is found at once, if it is one of the first 64 and lies in
     /// the first 64 KiB of the table.
     #[tactic(auto, using(crate::proofs::VersionSearch::version_means))]
@@ -113,7 +115,7 @@ impl<'a> Versions<'a> {
         }))
     }
 
-    // What bears a number.
+    // The definition or need with a number.
     fn named(&self, number: u16) -> Result<Option<NamedVersion<'a>>, LinkError>
         ensures { result_map (option_map named_parts) result
             ≡ named_of (version_tables self.now) number }

@@ -1,11 +1,13 @@
 //! The dynamic segment of a file, and its entries (gABI, "Dynamic Section").
 
-ghost use Rattle.std.specs.Prelude.{◌≡◌, ◌<◌, ◌^◌, Ok, Err, IfOk, MatchResult, length, map};
+ghost use Rattle.std.specs.Prelude.{◌≡◌, ◌<◌, ◌^◌, Ok, Err, IfOk, MatchResult, length, map, ok_or};
+ghost use Rattle.elf_base.specs.Refusal.{and_then};
 ghost use Rattle.elf_linking.specs.DynamicView.{LiesAsFileStrings, LiesByEntries};
 ghost use Rattle.elf_linking.specs.DynamicView.{dynamic_segment_of, entries_left, is_dynamic};
-ghost use Rattle.elf_linking.specs.DynamicView.{number_with, pairs_of, dynamic_strings_of, table_at};
+ghost use Rattle.elf_linking.specs.DynamicView.{number_with, pairs_of, dynamic_strings_of};
 ghost use Rattle.elf_linking.specs.DynamicView.{until_null};
-ghost use Rattle.elf_linking.specs.Loaded.{lent};
+ghost use Rattle.elf_linking.specs.Loaded.{bytes_at_of, lent};
+ghost use Rattle.elf_linking.specs.declared.error.LinkError.TheVariants.{NoEntry};
 ghost use Rattle.elf_linking.specs.declared.view.tags.TheConstants.{DT_RPATH};
 ghost use Rattle.elf_linking.specs.declared.view.tags.TheConstants.{DT_RUNPATH, DT_SONAME};
 
@@ -52,7 +54,7 @@ impl<'a> DynamicView<'a> {
     ghost use Rattle.elf_linking.specs.DynamicView.{IsTextWith, LiesAsStrings, as_linked_text};
     ghost use Rattle.elf_linking.specs.DynamicView.{dynamic_entries_of, is_symbolic};
     ghost use Rattle.elf_linking.specs.DynamicView.{needed_bytes_left, needed_bytes_of, needed_left};
-    ghost use Rattle.elf_linking.specs.DynamicView.{needed_of, strings_by};
+    ghost use Rattle.elf_linking.specs.DynamicView.{needed_of, needed_table, strings_by};
     ghost use Rattle.elf_linking.specs.DynamicView.{view_entries, view_strings, view_table};
 
     /// Reads the first segment of type Dynamic. Its entries end before the first with tag Null, or
@@ -101,11 +103,12 @@ impl<'a> DynamicView<'a> {
     }
 
     /// An iterator over the names of the needed libraries as bytes, in order: the texts of `needed`,
-    /// where these are Ok.
+    /// where these are Ok. `NeededBytes::next` says where a name is in the string table.
     #[tactic(auto, using(crate::proofs::NeededTexts::needed_texts))]
     pub fn needed_bytes(&self) -> NeededBytes<'a>
         ensures items { needed_bytes_left result ≡ needed_bytes_of self.now }
         ensures texts { needed_of self.now ≡ map as_linked_text (needed_bytes_left result) }
+        ensures table { needed_table result ≡ view_table self.now }
         ensures fits { length (needed_bytes_left result) < 2 ^ 64 }
     {
         NeededBytes::new(self.entries(), self.strings)
@@ -173,13 +176,17 @@ fn strings_by<'a>(
     address: Option<u64>,
     size: Option<u64>,
 ) -> Result<&'a [u8], LinkError>
-    ensures exact { lent result ≡ table_at file.now address size }
+    ensures exact { lent result ≡ and_then (ok_or address NoEntry) (λ start.
+        and_then (ok_or size NoEntry) (bytes_at_of file.now start)) }
     ensures place { IfOk result (LiesByEntries file.now address size) }
 {
-    match (address, size) {
-        (Some(address), Some(size)) => bytes_at(file, address, size),
-        _ => Err(LinkError::NoEntry),
-    }
+    let Some(address) = address else {
+        return Err(LinkError::NoEntry);
+    };
+    let Some(size) = size else {
+        return Err(LinkError::NoEntry);
+    };
+    bytes_at(file, address, size)
 }
 
 /// The string table of the dynamic segment: the bytes at its entries StrTab and StrSize.

@@ -1,8 +1,9 @@
 //! The names of needed libraries as bytes (gABI, "Dynamic Section": DT_NEEDED).
 
-ghost use Rattle.std.specs.Prelude.{◌≡◌, ◌<◌, ◌^◌, length};
-ghost use Rattle.elf_linking.specs.DynamicView.{bytes_in_strings, entries_left, needed_bytes_in};
-ghost use Rattle.elf_linking.specs.DynamicView.{needed_bytes_left};
+ghost use Rattle.std.specs.Prelude.{◌≡◌, ◌<◌, ◌^◌, IfOk, IfSome, IsOkAnd, length};
+ghost use Rattle.elf_base.specs.Lent.{LiesAt};
+ghost use Rattle.elf_linking.specs.DynamicView.{LiesAsNeeded, bytes_in_strings, entries_left};
+ghost use Rattle.elf_linking.specs.DynamicView.{needed_bytes_in, needed_bytes_left, needed_table};
 ghost use Rattle.elf_linking.specs.Loaded.{lent};
 
 use crate::LinkError;
@@ -15,7 +16,8 @@ fn bytes_at_offset<'a>(
     strings: Result<&'a [u8], LinkError>,
     place: u64,
 ) -> Result<&'a [u8], LinkError>
-    ensures { lent result ≡ bytes_in_strings (lent strings.entry) place }
+    ensures exact { lent result ≡ bytes_in_strings (lent strings.entry) place }
+    ensures place { IfOk result (λ name. IsOkAnd strings.entry (λ table. LiesAt table place name)) }
 {
     Ok(bytes_up_to_zero(strings?, place as usize)?)
 }
@@ -31,6 +33,8 @@ pub struct NeededBytes<'a> {
 }
 
 impl<'a> NeededBytes<'a> {
+    ghost use Rattle.std.specs.Iterator.{YieldsFirstBy};
+
     #[tactic(auto, using(crate::proofs::NeededItems::needed_fits))]
     pub(crate) fn new(
         entries: DynamicEntries<'a>,
@@ -39,9 +43,25 @@ impl<'a> NeededBytes<'a> {
         requires { length (entries_left entries) < 2 ^ 64 }
         ensures items { needed_bytes_left result
             ≡ needed_bytes_in (lent strings.entry) (entries_left entries.entry) }
+        ensures table { needed_table result ≡ strings.entry }
         ensures fits { length (needed_bytes_left result) < 2 ^ 64 }
     {
         NeededBytes { entries, strings }
+    }
+
+    /// The next name. It is `Iterator::next` with a contract for the place of the name.
+    #[tactic(auto, using(crate::proofs::NeededItems::needed_none, crate::proofs::NeededItems::needed_first, crate::proofs::NeededItems::needed_other, crate::proofs::NeededItems::number_first, crate::proofs::NeededItems::number_other))]
+    pub fn next(&mut self) -> Option<Result<&'a [u8], LinkError>>
+        ensures next { YieldsFirstBy lent needed_bytes_left self.old result self.new }
+        ensures place { IfSome result (LiesAsNeeded self.old) }
+        ensures table { needed_table self.new ≡ needed_table self.old }
+    {
+        loop {
+            let entry = self.entries.next()?;
+            if entry.raw_tag() == DT_NEEDED {
+                return Some(bytes_at_offset(self.strings, entry.raw_val()));
+            }
+        }
     }
 }
 
@@ -54,13 +74,7 @@ impl<'a> Iterator for NeededBytes<'a> {
 
     ghost remaining = { item_count needed_bytes_left };
 
-    #[tactic(auto, using(crate::proofs::NeededItems::needed_none, crate::proofs::NeededItems::needed_first, crate::proofs::NeededItems::needed_other))]
     fn next(&mut self) -> Option<Result<&'a [u8], LinkError>> {
-        loop {
-            let entry = self.entries.next()?;
-            if entry.raw_tag() == DT_NEEDED {
-                return Some(bytes_at_offset(self.strings, entry.raw_val()));
-            }
-        }
+        NeededBytes::next(self)
     }
 }

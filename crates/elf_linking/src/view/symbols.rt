@@ -64,13 +64,9 @@ impl<'a> DynamicView<'a> {
         ensures place { IfOk result (λ symbols. LieAsSymbols
             file.now (view_entries self.now) (table_bytes (carried_table symbols))) }
     {
-        match self.records(file) {
-            Ok(symbols) => match self.strings() {
-                Ok(strings) => Ok(SymbolTable::with_strings(symbols, strings)),
-                Err(error) => Err(error),
-            },
-            Err(error) => Err(error),
-        }
+        let symbols = self.records(file)?;
+        let strings = self.strings()?;
+        Ok(SymbolTable::with_strings(symbols, strings))
     }
 
     /// The symbols of `symbols` without their names, which need no string table.

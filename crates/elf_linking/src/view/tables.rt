@@ -1,9 +1,10 @@
 //! The hash tables of a dynamic segment (gABI, "Dynamic Section": DT_HASH; DT_GNU_HASH of GNU
 //! binutils and glibc).
 
-ghost use Rattle.std.specs.Prelude.{◌≡◌, Ok, Err, MatchResult};
+ghost use Rattle.std.specs.Prelude.{◌≡◌, Ok, Err, MatchResult, ok_or};
 ghost use Rattle.elf_base.specs.FileHeader.{class_of, file_class, file_order};
-ghost use Rattle.elf_linking.specs.Loaded.{lent};
+ghost use Rattle.elf_base.specs.Refusal.{and_then};
+ghost use Rattle.elf_linking.specs.Loaded.{bytes_from_of, lent};
 
 use crate::LinkError;
 use crate::gnu_hash::GnuHashTable;
@@ -14,7 +15,7 @@ use xmas_elf::ElfFile;
 use xmas_elf::hash::HashTable;
 
 impl<'a> DynamicView<'a> {
-    ghost use Rattle.elf_linking.specs.DynamicView.{bytes_with, gnu_hash_table_of, hash_table_of};
+    ghost use Rattle.elf_linking.specs.DynamicView.{gnu_hash_table_of, hash_table_of, number_with};
     ghost use Rattle.elf_linking.specs.DynamicView.{view_entries};
     ghost use Rattle.elf_linking.specs.GnuHash.{gnu_class, gnu_data, gnu_order};
     ghost use Rattle.xmas_elf.specs.HashTable.{hash_data, hash_order};
@@ -61,7 +62,8 @@ impl<'a> DynamicView<'a> {
 
     // The bytes from the address in the first entry with this tag on.
     fn bytes_with(&self, tag: u64, file: &ElfFile<'a>) -> Result<&'a [u8], LinkError>
-        ensures { lent result ≡ bytes_with tag file.now (view_entries self.now) }
+        ensures { lent result ≡ and_then (ok_or (number_with tag (view_entries self.now))
+            LinkError.NoEntry) (bytes_from_of file.now) }
     {
         match self.entry(tag) {
             Some(address) => bytes_from(file, address),

@@ -1,10 +1,8 @@
 //! Notes (gABI, "Note Section").
 
-ghost use Rattle.std.specs.Prelude.{◌≡◌, ◌≢◌, ◌<◌, ◌+◌, ℕ, List, length, IfErr, IfOk, IsErrOf};
+ghost use Rattle.std.specs.Prelude.{◌≡◌, ◌<◌, ◌+◌, length, IfErr, IfOk};
 ghost use Rattle.std.proofs.Common.{lit<};
-ghost use Rattle.elf_base.specs.Lent.{Answers, Lends, LendsOnly, LiesAt};
-ghost use Rattle.elf_base.specs.Text.{IsText};
-ghost use Rattle.elf_base.specs.declared.error.ElfError.{ElfError};
+ghost use Rattle.elf_base.specs.Lent.{Answers, Lends, LiesAt};
 ghost use Rattle.elf_records.specs.Note.{IsNoteDescription, IsNoteName, NoteNameRefused};
 ghost use Rattle.elf_records.specs.Note.{note_desc_of, note_desc_size, note_header, note_name_of};
 ghost use Rattle.elf_records.specs.Note.{note_name_size, note_type, rounded_up};
@@ -74,12 +72,7 @@ impl NoteHeader {
     #[inline(always)]
     pub fn name<'a>(&self, body: &'a [u8]) -> Result<&'a str, ElfError>
         ensures text { Lends (IsNoteName body.now (note_name_size self.now)) result }
-        ensures only { LendsOnly (IsNoteName body.now (note_name_size self.now)) result }
         ensures refused { IfErr result (NoteNameRefused body.now (note_name_size self.now)) }
-        ensures refuses { (why : ElfError) → NoteNameRefused body.now (note_name_size self.now) why
-            → IsErrOf result why }
-        ensures wrong_size { (text : List ℕ) → IsText body.now 0 text
-            → length text + 1 ≢ note_name_size self.now → IsErrOf result ElfError.NoteName }
         ensures exact { Answers (note_name_of body.now (note_name_size self.now)) result }
     {
         let text = text_at(body, 0)?;
@@ -96,14 +89,9 @@ impl NoteHeader {
     pub fn desc<'a>(&self, body: &'a [u8]) -> Result<&'a [u8], ElfError>
         ensures desc { Lends (IsNoteDescription body.now (note_name_size self.now)
             (note_desc_size self.now)) result }
-        ensures only { LendsOnly (IsNoteDescription body.now (note_name_size self.now)
-            (note_desc_size self.now)) result }
         ensures place { IfOk result (LiesAt body.entry (rounded_up (note_name_size self.now))) }
         ensures refused { IfErr result (λ error. (error ≡ ElfError.NoteDesc)
             × (length body.now < rounded_up (note_name_size self.now) + note_desc_size self.now)) }
-        ensures refuses { length body.now
-            < rounded_up (note_name_size self.now) + note_desc_size self.now
-            → IsErrOf result ElfError.NoteDesc }
         ensures exact { Answers (note_desc_of body.now (note_name_size self.now)
             (note_desc_size self.now)) result }
     {

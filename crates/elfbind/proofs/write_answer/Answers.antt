@@ -1,10 +1,15 @@
 use Rattle.std.proofs.Common.{rules}
-use Rattle.elfbind.specs.Answers.{bindings, checks}
-use Rattle.elfbind.proofs.Steps.{if_ok_so}
+use Rattle.elfbind.specs.Answers.{bindings, bindings_begun, by_binding, by_check, checks, checks_begun}
 use Rattle.elfbind.proofs.write_answer.Goals as goal
+use Rattle.program_ends.proofs.Ends.{ends_so, stop_so}
 
-pub returns-in_ok-check_objects-in-Bindings : goal.returns-in_ok-check_objects-in-Bindings
-returns-in_ok-check_objects-in-Bindings g c = if_ok_so _ _ c.write_bindings.result _ _ (λ wrong text were. bindings (search rules) c.in_ok-check_objects-in-Bindings.ensures were) c.write_bindings.ensures
+pub returns-in-Ok : goal.returns-in-Ok
+returns-in-Ok g c = ends_so _ _ _ _ _ _ _ c.write_bindings.result _ _ (λ wrong text were. bindings (search rules) c.in-Ok.ensures were)
+    (λ error why. by_binding (search rules) c.in-Ok.ensures why) (λ begun. bindings_begun (search rules) c.in-Ok.ensures begun) c.write_bindings.ensures
+
+pub returns-in-Err : goal.returns-in-Err
+returns-in-Err g c = stop_so _ _ _ _ _ _ c.in-Err.stop (λ error why. by_check (search rules) why) (λ never. absurd never) (λ never. never) c.in-Err.ensures
 
 pub returns-in-Checks : goal.returns-in-Checks
-returns-in-Checks g c = if_ok_so _ _ c.write_checks.result _ _ (λ wrong text were. checks (search rules) were) c.write_checks.ensures
+returns-in-Checks g c = ends_so _ _ _ _ _ _ _ c.write_checks.result _ _ (λ wrong text were. checks (search rules) were)
+    (λ error never. absurd never) (λ begun. checks_begun (search rules)) c.write_checks.ensures

@@ -1,17 +1,19 @@
 //! Callers that ask for the value of a name by its version, in an object whose look-ups find what
 //! they must and whose versions can be read.
 
-ghost use Rattle.std.specs.Prelude.{◌≡◌, ℕ, MatchOption, None, Ok, Option, Some, true};
-ghost use Rattle.elf_linking.specs.AnyTable.{IsGoodBy};
+ghost use Rattle.std.specs.Prelude.{◌≡◌, ℕ, Err, MatchOption, MatchResult, None, Ok, Option};
+ghost use Rattle.std.specs.Prelude.{Some, option_map, true};
+ghost use Rattle.elf_linking.specs.AnyTable.{IsCheckBy, IsGoodBy};
 ghost use Rattle.elf_linking.specs.DynamicObject.{object_dynamic_symbols};
 ghost use Rattle.elf_linking.specs.Find.{AreReadable, IsRight, NoneAccepted, Stands, accepted};
-ghost use Rattle.elf_linking.specs.Find.{version_wanted};
+ghost use Rattle.elf_linking.specs.Find.{exact_version, version_wanted};
+ghost use Rattle.elf_linking.specs.Serves.{if_serving};
 ghost use Rattle.elf_linking.specs.declared.find.Use.TheVariants.{Any};
 ghost use Rattle.elf_linking.specs.declared.find.Wanted.TheVariants.{Newest};
 
-use elf_linking::DynamicObject;
 use elf_linking::find::{Use, Wanted};
 use elf_linking::view::LinkedSymbol;
+use elf_linking::{DynamicObject, LinkError};
 
 /// The value of the symbol with this name that is found without a version, as `dlsym` does: one
 /// whose version has a number below 2, or the only one that isn't hidden; `None` if there is
@@ -30,6 +32,21 @@ pub fn default_value<E: LinkedSymbol>(object: &DynamicObject<'_, E>, name: &str)
         Ok(None) => None,
         Err(_) => unreachable!(),
     }
+}
+
+/// The value of the symbol with this name that `dlsym` finds: that of the symbol which is right in the
+/// list of symbols, if it serves other files. Refused as the check of the hash table is.
+pub fn served_value<E: LinkedSymbol>(
+    object: &DynamicObject<'_, E>,
+    name: &str,
+) -> Result<Option<u64>, LinkError>
+    requires { AreReadable (object_dynamic_symbols E.fields object.now) }
+    ensures { let file = object_dynamic_symbols E.fields object.now in MatchResult result
+        (λ value. (found : Option (ℕ × E)) × IsRight file name.now Newest Any found
+        × (value ≡ option_map (λ at. (E.fields at.1).value) (if_serving E.fields found)))
+        (λ error. IsCheckBy file.table file.symbols (Err error)) }
+{
+    object.newest_value(name)
 }
 
 /// The value of a symbol with this name whose version is accepted for the one with the other name;
@@ -51,6 +68,30 @@ pub fn versioned_value<E: LinkedSymbol>(
 {
     match object.find(name, &Wanted::version(version), Use::Any) {
         Ok(Some((_index, versioned))) => Some(versioned.value()),
+        Ok(None) => None,
+        Err(_) => unreachable!(),
+    }
+}
+
+/// The value of a symbol with this name and a version with the other name, as `dlvsym` asks; `None` if
+/// the version of each symbol that look-ups must find is another, or has no name.
+#[tactic(auto, using(crate::proofs::FoundValues::found_accepted))]
+pub fn exact_value<E: LinkedSymbol>(
+    object: &DynamicObject<'_, E>,
+    name: &str,
+    version: &str,
+) -> Option<u64>
+    requires good { let file = object_dynamic_symbols E.fields object.now in
+        IsGoodBy file.table file.symbols }
+    requires readable { AreReadable (object_dynamic_symbols E.fields object.now) }
+    ensures { let file = object_dynamic_symbols E.fields object.now in MatchOption result
+        (NoneAccepted file name.now (exact_version version.entry) Any)
+        (λ value. (i : ℕ) × (e : E) × Stands file name.now Any (i, e)
+        × (accepted file.versions (exact_version version.entry) i ≡ Ok true)
+        × (value ≡ (E.fields e).value)) }
+{
+    match object.find(name, &Wanted::exact(version), Use::Any) {
+        Ok(Some((_index, exact))) => Some(exact.value()),
         Ok(None) => None,
         Err(_) => unreachable!(),
     }

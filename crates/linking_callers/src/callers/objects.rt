@@ -1,8 +1,8 @@
 //! Callers that read the dynamic symbols of a file once, and answer all about them by what was
 //! read.
 
-ghost use Rattle.std.specs.Prelude.{◌≡◌, ℕ, MatchOption};
-ghost use Rattle.elf_linking.specs.AnyTable.{IsDefined, IsGoodBy, NoneDefined};
+ghost use Rattle.std.specs.Prelude.{◌≡◌, ℕ, Err, MatchOption, MatchResult};
+ghost use Rattle.elf_linking.specs.AnyTable.{IsCheckBy, IsDefined, NoneDefined};
 ghost use Rattle.elf_linking.specs.DynamicObject.{IsObjectRefused, object_name, object_symbols};
 ghost use Rattle.elf_linking.specs.DynamicObject.{object_table, object_versions};
 ghost use Rattle.elf_linking.specs.VersionTables.{version_tables};
@@ -15,19 +15,21 @@ use elf_linking::{DynamicObject, LinkError};
 use xmas_elf::ElfFile;
 use xmas_elf::symbol_table::{DynEntry32, DynEntry64};
 
-/// The value of the symbol that is defined and has this name, by an object whose check passed; `None`
-/// if each symbol with the name that look-ups must find is undefined.
-pub fn defined_value<E: LinkedSymbol>(object: &DynamicObject<'_, E>, name: &str) -> Option<u64>
-    requires good { IsGoodBy (object_table object.now)
-        (object_symbols E.fields object.now) }
-    ensures { let all = object_symbols E.fields object.now in MatchOption result
-        (NoneDefined (object_table object.now) all name.now)
+/// The value of the symbol that is defined and has this name; `None` if each symbol with the name
+/// that look-ups must find is undefined. Refused as the check of the hash table is.
+pub fn defined_value<E: LinkedSymbol>(
+    object: &DynamicObject<'_, E>,
+    name: &str,
+) -> Result<Option<u64>, LinkError>
+    ensures { let all = object_symbols E.fields object.now in MatchResult result
+        (λ found. MatchOption found (NoneDefined (object_table object.now) all name.now)
         (λ value. (i : ℕ) × (e : E) × IsDefined (object_table object.now) all i e name.now
-        × (value ≡ (E.fields e).value)) }
+        × (value ≡ (E.fields e).value)))
+        (λ error. IsCheckBy (object_table object.now) all (Err error)) }
 {
-    match object.defined_symbol(name) {
-        Some((_index, symbol)) => Some(symbol.value()),
-        None => None,
+    match object.defined_symbol(name)? {
+        Some((_index, symbol)) => Ok(Some(symbol.value())),
+        None => Ok(None),
     }
 }
 

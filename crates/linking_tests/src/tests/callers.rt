@@ -40,13 +40,9 @@ fn value_of<E: Entry + Record>(
     symbols: &Table<'_, E>,
     file: &ElfFile<'_>,
 ) -> Result<Option<u64>, LinkError> {
-    let symbols = SymbolTable::new(*symbols, file);
-    match table.check(&symbols) {
-        Ok(()) => match table.defined_symbol(name, &symbols) {
-            Some((_index, symbol)) => Ok(Some(symbol.value())),
-            None => Ok(None),
-        },
-        Err(error) => Err(error),
+    match table.defined_symbol(name, &SymbolTable::new(*symbols, file))? {
+        Some((_index, symbol)) => Ok(Some(symbol.value())),
+        None => Ok(None),
     }
 }
 

@@ -11,10 +11,10 @@ use elf_linking::gnu_hash::GnuHashTable;
 use elf_linking::values::value_by_name;
 use elf_linking::view::{DynamicView, bytes_at, bytes_from};
 use elf_linking::{DynamicObject, LinkError};
-use linked_files::small::SMALL;
 use linking_callers::callers::backtrace::function_name;
 use std::process::Abort;
 use std::test::Fail;
+use worked_files::linked::small::SMALL;
 use worked_files::places::{WORD, put, set};
 use xmas_elf::symbol_table::{DynEntry32, DynEntry64, Entry, SymbolTable};
 

@@ -1,4 +1,4 @@
-//! The texts of refusals.
+//! The texts of errors, and their numbers: those of `bindings/statuses.txt`.
 
 use crate::tests::want::want;
 use elf_base::ElfError;
@@ -6,8 +6,14 @@ use elf_linking::LinkError;
 use std::alloc::AllocError;
 use std::process::Abort;
 
-// The text of the refusal, by itself and printed.
-fn check(rt: &(impl Abort + AllocGlobal), error: LinkError, text: &str) -> Result<(), AllocError> {
+// Wants this number and text of an error, by itself and printed.
+fn check(
+    rt: &(impl Abort + AllocGlobal),
+    error: LinkError,
+    number: u32,
+    text: &str,
+) -> Result<(), AllocError> {
+    want(rt, error.number(), number);
     want(rt, error.message(), text);
     let printed = format!(in rt.alloc(); "{error}")?;
     want(rt, printed.as_str(), text);
@@ -16,57 +22,65 @@ fn check(rt: &(impl Abort + AllocGlobal), error: LinkError, text: &str) -> Resul
     Ok(())
 }
 
-const TEXTS: &[(LinkError, &str)] = &[
-    (
-        LinkError::Elf(ElfError::NoMagic),
-        "Did not find ELF magic number",
-    ),
-    (
-        LinkError::Elf(ElfError::TextEnd),
-        "Text has no terminating zero",
-    ),
-    (LinkError::ShortTable, "GNU hash table is too short"),
-    (LinkError::UnknownClass, "Class is neither 1 nor 2"),
+const INNER: &[(ElfError, u32, &str)] = &[
+    (ElfError::NoMagic, 2, "Did not find ELF magic number"),
+    (ElfError::TextEnd, 15, "Text has no terminating zero"),
+];
+
+const ERRORS: &[(LinkError, u32, &str)] = &[
+    (LinkError::ShortTable, 101, "GNU hash table is too short"),
+    (LinkError::UnknownClass, 102, "Class is neither 1 nor 2"),
     (
         LinkError::BloomCount,
+        103,
         "Number of Bloom words is not a power of two",
     ),
-    (LinkError::BucketIndex, "Bucket index is out of range"),
+    (LinkError::BucketIndex, 104, "Bucket index is out of range"),
     (
         LinkError::ChainIndex,
+        105,
         "Symbol index is before the first of the table",
     ),
-    (LinkError::ChainData, "Chain is not in the data"),
-    (LinkError::SymbolIndex, "Symbol index is out of range"),
+    (LinkError::ChainData, 106, "Chain is not in the data"),
+    (LinkError::SymbolIndex, 107, "Symbol index is out of range"),
     (
         LinkError::Missing,
+        108,
         "Symbol is missing from the GNU hash table",
     ),
-    (LinkError::NoDynamic, "No dynamic segment"),
-    (LinkError::NoEntry, "Dynamic segment has no such entry"),
-    (LinkError::Address, "Address is in no loaded segment"),
-    (LinkError::ShortNote, "Note is cut off"),
+    (LinkError::NoDynamic, 109, "No dynamic segment"),
+    (LinkError::NoEntry, 110, "Dynamic segment has no such entry"),
+    (LinkError::Address, 111, "Address is in no loaded segment"),
+    (LinkError::ShortNote, 112, "Note is cut off"),
     (
         LinkError::NotMultiple,
+        113,
         "Data is not a whole number of words",
     ),
-    (LinkError::ShortVersion, "Version record is cut off"),
+    (LinkError::ShortVersion, 114, "Version record is cut off"),
     (
         LinkError::VersionCount,
+        115,
         "Version needs have more parts than bytes",
     ),
     (
         LinkError::RelocationKind,
+        116,
         "Kind of relocations is neither Rel nor Rela",
     ),
-    (LinkError::ObjectIndex, "Object index is out of range"),
+    (LinkError::ObjectIndex, 117, "Object index is out of range"),
 ];
 
 #[test]
-fn each_refusal_has_its_text(rt: HostRuntime) -> Result<(), AllocError> {
-    for &(error, text) in TEXTS {
-        check(&rt, error, text)?;
+fn each_error_has_its_number_and_text(rt: HostRuntime) -> Result<(), AllocError> {
+    for &(error, number, text) in ERRORS {
+        check(&rt, error, number, text)?;
+        want(&rt, LinkError::with_number(number), Some(error));
     }
-    let error = LinkError::from(ElfError::TextEnd);
-    check(&rt, error, "Text has no terminating zero")
+    for &(inner, number, text) in INNER {
+        check(&rt, LinkError::from(inner), number, text)?;
+        want(&rt, LinkError::with_number(number), None);
+    }
+    want(&rt, LinkError::with_number(0), None);
+    Ok(())
 }

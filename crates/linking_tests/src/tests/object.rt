@@ -2,18 +2,19 @@
 //! small shared objects, and the refusals of damaged ones in their order.
 
 use crate::tests::shared_object;
+use crate::tests::version_parts::parts;
 use crate::tests::want::{open, want, want_at};
 use elf_base::ElfError;
 use elf_linking::values::value_by_name;
 use elf_linking::versions::Versions;
 use elf_linking::view::{DynamicView, LinkedSymbol};
 use elf_linking::{AnyTable, DynamicObject, LinkError};
-use linked_files::small::SMALL;
-use linked_files::versions::{NARROW, WIDE, parts};
 use linking_callers::callers::objects::{
     defined_value, name_and_version, narrow_refusal, symbol_name,
 };
 use std::process::Abort;
+use worked_files::linked::small::SMALL;
+use worked_files::linked::versions::{NARROW, WIDE};
 use worked_files::places::put;
 use xmas_elf::symbol_table::{DynEntry32, DynEntry64};
 
@@ -36,17 +37,6 @@ fn version_name<'a, E: LinkedSymbol>(
     match parts(object.version(index)) {
         Ok(Some((_number, _hidden, name))) => Ok(name),
         Ok(None) => Ok(None),
-        Err(error) => Err(error),
-    }
-}
-
-// The value of a defined symbol, after the check.
-fn value_of<E: LinkedSymbol>(
-    object: &DynamicObject<'_, E>,
-    name: &str,
-) -> Result<Option<u64>, LinkError> {
-    match object.check() {
-        Ok(()) => Ok(defined_value(object, name)),
         Err(error) => Err(error),
     }
 }
@@ -112,40 +102,11 @@ fn callers_answer_about_a_symbol(rt: HostRuntime) {
     want(&rt, symbol_name(&open(&rt, WIDE), 5), Ok("call"));
 }
 
-// Wants these values of the exported names, and of no others.
-fn check_values<E: LinkedSymbol>(
-    rt: &impl Abort,
-    object: &DynamicObject<'_, E>,
-    values: &[u64; 7],
-) {
-    for (name, &value) in shared_object::NAMES.iter().zip(values) {
-        want_at(rt, name, value_of(object, name), Ok(Some(value)));
-    }
-    for &name in MISSING {
-        want_at(rt, name, value_of(object, name), Ok(None));
-    }
-}
-
-const MISSING: &[&str] = &["outer", "inner", "", "firs"];
-
-#[test]
-fn finds_values_by_an_object(rt: HostRuntime) -> Result<(), LinkError> {
-    let (narrow, wide) = (
-        open(&rt, shared_object::NARROW),
-        open(&rt, shared_object::WIDE),
-    );
-    let narrow = DynamicObject::<DynEntry32>::read(&narrow)?;
-    check_values(&rt, &narrow, &shared_object::NARROW_VALUES);
-    let wide = DynamicObject::<DynEntry64>::read(&wide)?;
-    check_values(&rt, &wide, &shared_object::WIDE_VALUES);
-    Ok(())
-}
-
 #[test]
 fn finds_a_value_in_a_file_without_versions(rt: HostRuntime) -> Result<(), LinkError> {
     let file = open(&rt, SMALL);
     let object = DynamicObject::<DynEntry64>::read(&file)?;
-    want(&rt, value_of(&object, "ef"), Ok(Some(0x23a)));
+    want(&rt, defined_value(&object, "ef"), Ok(Some(0x23a)));
     want(&rt, version_name(&object, 1), Ok(None));
     Ok(())
 }

@@ -84,11 +84,11 @@ impl<'a> HashTable<'a> {
     /// are distributed.
     ///
     /// After more steps than there are chains, buckets share a chain, and it continues with the
-    /// words of chains alone. It walks from each index up to a lesser one or the end, which is one
-    /// step if chains lead downwards, as a linker makes them; from each bucket, if one of those
-    /// walks reaches neither; and from the bucket of each symbol's name, which it reads once more,
-    /// up to the symbol. With B buckets, C chains and S symbols, a table made to be expensive takes
-    /// at most B + C + S times the lesser of C and S such steps. `check_with` needs fewer.
+    /// words of chains alone. It follows the chain from each index up to a lesser one or the end,
+    /// in one step if chains lead downwards, as a linker makes them; from each bucket, if one of
+    /// these passes reaches neither; and from the bucket of each symbol's name, which it reads once
+    /// more, up to the symbol. With B buckets, C chains and S symbols, a table made to be expensive
+    /// takes at most B + C + S times the lesser of C and S such steps. `check_with` needs fewer.
     pub fn check<E: Entry + Record>(
         &self,
         symbols: &Table<'_, E>,
@@ -98,9 +98,6 @@ impl<'a> HashTable<'a> {
             ↔ IsGood self.now (symbols_of E.fields E.text_in symbols.now file.now) }
         ensures exact { IsCheck self.now
             (symbols_of E.fields E.text_in symbols.now file.now) result }
-        ensures only { (other : Result (Unit {0}) ElfError)
-            → IsCheck self.now (symbols_of E.fields E.text_in symbols.now file.now) other
-            → other ≡ result }
     {
         self.check_in(&SymbolTable::new(*symbols, file))
     }
@@ -124,9 +121,6 @@ impl<'a> HashTable<'a> {
             ↔ IsGood self.now (symbols_of E.fields E.text_in symbols.now file.now) }
         ensures exact { IsCheck self.now
             (symbols_of E.fields E.text_in symbols.now file.now) result }
-        ensures only { (other : Result (Unit {0}) ElfError)
-            → IsCheck self.now (symbols_of E.fields E.text_in symbols.now file.now) other
-            → other ≡ result }
     {
         self.check_in_with(&SymbolTable::new(*symbols, file), words)
     }
@@ -135,8 +129,6 @@ impl<'a> HashTable<'a> {
     pub fn check_in<E: Entry + Record>(&self, symbols: &SymbolTable<'_, E>) -> Result<(), ElfError>
         ensures accepts { IsOk result ↔ IsGood self.now (table_symbols symbols.now) }
         ensures exact { IsCheck self.now (table_symbols symbols.now) result }
-        ensures only { (other : Result (Unit {0}) ElfError)
-            → IsCheck self.now (table_symbols symbols.now) other → other ≡ result }
     {
         self.verdict(symbols, &mut [])
     }
@@ -149,8 +141,6 @@ impl<'a> HashTable<'a> {
     ) -> Result<(), ElfError>
         ensures accepts { IsOk result ↔ IsGood self.now (table_symbols symbols.now) }
         ensures exact { IsCheck self.now (table_symbols symbols.now) result }
-        ensures only { (other : Result (Unit {0}) ElfError)
-            → IsCheck self.now (table_symbols symbols.now) other → other ≡ result }
     {
         self.verdict(symbols, words)
     }
@@ -244,8 +234,7 @@ impl<'a> HashTable<'a> {
         Ok((held, count))
     }
 
-    // The symbol at an index of a walk, and the index of the next step; or the error of a walk that
-    // looks for nothing.
+    // The symbol at an index of a chain, and the next index; or the error of a search for nothing.
     #[inline(always)]
     fn step<E: Entry + Record>(
         &self,
@@ -319,8 +308,8 @@ impl<'a> HashTable<'a> {
         Ok(())
     }
 
-    // An index below which each chain ends: the first from which a walk reaches neither a lesser
-    // index nor the end, or else the number of indices that can be in a chain.
+    // An index below which each chain ends: the first whose chain reaches neither a lesser index
+    // nor the end, or else the number of indices that can be in a chain.
     fn ending<E: Entry + Record>(&self, symbols: &SymbolTable<'_, E>) -> u32
         ensures some { 0 < result }
         ensures each { (i : ℕ) → i < result

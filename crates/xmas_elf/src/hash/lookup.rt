@@ -2,8 +2,8 @@
 
 ghost use Rattle.std.specs.Borrow.{Bor};
 ghost use Rattle.std.specs.Fn.{FnReturnsAt};
-ghost use Rattle.std.specs.Prelude.{◌≡◌, ◌≢◌, ◌≤◌, ◌<◌, ◌^◌, ◌↔◌, ℕ, true, false, Contains, IfSome};
-ghost use Rattle.std.specs.Prelude.{IsTrue, Option, Result, Ok, Err, Some, length, slice_get};
+ghost use Rattle.std.specs.Prelude.{◌≡◌, ◌≤◌, ◌<◌, ◌^◌, ℕ, true, false, Contains};
+ghost use Rattle.std.specs.Prelude.{IsTrue, Some, length, slice_get};
 ghost use Rattle.elf_base.specs.Table.{table_items};
 ghost use Rattle.xmas_elf.specs.Symbols.{Decides, DecidesWhere, IsMatch, IsMatchWhere};
 ghost use Rattle.xmas_elf.specs.Symbols.{ReturnsWhere, symbols_of};
@@ -26,7 +26,7 @@ impl<'a> HashTable<'a> {
     /// `symbols.len()`; those of `get_chain` if the chain can't be followed; `HashCycle` if the
     /// chain never ends. If `check` is Ok for the same symbols and file, there is no error, and
     /// every symbol with the name that isn't local and passes the test is found: of several, the
-    /// first in the chain.
+    /// first in the chain. For a table that `check` rejects it can miss a symbol.
     ///
     /// If the bucket isn't empty, the call finds the string table of the symbols once, by
     /// `Entry::string_table`, and compares the names there in place.
@@ -44,10 +44,6 @@ impl<'a> HashTable<'a> {
         ensures answer { let all = symbols_of E.fields E.text_in symbols.now file.now in
             Decides all F.Fn f → (count : ℕ)
             × Looks (IsMatch all F.Fn f name.now) self.now all.items name.now result count }
-        ensures only { let all = symbols_of E.fields E.text_in symbols.now file.now in
-            Decides all F.Fn f → (other : Result (Option (ℕ × E)) ElfError) (count : ℕ)
-            → Looks (IsMatch all F.Fn f name.now) self.now all.items name.now other count
-            → other ≡ result }
         ensures good { let all = symbols_of E.fields E.text_in symbols.now file.now in
             Decides all F.Fn f → IsGood self.now all
             → FindsAll all name.now (IsMatch all F.Fn f name.now) result }
@@ -71,10 +67,6 @@ impl<'a> HashTable<'a> {
         ensures answer { let all = symbols_of E.fields E.text_in symbols.now file.now in
             Decides all F.Fn f
             → Looks (IsMatch all F.Fn f name.now) self.now all.items name.now result.0 result.1 }
-        ensures only { let all = symbols_of E.fields E.text_in symbols.now file.now in
-            Decides all F.Fn f → (other : Result (Option (ℕ × E)) ElfError) (count : ℕ)
-            → Looks (IsMatch all F.Fn f name.now) self.now all.items name.now other count
-            → (other ≡ result.0) × (other ≢ Err ElfError.HashCycle → count ≡ result.1) }
         ensures good { let all = symbols_of E.fields E.text_in symbols.now file.now in
             Decides all F.Fn f → IsGood self.now all
             → FindsAll all name.now (IsMatch all F.Fn f name.now) result.0 }
@@ -96,10 +88,6 @@ impl<'a> HashTable<'a> {
             → F.pre f e }
         ensures answer { let all = table_symbols symbols.now in Decides all F.Fn f → (count : ℕ)
             × Looks (IsMatch all F.Fn f name.now) self.now all.items name.now result count }
-        ensures only { let all = table_symbols symbols.now in
-            Decides all F.Fn f → (other : Result (Option (ℕ × E)) ElfError) (count : ℕ)
-            → Looks (IsMatch all F.Fn f name.now) self.now all.items name.now other count
-            → other ≡ result }
         ensures good { let all = table_symbols symbols.now in Decides all F.Fn f
             → IsGood self.now all → FindsAll all name.now (IsMatch all F.Fn f name.now) result }
     {
@@ -119,10 +107,6 @@ impl<'a> HashTable<'a> {
         ensures in_symbols { result.1 ≤ length (table_symbols symbols.now).items }
         ensures answer { let all = table_symbols symbols.now in Decides all F.Fn f
             → Looks (IsMatch all F.Fn f name.now) self.now all.items name.now result.0 result.1 }
-        ensures only { let all = table_symbols symbols.now in
-            Decides all F.Fn f → (other : Result (Option (ℕ × E)) ElfError) (count : ℕ)
-            → Looks (IsMatch all F.Fn f name.now) self.now all.items name.now other count
-            → (other ≡ result.0) × (other ≢ Err ElfError.HashCycle → count ≡ result.1) }
         ensures good { let all = table_symbols symbols.now in Decides all F.Fn f
             → IsGood self.now all → FindsAll all name.now (IsMatch all F.Fn f name.now) result.0 }
     {
@@ -151,10 +135,6 @@ impl<'a> HashTable<'a> {
         ensures answer { let all = table_symbols symbols.now in DecidesWhere all F.Fn f
             → (count : ℕ) × LooksWhere (IsMatchWhere all F.Fn f name.now) self.now all.items
             name.now result count }
-        ensures only { let all = table_symbols symbols.now in
-            DecidesWhere all F.Fn f → (other : Result (Option (ℕ × E)) ElfError) (count : ℕ)
-            → LooksWhere (IsMatchWhere all F.Fn f name.now) self.now all.items name.now other count
-            → other ≡ result }
         ensures good { let all = table_symbols symbols.now in DecidesWhere all F.Fn f
             → IsGood self.now all
             → FindsAllWhere all name.now (IsMatchWhere all F.Fn f name.now) result }
@@ -162,7 +142,7 @@ impl<'a> HashTable<'a> {
         self.search(name, symbols, &f).0
     }
 
-    // The look-up with a borrowed test: the walk from the bucket of the name.
+    // The look-up with a borrowed test: a pass along the chain from the bucket of the name.
     fn search<E: Entry + Record, F: Fn(u32, &E) -> bool>(
         &self,
         name: &str,

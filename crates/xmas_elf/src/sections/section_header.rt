@@ -5,9 +5,9 @@ ghost use Rattle.std.specs.Prelude.{◌≡◌, ◌↔◌, ◌+◌, ◌≤◌, �
 ghost use Rattle.std.specs.Prelude.{MatchResult, Ok, drop, length, nat_lt, not, take};
 ghost use Rattle.std.proofs.Common.{lit<};
 ghost use Rattle.elf_base.specs.FileHeader.{class_number};
-ghost use Rattle.elf_base.specs.Lent.{Answers, Lends, LendsOnly};
+ghost use Rattle.elf_base.specs.Lent.{Answers, Lends};
 ghost use Rattle.elf_base.specs.Refusal.{unless};
-ghost use Rattle.elf_base.specs.Text.{TextIfUtf8, lent_text};
+ghost use Rattle.elf_base.specs.Text.{lent_text};
 ghost use Rattle.elf_records.specs.SectionNumbers.{sh_type_raw};
 ghost use Rattle.xmas_elf.specs.HeaderTable.{is_known_class};
 ghost use Rattle.xmas_elf.specs.NameTable.{HasName, HasNameBytes, LiesAsName, name_bytes_of};
@@ -248,8 +248,8 @@ impl SectionHeader {
 
     /// The type of the section, or `InvalidShType`.
     ///
-    /// The errors are those of `ShType_::as_sh_type`, one of them for RELR, the type of `.relr.dyn`
-    /// in recent C libraries. The other getters work for such a section.
+    /// It is the error of `ShType_::as_sh_type`, for example for RELR, the type of `.relr.dyn` in
+    /// recent C libraries. The other getters work for such a section.
     #[inline(always)]
     pub fn get_type(&self) -> Result<ShType, ElfError>
         ensures { result ≡ section_type self.now }
@@ -265,7 +265,6 @@ impl SectionHeader {
     #[inline(always)]
     pub fn get_name<'a>(&self, file: &ElfFile<'a>) -> Result<&'a str, ElfError>
         ensures name { Lends (HasName file.now self.now) result }
-        ensures only { LendsOnly (HasName file.now self.now) result }
         ensures exact { Answers (name_of file.now self.now) result }
     {
         match self.get_type()? {
@@ -282,16 +281,13 @@ impl SectionHeader {
     #[inline(always)]
     pub fn name_bytes<'a>(&self, file: &ElfFile<'a>) -> Result<&'a [u8], ElfError>
         ensures bytes { Lends (HasNameBytes file.now self.now) result }
-        ensures only { LendsOnly (HasNameBytes file.now self.now) result }
         ensures place { IfOk result (LiesAsName file.now (section_fields self.now).name) }
-        ensures texts { TextIfUtf8 (HasName file.now self.now) result }
         ensures as_text { name_of file.now self.now ≡ lent_text result }
         ensures exact { Answers (name_bytes_of file.now self.now) result }
     {
-        match self.get_type() {
-            Ok(ShType::Null) => Err(ElfError::NullName),
-            Ok(_) => file.get_shstr_bytes(self.name()),
-            Err(error) => Err(error),
+        match self.get_type()? {
+            ShType::Null => Err(ElfError::NullName),
+            _ => file.get_shstr_bytes(self.name()),
         }
     }
 

@@ -6,17 +6,16 @@ ghost use Rattle.std.specs.Prelude.{Err, IfOk, MatchOption, Ok, ℕ};
 ghost use Rattle.std.specs.Result.{ForErr, ForOk};
 ghost use Rattle.std.specs.Iterator.{YieldsFirst, item_count};
 ghost use Rattle.elf_base.specs.FileHeader.{file_class, file_order, header_fields};
-ghost use Rattle.elf_base.specs.Lent.{Answers, Lends, LendsOnly};
-ghost use Rattle.elf_base.specs.Text.{TextIfUtf8, lent_text};
+ghost use Rattle.elf_base.specs.Lent.{Answers, Lends};
+ghost use Rattle.elf_base.specs.Text.{lent_text};
 ghost use Rattle.xmas_elf.specs.SectionHeader.{HasSectionEntry, section_at_index, section_at_place};
 ghost use Rattle.xmas_elf.specs.SectionHeader.{section_count_of, section_header_size, section_list};
 ghost use Rattle.xmas_elf.specs.SectionHeader.{section_fields, section_of};
 ghost use Rattle.xmas_elf.specs.First.{FindsFirstAt};
 ghost use Rattle.xmas_elf.specs.HeaderTable.{IsLaidOut, IsLongest};
-ghost use Rattle.xmas_elf.specs.NameTable.{HasName, HasNameBytes, FindsNamed, IsNameAt};
-ghost use Rattle.xmas_elf.specs.NameTable.{IsNameBytesAt, IsNameTable, LiesAsNameTable};
-ghost use Rattle.xmas_elf.specs.NameTable.{name_bytes_of, name_of, name_table_of, section_named};
-ghost use Rattle.xmas_elf.specs.NameTable.{shstr_bytes_of, shstr_of};
+ghost use Rattle.xmas_elf.specs.NameTable.{HasName, HasNameBytes, FindsNamed, IsNameTable};
+ghost use Rattle.xmas_elf.specs.NameTable.{LiesAsNameTable, name_bytes_of, name_of};
+ghost use Rattle.xmas_elf.specs.NameTable.{name_table_of, section_named};
 
 use crate::bytes::{Order, Record, bytes_up_to_zero, text_at};
 use crate::header::Class::{SixtyFour, ThirtyTwo};
@@ -122,73 +121,40 @@ impl<'b, 'a> SectionTable<'b, 'a> {
     }
 
     /// The name of a section, as in `SectionHeader::get_name`.
-    #[tactic(auto, unfolding(crate::specs::NameTable::name_of))]
+    #[tactic(auto, unfolding(crate::specs::NameTable::name_of, crate::specs::NameTable::shstr_of))]
     #[inline(always)]
     pub fn name_of(&self, section: &SectionHeader) -> Result<&'a str, ElfError>
         ensures name { Lends (HasName (section_table_file self.now) section.now) result }
-        ensures only { LendsOnly (HasName (section_table_file self.now) section.now) result }
         ensures exact { Answers (name_of (section_table_file self.now) section.now) result }
     {
         match section.get_type()? {
             ShType::Null => Err(ElfError::NullName),
-            _ => self.text(section.name()),
+            _ => text_at(self.name_table()?, section.name() as usize),
         }
     }
 
     /// The bytes of a section's name, as in `SectionHeader::name_bytes`.
-    #[tactic(auto, unfolding(crate::specs::NameTable::name_bytes_of, crate::specs::NameTable::name_of))]
+    #[tactic(auto, unfolding(crate::specs::NameTable::name_bytes_of, crate::specs::NameTable::name_of, crate::specs::NameTable::shstr_bytes_of, crate::specs::NameTable::shstr_of))]
     #[inline(always)]
     pub fn name_bytes_of(&self, section: &SectionHeader) -> Result<&'a [u8], ElfError>
         ensures bytes { Lends (HasNameBytes (section_table_file self.now) section.now) result }
-        ensures only { LendsOnly (HasNameBytes (section_table_file self.now) section.now) result }
         ensures place { LiesInNames self.now (section_fields section.now).name result }
-        ensures texts { TextIfUtf8 (HasName (section_table_file self.now) section.now) result }
         ensures as_text { name_of (section_table_file self.now) section.now ≡ lent_text result }
         ensures exact { Answers (name_bytes_of (section_table_file self.now) section.now) result }
     {
-        match section.get_type() {
-            Ok(ShType::Null) => Err(ElfError::NullName),
-            Ok(_) => self.bytes(section.name()),
-            Err(error) => Err(error),
+        match section.get_type()? {
+            ShType::Null => Err(ElfError::NullName),
+            _ => bytes_up_to_zero(self.name_table()?, section.name() as usize),
         }
-    }
-
-    // The bytes at byte `index` of the name table, as in `ElfFile::get_shstr_bytes`.
-    #[tactic(auto, unfolding(crate::specs::NameTable::shstr_bytes_of, crate::specs::NameTable::shstr_of))]
-    #[inline(always)]
-    fn bytes(&self, index: u32) -> Result<&'a [u8], ElfError>
-        ensures bytes { Lends (IsNameBytesAt (section_table_file self.now) index) result }
-        ensures only { LendsOnly (IsNameBytesAt (section_table_file self.now) index) result }
-        ensures place { LiesInNames self.now index result }
-        ensures texts { TextIfUtf8 (IsNameAt (section_table_file self.now) index) result }
-        ensures as_text { shstr_of (section_table_file self.now) index ≡ lent_text result }
-        ensures exact { Answers (shstr_bytes_of (section_table_file self.now) index) result }
-    {
-        match self.name_table() {
-            Ok(names) => bytes_up_to_zero(names, index as usize),
-            Err(error) => Err(error),
-        }
-    }
-
-    // The text at byte `index` of the name table, as in `ElfFile::get_shstr`.
-    #[tactic(auto, unfolding(crate::specs::NameTable::shstr_of))]
-    #[inline(always)]
-    fn text(&self, index: u32) -> Result<&'a str, ElfError>
-        ensures name { Lends (IsNameAt (section_table_file self.now) index) result }
-        ensures only { LendsOnly (IsNameAt (section_table_file self.now) index) result }
-        ensures exact { Answers (shstr_of (section_table_file self.now) index) result }
-    {
-        text_at(self.name_table()?, index as usize)
     }
 
     // The name table, or the error for it. A function by itself: its proof turns the ghost fields
-    // `named` and `nameless` into the clauses by which `text`, `bytes` and `position_of_name` prove
-    // theirs.
+    // `named` and `nameless` into the clauses by which `name_of`, `name_bytes_of` and
+    // `position_of_name` prove theirs.
     #[inline(always)]
     fn name_table(&self) -> Result<&'a [u8], ElfError>
         ensures table { Lends (IsNameTable (section_table_file self.now)) result }
         ensures same { result ≡ section_table_names self.now }
-        ensures only { LendsOnly (IsNameTable (section_table_file self.now)) result }
         ensures exact { Answers (name_table_of (section_table_file self.now)) result }
     {
         self.names

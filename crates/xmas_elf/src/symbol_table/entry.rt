@@ -137,8 +137,6 @@ pub trait Entry {
         ensures value { IfOk result (λ section. (index : ℕ)
             × IsSectionIndex file.now (fields self.now) self_index index
             × (section_of file.now index ≡ Ok section)) }
-        ensures only { (index : ℕ) → IsSectionIndex file.now (fields self.now) self_index index
-            → result ≡ section_of file.now index }
         ensures exact { result ≡ symbol_section_of file.now (fields self.now) self_index }
     {
         let index = self.shndx();

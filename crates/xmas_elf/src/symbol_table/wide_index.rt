@@ -1,7 +1,7 @@
 //! Section indices of symbols that need more than 16 bits (gABI, "Sections", SHT_SYMTAB_SHNDX).
 
-ghost use Rattle.std.specs.Prelude.{◌≡◌, ℕ, IfOk, Ok};
-ghost use Rattle.elf_base.specs.Lent.{Answers, Lends, LendsOnly};
+ghost use Rattle.std.specs.Prelude.{◌≡◌, IfOk};
+ghost use Rattle.elf_base.specs.Lent.{Answers, Lends};
 ghost use Rattle.xmas_elf.specs.SymbolSection.{IsIndexTable, IsWideIndex};
 ghost use Rattle.xmas_elf.specs.SymbolSection.{index_table_of, wide_index_of};
 
@@ -14,7 +14,6 @@ use elf_base::header::byte_order;
 #[tactic(auto, unfolding(crate::specs::SymbolSection::wide_index_of))]
 pub(crate) fn wide_index(file: &ElfFile<'_>, self_index: usize) -> Result<u32, ElfError>
     ensures is { IfOk result (IsWideIndex file.now self_index) }
-    ensures only { (index : ℕ) → IsWideIndex file.now self_index index → result ≡ Ok index }
     ensures exact { result ≡ wide_index_of file.now self_index }
 {
     let order = byte_order(file.header.pt1.encoding);
@@ -26,7 +25,6 @@ pub(crate) fn wide_index(file: &ElfFile<'_>, self_index: usize) -> Result<u32, E
 #[tactic(auto, unfolding(crate::specs::SymbolSection::index_table_of))]
 fn index_table<'a>(file: &ElfFile<'a>) -> Result<&'a [u8], ElfError>
     ensures table { Lends (IsIndexTable file.now) result }
-    ensures only { LendsOnly (IsIndexTable file.now) result }
     ensures exact { Answers (index_table_of file.now) result }
 {
     let Some(section) = file.find_section_by_name(".symtab_shndx") else {

@@ -2,11 +2,12 @@ use Rattle.std.proofs.Common.{◌≡◌, ◌<◌, ◌↔◌, Ok, IsOk, subst}
 use Rattle.elf_c.specs.DynamicSymbols.{IsDynamicCount, IsSegmentTable, AreDynamicSymbols, dynamic_symbol_at, dynamic_symbol_name}
 use Rattle.elf_c.specs.FoundSymbols.{IsFoundBy}
 use Rattle.elf_c.specs.Parsed.{file_of}
-use Rattle.elf_c.specs.SymbolTables.{name_by, symbol_by}
+use Rattle.elf_c.specs.SymbolTables.{LieWithin, name_by, symbol_by}
 use Rattle.elf_c.specs.Symbols.{symbol_record}
 use Rattle.elf_c.proofs.GivenRanges.{given_in}
 use Rattle.elf_c.proofs.OpenedFound.{opened_found}
 use Rattle.elf_c.proofs.OpenedDynamics.{opened_count, opened_names, opened_number, opened_symbols}
+use Rattle.elf_c.proofs.OpenedWithin.{segment_within}
 use Rattle.elf_c.proofs.dynamic_symbols.xmas_elf_dynamic_symbols_open.Goals as goal
 
 pub returns-clause-exact : goal.returns-clause-exact
@@ -41,3 +42,9 @@ returns-clause-counted c = λ none index. given_in
     (λ f t. IsOk (symbol_by symbol_record f.input.now t index) ↔ (index < t.count))
     IsSegmentTable c.file.result (file_of c.args.input c.args.header.now) c.table_of_segment.result c.args.out.now c.give.result c.give.new.out
     (λ table made. opened_count c.file.result table made index) c.file.ensures c.table_of_segment.ensures c.give.ensures none
+
+pub returns-clause-within : goal.returns-clause-within
+returns-clause-within c = λ none. given_in
+    (λ f t. LieWithin f.input.now t)
+    IsSegmentTable c.file.result (file_of c.args.input c.args.header.now) c.table_of_segment.result c.args.out.now c.give.result c.give.new.out
+    (λ table made. segment_within c.file.result table made) c.file.ensures c.table_of_segment.ensures c.give.ensures none

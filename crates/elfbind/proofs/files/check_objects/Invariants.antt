@@ -1,5 +1,5 @@
 use Rattle.std.proofs.Common.{ℕ, ◌<◌}
-use Rattle.elfbind.proofs.Objects.{IsGoodAt}
+use Rattle.elfbind.specs.Checks.{IsGoodAt}
 use Rattle.elfbind.proofs.files.check_objects.Given as goal
 
 -- the objects so far are good

@@ -3,6 +3,8 @@ use Rattle.std.proofs.lemmas.List.{length_push, take_more}
 use Rattle.elfbind.specs.Files.{AreObjectsOf, IsObjectOfBytes}
 use Rattle.elfbind.specs.declared.files.Input.{Input}
 use Rattle.elfbind.proofs.Objects.{zip_one_more}
+use Rattle.elfbind.specs.Files.{IsRefusedAsObject}
+use Rattle.elfbind.proofs.Stops.{input_stops}
 use Rattle.elfbind.proofs.files.read_objects.Goals as goal
 
 pub loop-input-preserved : goal.loop-input-preserved
@@ -23,3 +25,14 @@ loop-input-preserved g c =
       subst (λ (xs : List Input). AreObjectsOf C S xs c.push.new.self.items) (sym longer) (subst (λ ys. AreObjectsOf C S (take index inputs ++ (item ∷ [])) ys) (sym pushed) all),
       ap length pushed ∙ length_push done object ∙ ap (λ n. n + 1) c.loop-input.invariant.1,
     )
+
+pub returns-in-Err-clause-refused : goal.returns-in-Err-clause-refused
+returns-in-Err-clause-refused g c =
+    let C = g.E.LinkedSymbol.CLASS in
+    let S = g.E.Record.SIZE in
+    let inputs = c.args.inputs.now in
+    let index = c.loop-input.input-index in
+    let item = c.input-item.result in
+    let below : index < length inputs = omega (arith, c.loop-input-test.true) in
+    let why : IsRefusedAsObject C S item.bytes.items c.in-Err.error = subst (λ (bytes : List ℕ). IsRefusedAsObject C S bytes c.in-Err.error) c.deref.ensures.value c.in-Err.ensures.exact in
+    input_stops _ C S inputs index item c.loop-input.objects.items c.in-Err.error _ below c.input-item.is c.loop-input.invariant.0 why c.refusal.ensures

@@ -1,6 +1,6 @@
 use Rattle.std.proofs.Common.{◌≡◌, subst}
 use Rattle.xmas_elf.specs.NameTable.{FindsNamed, section_named}
-use Rattle.xmas_elf.proofs.FirstNamed.{found_named, missing_named, only_named}
+use Rattle.xmas_elf.proofs.FirstNamed.{found_named, missing_named}
 use Rattle.xmas_elf.proofs.ElfFile.find_section_by_name.Goals as goal
 
 pub returns : goal.returns
@@ -12,7 +12,6 @@ returns c =
     record {
       list = list;
       found = found_named file name found list;
-      only = only_named file name found list;
       missing = missing_named file name found list;
       exact = subst (λ f. found ≡ section_named f name) c.section_table.ensures.file c.find_by_name.ensures.exact;
     }

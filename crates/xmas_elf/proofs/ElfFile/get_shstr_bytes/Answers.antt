@@ -1,22 +1,6 @@
-use Rattle.std.proofs.Common.{◌≡◌}
-use Rattle.xmas_elf.proofs.NameBytes.{lies_as_name, names_texts}
+use Rattle.xmas_elf.proofs.NameBytes.{lies_as_name}
 use Rattle.xmas_elf.proofs.ElfFile.get_shstr_bytes.Goals as goal
 
-pub returns-in-Ok-clause-only : goal.returns-in-Ok-clause-only
-returns-in-Ok-clause-only c = λ part is.
-    let same : c.in-Ok.names.now ≡ is.table = c.in-Ok.ensures.only is.table is.in_table in
-    c.bytes_up_to_zero.ensures.only part (rw same is.ended)
-
-pub returns-in-Ok-clause-place : goal.returns-in-Ok-clause-place
-returns-in-Ok-clause-place c =
-    lies_as_name c.args.self.now c.args.index c.in-Ok.names c.bytes_up_to_zero.result c.in-Ok.ensures.place c.bytes_up_to_zero.ensures.place
-
-pub returns-in-Ok-clause-texts : goal.returns-in-Ok-clause-texts
-returns-in-Ok-clause-texts c =
-    names_texts c.args.self.now c.args.index c.in-Ok.names.now c.bytes_up_to_zero.result c.in-Ok.ensures.exact c.bytes_up_to_zero.ensures.texts
-
-pub returns-in-Err-clause-only : goal.returns-in-Err-clause-only
-returns-in-Err-clause-only c = λ part is. absurd (c.in-Err.ensures.only is.table is.in_table)
-
-pub returns-in-Err-clause-texts : goal.returns-in-Err-clause-texts
-returns-in-Err-clause-texts c = λ name. (λ named. absurd (c.in-Err.ensures.only named.table named.in_table), λ none. absurd none)
+pub returns-clause-place : goal.returns-clause-place
+returns-clause-place c =
+    lies_as_name c.args.self.now c.args.index c.in_ok-name_table.field-0 c.bytes_up_to_zero.result c.in_ok-name_table.ensures.place c.bytes_up_to_zero.ensures.place

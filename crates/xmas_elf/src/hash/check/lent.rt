@@ -1,10 +1,10 @@
 //! The check of a table whose buckets share chains, with one word of scratch memory for each chain.
 //!
-//! A word from `LINKED` on links its index to another one that a walk from it reaches, so that later
-//! walks skip what lies between. A word below is the number of indices whose chain leads to its own
+//! A word from `LINKED` on links its index to a later one of the same chain, so that later searches
+//! skip what is between them. A word below is the number of indices whose chain leads to its own
 //! and that aren't linked. An index is linked once that number is 0: then all indices before it on
 //! any chain are linked, and the links from a bucket end at it exactly if its chain contains it. No
-//! result rests on these numbers: where links don't find a symbol, a walk looks for it.
+//! result rests on these numbers: where links don't find a symbol, the chain itself is searched.
 
 ghost use Rattle.std.specs.Prelude.{◌≡◌, ◌<◌, ◌+◌, ◌^◌, ◌⊎◌, ℕ, IsTrue, List, MatchOption};
 ghost use Rattle.std.specs.Prelude.{MatchResult, false, length, slice_index_or};
@@ -166,7 +166,7 @@ impl<'a> HashTable<'a> {
         }
     }
 
-    // `holds_all`, which walks along links.
+    // `holds_all`, which follows links.
     fn holds_all_lent<E: Entry + Record>(
         &self,
         symbols: &SymbolTable<'_, E>,
@@ -262,7 +262,7 @@ impl<'a> HashTable<'a> {
         true
     }
 
-    // `holds` by links, or else by a walk along the whole chain: only a symbol that isn't found needs one.
+    // `holds` by links, or else by the whole chain: only a symbol that isn't found needs it.
     fn holds_lent<E: Entry + Record>(
         &self,
         index: u32,
@@ -310,7 +310,7 @@ impl<'a> HashTable<'a> {
     }
 
     // The index that the links from another lead to. Each index passed is linked past the next one,
-    // so that later walks are shorter.
+    // so that later searches are shorter.
     fn last_link<E: Entry + Record>(
         &self,
         first: u32,

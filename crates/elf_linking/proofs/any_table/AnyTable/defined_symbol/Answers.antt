@@ -1,4 +1,4 @@
-use Rattle.std.proofs.Common.{rules, ◌≡◌, ◌≢◌, None, Ok, Some, ap, subst, ◌∙◌}
+use Rattle.std.proofs.Common.{rules, ◌≡◌, ◌≢◌, None, Ok, Some, ap, refl, subst, ◌∙◌}
 use Rattle.elf_linking.specs.AnyTable.{HasDefinedName, LooksBy}
 use Rattle.elf_linking.proofs.AnyTables.{none_by, zero_or}
 use Rattle.elf_linking.proofs.lemmas.Looking.{looks_with}
@@ -10,7 +10,7 @@ pub returns-in-Ok-None-clause-found : goal.returns-in-Ok-None-clause-found
 returns-in-Ok-None-clause-found g c = λ i e is_for.
     zero_or _ (none_by _ _ (λ e. (g.E.Entry.fields e).shndx ≢ 0) (λ e defined. search rules) _ _ _ _
     (c.in-Ok-None.is ∙ ap (λ x. Ok x) c.in-Ok-None.field-0-is)
-    (c.lookup.ensures.good (λ e within yes no. search rules) c.requires.good) i e is_for)
+    (c.lookup.ensures.good (λ e within yes no. search rules) (c.in_ok-check.ensures.accepts.0 refl)) i e is_for)
 
 -- a look-up by the test is one for a defined symbol with the name
 pub returns-in-Ok-None-clause-answer : goal.returns-in-Ok-None-clause-answer

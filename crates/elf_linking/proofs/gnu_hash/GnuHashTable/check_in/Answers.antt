@@ -1,6 +1,6 @@
 use Rattle.elf_linking.specs.GnuHash.{good, faulty, missing}
 use Rattle.xmas_elf.specs.SymbolTable.{table_symbols}
-use Rattle.elf_linking.proofs.GnuChecks.{check_once, good_is_ok, ok_is_good}
+use Rattle.elf_linking.proofs.GnuChecks.{good_is_ok, ok_is_good}
 use Rattle.elf_linking.proofs.gnu_hash.GnuHashTable.check_in.Goals as goal
 
 pub returns-in-Ok-clause-exact : goal.returns-in-Ok-clause-exact
@@ -10,9 +10,6 @@ pub returns-in-Ok-clause-accepts : goal.returns-in-Ok-clause-accepts
 returns-in-Ok-clause-accepts g c =
     let all = table_symbols c.args.symbols.now in
     (ok_is_good c.args.self.now all _ (returns-in-Ok-clause-exact g c), good_is_ok c.args.self.now all _ (returns-in-Ok-clause-exact g c))
-
-pub returns-in-Ok-clause-only : goal.returns-in-Ok-clause-only
-returns-in-Ok-clause-only g c = λ other h. check_once _ _ _ _ h (returns-in-Ok-clause-exact g c)
 
 pub returns-in-Ok-2-clause-exact : goal.returns-in-Ok-2-clause-exact
 returns-in-Ok-2-clause-exact g c =
@@ -24,9 +21,6 @@ returns-in-Ok-2-clause-accepts g c =
     let all = table_symbols c.args.symbols.now in
     (ok_is_good c.args.self.now all _ (returns-in-Ok-2-clause-exact g c), good_is_ok c.args.self.now all _ (returns-in-Ok-2-clause-exact g c))
 
-pub returns-in-Ok-2-clause-only : goal.returns-in-Ok-2-clause-only
-returns-in-Ok-2-clause-only g c = λ other h. check_once _ _ _ _ h (returns-in-Ok-2-clause-exact g c)
-
 pub returns-in-Err-clause-exact : goal.returns-in-Err-clause-exact
 returns-in-Err-clause-exact g c =
     let (k, below, before, fault) = c.in-Err.ensures in
@@ -36,6 +30,3 @@ pub returns-in-Err-clause-accepts : goal.returns-in-Err-clause-accepts
 returns-in-Err-clause-accepts g c =
     let all = table_symbols c.args.symbols.now in
     (ok_is_good c.args.self.now all _ (returns-in-Err-clause-exact g c), good_is_ok c.args.self.now all _ (returns-in-Err-clause-exact g c))
-
-pub returns-in-Err-clause-only : goal.returns-in-Err-clause-only
-returns-in-Err-clause-only g c = λ other h. check_once _ _ _ _ h (returns-in-Err-clause-exact g c)

@@ -1,4 +1,4 @@
-use Rattle.elf_linking.proofs.Looks.{finds_all, looks_once}
+use Rattle.elf_linking.proofs.Looks.{finds_all}
 use Rattle.elf_linking.proofs.lemmas.GnuTables.{looks_by_symbol}
 use Rattle.xmas_elf.specs.SymbolTable.{table_symbols}
 use Rattle.elf_linking.proofs.gnu_hash.GnuHashTable.lookup_counted_in.Goals as goal
@@ -7,9 +7,6 @@ use Rattle.elf_linking.proofs.gnu_hash.GnuHashTable.lookup_counted_in.Goals as g
 pub returns-clause-answer : goal.returns-clause-answer
 returns-clause-answer g c =
     looks_by_symbol g.F.Fn c.args.f _ _ _ (table_symbols c.args.symbols.now) _ _ _ c.search.ensures.answer (λ i e r says. says) (λ i e r says. says)
-
-pub returns-clause-only : goal.returns-clause-only
-returns-clause-only g c = λ d other count h. looks_once _ _ _ _ _ _ _ _ h (returns-clause-answer g c d)
 
 pub returns-clause-good : goal.returns-clause-good
 returns-clause-good g c = λ d sound. finds_all _ _ _ _ _ _ sound (returns-clause-answer g c d)

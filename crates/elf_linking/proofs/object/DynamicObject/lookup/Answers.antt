@@ -1,7 +1,6 @@
-use Rattle.std.proofs.Common.{◌≡◌, ℕ, Option, Result, subst}
+use Rattle.std.proofs.Common.{ℕ, subst}
 use Rattle.elf_linking.specs.AnyTable.{FindsAllBy, IsGoodBy, LooksBy}
 use Rattle.elf_linking.specs.DynamicObject.{object_table}
-use Rattle.elf_linking.specs.declared.error.LinkError.{LinkError}
 use Rattle.xmas_elf.specs.Symbols.{Decides, IsMatch}
 use Rattle.elf_linking.proofs.object.DynamicObject.lookup.Goals as goal
 
@@ -10,12 +9,6 @@ returns-clause-answer g c =
     let table = object_table c.args.self.now in
     subst (λ all. Decides all g.F.Fn c.args.f → (count : ℕ) × LooksBy (IsMatch all g.F.Fn c.args.f c.args.name.now) table all.items c.args.name.now c.lookup.result count)
     c.symbols.ensures.symbols c.lookup.ensures.answer
-
-pub returns-clause-only : goal.returns-clause-only
-returns-clause-only g c =
-    let table = object_table c.args.self.now in
-    subst (λ all. Decides all g.F.Fn c.args.f → (other : Result (Option (ℕ × g.row.E.Denot)) LinkError) (count : ℕ) → LooksBy (IsMatch all g.F.Fn c.args.f c.args.name.now) table all.items c.args.name.now other count → other ≡ c.lookup.result)
-    c.symbols.ensures.symbols c.lookup.ensures.only
 
 pub returns-clause-good : goal.returns-clause-good
 returns-clause-good g c =

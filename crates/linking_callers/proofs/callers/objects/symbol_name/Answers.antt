@@ -6,7 +6,7 @@ use Rattle.linking_callers.proofs.callers.objects.symbol_name.Goals as goal
 
 pub returns-in-Ok : goal.returns-in-Ok
 returns-in-Ok c = named (object_dynamic_symbols dyn_entry_64_fields c.in-Ok.object) c.name.result
-    (symbols_of_object c.in-Ok.object 2 dyn_entry_64_fields c.args.file.now c.in-Ok.ensures.exact) c.name.ensures.text
+    (symbols_of_object c.in-Ok.object 2 dyn_entry_64_fields c.args.file.now c.in-Ok.ensures) c.name.ensures.text
 
 pub returns-in-Err : goal.returns-in-Err
-returns-in-Err c = unread c.in-Err.error c.in-Err.ensures.exact
+returns-in-Err c = unread c.in-Err.error c.in-Err.ensures

@@ -1,15 +1,20 @@
-use Rattle.std.proofs.Common.{◌≡◌}
+use Rattle.std.proofs.Common.{◌≡◌, codes}
+use Rattle.xmas_elf.proofs.NamedSections.{first_named-is}
 use Rattle.xmas_elf.proofs.Places.{build_id_lies}
 use Rattle.xmas_elf.proofs.extensions.ElfFileExtensions.get_gnu_buildid.Goals as goal
 
+pub returns-in_err-section-clause-only : goal.returns-in_err-section-clause-only
+returns-in_err-section-clause-only c id is =
+    absurd (let named = first_named-is c.args.self.now (codes ".note.gnu.build-id") is.index is.section is.named in let none = c.in_err-section.ensures.exact in cc)
+
 pub returns-in_err-header-clause-only : goal.returns-in_err-header-clause-only
 returns-in_err-header-clause-only c id is =
-    let same : c.in_ok-section.section ≡ is.section = let found = c.in_ok-section.ensures.only is.index is.section is.named in cc in
+    let same : c.in_ok-section.section ≡ is.section = let named = first_named-is c.args.self.now (codes ".note.gnu.build-id") is.index is.section is.named in let found = c.in_ok-section.ensures.exact in cc in
     absurd (c.in_err-header.ensures.only is.header is.body (rw same is.in_section))
 
 pub returns-clause-only : goal.returns-clause-only
 returns-clause-only c id is =
-    let same : c.in_ok-section.section ≡ is.section = let found = c.in_ok-section.ensures.only is.index is.section is.named in cc in
+    let same : c.in_ok-section.section ≡ is.section = let named = first_named-is c.args.self.now (codes ".note.gnu.build-id") is.index is.section is.named in let found = c.in_ok-section.ensures.exact in cc in
     let note = c.in_ok-header.ensures.only is.header is.body (rw same is.in_section) in
     c.build_id.ensures.only id (rw (note.0, note.1) is.is_id)
 

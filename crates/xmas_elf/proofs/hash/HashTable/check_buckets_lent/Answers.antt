@@ -6,14 +6,8 @@ use Rattle.xmas_elf.proofs.hash.HashTable.check_buckets_lent.Goals as goal
 pub loop-bucket-init : goal.loop-bucket-init
 loop-bucket-init g c = record { before = λ k below. absurd (omega arith); links = λ i j joins. absurd (c.clear.ensures i j joins) }
 
-pub returns-in-Err : goal.returns-in-Err
-returns-in-Err g c = (c.loop-bucket.bucket, omega arith, c.loop-bucket.invariant.before, c.in-Err.ensures.answer)
-
 pub loop-bucket-preserved : goal.loop-bucket-preserved
 loop-bucket-preserved g c = record {
   before = below_more (Ends c.args.self.now (table_symbols c.args.symbols.now).items) c.loop-bucket.bucket c.loop-bucket.invariant.before c.in-Ok.ensures.answer;
   links = c.ends_lent.ensures.kept;
 }
-
-pub returns : goal.returns
-returns g c = λ k h. c.loop-bucket.invariant.before k (omega arith)

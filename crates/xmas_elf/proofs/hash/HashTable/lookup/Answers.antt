@@ -1,16 +1,11 @@
-use Rattle.std.proofs.Common.{◌≡◌, ℕ, Option, Result, subst}
+use Rattle.std.proofs.Common.{ℕ, subst}
 use Rattle.xmas_elf.specs.HashTable.{FindsAll, IsGood, Looks}
-use Rattle.xmas_elf.specs.Prelude.{ElfError}
 use Rattle.xmas_elf.specs.Symbols.{Decides, IsMatch}
 use Rattle.xmas_elf.proofs.hash.HashTable.lookup.Goals as goal
 
 pub returns-clause-answer : goal.returns-clause-answer
 returns-clause-answer g c =
     subst (λ all. Decides all g.F.Fn c.args.f → (count : ℕ) × Looks (IsMatch all g.F.Fn c.args.f c.args.name.now) c.args.self.now all.items c.args.name.now c.lookup_in.result count) c.new.ensures.symbols c.lookup_in.ensures.answer
-
-pub returns-clause-only : goal.returns-clause-only
-returns-clause-only g c =
-    subst (λ all. Decides all g.F.Fn c.args.f → (other : Result (Option (ℕ × _)) ElfError) (count : ℕ) → Looks (IsMatch all g.F.Fn c.args.f c.args.name.now) c.args.self.now all.items c.args.name.now other count → other ≡ c.lookup_in.result) c.new.ensures.symbols c.lookup_in.ensures.only
 
 pub returns-clause-good : goal.returns-clause-good
 returns-clause-good g c =

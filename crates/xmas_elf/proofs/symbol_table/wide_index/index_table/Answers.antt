@@ -3,7 +3,7 @@ use Rattle.elf_records.specs.declared.sections.ShType.TheVariants.{SymTabShIndex
 use Rattle.xmas_elf.specs.NameTable.{section_named}
 use Rattle.xmas_elf.specs.SectionHeader.{section_type}
 use Rattle.xmas_elf.specs.SymbolSection.{index_table_of}
-use Rattle.xmas_elf.proofs.StringTables.{named_data, typed_data}
+use Rattle.xmas_elf.proofs.StringTables.{typed_data}
 use Rattle.xmas_elf.proofs.symbol_table.wide_index.index_table.Goals as goal
 
 pub returns-in-Ok-SymTabShIndex : goal.returns-in-Ok-SymTabShIndex
@@ -16,15 +16,8 @@ returns-in-Ok-SymTabShIndex c =
     let lent = c.raw_data.ensures in
     record {
       table = typed_data file (codes ".symtab_shndx") SymTabShIndex section c.raw_data.result typed c.in-Some.ensures.found lent.readable lent.range;
-      only = λ part is. named_data file (codes ".symtab_shndx") section c.raw_data.result c.in-Some.ensures.only lent.readable lent.range part is.named;
       exact = rw (found, typed) lent.exact;
     }
-
-pub returns-in_default-get_type-clause-only : goal.returns-in_default-get_type-clause-only
-returns-in_default-get_type-clause-only c = λ part is.
-    let found = c.in-Some.ensures.only is.named.index is.named.section is.named.first in
-    let typed = is.typed in
-    grind arith
 
 pub returns-in_default-get_type-clause-exact : goal.returns-in_default-get_type-clause-exact
 unfolding index_table_of

@@ -1,6 +1,8 @@
-use Rattle.std.proofs.Common.{sym, ap}
+use Rattle.std.proofs.Common.{Ok, sym, ap}
 use Rattle.elf_base.specs.FileHeader.{file_order}
-use Rattle.elf_linking.specs.DynamicView.{by_gnu, by_hash, chain_count_in, no_table}
+use Rattle.elf_base.specs.Number.{number}
+use Rattle.elf_base.specs.Refusal.{and_then}
+use Rattle.elf_linking.specs.DynamicView.{by_gnu, by_hash, no_table}
 use Rattle.elf_linking.proofs.ViewTables.{count_read}
 use Rattle.elf_linking.proofs.view.dynamic.DynamicView.symbol_count.Goals as goal
 
@@ -10,7 +12,7 @@ returns-in-Ok-clause-exact c =
 
 pub returns-in-Err-clause-exact : goal.returns-in-Err-clause-exact
 returns-in-Err-clause-exact c =
-    by_hash c.in-Some.field-0 _ (sym c.in-Some.ensures) (sym (ap (chain_count_in (file_order c.args.file.now.header)) c.in-Err.ensures))
+    by_hash c.in-Some.field-0 _ (sym c.in-Some.ensures) (sym (ap (λ r. and_then r (λ bytes. Ok (number (file_order c.args.file.now.header) 4 4 bytes))) c.in-Err.ensures))
 
 pub returns-in-Ok-gnu_hash_table-clause-exact : goal.returns-in-Ok-gnu_hash_table-clause-exact
 returns-in-Ok-gnu_hash_table-clause-exact c =

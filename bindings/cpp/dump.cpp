@@ -1,0 +1,83 @@
+// dump FILE NAME..: what a file needs, its build id, the symbols of its dynamic segment as `nm -D` prints them, the versions
+// that it defines and needs, its sections, and for each name, or name and version as exp@GLIBC_2.2.5, the symbol's value.
+#include <xmas_elf.hpp>
+
+#include <cstdio>
+#include <exception>
+
+namespace {
+
+void print(std::string_view line) { std::printf("%.*s\n", static_cast<int>(line.size()), line.data()); }
+
+std::string hexadecimal(std::uint64_t number)
+{
+    char text[17];
+    std::snprintf(text, sizeof text, "%016llx", static_cast<unsigned long long>(number));
+    return text;
+}
+
+void print_dynamic(const xmas_elf::file &file)
+{
+    for (const auto name : file.needed()) print("needed " + std::string(name));
+    if (const auto name = file.soname()) print("soname " + std::string(*name));
+    if (const auto folders = file.run_path()) print("run path " + std::string(*folders));
+    if (const auto id = file.build_id()) {
+        std::string text;
+        for (const auto byte : *id) text += hexadecimal(byte).substr(14);
+        print("build id " + text);
+    }
+    for (const auto &symbol : file.dynamic_symbols()) {
+        const std::string version = symbol.version && symbol.version->name != symbol.name ? symbol.version->suffix() : "";
+        if (symbol.name && !symbol.name->empty() && symbol.type() != 3 && symbol.type() != 4)
+            print("symbol " + hexadecimal(symbol.is_defined() ? symbol.value : 0) + " " + std::string(*symbol.name) + version);
+    }
+    for (const auto &version : file.version_needs()) print("need " + std::string(*version.library) + " " + std::string(*version.name));
+    for (const auto &version : file.version_definitions()) print("definition " + std::string(*version.name));
+}
+
+void print_sections(const xmas_elf::file &file)
+{
+    for (const auto &section : file.sections()) {
+        std::size_t relocations = 0;
+        if (section->type == 19)
+            for (const auto address : section.packed_relocations()) relocations += address != 0;
+        if (section->type == 4 || section->type == 9)
+            for (const auto &relocation : section.relocations()) relocations += relocation.has_addend <= 1;
+        print("section " + std::to_string(section.index()) + " " + std::string(section.name().value_or("?")) + " " + std::to_string(section->type)
+              + " " + std::to_string(section->size) + " " + std::to_string(relocations));
+    }
+}
+
+void print_found(const xmas_elf::file &file, std::string_view wanted)
+{
+    const auto at = wanted.find('@');
+    const auto name = wanted.substr(0, at);
+    const auto version = at == std::string_view::npos ? std::string_view{} : wanted.substr(at + 1);
+    const auto symbol = file.find_symbol(name, version);
+    const std::string shown = symbol && symbol->version ? " " + symbol->version->suffix() : "";
+    print("found " + std::string(wanted) + " " + (symbol ? hexadecimal(symbol->value) + shown : "-"));
+}
+
+} // namespace
+
+int main(int argc, char **argv)
+{
+    if (argc < 2) {
+        std::fputs("usage: dump FILE NAME..\n", stderr);
+        return 2;
+    }
+    try {
+        const xmas_elf::mapped_file bytes(argv[1]);
+        const xmas_elf::file file(bytes);
+        file.check_header();
+        print_dynamic(file);
+        print_sections(file);
+        for (int i = 2; i < argc; i++) print_found(file, argv[i]);
+    } catch (const std::system_error &error) {
+        std::fprintf(stderr, "%s\n", error.what());
+        return 1;
+    } catch (const std::exception &error) {
+        std::fprintf(stderr, "%s: %s\n", argv[1], error.what());
+        return 1;
+    }
+}

@@ -1,0 +1,384 @@
+// ELF files for C++17, over the declarations of xmas_elf.h. Header-only: link the static library `elf_c`.
+//
+//     const xmas_elf::mapped_file bytes("/bin/ls");
+//     const xmas_elf::file file(bytes);
+//     for (const auto &symbol : file.dynamic_symbols())
+//         std::cout << symbol.name.value_or("?") << '\n';
+//
+// Views and texts point into the bytes, and parts to the file: both must stay where they are. What can't be read throws `xmas_elf::error`,
+// and what a file doesn't have is an empty std::optional or an empty range. A range can be passed once. See xmas_elf.h for
+// files that others write to while they are mapped: read such a file into memory, and pass that.
+#ifndef XMAS_ELF_HPP
+#define XMAS_ELF_HPP
+
+#include <cstddef>
+#include <cstdint>
+#include <optional>
+#include <string>
+#include <string_view>
+#include <vector>
+
+#include "xmas_elf_bytes.hpp"
+
+namespace xmas_elf {
+
+class section;
+class segment;
+
+/// An ELF file: its bytes, which the caller keeps, and its header.
+class file {
+public:
+    explicit file(bytes_view bytes) : bytes_(bytes) { check(xmas_elf_open(bytes.data(), bytes.size(), &header_)); }
+    explicit file(const mapped_file &mapped) : file(mapped.bytes()) {}
+    explicit file(mapped_file &&) = delete;
+
+    const xmas_elf_header_t &header() const noexcept { return header_; }
+    bytes_view bytes() const noexcept { return bytes_; }
+    bool is_64() const noexcept { return header_.file_class == 2; }
+    /// Throws if the header doesn't agree with the bytes.
+    void check_header() const { check(call(xmas_elf_check_header)); }
+
+    auto sections() const;
+    auto segments() const;
+    /// The first section with a name.
+    std::optional<section> find_section(std::string_view name) const;
+    /// The symbols of the dynamic segment, which needs no sections, with their versions.
+    auto dynamic_symbols() const;
+
+    /// The symbol that `dlsym` gets by a name, which is that of the default version, or `dlvsym` by a name and a version.
+    std::optional<symbol> find_symbol(std::string_view name, std::string_view wanted = {}) const
+    {
+        xmas_elf_found_symbol_t found{};
+        check(call(xmas_elf_find_symbol, raw(name), name.size(), raw(wanted), wanted.size(), &found));
+        if (found.found == 0) return std::nullopt;
+        std::uint64_t count = 0;
+        xmas_elf_name_t names{};
+        xmas_elf_version_t versions{};
+        const bool is_named = call(xmas_elf_dynamic_symbol_names, std::uint64_t{found.index}, &names, std::size_t{1}, &count) == XMAS_ELF_OK;
+        const bool has_version = call(xmas_elf_dynamic_symbol_versions, std::uint64_t{found.index}, &versions, std::size_t{1}, &count) == XMAS_ELF_OK;
+        symbol one = symbol_of(found.symbol, found.index, is_named ? &names : nullptr);
+        if (has_version) one.version = version_of(versions);
+        return one;
+    }
+
+    /// The names of the libraries that the file needs (DT_NEEDED).
+    std::vector<std::string_view> needed() const
+    {
+        std::vector<std::string_view> found;
+        for (const xmas_elf_name_t &name : all<xmas_elf_name_t>(xmas_elf_needed)) {
+            check(name.status);
+            found.push_back(text(name.range));
+        }
+        return found;
+    }
+    std::optional<std::string_view> soname() const { return dynamic_text(14); }
+    /// The folders where the dynamic linker looks for libraries (DT_RUNPATH, or else DT_RPATH).
+    std::optional<std::string_view> run_path() const
+    {
+        const auto folders = dynamic_text(29);
+        return folders ? folders : dynamic_text(15);
+    }
+    /// The text that the first dynamic entry with a tag names.
+    std::optional<std::string_view> dynamic_text(std::uint64_t tag) const
+    {
+        xmas_elf_range_t range{};
+        const std::uint32_t status = call(xmas_elf_dynamic_text, tag, &range);
+        if (status == XMAS_ELF_NOT_FOUND || status == XMAS_ELF_LINK_NO_DYNAMIC) return std::nullopt;
+        check(status);
+        return text(range);
+    }
+    /// The versions that the file defines (DT_VERDEF), that of the file itself included.
+    std::vector<version> version_definitions() const { return versions(xmas_elf_version_definitions); }
+    /// The versions that the file needs of libraries (DT_VERNEED).
+    std::vector<version> version_needs() const { return versions(xmas_elf_version_needs); }
+
+    /// The notes of all sections of type SHT_NOTE; of a file without such sections, of all segments of type PT_NOTE.
+    std::vector<note> notes() const;
+    /// The build id: the description of the first note of GNU with type 3 in the sections of type SHT_NOTE, or else in the
+    /// segments of type PT_NOTE.
+    std::optional<bytes_view> build_id() const;
+
+    /// The bytes of the file for addresses: those of the first loaded segment that has them all.
+    bytes_view bytes_at(std::uint64_t address, std::uint64_t count) const
+    {
+        xmas_elf_range_t range{};
+        check(call(xmas_elf_bytes_at, address, count, &range));
+        return part(range);
+    }
+
+    /// A call of xmas_elf.h with the file's bytes and header in front.
+    template <class Call, class... Arguments> std::uint32_t call(Call function, Arguments... arguments) const
+    {
+        return function(bytes_.data(), bytes_.size(), &header_, arguments...);
+    }
+    /// The bytes of a range that a call returned.
+    bytes_view part(xmas_elf_range_t range) const noexcept
+    {
+        return {bytes_.data() + range.offset, static_cast<std::size_t>(range.size)};
+    }
+    std::string_view text(xmas_elf_range_t range) const noexcept { return part(range).text(); }
+
+private:
+    friend class section;
+    friend class segment;
+
+    static const std::uint8_t *raw(std::string_view text) noexcept { return reinterpret_cast<const std::uint8_t *>(text.data()); }
+
+    /// All records of a call that begins anew each time; none if the file has no such list.
+    template <class Record, class Call> std::vector<Record> all(Call function) const
+    {
+        std::vector<Record> records;
+        for (std::size_t room = 64;; room *= 4) {
+            records.resize(room);
+            std::uint64_t count = 0;
+            const std::uint32_t status = call(function, std::uint64_t{0}, records.data(), records.size(), &count);
+            if (status == XMAS_ELF_NO_RECORD || status == XMAS_ELF_LINK_NO_DYNAMIC || status == XMAS_ELF_NOT_FOUND) return {};
+            check(status);
+            records.resize(static_cast<std::size_t>(count));
+            if (count < room) return records;
+        }
+    }
+    version version_of(const xmas_elf_version_t &record) const
+    {
+        check(record.status);
+        version one;
+        if (record.kind != 0 && record.name_status == XMAS_ELF_OK) one.name = text(record.name);
+        if (record.kind == 2 && record.file_status == XMAS_ELF_OK) one.library = text(record.file);
+        one.number = record.number;
+        one.flags = record.flags;
+        one.is_hidden = record.hidden != 0;
+        one.is_defined = record.kind == 1;
+        return one;
+    }
+    template <class Call> std::vector<version> versions(Call function) const
+    {
+        std::vector<version> found;
+        for (const xmas_elf_version_t &record : all<xmas_elf_version_t>(function)) found.push_back(version_of(record));
+        return found;
+    }
+    symbol symbol_of(const xmas_elf_symbol_t &record, std::uint64_t index, const xmas_elf_name_t *name) const
+    {
+        symbol one;
+        static_cast<xmas_elf_symbol_t &>(one) = record;
+        one.index = index;
+        if (name != nullptr && name->status == XMAS_ELF_OK) one.name = text(name->range);
+        return one;
+    }
+    void add_notes(xmas_elf_range_t rest, std::uint64_t align, std::vector<note> &found) const
+    {
+        for (;;) {
+            xmas_elf_note_t one{};
+            const std::uint32_t status = call(xmas_elf_note, &rest, align, &one);
+            if (status == XMAS_ELF_NO_RECORD) return;
+            check(status);
+            std::string_view name = text(one.name);
+            if (!name.empty() && name.back() == '\0') name.remove_suffix(1);
+            found.push_back({one.type, name, part(one.desc)});
+            rest = one.rest;
+        }
+    }
+
+    bytes_view bytes_;
+    xmas_elf_header_t header_{};
+};
+
+/// A section; `->` gives the fields of its header.
+class section {
+    template <class Record, class Call> auto records(Call function) const
+    {
+        const auto fill = [owner = file_, index = index_, function](std::uint64_t first, std::vector<Record> &out) {
+            std::uint64_t count = 0;
+            out.resize(512);
+            const std::uint32_t status = owner->call(function, index, first, out.data(), out.size(), &count);
+            if (status != XMAS_ELF_NO_RECORD) check(status);
+            out.resize(static_cast<std::size_t>(count));
+        };
+        return items<Record, decltype(fill)>(fill);
+    }
+
+public:
+    section(const file &owner, std::uint64_t index, const xmas_elf_section_t &header) : file_(&owner), index_(index), header_(header) {}
+    std::uint64_t index() const noexcept { return index_; }
+    const xmas_elf_section_t &header() const noexcept { return header_; }
+    const xmas_elf_section_t *operator->() const noexcept { return &header_; }
+
+    /// The name, whatever the type; none if it can't be read.
+    std::optional<std::string_view> name() const
+    {
+        xmas_elf_range_t names{}, range{};
+        if (file_->call(xmas_elf_names, &names) != XMAS_ELF_OK) return std::nullopt;
+        const bytes_view all = file_->bytes();
+        if (xmas_elf_text(all.data(), all.size(), &names, header_.name, &range) != XMAS_ELF_OK) return std::nullopt;
+        return file_->text(range);
+    }
+    /// The data. Throws for type SHT_NULL, and for types that the reader doesn't know but SHT_RELR.
+    bytes_view data() const { return file_->part(range()); }
+    /// The symbols; none if the section isn't a symbol table. Throws where the table is damaged.
+    auto symbols() const
+    {
+        const auto fill = [owner = file_, index = index_](std::uint64_t first, std::vector<symbol> &out) {
+            xmas_elf_symbol_t records[64];
+            xmas_elf_name_t names[64];
+            std::uint64_t count = 0;
+            const std::uint32_t status = owner->call(xmas_elf_symbols, index, first, records, std::size_t{64}, &count);
+            if (status == XMAS_ELF_NO_RECORD || status == XMAS_ELF_OTHER_DATA || status == XMAS_ELF_INVALID_SH_TYPE) return;
+            check(status);
+            check(owner->call(xmas_elf_symbol_names, index, first, names, std::size_t{64}, &count));
+            for (std::size_t i = 0; i < count; i++) out.push_back(owner->symbol_of(records[i], first + i, &names[i]));
+        };
+        return items<symbol, decltype(fill)>(fill);
+    }
+    /// The relocations; the addresses in a section of type SHT_RELR; the dynamic entries. Each throws for other sections.
+    auto relocations() const { return records<xmas_elf_relocation_t>(xmas_elf_relocations); }
+    auto packed_relocations() const { return records<std::uint64_t>(xmas_elf_packed_relocations); }
+    auto dynamic() const { return records<xmas_elf_dynamic_t>(xmas_elf_dynamics); }
+    std::vector<note> notes() const
+    {
+        std::vector<note> found;
+        file_->add_notes(range(), header_.align, found);
+        return found;
+    }
+
+private:
+    xmas_elf_range_t range() const
+    {
+        xmas_elf_range_t found{};
+        const std::uint32_t status = file_->call(xmas_elf_section_data, index_, &found);
+        const std::uint64_t size = file_->bytes().size();
+        // The library gives the addresses in a section of type SHT_RELR, and not its data.
+        if (status != XMAS_ELF_INVALID_SH_TYPE || header_.type != 19) check(status);
+        else if (header_.offset > size || header_.size > size - header_.offset) throw error(XMAS_ELF_DATA_RANGE);
+        else found = {header_.offset, header_.size};
+        return found;
+    }
+
+    const file *file_;
+    std::uint64_t index_;
+    xmas_elf_section_t header_;
+};
+
+/// A segment; `->` gives the fields of its header.
+class segment {
+public:
+    segment(const file &owner, std::uint32_t index, const xmas_elf_segment_t &header) : file_(&owner), index_(index), header_(header) {}
+    std::uint32_t index() const noexcept { return index_; }
+    const xmas_elf_segment_t &header() const noexcept { return header_; }
+    const xmas_elf_segment_t *operator->() const noexcept { return &header_; }
+    /// The data. Throws for type PT_NULL and for types that the reader doesn't know.
+    bytes_view data() const { return file_->part(range()); }
+    std::vector<note> notes() const
+    {
+        std::vector<note> found;
+        file_->add_notes(range(), header_.align, found);
+        return found;
+    }
+
+private:
+    xmas_elf_range_t range() const
+    {
+        xmas_elf_range_t found{};
+        check(file_->call(xmas_elf_segment_data, index_, &found));
+        return found;
+    }
+
+    const file *file_;
+    std::uint32_t index_;
+    xmas_elf_segment_t header_;
+};
+
+/// The sections. Throws where the table is cut off.
+inline auto file::sections() const
+{
+    const auto fill = [this](std::uint64_t first, std::vector<section> &out) {
+        xmas_elf_counts_t counts{};
+        check(call(xmas_elf_counts, &counts));
+        xmas_elf_section_t records[64];
+        std::uint64_t count = 0;
+        if (first >= counts.sections) return;
+        const std::uint32_t status = call(xmas_elf_sections, first, records, std::size_t{64}, &count);
+        if (status == XMAS_ELF_NO_RECORD) check(call(xmas_elf_section, first, records));
+        else check(status);
+        for (std::size_t i = 0; i < count; i++) out.emplace_back(*this, first + i, records[i]);
+    };
+    return items<section, decltype(fill)>(fill);
+}
+
+/// The segments. Throws where the table is cut off.
+inline auto file::segments() const
+{
+    const auto fill = [this](std::uint64_t first, std::vector<segment> &out) {
+        xmas_elf_counts_t counts{};
+        check(call(xmas_elf_counts, &counts));
+        xmas_elf_segment_t records[16];
+        std::uint64_t count = 0;
+        if (first >= counts.segments) return;
+        const std::uint32_t status = call(xmas_elf_segments, first, records, std::size_t{16}, &count);
+        if (status == XMAS_ELF_NO_RECORD) check(call(xmas_elf_segment, static_cast<std::uint32_t>(first), records));
+        else check(status);
+        for (std::size_t i = 0; i < count; i++) out.emplace_back(*this, static_cast<std::uint32_t>(first + i), records[i]);
+    };
+    return items<segment, decltype(fill)>(fill);
+}
+
+inline std::optional<section> file::find_section(std::string_view name) const
+{
+    for (const section &one : sections())
+        if (one.name() == name) return one;
+    return std::nullopt;
+}
+
+inline auto file::dynamic_symbols() const
+{
+    const auto fill = [this](std::uint64_t first, std::vector<symbol> &out) {
+        if (first != 0) return;
+        const auto records = all<xmas_elf_symbol_t>(xmas_elf_dynamic_symbols);
+        const auto names = all<xmas_elf_name_t>(xmas_elf_dynamic_symbol_names);
+        const auto found = all<xmas_elf_version_t>(xmas_elf_dynamic_symbol_versions);
+        out.reserve(records.size());
+        for (std::size_t i = 0; i < records.size(); i++) {
+            out.push_back(symbol_of(records[i], i, i < names.size() ? &names[i] : nullptr));
+            if (i < found.size()) out.back().version = version_of(found[i]);
+        }
+    };
+    return items<symbol, decltype(fill)>(fill);
+}
+
+inline std::vector<note> file::notes() const
+{
+    std::vector<note> found;
+    bool has_sections = false;
+    for (const section &one : sections()) {
+        if (one->type != 7) continue;
+        has_sections = true;
+        for (const note &it : one.notes()) found.push_back(it);
+    }
+    if (has_sections) return found;
+    for (const segment &one : segments())
+        if (one->type == 4)
+            for (const note &it : one.notes()) found.push_back(it);
+    return found;
+}
+
+inline std::optional<bytes_view> file::build_id() const
+{
+    std::uint32_t failed = XMAS_ELF_OK;
+    const auto in_parts = [&failed](auto parts, std::uint32_t type) -> std::optional<bytes_view> {
+        try {
+            for (const auto &one : parts)
+                if (one->type == type)
+                    for (const note &it : one.notes())
+                        if (it.type == 3 && it.name == "GNU") return it.desc;
+        } catch (const error &raised) {
+            if (failed == XMAS_ELF_OK) failed = raised.status();
+        }
+        return std::nullopt;
+    };
+    if (const auto id = in_parts(sections(), 7)) return id;
+    if (const auto id = in_parts(segments(), 4)) return id;
+    check(failed);
+    return std::nullopt;
+}
+
+} // namespace xmas_elf
+
+#endif

@@ -1,0 +1,349 @@
+"""What new users ask for, beside what nm, readelf, pyelftools and dlsym say of the same files."""
+import collections
+import ctypes
+import io
+import pathlib
+import re
+import subprocess
+import sys
+
+import beside
+import pydoc
+import pytest
+from conftest import LIBRARIES, PYTHON, system_files
+from elftools.elf.gnuversions import GNUVerDefSection, GNUVerNeedSection
+
+import xmas_elf
+from xmas_elf import ElfError, ElfFile, Status, VersionKind, constants
+from xmas_elf.constants import SHF, SHT, STB, STT
+
+FOLDER = pathlib.Path("/lib/x86_64-linux-gnu")
+
+
+def said(*command):
+    done = subprocess.run(command, capture_output=True, text=True, errors="surrogateescape", check=True)
+    return done.stdout
+
+
+def path_of(library):
+    path = FOLDER / library
+    if not path.exists():
+        pytest.skip(f"{path} is missing")
+    return path
+
+
+def without_sections(data):
+    """The file with no section header table (e_shoff, e_shnum and e_shstrndx of class 64), and the table's bytes zero."""
+    changed, header = bytearray(data), ElfFile(data).header
+    changed[header.sh_offset :] = bytes(len(data) - header.sh_offset)
+    changed[40:48], changed[60:64] = bytes(8), bytes(4)
+    return bytes(changed)
+
+
+# The right symbol.
+
+# The address that dlsym or dlvsym gets for each name, less that of the library; nothing if it is in another library.
+LOADED = """
+import ctypes, sys
+library = ctypes.CDLL(sys.argv[1])
+start, process = ctypes.c_size_t.from_address(library._handle).value, ctypes.CDLL(None)
+class Found(ctypes.Structure):
+    _fields_ = [("path", ctypes.c_char_p), ("base", ctypes.c_size_t), ("name", ctypes.c_char_p), ("address", ctypes.c_size_t)]
+for get in (process.dlsym, process.dlvsym):
+    get.restype = ctypes.c_size_t
+for line in sys.stdin.read().split():
+    name, _, version = line.partition("@")
+    handle, found = ctypes.c_void_p(library._handle), Found()
+    address = process.dlvsym(handle, name.encode(), version.encode()) if version else process.dlsym(handle, name.encode())
+    here = address and process.dladdr(ctypes.c_void_p(address), ctypes.byref(found)) and found.base == start
+    print(line, address - start if here else "-")
+"""
+
+
+def loaded(path, names):
+    """What the dynamic linker gets for names, or names and versions."""
+    command = [sys.executable, "-c", LOADED, path]
+    done = subprocess.run(command, input="\n".join(names), capture_output=True, text=True, check=True)
+    return dict(line.split() for line in done.stdout.splitlines())
+
+
+def nm(path):
+    """The value, the letter, the name and the version (with its `@`s) of each dynamic symbol."""
+    for line in said("nm", "-D", path).splitlines():
+        value, letter, name = re.fullmatch(r"([0-9a-f]+| +) (\S) (\S+)", line).groups()
+        name, at, version = name.partition("@")
+        yield int(value.strip() or "0", 16), letter, name, at + version
+
+
+def test_symbol_is_that_of_dlsym(library):
+    path = path_of(library)
+    # Not compared: functions that choose a function, and thread-local symbols.
+    symbols = [row for row in nm(path) if row[1] not in "iUwvA"]
+    asked = list(dict.fromkeys(it for _, _, name, version in symbols for it in (name, f"{name}@{version.strip('@')}".rstrip("@"))))
+    addresses = loaded(path, asked)
+    data, compared = path.read_bytes(), 0
+    for file in (ElfFile(data), ElfFile(without_sections(data))):
+        for line in asked:
+            name, _, version = line.partition("@")
+            found = file.symbol(name, version or None)
+            if found is not None and found.type in (STT.STT_TLS, STT.STT_GNU_IFUNC):
+                continue
+            assert str(found.value if found else "-") == addresses[line], line
+            compared += 1
+    assert compared > 50
+
+
+def test_exp_is_the_default_version():
+    file = ElfFile.load_from_path(path_of("libm.so.6"))
+    values = {version: value for value, _, name, version in nm(FOLDER / "libm.so.6") if name == "exp"}
+    assert len(values) == 2 and len(set(values.values())) == 2
+    default = next(version for version in values if version.startswith("@@"))
+    assert file.symbol("exp").value == values[default] == file.symbol("exp", default.strip("@")).value
+    old = next(version for version in values if not version.startswith("@@"))
+    assert file.symbol("exp", old.strip("@")).value == values[old]
+    assert file.symbol("exp", "GLIBC_1.0") is None and file.symbol("no such name") is None
+
+
+def test_symbols_that_are_not_dynamic(tmp_path):
+    (tmp_path / "a.c").write_text("static int hidden_one(int n) { return n + 1; } int main(int n, char **v) { return hidden_one(n); }\n")
+    subprocess.run(["gcc", "-O0", tmp_path / "a.c", "-o", tmp_path / "a"], check=True)
+    file = ElfFile.load_from_path(tmp_path / "a")
+    values = {line.split()[2]: int(line.split()[0], 16) for line in said("nm", "--defined-only", tmp_path / "a").splitlines()}
+    assert file.symbol("hidden_one").value == values["hidden_one"] and file.symbol("main").value == values["main"]
+    assert not file.symbol("__libc_start_main").is_defined and file.symbol("none") is None
+
+
+# Versions, over the files of the system.
+
+
+def test_versions_of_symbols_are_those_of_nm(path):
+    # nm leaves out the symbol 0, sections and file names, and adds versions only to names.
+    ours = collections.Counter()
+    for symbol, version in ElfFile.load_from_path(path).versioned_symbols():
+        if symbol.name and symbol.type not in (STT.STT_SECTION, STT.STT_FILE):
+            # A version's own symbol is printed without it.
+            shown = str(version) if version and version.name != symbol.name else ""
+            ours[symbol.value if symbol.is_defined else 0, symbol.name, shown] += 1
+    printed = subprocess.run(["nm", "-D", path], capture_output=True, text=True)
+    theirs = collections.Counter((value, name, version) for value, _, name, version in nm(path)) if printed.returncode == 0 else {}
+    assert ours == theirs
+
+
+def test_needs_and_definitions_are_those_of_pyelftools(path):
+    data = path.read_bytes()
+    theirs = list(beside.opened(data).iter_sections())
+    needs = [
+        (need.name, one.name, one["vna_other"] & 0x7FFF, one["vna_flags"])
+        for table in theirs if isinstance(table, GNUVerNeedSection) for need, all in table.iter_versions() for one in all
+    ]
+    definitions = [
+        (next(all).name, one["vd_ndx"], one["vd_flags"])
+        for table in theirs if isinstance(table, GNUVerDefSection) for one, all in table.iter_versions()
+    ]
+    for file in (ElfFile(data), ElfFile(without_sections(data))) if theirs else ():
+        assert [(it.library, it.name, it.number, it.flags) for it in file.version_needs()] == needs
+        assert [(it.name, it.number, it.flags) for it in file.version_definitions()] == definitions
+        assert all(it.kind == VersionKind.NEEDED for it in file.version_needs())
+
+
+# Without sections.
+
+
+def test_parts_by_segments(path):
+    data = path.read_bytes()
+    whole, cut = ElfFile(data), ElfFile(without_sections(data))
+    if whole.header.type == constants.ET_REL:
+        assert not list(cut.symbols()) and not list(cut.dynamic()) and not list(cut.notes()) and cut.build_id is None
+        return
+    printed = said("readelf", "--wide", "--notes", path)
+    ids = re.findall(r"Build ID: ([0-9a-f]+)", printed)
+    for file in (whole, cut):
+        assert (file.build_id.hex() if file.build_id is not None else None) == (ids[0] if ids else None)
+    assert list(cut.dynamic()) == list(whole.dynamic())
+    assert len(list(cut.dynamic())) == len(re.findall(r"^ 0x[0-9a-f]+ \(", said("readelf", "--wide", "--dynamic", path), re.M))
+    assert cut.overview() == whole.overview()
+
+
+def test_build_id_of_a_section_with_another_name(tmp_path):
+    (tmp_path / "a.c").write_text("int main(void) { return 0; }\n")
+    subprocess.run(["gcc", "-Wl,--build-id", tmp_path / "a.c", "-o", tmp_path / "a"], check=True)
+    wanted = re.search(r"Build ID: ([0-9a-f]+)", said("readelf", "--notes", tmp_path / "a"))[1]
+    said("objcopy", "--rename-section", ".note.gnu.build-id=.other", tmp_path / "a", tmp_path / "b")
+    assert ElfFile.load_from_path(tmp_path / "b").build_id.hex() == wanted
+
+
+# Arguments.
+
+
+def test_numbers_that_are_too_large_or_no_numbers():
+    file = ElfFile.load_from_path(path_of("libm.so.6"))
+    table = file.section(".dynsym")
+    calls = (
+        lambda it: file.bytes_at(it, 4), lambda it: file.bytes_at(0, it), table.symbol, file.section(".dynstr").text,
+        file.section, file.segment,
+    )
+    for call in calls:
+        for number in (2**64, 2**64 + 5, -1, -(2**64)):
+            with pytest.raises(OverflowError):
+                call(number)
+        for value in (None, 1.0, b"1", [1]):
+            with pytest.raises(TypeError):
+                call(value)
+    for name in (None, 1, b"exp"):
+        with pytest.raises(TypeError):
+            file.symbol(name)
+    for call in (lambda: file.symbol("exp", 5), lambda: file.symbol("exp", b""), lambda: ElfFile.load_from_path(0)):
+        with pytest.raises(TypeError):
+            call()
+    for call in (table.symbol, file.section, file.segment):
+        with pytest.raises(ElfError) as caught:
+            call(2**64 - 1 if call != file.segment else 2**32 + 1)
+        assert caught.value.status is Status.NO_RECORD
+
+
+# Relative relocations.
+
+
+def test_relr_is_no_error(tmp_path):
+    (tmp_path / "a.c").write_text("int a; int *p[200] = {&a, 0, &a, [9] = &a, [150] = &a}; int main(void) { return 0; }\n")
+    subprocess.run(["gcc", tmp_path / "a.c", "-o", tmp_path / "a", "-Wl,-z,pack-relative-relocs"], check=True)
+    section = ElfFile.load_from_path(tmp_path / "a").section(".relr.dyn")
+    section.check()
+    theirs = beside.opened((tmp_path / "a").read_bytes()).get_section_by_name(".relr.dyn")
+    assert (section.name, section.type.name) == (".relr.dyn", "SHT_RELR")
+    assert section.data() == theirs.stream.getvalue()[theirs["sh_offset"] :][: theirs["sh_size"]]
+    assert list(section.packed_relocations()) == [it["r_offset"] for it in theirs.iter_relocations()]
+
+
+# Names, help and closing.
+
+
+def test_names_of_numbers_and_back():
+    assert (SHT(11), SHT(11).name, SHT["SHT_DYNSYM"], str(SHT(11)), f"{SHT(11):#x}") == (11, "SHT_DYNSYM", 11, "SHT_DYNSYM", "0xb")
+    assert (SHT(0x12345), SHT(0x12345).name, repr(SHT(0x12345))) == (0x12345, "0x12345", "0x12345")
+    assert repr(SHF(3)) == "SHF_WRITE|SHF_ALLOC" and repr(SHF(1 << 40)) == hex(1 << 40) and STB(7).name == "0x7"
+    assert isinstance(constants.EM_X86_64, constants.EM) and constants.DF_1_PIE in constants.DF_1(0x8000001)
+    with pytest.raises(ValueError):
+        SHT("SHT_DYNSYM")
+
+
+def test_each_number_is_that_of_elf_h(tmp_path):
+    names = [name for name in dir(constants) if re.fullmatch(r"[A-Z]+_\w+", name) and not isinstance(getattr(constants, name), type)]
+    assert len(names) > 300
+    lines = "".join(f'_Static_assert({name} == {int(getattr(constants, name))}, "");\n' for name in names)
+    (tmp_path / "names.c").write_text("#include <elf.h>\n" + lines)
+    subprocess.run(["gcc", "-std=c11", "-fsyntax-only", tmp_path / "names.c"], check=True)
+
+
+def test_texts_are_short_and_name_numbers(path):
+    file = ElfFile.load_from_path(path)
+    parts = [file, file.header, *file.sections(), *file.segments(), *file.dynamic(), *file.notes(), *file.version_needs()]
+    for part in parts + list(file.symbols())[:100] + list(file.relocations())[:100]:
+        assert len(repr(part)) < 300
+    assert all(str(it.type) in repr(it) for it in file.sections())
+    assert "SHT_STRTAB" in {it.type.name for it in file.sections()}
+
+
+def test_help_shows_what_fields_are():
+    shown = pydoc.render_doc(xmas_elf.Section, renderer=pydoc.plaintext)
+    assert "The size of the section in bytes (sh_size)." in shown and "Alias for field" not in shown
+    shown = pydoc.render_doc(ElfFile, renderer=pydoc.plaintext)
+    assert "The build id: the description of the first note of GNU" in shown
+
+
+def test_file_closes_while_parts_are_in_use():
+    path = path_of("libm.so.6")
+    with ElfFile.load_from_path(path) as file:
+        section, symbols = file.section(".dynstr"), file.symbols()
+        data, first = section.data(), next(symbols)
+    assert bytes(data[:1]) == b"\0" and first.name == "" and len(list(symbols)) > 100
+    for call in (file.sections, file.symbols, section.data, lambda: file.needed):
+        with pytest.raises(ValueError, match="closed"):
+            list(call())
+    relocations = ElfFile.load_from_path(path).section(".rela.dyn").relocations()
+    assert len(list(relocations)) > 5
+    with pytest.raises(FileNotFoundError, match="no_such_file"):
+        ElfFile.load_from_path("/no_such_file")
+
+
+# Overviews and surveys.
+
+
+def readelf_overview(path):
+    """The fields of an overview as readelf prints them."""
+    printed = said("readelf", "--wide", "--file-header", "--program-headers", "--dynamic", path)
+    only = lambda pattern: next(iter(re.findall(pattern, printed)), None)  # noqa: E731
+    bind_now = bool(re.search(r"\(BIND_NOW\)|\(FLAGS\) +.*BIND_NOW|\(FLAGS_1\) +Flags:.*\bNOW\b", printed))
+    relro = re.search(r"^  GNU_RELRO ", printed, re.M)
+    stack = only(r"  GNU_STACK .* ([R ][W ][E ]) 0x")
+    return {
+        "soname": only(r"\(SONAME\).*\[(.*)\]"),
+        "interpreter": only(r"Requesting program interpreter: (.*)\]"),
+        "needed": re.findall(r"\(NEEDED\).*\[(.*)\]", printed),
+        "pie": "Position-Independent Executable" in printed,
+        "relro": ("full" if bind_now else "partial") if relro else "none",
+        "nx": stack is not None and "E" not in stack,
+        "bind_now": bind_now,
+        "wx": bool(re.search(r"^  LOAD .* RWE 0x", printed, re.M)),
+        "rpath": only(r"\(RPATH\).*\[(.*)\]"),
+        "runpath": only(r"\(RUNPATH\).*\[(.*)\]"),
+    }
+
+
+def test_overview_is_that_of_readelf(path):
+    ours = ElfFile.load_from_path(path).overview()._asdict()
+    theirs = readelf_overview(path)
+    assert {name: ours[name] for name in theirs} == theirs
+
+
+@pytest.mark.parametrize("words, field, value", [
+    (["-no-pie"], "pie", False), (["-pie"], "pie", True), (["-z", "execstack"], "nx", False), (["-Wl,-z,norelro"], "relro", "none"),
+    (["-Wl,-z,relro,-z,lazy"], "relro", "partial"), (["-Wl,-z,relro,-z,now"], "relro", "full"), (["-Wl,-z,now"], "bind_now", True),
+    (["-no-pie", "-nostdlib", "-Wl,-N,-e,main"], "wx", True), (["-Wl,-rpath,/a", "-Wl,--disable-new-dtags"], "rpath", "/a"), (["-Wl,-rpath,/a"], "runpath", "/a"),
+])
+def test_overview_of_each_option(words, field, value, tmp_path):
+    (tmp_path / "a.c").write_text("int main(void) { return 0; }\n")
+    subprocess.run(["gcc", tmp_path / "a.c", "-o", tmp_path / "a", "-Wl,--enable-new-dtags", *words], check=True, capture_output=True)
+    overview = ElfFile.load_from_path(tmp_path / "a").overview()
+    assert getattr(overview, field) == value == readelf_overview(tmp_path / "a")[field]
+    assert str(overview).count("\n") == len(overview) - 1
+
+
+def test_survey(capsys):
+    files = system_files(300)
+    rows = xmas_elf.survey(files)
+    assert "300 of 300 files, 0 couldn't be read" in capsys.readouterr().err
+    assert xmas_elf.survey(files, processes=2, progress=False) == rows and not capsys.readouterr().err
+    for path, row in list(zip(files, rows))[::10]:
+        theirs = readelf_overview(path)
+        assert row["path"] == str(path) and {name: row[name] for name in theirs} == theirs
+        needs = re.findall(r"Name: (\S+) +Flags", said("readelf", "--wide", "--version-info", path))
+        assert sorted(it.split(":")[1] for it in row["imported_versions"]) == sorted(needs)
+    printed = said("readelf", "--wide", "--version-info", path_of("libc.so.6"))
+    defined = re.findall(r"Flags: (?:none|WEAK) .* Name: (\S+)", printed)
+    assert len(defined) > 30 and xmas_elf.survey_row(FOLDER / "libc.so.6")["exported_versions"] == sorted(defined)
+
+
+def test_survey_counts_what_cannot_be_read(tmp_path, capsys):
+    (tmp_path / "b").mkdir()
+    (tmp_path / "b/cut").write_bytes(path_of("libm.so.6").read_bytes()[:5000])
+    (tmp_path / "a").write_bytes(path_of("libm.so.6").read_bytes())
+    (tmp_path / "text").write_text("no ELF file")
+    rows = xmas_elf.survey(tmp_path)
+    assert [(row["path"], bool(row["error"])) for row in rows] == [(f"{tmp_path}/a", False), (f"{tmp_path}/b/cut", True)]
+    assert "2 of 2 files, 1 couldn't be read" in capsys.readouterr().err
+    with pytest.raises(FileNotFoundError):
+        xmas_elf.survey(tmp_path / "none")
+
+
+def test_table_of_the_command(tmp_path):
+    import csv
+
+    command = [sys.executable, "-m", "xmas_elf", path_of("libm.so.6")]
+    done = subprocess.run(command, cwd=PYTHON, capture_output=True, text=True, check=True)
+    (row,) = csv.DictReader(io.StringIO(done.stdout))
+    assert (row["soname"], row["type"], row["pie"]) == ("libm.so.6", "ET_DYN", "False")
+
+
+def test_libraries_are_here():
+    assert sum((FOLDER / it).exists() for it in LIBRARIES) >= 3 and ctypes.sizeof(ctypes.c_void_p) == 8

@@ -1,0 +1,176 @@
+//! What new users ask for, beside what `nm` and `readelf` say of 300 files of the system, whole and without section headers.
+
+use std::collections::BTreeMap;
+use std::path::{Path, PathBuf};
+use std::process::Command;
+use xmas_elf_proved::constants::{PT_NULL, SHT_RELR, STT_FILE, STT_SECTION};
+use xmas_elf_proved::sections::ShType;
+#[cfg(feature = "alloc")]
+use xmas_elf_proved::symbol_table::Type;
+use xmas_elf_proved::{ElfFile, Error};
+
+fn said(program: &str, words: &[&str], path: &Path) -> String {
+    let done = Command::new(program).args(words).arg(path).env("LC_ALL", "C").output().expect("binutils");
+    String::from_utf8_lossy(&done.stdout).into_owned()
+}
+
+// So many files as XMAS_ELF_FILES says, or 300, spread over the small ones of two folders.
+fn files() -> Vec<PathBuf> {
+    let wanted = std::env::var("XMAS_ELF_FILES").ok().and_then(|number| number.parse().ok()).unwrap_or(300);
+    let folders = ["/usr/bin", "/usr/lib/x86_64-linux-gnu"];
+    let entries = folders.iter().filter_map(|folder| std::fs::read_dir(folder).ok()).flatten().flatten();
+    let plain = entries.filter(|entry| entry.metadata().is_ok_and(|data| data.is_file() && data.len() < 400_000));
+    let mut found: Vec<PathBuf> = plain.map(|entry| entry.path()).filter(|path| ElfFile::new(&read(path)).is_ok()).collect();
+    found.sort();
+    let step = (found.len() / wanted).max(1);
+    found.into_iter().step_by(step).take(wanted).collect()
+}
+
+fn read(path: &Path) -> Vec<u8> {
+    std::fs::read(path).unwrap_or_default()
+}
+
+// The file of class 64 without its section header table.
+fn without_sections(bytes: &[u8]) -> Vec<u8> {
+    let start = ElfFile::new(bytes).expect("an ELF file").header().sh_offset as usize;
+    let mut cut = bytes[..start].to_vec();
+    cut.resize(bytes.len(), 0);
+    cut[40..48].fill(0);
+    cut[60..64].fill(0);
+    cut
+}
+
+// How often `nm -D` prints a value with a name and its version. A symbol that isn't defined has the value 0.
+fn by_nm(path: &Path) -> BTreeMap<(u64, String), usize> {
+    let mut found = BTreeMap::new();
+    for line in said("nm", &["-D"], path).lines() {
+        let value = u64::from_str_radix(line[..16].trim(), 16).unwrap_or(0);
+        *found.entry((value, line[19..].to_owned())).or_default() += 1;
+    }
+    found
+}
+
+fn by_crate(file: &ElfFile<'_>) -> Result<BTreeMap<(u64, String), usize>, Error> {
+    let mut found = BTreeMap::new();
+    for symbol in file.dynamic_symbols()? {
+        let name = symbol.name()?;
+        if name.is_empty() || [STT_SECTION, STT_FILE].contains(&symbol.kind()) {
+            continue;
+        }
+        // nm prints the symbol of a version itself without it.
+        let version = symbol.version()?.filter(|version| version.name() != Ok(Some(name)));
+        let shown = version.map_or(String::new(), |version| version.to_string());
+        *found.entry((if symbol.is_defined() { symbol.value } else { 0 }, format!("{name}{shown}"))).or_default() += 1;
+    }
+    Ok(found)
+}
+
+fn compare(path: &Path) -> usize {
+    let bytes = read(path);
+    let (cut, theirs) = (without_sections(&bytes), by_nm(path));
+    let printed = said("readelf", &["--wide", "--notes"], path);
+    let id = printed.split_once("Build ID: ").and_then(|(_, rest)| rest.lines().next().map(str::to_owned));
+    let tags = said("readelf", &["--wide", "--dynamic"], path).lines().filter(|line| line.starts_with(" 0x")).count();
+    for bytes in [&bytes, &cut] {
+        let file = ElfFile::new(bytes).expect("an ELF file");
+        if file.segment_count() == 0 {
+            continue;
+        }
+        assert_eq!(by_crate(&file).as_ref(), Ok(&theirs), "{}", path.display());
+        let ours = file.build_id().expect("notes").map(|id| id.iter().map(|byte| format!("{byte:02x}")).collect::<String>());
+        assert_eq!(ours, id, "{}", path.display());
+        assert_eq!(file.dynamic().expect("entries").count(), tags, "{}", path.display());
+        assert!(file.sections().all(|section| section.name().is_ok() && section.check().is_ok()), "{}", path.display());
+        #[cfg(feature = "alloc")]
+        for symbol in file.dynamic_symbols().expect("symbols").filter(|symbol| symbol.get_type() == Ok(Type::Func) && symbol.is_defined()).take(50) {
+            let found = file.symbol_map().get(symbol.value).expect("a symbol");
+            assert!(found.value == symbol.value && found.name().is_ok_and(|name| !name.is_empty()), "{}", path.display());
+        }
+    }
+    theirs.len()
+}
+
+#[test]
+fn symbols_versions_build_ids_and_entries() {
+    let files = files();
+    let compared: usize = files.iter().map(|path| compare(path)).sum();
+    assert!(!files.is_empty() && compared > 20 * files.len());
+}
+
+#[test]
+fn found_symbols_are_those_of_the_default_version() {
+    let mut several = 0;
+    for path in ["libc.so.6", "libm.so.6", "libgcc_s.so.1"].map(|name| Path::new("/lib/x86_64-linux-gnu").join(name)) {
+        let (bytes, theirs) = (read(&path), by_nm(&path));
+        let file = ElfFile::new(&bytes).expect("an ELF file");
+        for ((value, shown), _) in theirs.iter().filter(|((value, shown), _)| *value != 0 && shown.contains('@')) {
+            let (name, version) = shown.split_once('@').expect("a version");
+            let found = file.find_symbol(name, Some(version.trim_start_matches('@'))).expect("not refused");
+            assert_eq!(found.map(|symbol| symbol.value), Some(*value), "{shown}");
+            let default = file.find_symbol(name, None).expect("not refused").map(|symbol| symbol.value);
+            if version.starts_with('@') {
+                assert_eq!(default, Some(*value), "{shown}");
+            } else {
+                several += 1;
+            }
+        }
+        assert!(file.find_symbol("no_such_name", None).is_ok_and(|found| found.is_none()));
+    }
+    assert!(several > 20);
+}
+
+#[test]
+fn relative_relocations_are_no_error() {
+    let folder = std::env::temp_dir().join(format!("xmas-elf-relr-{}", std::process::id()));
+    std::fs::create_dir_all(&folder).expect("a folder");
+    let (source, program) = (folder.join("a.c"), folder.join("a"));
+    std::fs::write(&source, "int a; int *p[200] = {&a, 0, &a, [9] = &a, [150] = &a}; int main(void) { return 0; }\n").expect("a file");
+    let built = Command::new("gcc").arg(&source).arg("-o").arg(&program).arg("-Wl,-z,pack-relative-relocs").status();
+    assert!(built.is_ok_and(|status| status.success()));
+    let (bytes, printed) = (read(&program), said("readelf", &["--wide", "--relocs"], &program));
+    std::fs::remove_dir_all(&folder).expect("the folder");
+    let file = ElfFile::new(&bytes).expect("an ELF file");
+    let section = file.sections().find(|section| section.type_ == SHT_RELR).expect("a section");
+    assert_eq!((section.name(), section.check(), section.get_type()), (Ok(".relr.dyn"), Ok(()), Ok(ShType::Relr)));
+    assert_eq!(section.data().map(|data| data.len() as u64), Ok(section.size));
+    let offsets = printed.split_once(" offsets\n").expect("relocations").1.lines().map_while(|line| u64::from_str_radix(line.trim(), 16).ok());
+    assert_eq!(section.packed_relocations().collect::<Vec<_>>(), offsets.collect::<Vec<_>>());
+}
+
+#[test]
+fn damaged_tables_are_errors() {
+    let bytes = read(Path::new("/lib/x86_64-linux-gnu/libm.so.6"));
+    let file = ElfFile::new(&bytes).expect("an ELF file");
+    // The tags of the hash tables get a number without a meaning.
+    let section = file.section_by_name(".dynamic").expect("a section");
+    let mut damaged = bytes.clone();
+    for (place, entry) in section.dynamic().enumerate().filter(|(_, entry)| [4, 0x6fff_fef5].contains(&entry.tag)) {
+        let start = section.offset as usize + 16 * place;
+        assert_eq!(damaged[start..start + 8], entry.tag.to_le_bytes());
+        damaged[start..start + 8].copy_from_slice(&0x6000_0099u64.to_le_bytes());
+    }
+    let file = ElfFile::new(&damaged).expect("an ELF file");
+    assert_eq!((file.check_header(), file.soname()), (Ok(()), Ok(Some("libm.so.6"))));
+    assert_eq!(file.dynamic_symbols().err(), Some(Error::LinkNoEntry));
+    assert_eq!(file.dynamic_symbol_versions().err(), Some(Error::LinkNoEntry));
+    assert_eq!(file.find_symbol("exp", None).err(), Some(Error::LinkNoEntry));
+    assert_eq!(file.needed().map(|names| names.count()), Ok(said("readelf", &["-d"], Path::new("/lib/x86_64-linux-gnu/libm.so.6")).matches("(NEEDED)").count()));
+}
+
+#[test]
+fn texts_for_debugging_have_no_bytes_of_the_file() {
+    let bytes = read(Path::new("/lib/x86_64-linux-gnu/libc.so.6"));
+    let file = ElfFile::new(&bytes).expect("an ELF file");
+    let symbols = file.dynamic_symbols().expect("symbols");
+    let items = [
+        format!("{file:?}"), format!("{:?}", file.sections()), format!("{:?}", file.segments()), format!("{symbols:?}"),
+        format!("{:?}", file.section(1)), format!("{:?}", file.segment(0)), format!("{:?}", symbols.clone().nth(1)),
+        format!("{:?}", file.notes().next()), format!("{:?}", file.hash_table()),
+        format!("{:?}", file.section_by_name(".dynsym").map(|section| (section.symbols(), section.symbol(1)))),
+        format!("{:?}", file.version_definitions().map(|mut versions| versions.nth(1))),
+    ];
+    assert!(items.iter().all(|text| text.len() < 700), "{items:?}");
+    #[cfg(feature = "alloc")]
+    assert!(format!("{:?}", file.symbol_map()).len() < 700);
+    assert!(symbols.len() > 1000 && file.segments().all(|segment| segment.type_ != PT_NULL));
+}

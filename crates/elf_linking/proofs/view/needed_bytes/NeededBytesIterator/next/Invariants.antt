@@ -1,9 +1,0 @@
-use Rattle.std.proofs.Common.{◌≡◌, length}
-use Rattle.elf_linking.specs.DynamicView.{entries_left, needed_bytes_left}
-use Rattle.elf_linking.proofs.view.needed_bytes.NeededBytesIterator.next.Given as goal
-
-abbrev pub invariant-loop-entry : goal.invariant-loop-entry
-invariant-loop-entry l = needed_bytes_left l.self ≡ needed_bytes_left l.initial.self
-
-abbrev pub decreases-loop-entry : goal.decreases-loop-entry
-decreases-loop-entry l = length (entries_left l.self.entries)

@@ -1,0 +1,71 @@
+//! The relocation types that want a certain symbol, by machine: those that are not here take any.
+
+/// `EM_386`: the machine of the 386 (gABI, "ELF Header", e_machine).
+pub const EM_386: u16 = 3;
+
+/// `EM_X86_64`: the machine x86-64 (gABI, "ELF Header", e_machine).
+pub const EM_X86_64: u16 = 62;
+
+/// `EM_AARCH64`: the machine AArch64 (gABI, "ELF Header", e_machine).
+pub const EM_AARCH64: u16 = 183;
+
+/// `R_X86_64_COPY`: copies the object of the symbol (x86-64 psABI, "Relocation Types").
+pub const R_X86_64_COPY: u32 = 5;
+
+/// `R_X86_64_JUMP_SLOT`: an entry of the procedure linkage table (x86-64 psABI).
+pub const R_X86_64_JUMP_SLOT: u32 = 7;
+
+/// `R_X86_64_DTPMOD64`: the module of a thread-local variable (x86-64 psABI).
+pub const R_X86_64_DTPMOD64: u32 = 16;
+
+/// `R_X86_64_DTPOFF64`: the offset of a thread-local variable in its module (x86-64 psABI).
+pub const R_X86_64_DTPOFF64: u32 = 17;
+
+/// `R_X86_64_TPOFF64`: the offset of a thread-local variable from the thread pointer (x86-64
+/// psABI).
+pub const R_X86_64_TPOFF64: u32 = 18;
+
+/// `R_X86_64_TLSDESC`: the descriptor of a thread-local variable (x86-64 psABI).
+pub const R_X86_64_TLSDESC: u32 = 36;
+
+/// `R_386_COPY`: copies the object of the symbol (386 psABI, "Relocation Types").
+pub const R_386_COPY: u32 = 5;
+
+/// `R_386_JMP_SLOT`: an entry of the procedure linkage table (386 psABI).
+pub const R_386_JMP_SLOT: u32 = 7;
+
+/// `R_386_TLS_TPOFF`: the offset of a thread-local variable from the thread pointer, which is
+/// negative (386 psABI).
+pub const R_386_TLS_TPOFF: u32 = 14;
+
+/// `R_386_TLS_DTPMOD32`: the module of a thread-local variable (386 psABI).
+pub const R_386_TLS_DTPMOD32: u32 = 35;
+
+/// `R_386_TLS_DTPOFF32`: the offset of a thread-local variable in its module (386 psABI).
+pub const R_386_TLS_DTPOFF32: u32 = 36;
+
+/// `R_386_TLS_TPOFF32`: the offset of a thread-local variable from the thread pointer, negated (386
+/// psABI).
+pub const R_386_TLS_TPOFF32: u32 = 37;
+
+/// `R_386_TLS_DESC`: the descriptor of a thread-local variable (386 psABI).
+pub const R_386_TLS_DESC: u32 = 41;
+
+/// `R_AARCH64_COPY`: copies the object of the symbol (AArch64 psABI, "Dynamic relocations").
+pub const R_AARCH64_COPY: u32 = 1024;
+
+/// `R_AARCH64_JUMP_SLOT`: an entry of the procedure linkage table (AArch64 psABI).
+pub const R_AARCH64_JUMP_SLOT: u32 = 1026;
+
+/// `R_AARCH64_TLS_DTPMOD`: the module of a thread-local variable (AArch64 psABI).
+pub const R_AARCH64_TLS_DTPMOD: u32 = 1028;
+
+/// `R_AARCH64_TLS_DTPREL`: the offset of a thread-local variable in its module (AArch64 psABI).
+pub const R_AARCH64_TLS_DTPREL: u32 = 1029;
+
+/// `R_AARCH64_TLS_TPREL`: the offset of a thread-local variable from the thread pointer (AArch64
+/// psABI).
+pub const R_AARCH64_TLS_TPREL: u32 = 1030;
+
+/// `R_AARCH64_TLSDESC`: the descriptor of a thread-local variable (AArch64 psABI).
+pub const R_AARCH64_TLSDESC: u32 = 1031;

@@ -1,0 +1,361 @@
+//! The references of a program and two libraries that a linker wrote, as `readelf -rW` shows them,
+//! and the symbols that they get, by the rules from the sources. The dynamic linker of glibc 2.36
+//! prints the same bindings under `LD_DEBUG=bindings LD_BIND_NOW=1`, in either order of the
+//! libraries.
+
+mod changed;
+
+use crate::tests::bind::Answer;
+use crate::tests::bind::files::{
+    NARROW_CALLER, NARROW_FIRST, NARROW_SECOND, WIDE_CALLER, WIDE_FIRST, WIDE_SECOND,
+};
+use crate::tests::want::{open, want, want_at};
+use elf_base::ElfError;
+use elf_linking::references::Reference;
+use elf_linking::scope::Scope;
+use elf_linking::view::LinkedSymbol;
+use elf_linking::{DynamicObject, LinkError};
+use linking_callers::callers::second_file::is_of_second_file;
+use std::process::Abort;
+use worked_files::places::put;
+use xmas_elf::symbol_table::{DynEntry32, DynEntry64};
+
+// The offset, the type, the index of the symbol and the addend of each reference.
+type Listed = (u64, u32, u32, u64);
+
+const NARROW_REFERENCES: [&[Listed]; 3] = [
+    &[
+        (0x80493e8, 5, 7, 0),
+        (0x80493d8, 7, 1, 0),
+        (0x80493dc, 7, 5, 0),
+        (0x80493e0, 7, 2, 0),
+        (0x80493e4, 7, 3, 0),
+    ],
+    &[
+        (0x1484, 35, 6, 0),
+        (0x1488, 36, 6, 0),
+        (0x148c, 6, 12, 0),
+        (0x14ac, 1, 2, 0),
+        (0x14b4, 1, 10, 0),
+        (0x149c, 7, 10, 0),
+        (0x14a0, 7, 5, 0),
+    ],
+    &[
+        (0x141c, 6, 4, 0),
+        (0x1420, 14, 9, 0),
+        (0x1424, 6, 10, 0),
+        (0x1450, 1, 12, 0),
+        (0x1454, 1, 8, 0),
+        (0x1458, 1, 8, 0),
+        (0x1434, 7, 3, 0),
+        (0x1438, 7, 12, 0),
+        (0x1444, 41, 7, 0),
+    ],
+];
+
+const WIDE_REFERENCES: [&[Listed]; 3] = [
+    &[
+        (0x401608, 5, 7, 0),
+        (0x4015e8, 7, 1, 0),
+        (0x4015f0, 7, 5, 0),
+        (0x4015f8, 7, 2, 0),
+        (0x401600, 7, 3, 0),
+    ],
+    &[
+        (0x1690, 16, 6, 0),
+        (0x1698, 17, 6, 0),
+        (0x16a0, 6, 12, 0),
+        (0x16e0, 1, 2, 0),
+        (0x16f0, 1, 10, 0),
+        (0x16c0, 7, 10, 0),
+        (0x16c8, 7, 5, 0),
+    ],
+    &[
+        (0x1668, 6, 4, 0),
+        (0x1670, 18, 9, 0),
+        (0x1678, 6, 10, 0),
+        (0x16e0, 1, 12, 0),
+        (0x16f0, 1, 8, 4),
+        (0x16f8, 1, 8, 0xffff_ffff_ffff_fffc),
+        (0x16a0, 7, 3, 0),
+        (0x16a8, 7, 12, 0),
+        (0x16c0, 36, 7, 0),
+    ],
+];
+
+// The file and the symbol that each of them gets; the libraries in their order, and in the other.
+type Bindings = [&'static [Option<(usize, u32)>]; 3];
+
+const BINDINGS: Bindings = [
+    // shared, version@V1, taken, version@@V2 and choose of the first library
+    &[
+        Some((1, 12)),
+        Some((1, 4)),
+        Some((1, 9)),
+        Some((1, 8)),
+        Some((1, 5)),
+    ],
+    // per_thread twice, shared of the program, kept, own of the program twice, and choose
+    &[
+        Some((1, 6)),
+        Some((1, 6)),
+        Some((0, 7)),
+        Some((1, 2)),
+        Some((0, 6)),
+        Some((0, 6)),
+        Some((1, 5)),
+    ],
+    // only, static_thread, absent, taken and twice shared of the program, version@V1, taken and
+    // per_thread
+    &[
+        Some((2, 4)),
+        Some((1, 7)),
+        None,
+        Some((0, 5)),
+        Some((0, 7)),
+        Some((0, 7)),
+        Some((1, 4)),
+        Some((1, 9)),
+        Some((1, 6)),
+    ],
+];
+
+const OTHER_BINDINGS: Bindings = [
+    // choose of the second library
+    &[
+        Some((2, 12)),
+        Some((2, 4)),
+        Some((2, 9)),
+        Some((2, 8)),
+        Some((1, 6)),
+    ],
+    &[
+        Some((1, 4)),
+        Some((2, 7)),
+        None,
+        Some((0, 5)),
+        Some((0, 7)),
+        Some((0, 7)),
+        Some((2, 4)),
+        Some((2, 9)),
+        Some((2, 6)),
+    ],
+    &[
+        Some((2, 6)),
+        Some((2, 6)),
+        Some((0, 7)),
+        Some((2, 2)),
+        Some((0, 6)),
+        Some((0, 6)),
+        Some((1, 6)),
+    ],
+];
+
+// The dynamic symbols of a file, whose table and versions pass their checks.
+fn loaded<'a, E: LinkedSymbol>(
+    rt: &impl Abort,
+    file: &'a [u8],
+) -> Result<DynamicObject<'a, E>, LinkError> {
+    let object = DynamicObject::read(&open(rt, file))?;
+    object.check()?;
+    object.check_versions()?;
+    Ok(object)
+}
+
+// Wants these references of a file.
+fn check_listed<E: LinkedSymbol>(
+    rt: &impl Abort,
+    file: &[u8],
+    listed: &[Listed],
+) -> Result<(), LinkError> {
+    let object = loaded::<E>(rt, file)?;
+    let mut references = object.references()?;
+    for &(offset, kind, symbol, addend) in listed {
+        let reference = Reference {
+            offset,
+            kind,
+            symbol,
+            addend,
+        };
+        want(rt, references.next(), Some(reference));
+    }
+    want(rt, references.next(), None);
+    Ok(())
+}
+
+// Wants these references of each file.
+fn check_all_listed<E: LinkedSymbol>(
+    rt: &impl Abort,
+    files: [&[u8]; 3],
+    listed: &[&[Listed]; 3],
+) -> Result<(), LinkError> {
+    for (file, listed) in files.iter().zip(listed) {
+        check_listed::<E>(rt, file, listed)?;
+    }
+    Ok(())
+}
+
+// What a reference gets, where the symbol is that of the object at its index.
+fn bound_in<E: LinkedSymbol>(
+    rt: &impl Abort,
+    objects: &[DynamicObject<'_, E>],
+    from: usize,
+    reference: &Reference,
+) -> Answer {
+    let Some(bound) = Scope::new(objects).bind(from, reference)? else {
+        return Ok(None);
+    };
+    if let Some(object) = objects.get(bound.object) {
+        let value = object.symbol(bound.index).map(|symbol| symbol.value());
+        want(rt, Some(bound.symbol.value()), value);
+    }
+    Ok(Some((bound.object, bound.index)))
+}
+
+// Wants these bindings of the references of each object.
+fn check_scope<E: LinkedSymbol>(
+    rt: &impl Abort,
+    objects: &[DynamicObject<'_, E>; 3],
+    bindings: Bindings,
+) -> Result<(), LinkError> {
+    for (from, (object, bindings)) in objects.iter().zip(bindings).enumerate() {
+        let mut wanted = bindings.iter();
+        for reference in object.references()? {
+            let found = bound_in(rt, objects, from, &reference)?;
+            want_at(rt, reference, Some(&found), wanted.next());
+        }
+        want_at(rt, from, wanted.next(), None);
+    }
+    Ok(())
+}
+
+// Wants these bindings of the references of each file.
+fn check_bound<E: LinkedSymbol>(
+    rt: &impl Abort,
+    files: [&[u8]; 3],
+    bindings: Bindings,
+) -> Result<(), LinkError> {
+    let [program, first, second] = files;
+    let program = loaded::<E>(rt, program)?;
+    let first = loaded::<E>(rt, first)?;
+    let second = loaded::<E>(rt, second)?;
+    check_scope(rt, &[program, first, second], bindings)
+}
+
+#[test]
+fn lists_and_binds_references(rt: HostRuntime) -> Result<(), LinkError> {
+    let files: [&[u8]; 3] = [NARROW_CALLER, NARROW_FIRST, NARROW_SECOND];
+    check_all_listed::<DynEntry32>(&rt, files, &NARROW_REFERENCES)?;
+    check_bound::<DynEntry32>(&rt, files, BINDINGS)?;
+    let files: [&[u8]; 3] = [WIDE_CALLER, WIDE_FIRST, WIDE_SECOND];
+    check_all_listed::<DynEntry64>(&rt, files, &WIDE_REFERENCES)?;
+    check_bound::<DynEntry64>(&rt, files, BINDINGS)
+}
+
+#[test]
+fn binds_in_another_order(rt: HostRuntime) -> Result<(), LinkError> {
+    let files: [&[u8]; 3] = [NARROW_CALLER, NARROW_SECOND, NARROW_FIRST];
+    check_bound::<DynEntry32>(&rt, files, OTHER_BINDINGS)?;
+    let files: [&[u8]; 3] = [WIDE_CALLER, WIDE_SECOND, WIDE_FIRST];
+    check_bound::<DynEntry64>(&rt, files, OTHER_BINDINGS)
+}
+
+// A place in a file, and the byte there.
+type Change = (usize, u8);
+
+// Changes of the second library of class 32 and of class 64, and what its reference to `only` gets:
+// its own symbol, or that of the first library. The dynamic entries begin at 0x374 and 0x4f8.
+const SYMBOLIC: &[(&[Change], &[Change], (usize, u32))] = &[
+    (&[], &[], (2, 4)),
+    // d_tag of the entry SYMBOLIC
+    (&[(0x37c, 24)], &[(0x508, 24)], (2, 4)),
+    // d_un of the entry FLAGS
+    (&[(0x3e8, 0x10)], &[(0x600, 0x10)], (2, 4)),
+    (
+        &[(0x37c, 24), (0x3e8, 0x10)],
+        &[(0x508, 24), (0x600, 0x10)],
+        (1, 1),
+    ),
+    // d_tag of the entry FLAGS
+    (
+        &[(0x37c, 24), (0x3e4, 24)],
+        &[(0x508, 24), (0x5f8, 24)],
+        (1, 1),
+    ),
+];
+
+fn make_change(file: &mut [u8], changes: &[Change]) {
+    for &(place, byte) in changes {
+        put(file, place, &[byte]);
+    }
+}
+
+// What the first reference of the last file gets.
+fn last_bound<E: LinkedSymbol>(rt: &impl Abort, files: [&[u8]; 3]) -> Answer {
+    let [program, first, second] = files;
+    let program = loaded::<E>(rt, program)?;
+    let first = loaded::<E>(rt, first)?;
+    let second = loaded::<E>(rt, second)?;
+    let reference = second.references()?.next();
+    match reference {
+        Some(reference) => bound_in(rt, &[program, first, second], 2, &reference),
+        None => Ok(None),
+    }
+}
+
+#[test]
+fn asks_a_symbolic_library_first(rt: HostRuntime) {
+    for (row, &(narrow, wide, found)) in SYMBOLIC.iter().enumerate() {
+        let mut second = *NARROW_SECOND;
+        make_change(&mut second, narrow);
+        let files: [&[u8]; 3] = [NARROW_CALLER, NARROW_FIRST, &second];
+        want_at(
+            &rt,
+            row,
+            last_bound::<DynEntry32>(&rt, files),
+            Ok(Some(found)),
+        );
+        let mut second = *WIDE_SECOND;
+        make_change(&mut second, wide);
+        let files: [&[u8]; 3] = [WIDE_CALLER, WIDE_FIRST, &second];
+        want_at(
+            &rt,
+            row,
+            last_bound::<DynEntry64>(&rt, files),
+            Ok(Some(found)),
+        );
+    }
+}
+
+// The names that the program refers to, whether it gets each from the second file, and whether it
+// does where the libraries are in the other order.
+const OF_SECOND: &[(&str, bool, bool)] = &[
+    ("choose", true, true),
+    ("shared", true, false),
+    ("version", true, false),
+    ("taken", true, false),
+    ("own", false, false),
+    ("only", false, false),
+    ("", false, false),
+];
+
+// Wants the answers for a program and two libraries.
+fn check_second<E: LinkedSymbol>(rt: &impl Abort, files: [&[u8]; 3]) {
+    let [program, first, second] = files;
+    for &(name, wanted, other) in OF_SECOND {
+        let found = is_of_second_file::<E>(program, first, second, name);
+        want_at(rt, name, found, Ok(wanted));
+        let found = is_of_second_file::<E>(program, second, first, name);
+        want_at(rt, name, found, Ok(other));
+    }
+    let found = is_of_second_file::<E>(program, first, &[0x7f], "choose");
+    want(rt, found, Err(LinkError::Elf(ElfError::ShortPart1)));
+}
+
+#[test]
+fn tells_what_is_of_the_second_file(rt: HostRuntime) {
+    check_second::<DynEntry32>(&rt, [NARROW_CALLER, NARROW_FIRST, NARROW_SECOND]);
+    check_second::<DynEntry64>(&rt, [WIDE_CALLER, WIDE_FIRST, WIDE_SECOND]);
+    let found = is_of_second_file::<DynEntry32>(WIDE_CALLER, WIDE_FIRST, WIDE_SECOND, "choose");
+    want(&rt, found, Err(LinkError::UnknownClass));
+}

@@ -1,0 +1,97 @@
+//! The symbols that references get of shared objects with two versions of one name, which a linker
+//! wrote.
+
+use crate::tests::find::Asked::By;
+use crate::tests::find::{Answer, Asked, HIDDEN_V1, LATEST, PLAIN, V1, V2, V3, found_in};
+use crate::tests::want::{open, want, want_at};
+use elf_linking::find::{Use, Wanted};
+use elf_linking::view::LinkedSymbol;
+use elf_linking::{DynamicObject, LinkError};
+use linking_callers::callers::find::{default_value, versioned_value};
+use std::process::Abort;
+use worked_files::linked::versions::{NARROW, WIDE};
+use xmas_elf::symbol_table::{DynEntry32, DynEntry64};
+
+// What a reference to a name of the shared objects gets, by `readelf -W --dyn-syms -V`: `ab@@V2` is
+// symbol 3 with number 3, and `ab@V1` symbol 4 with the hidden number 2.
+const LINKED: &[(&str, Asked, Option<u32>)] = &[
+    ("ab", V1, Some(4)),
+    ("ab", V2, Some(3)),
+    ("ab", V3, None),
+    ("ab", HIDDEN_V1, Some(4)),
+    ("ab", PLAIN, Some(4)),
+    ("ab", LATEST, Some(3)),
+    ("call", V1, None),
+    ("call", V2, Some(5)),
+    ("call", PLAIN, Some(5)),
+    ("call", LATEST, Some(5)),
+    ("V1", V1, Some(2)),
+    ("V1", V2, None),
+    ("outer", By("w1", 0x7a1), None),
+    ("outer", PLAIN, None),
+    ("a", PLAIN, None),
+];
+
+// The index of the symbol that a jump slot gets.
+fn linked_index(rt: &impl Abort, class: u8, bytes: &[u8], name: &str, asked: Asked) -> Answer {
+    match found_in(rt, class, bytes, name, &asked.wanted(), Use::Defined) {
+        Ok(Some((index, _value))) => Ok(Some(index)),
+        Ok(None) => Ok(None),
+        Err(error) => Err(error),
+    }
+}
+
+#[test]
+fn finds_versions_that_a_linker_wrote(rt: HostRuntime) {
+    for (row, &(name, asked, index)) in LINKED.iter().enumerate() {
+        want_at(
+            &rt,
+            row,
+            linked_index(&rt, 1, NARROW, name, asked),
+            Ok(index),
+        );
+        want_at(&rt, row, linked_index(&rt, 2, WIDE, name, asked), Ok(index));
+    }
+    for (name, values) in [("V1", (0x240, 0x2f0)), ("V2", (0x246, 0x2f6))] {
+        let wanted = Wanted::version(name);
+        let found = found_in(&rt, 1, NARROW, "ab", &wanted, Use::Copy);
+        want_at(
+            &rt,
+            name,
+            found.map(|found| found.map(|found| found.1)),
+            Ok(Some(values.0)),
+        );
+        let found = found_in(&rt, 2, WIDE, "ab", &wanted, Use::Copy);
+        want_at(
+            &rt,
+            name,
+            found.map(|found| found.map(|found| found.1)),
+            Ok(Some(values.1)),
+        );
+    }
+}
+
+// The values of `ab@V1` and `ab@@V2` by an object whose checks passed.
+fn check_values<E: LinkedSymbol>(
+    rt: &impl Abort,
+    bytes: &[u8],
+    values: (u64, u64),
+) -> Result<(), LinkError> {
+    let file = open(rt, bytes);
+    let object = DynamicObject::<E>::read(&file)?;
+    object.check()?;
+    object.check_versions()?;
+    want(rt, default_value(&object, "ab"), Some(values.1));
+    want(rt, default_value(&object, "outer"), None);
+    want(rt, versioned_value(&object, "ab", "V1"), Some(values.0));
+    want(rt, versioned_value(&object, "ab", "V2"), Some(values.1));
+    want(rt, versioned_value(&object, "ab", "w1"), None);
+    want(rt, versioned_value(&object, "call", "V1"), None);
+    Ok(())
+}
+
+#[test]
+fn finds_values_by_versions(rt: HostRuntime) -> Result<(), LinkError> {
+    check_values::<DynEntry32>(&rt, NARROW, (0x240, 0x246))?;
+    check_values::<DynEntry64>(&rt, WIDE, (0x2f0, 0x2f6))
+}

@@ -1,0 +1,29 @@
+//! Expected values are worked out by hand from the format,
+//! and never taken from the program's output.
+
+mod backtrace;
+mod checks;
+mod data;
+mod hash;
+mod headers;
+mod iterators;
+mod loader;
+mod messages;
+mod names;
+mod notes;
+mod numbers;
+mod printed;
+mod relocations;
+mod sections;
+mod segments;
+mod shared_object;
+mod sizes;
+mod symbol_numbers;
+mod symbol_sections;
+mod symbols;
+mod tables;
+mod tags;
+mod texts;
+mod want;
+mod wide;
+mod writers;

@@ -1,0 +1,23 @@
+-- What is said of how an output ends, where that implies more.
+use Rattle.std.proofs.Common.{ℕ, List, Option, Result, Ok, Err}
+use Rattle.std.specs.Prelude.{MatchResult}
+use Rattle.program_ends.specs.Appended.{AppendsSome}
+use Rattle.program_ends.specs.Stops.{IsStop}
+use Rattle.program_ends.specs.declared.Stop.{Stop}
+use Rattle.program_ends.specs.declared.Stop.TheVariants.{Memory, Refused, Write}
+
+-- a reason that is the case, where that implies more
+pub stop_so : {E : Type 0} (WasRefused IsRefused : E → Type 0) (WasWritten IsWritten WasShort IsShort : Type 0) (stop : Stop E) → ((error : E) → WasRefused error → IsRefused error) → (WasWritten → IsWritten) → (WasShort → IsShort)
+    → IsStop WasRefused WasWritten WasShort stop → IsStop IsRefused IsWritten IsShort stop
+stop_so WasRefused IsRefused WasWritten IsWritten WasShort IsShort (Refused error) refused written short why = refused error why
+stop_so WasRefused IsRefused WasWritten IsWritten WasShort IsShort Write refused written short why = written why
+stop_so WasRefused IsRefused WasWritten IsWritten WasShort IsShort Memory refused written short why = short why
+
+-- a text with one property was written, or the output stops for one reason, where these imply others
+pub ends_so : {A E : Type 0} (Was Is : A → List ℕ → Type 0) (WasRefused IsRefused : E → Type 0) (WasWritten IsWritten Short : Type 0) (answer : Result A (Stop E)) (old new : Option (List ℕ)) → ((value : A) (text : List ℕ) → Was value text → Is value text) → ((error : E) → WasRefused error → IsRefused error) → (WasWritten → IsWritten)
+    → MatchResult answer (λ value. AppendsSome (Was value) old new) (IsStop WasRefused WasWritten Short)
+    → MatchResult answer (λ value. AppendsSome (Is value) old new) (IsStop IsRefused IsWritten Short)
+ends_so Was Is WasRefused IsRefused WasWritten IsWritten Short (Ok value) old new so refused written (text, was, grown) = (text, so value text was, grown)
+ends_so Was Is WasRefused IsRefused WasWritten IsWritten Short (Err (Refused error)) old new so refused written why = refused error why
+ends_so Was Is WasRefused IsRefused WasWritten IsWritten Short (Err Write) old new so refused written why = written why
+ends_so Was Is WasRefused IsRefused WasWritten IsWritten Short (Err Memory) old new so refused written why = why

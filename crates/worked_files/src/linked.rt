@@ -1,0 +1,4 @@
+//! Linked files: small shared objects as a compiler and a linker made them.
+
+pub mod small;
+pub mod versions;

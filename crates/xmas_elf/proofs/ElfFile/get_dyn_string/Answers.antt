@@ -1,7 +1,0 @@
-use Rattle.std.proofs.Common.{◌≡◌}
-use Rattle.xmas_elf.proofs.ElfFile.get_dyn_string.Goals as goal
-
-pub returns-clause-only : goal.returns-clause-only
-returns-clause-only c = λ part is.
-    let same : c.in_ok-dynstr.field-0.now ≡ is.table = c.in_ok-dynstr.ensures.only is.table is.in_table in
-    c.text_at.ensures.only part (rw same is.is_text)

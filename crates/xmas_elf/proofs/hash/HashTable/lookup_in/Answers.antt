@@ -1,8 +1,0 @@
-use Rattle.xmas_elf.proofs.hash.HashTable.lookup_in.Goals as goal
-
-pub returns : goal.returns
-returns g c = record {
-  answer = λ d. (c.lookup_counted_in.result.1, c.lookup_counted_in.ensures.answer d);
-  only = λ d other count h. (c.lookup_counted_in.ensures.only d other count h).0;
-  good = c.lookup_counted_in.ensures.good;
-}

@@ -1,0 +1,130 @@
+#!/usr/bin/env python3
+"""Runs every comparison with another program, and the runs on damaged files.
+
+    tools/compare/all.py              all, whole: hours; writes what each counted into docs/TESTS.md
+    tools/compare/all.py --sample     each over a few files, some seconds each; writes nothing
+    tools/compare/all.py .. NAME..    these alone, as `readelf dlsym`
+
+The programs and the archive are those that `rt run` and `rt lib` leave in crates/*/out. XMAS_ELF_CRATE: a folder with the
+files of the Rust crate, where Cargo has no registry (tools/compare/rust.py --crate). A comparison that needs what isn't
+here is skipped, and the line says what is missing. Each line of docs/TESTS.md between `<!-- oracles -->` and
+`<!-- /oracles -->` has the counts of one comparison, its commit and the machine; a comparison that was skipped or failed
+keeps its line. The exit status is 1 if one found a difference.
+"""
+import dataclasses
+import os
+import pathlib
+import platform
+import re
+import shutil
+import subprocess
+import sys
+import time
+
+ROOT = pathlib.Path(__file__).resolve().parents[2]
+HERE = ROOT / "tools" / "compare"
+PAGE = ROOT / "docs" / "TESTS.md"
+ROOM = re.compile(r"(?<=<!-- oracles -->\n).*?(?=<!-- /oracles -->)", re.S)
+
+SYSTEM = ["/usr/bin", "/usr/sbin", "/usr/lib", "/usr/lib32", "/usr/libexec"]
+LIBRARIES = [f"/usr/lib/x86_64-linux-gnu/lib{name}" for name in ("c.so.6", "m.so.6", "gcc_s.so.1", "stdc++.so.6")]
+FEW = ["/usr/bin/readelf", "/usr/bin/python3", *LIBRARIES, *map(str, sorted(ROOT.glob("crates/elfsym/data/*.so")))]
+ARCHIVE = "crates/elf_c/out/libelf_c.a"
+CRATE = [os.environ["XMAS_ELF_CRATE"]] if "XMAS_ELF_CRATE" in os.environ else []
+FROM = ["--crate", *CRATE] if CRATE else []
+
+
+def built(name: str) -> str:
+    return f"crates/{name}/out/{name}"
+
+
+@dataclasses.dataclass
+class Oracle:
+    """A comparison: its script, what it runs on whole and as a sample, and the programs and files that it needs."""
+
+    script: str
+    whole: list
+    sample: list
+    needs: tuple
+    # What builds or fetches something that it needs, and fails where that can't be had.
+    first: tuple = ()
+
+    def missing(self) -> str:
+        """What it needs and isn't here, or nothing."""
+        for it in self.needs:
+            if not ((ROOT / it).exists() if "/" in it else shutil.which(it)):
+                return it
+        failed = self.first and subprocess.run(self.first, cwd=ROOT, capture_output=True, text=True, check=False).returncode
+        return f"what {self.first[0]} makes" if failed else ""
+
+
+ORACLES = {
+    "readelf": Oracle("readelf.py", SYSTEM, FEW, (built("elfinfo"), "llvm-readelf")),
+    "notes": Oracle("notes.py", SYSTEM, FEW, (built("elfsections"), "llvm-readelf", "readelf")),
+    "symbols": Oracle("symbols.py", SYSTEM, FEW, (built("elfsections"), "llvm-readelf")),
+    "elfsym": Oracle("elfsym.py", SYSTEM, FEW, (built("elfsym"), "llvm-readelf", "readelf")),
+    "recipes": Oracle("recipes.py", [], [], (built("elfrecipes"), "readelf", "gcc")),
+    "versions": Oracle("versions.py", SYSTEM, LIBRARIES, (ARCHIVE, "readelf", "cargo")),
+    "dlsym": Oracle("dlsym.py", [], LIBRARIES, (ARCHIVE, "llvm-readelf", "gcc")),
+    "bindings": Oracle("bindings.py", ["--dir", "/usr/bin", "--dir", "/usr/sbin"], ["/usr/bin/readelf", "/usr/bin/python3"],
+        (built("elfbind"), "llvm-readelf")),
+    "fuzz_bindings": Oracle("fuzz_bindings.py", ["--seed", "1", "--count", "2500"], ["--seed", "1", "--count", "100"],
+        (built("elfbind"), built("elfsym"), "gcc")),
+    "rust": Oracle("rust.py", [*FROM, "--damaged", "1", "--worked", "2000", "/usr/bin", "/usr/lib"], [*FROM, "--worked", "40", *LIBRARIES[:1]],
+        (built("elfanswers"), "cargo"), ("oracle/build.sh", *CRATE)),
+    "fuzz": Oracle("fuzz.py", ["--seed", "1", "--count", "33334"], ["--seed", "1", "--count", "500"], (built("elfinfo"), built("elfanswers"))),
+}
+
+
+def machine() -> str:
+    """The system and the processor's family, as pages name them."""
+    release = pathlib.Path("/etc/os-release")
+    names = dict(re.findall(r'^(NAME|VERSION_ID)="?(.*?)"?$', release.read_text() if release.exists() else "", re.M))
+    system = f"{names.get('NAME', 'Linux').split()[0]} {names.get('VERSION_ID', '')}".strip()
+    return f"{system} ({platform.machine().replace('_', '-')})"
+
+
+def commit() -> str:
+    return subprocess.run(["git", "rev-parse", "--short", "HEAD"], cwd=ROOT, capture_output=True, text=True, check=True).stdout.strip()
+
+
+def write(counts: dict):
+    """Puts the lines of comparisons into the page in place of those that it has of them."""
+    text = PAGE.read_text(encoding="utf-8")
+    lines = dict(re.findall(r"^- `(\w+)`: (.*)$", ROOM.search(text)[0], re.M))
+    for name, (said, words) in counts.items():
+        lines[name] = f"{said}. Measured at {commit()} by `{' '.join(words)}` on {machine()}."
+    held = "".join(f"- `{name}`: {lines[name]}\n" for name in ORACLES if name in lines)
+    PAGE.write_text(ROOM.sub(lambda _: held, text, count=1), encoding="utf-8")
+
+
+def main(words: list) -> int:
+    is_sample, names = "--sample" in words, [it for it in words if not it.startswith("-")]
+    if unknown := [it for it in names if it not in ORACLES] + [it for it in words if it.startswith("-") and it != "--sample"]:
+        print(f"{__doc__}\n{', '.join(unknown)}: there is no such comparison", file=sys.stderr)
+        return 2
+    failed, counts = [], {}
+    for name, oracle in ORACLES.items():
+        if names and name not in names:
+            continue
+        if missing := oracle.missing():
+            print(f"{name}: skipped, since {missing} is not here", flush=True)
+            continue
+        command, began = [f"tools/compare/{oracle.script}", *(oracle.sample if is_sample else oracle.whole)], time.monotonic()
+        ran = subprocess.run(command, cwd=ROOT, capture_output=True, text=True, errors="replace", check=False)
+        lines = ran.stdout.strip().split("\n")
+        said = next((it for it in reversed(lines) if re.match(r"\d+ .*(differences|left over|as they must be)", it)), lines[-1])
+        print(f"{name}: {'FAILED: ' if ran.returncode else ''}{said} ({time.monotonic() - began:.0f} s)", flush=True)
+        if ran.returncode:
+            failed.append(name)
+            print("\n".join([*lines[-20:], ran.stderr.strip()[-2000:]]))
+        elif not is_sample:
+            counts[name] = (said, command)
+    if counts:
+        write(counts)
+    print(f"{len(failed)} comparisons failed" + (f": {', '.join(failed)}" if failed else ""))
+    return 1 if failed else 0
+
+
+if __name__ == "__main__":
+    sys.exit(main(sys.argv[1:]))

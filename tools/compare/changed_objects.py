@@ -1,0 +1,176 @@
+"""Copies of small shared objects of class 64 in which numbers of symbols and versions were changed."""
+
+import random
+import struct
+from typing import Dict, List, NamedTuple, Set, Tuple
+
+from bindings import segments
+
+INDIRECT, THREAD, UNIQUE, SYMBOLIC = 10, 6, 10, 2
+
+
+class Change(NamedTuple):
+    """A number at a place of a file, by its format, and what it becomes."""
+
+    what: str
+    place: int
+    form: str
+    number: int
+
+
+class Object:
+    """The dynamic parts of a little-endian file of class 64, by their places."""
+
+    def __init__(self, content: bytes) -> None:
+        self.content = content
+        self.parts = list(segments(content))
+        dynamic = next(offset for kind, offset, _, _ in self.parts if kind == 2)
+        self.entries: Dict[int, Tuple[int, int]] = {}
+        for place in range(dynamic, len(content) - 15, 16):
+            tag, number = struct.unpack_from("<QQ", content, place)
+            if tag == 0:
+                break
+            self.entries.setdefault(tag, (number, place + 8))
+        self.strings = self.offset(5)
+        self.symbols = self.offset(6)
+        # GNU ld puts the strings behind the symbols.
+        self.count = (self.strings - self.symbols) // 24
+
+    def offset(self, tag: int) -> int:
+        """The offset in the file of the address that an entry has, or 0."""
+        address = self.entries.get(tag, (0, 0))[0]
+        for kind, offset, start, size in self.parts:
+            if kind == 1 and start <= address < start + size:
+                return offset + address - start
+        return 0
+
+    def text(self, name: int) -> str:
+        """The string at a place of the string table."""
+        place = self.strings + name
+        return self.content[place : self.content.index(b"\0", place)].decode("latin-1")
+
+    def symbol(self, index: int) -> Tuple[str, int, int, int, int]:
+        """The name, the information, the visibility, the section index and the value of a symbol."""
+        name, info, other, section, value = struct.unpack_from("<IBBHQ", self.content, self.symbols + 24 * index)
+        return self.text(name), info, other, section, value
+
+    def definitions(self) -> List[Tuple[int, int]]:
+        """The places of the definitions of versions, and of the first name of each."""
+        found, place = [], self.offset(0x6FFFFFFC)
+        while place:
+            aux, step = struct.unpack_from("<II", self.content, place + 12)
+            found.append((place, place + aux))
+            place = place + step if step else 0
+        return found
+
+    def needs(self) -> List[int]:
+        """The places of the parts of the needs of versions."""
+        found, place = [], self.offset(0x6FFFFFFE)
+        while place:
+            count, _, aux, step = struct.unpack_from("<HIII", self.content, place + 2)
+            part = place + aux
+            for _ in range(count):
+                found.append(part)
+                part += struct.unpack_from("<I", self.content, part + 12)[0]
+            place = place + step if step else 0
+        return found
+
+    def numbers(self) -> Tuple[Set[int], Set[int]]:
+        """The numbers of versions that symbols have, and those that definitions and needs have, their low 15 bits."""
+        table = self.offset(0x6FFFFFF0)
+        used = {struct.unpack_from("<H", self.content, table + 2 * i)[0] & 0x7FFF for i in range(self.count)} if table else set()
+        of_definitions = {struct.unpack_from("<H", self.content, place + 4)[0] & 0x7FFF for place, _ in self.definitions()}
+        return used, of_definitions | {struct.unpack_from("<H", self.content, place + 6)[0] & 0x7FFF for place in self.needs()}
+
+    def has_room(self) -> bool:
+        """Whether the linker's own table of versions, which has a place for each number, has all versions of the file.
+
+        It has if no two definitions or needs have one number, only the base has number 1, and no symbol has a greater
+        number than all of them.
+        """
+        used, known = self.numbers()
+        definitions = [struct.unpack_from("<HH", self.content, place + 2) for place, _ in self.definitions()]
+        numbers = [number & 0x7FFF for flags, number in definitions if not flags & 1]
+        numbers += [struct.unpack_from("<H", self.content, place + 6)[0] & 0x7FFF for place in self.needs()]
+        return len(set(numbers)) == len(numbers) and min(numbers, default=2) >= 2 and max(used, default=0) <= max(known, default=1)
+
+    def versions(self) -> List[str]:
+        """The names of the versions that are defined."""
+        return [self.text(struct.unpack_from("<I", self.content, aux)[0]) for _, aux in self.definitions()]
+
+
+def change_of_symbol(held: Object, chance: random.Random, kinds: List[int]) -> Change:
+    """A change of a symbol."""
+    index = chance.randrange(1, held.count)
+    name, info, other, _, value = held.symbol(index)
+    place = held.symbols + 24 * index
+    what = chance.choice(("type", "binding", "visibility", "section", "value"))
+    if what == "type":
+        return Change(f"type of {name}", place + 4, "<B", info // 16 * 16 + chance.choice(kinds))
+    if what == "binding":
+        return Change(f"binding of {name}", place + 4, "<B", chance.choice((0, 1, 2, 3, 10, 13)) * 16 + info % 16)
+    if what == "visibility":
+        return Change(f"visibility of {name}", place + 5, "<B", other // 4 * 4 + chance.randrange(4))
+    if what == "section":
+        return Change(f"section of {name}", place + 6, "<H", chance.choice((0, 1, 5, 0xFFF1, 0xFFF2)))
+    return Change(f"value of {name}", place + 8, "<Q", chance.choice((0, value, value + 4)))
+
+
+def change_of_version(held: Object, chance: random.Random) -> Change:
+    """A change of the version tables, or of a symbol's number."""
+    table = held.offset(0x6FFFFFF0)
+    _, known = held.numbers()
+    known = sorted(known | {0, 1})
+    what = chance.randrange(4)
+    definitions, needs = held.definitions(), held.needs()
+    if what < 2 or not (definitions or needs):
+        index = chance.randrange(1, held.count)
+        number = chance.choice(known) | chance.choice((0, 0x8000))
+        return Change(f"version number of {held.symbol(index)[0]}", table + 2 * index, "<H", number)
+    hashes = [struct.unpack_from("<I", held.content, place + 8)[0] for place, _ in definitions]
+    hashes += [struct.unpack_from("<I", held.content, place)[0] for place in needs]
+    names = [struct.unpack_from("<I", held.content, aux)[0] for _, aux in definitions]
+    names += [struct.unpack_from("<I", held.content, place + 8)[0] for place in needs]
+    number = chance.choice(known[1:]) | chance.choice((0, 0x8000))
+    if definitions and (what == 2 or not needs):
+        place, aux = chance.choice(definitions)
+        return chance.choice((
+            Change("flags of a definition", place + 2, "<H", chance.randrange(4)), Change("number of a definition", place + 4, "<H", number),
+            Change("hash of a definition", place + 8, "<I", chance.choice([*hashes, 0, 1])), Change("name of a definition", aux, "<I", chance.choice(names)),
+        ))
+    place = chance.choice(needs)
+    return chance.choice((
+        Change("hash of a need", place, "<I", chance.choice([*hashes, 0, 1])), Change("flags of a need", place + 4, "<H", chance.randrange(4)),
+        Change("number of a need", place + 6, "<H", number), Change("name of a need", place + 8, "<I", chance.choice(names)),
+    ))
+
+
+def change_of(held: Object, chance: random.Random, kinds: List[int]) -> Change:
+    """A change of a file."""
+    what = chance.random()
+    if what < 0.1 and 30 in held.entries:
+        number, place = held.entries[30]
+        return Change("flag DF_SYMBOLIC", place, "<Q", number ^ SYMBOLIC)
+    if what < 0.5 and held.offset(0x6FFFFFF0):
+        return change_of_version(held, chance)
+    return change_of_symbol(held, chance, kinds)
+
+
+def changed(content: bytes, chance: random.Random, kinds: List[int]) -> Tuple[bytes, List[Change]]:
+    """A copy of a file with one to three changes, which the linker has room for."""
+    while True:
+        copy, changes = bytearray(content), []
+        for _ in range(chance.randint(1, 3)):
+            change = change_of(Object(bytes(copy)), chance, kinds)
+            struct.pack_into(change.form, copy, change.place, change.number)
+            changes.append(change)
+        if bytes(copy) != content and Object(bytes(copy)).has_room():
+            return bytes(copy), changes
+
+
+def unique_names(files: List[bytes]) -> Set[str]:
+    """The names of which a file has a unique symbol."""
+    found = set()
+    for held in map(Object, files):
+        found |= {held.symbol(i)[0] for i in range(held.count) if held.symbol(i)[1] >> 4 == UNIQUE}
+    return found

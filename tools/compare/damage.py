@@ -1,0 +1,360 @@
+"""Small ELF files with everything that the library reads, and seeded damage of them.
+
+`worked(wide, order, hostile)` is such a file; `damaged(seed, index)` is one with some of its fields, names,
+tables and sizes changed, the same for the same two numbers; `mutated(data, random)` damages any ELF file.
+"""
+import random as randoms
+import struct
+
+EDGES_16 = (0, 1, 2, 3, 0x1f, 0x20, 0x27, 0x28, 0x37, 0x38, 0x3f, 0x40, 0x41, 0x7fff, 0x8000, 0xfeff, 0xff00, 0xfff1, 0xfffe, 0xffff)
+EDGES_32 = (0, 1, 2, 3, 4, 8, 12, 16, 24, 0x7fffffff, 0x80000000, 0xfffffffc, 0xffffffff)
+EDGES_64 = (*EDGES_32, 2**32, 2**63 - 1, 2**63, 2**64 - 8, 2**64 - 1)
+
+TYPES = (*range(0, 22), 0x5fffffff, 0x60000000, 0x6ffffff6, 0x6fffffff, 0x70000000, 0x7fffffff, 0x80000000, 0xffffffff)
+
+# The fields of the headers: their names, and their struct letters by class (P is the width of an address).
+FILE_HEADER = (("type", "H"), ("machine", "H"), ("version", "I"), ("entry", "P"), ("phoff", "P"), ("shoff", "P"),
+    ("flags", "I"), ("ehsize", "H"), ("phentsize", "H"), ("phnum", "H"), ("shentsize", "H"), ("shnum", "H"), ("shstrndx", "H"))
+SECTION = (("name", "I"), ("type", "I"), ("flags", "P"), ("address", "P"), ("offset", "P"), ("size", "P"),
+    ("link", "I"), ("info", "I"), ("align", "P"), ("entsize", "P"))
+SEGMENT_32 = (("type", "I"), ("offset", "I"), ("vaddr", "I"), ("paddr", "I"), ("filesz", "I"), ("memsz", "I"), ("flags", "I"), ("align", "I"))
+SEGMENT_64 = (("type", "I"), ("flags", "I"), ("offset", "Q"), ("vaddr", "Q"), ("paddr", "Q"), ("filesz", "Q"), ("memsz", "Q"), ("align", "Q"))
+
+
+class Layout:
+    """Where the fields of one class and order stand."""
+
+    def __init__(self, wide: bool, order: str):
+        self.wide, self.mark = wide, "<" if order == "little" else ">"
+        self.address = "Q" if wide else "I"
+        self.header_size = 64 if wide else 52
+        self.section_size = 64 if wide else 40
+        self.segment_size = 56 if wide else 32
+        self.header = self.places(FILE_HEADER, 16)
+        self.section = self.places(SECTION, 0)
+        self.segment = self.places(SEGMENT_64 if wide else SEGMENT_32, 0)
+
+    def places(self, fields, start):
+        found = {}
+        for name, letter in fields:
+            letter = letter.replace("P", self.address)
+            found[name] = (start, letter)
+            start += struct.calcsize("<" + letter)
+        return found
+
+    def put(self, data: bytearray, base: int, field, value: int):
+        place, letter = field
+        size = struct.calcsize("<" + letter)
+        if 0 <= base + place and base + place + size <= len(data):
+            struct.pack_into(self.mark + letter, data, base + place, value % 2 ** (8 * size))
+
+    def get(self, data: bytes, base: int, field) -> int:
+        place, letter = field
+        size = struct.calcsize("<" + letter)
+        if 0 <= base + place and base + place + size <= len(data):
+            return struct.unpack_from(self.mark + letter, data, base + place)[0]
+        return 0
+
+    def words(self, *values):
+        return struct.pack(f"{self.mark}{len(values)}I", *(value % 2**32 for value in values))
+
+    def addresses(self, *values):
+        return struct.pack(f"{self.mark}{len(values)}{self.address}", *values)
+
+    def symbol(self, name, info, index, value, other=0):
+        if self.wide:
+            return struct.pack(self.mark + "IBBHQQ", name, info, other, index, value, 8)
+        return struct.pack(self.mark + "IIIBBH", name, value, 8, info, other, index)
+
+
+def hash_number(name: bytes) -> int:
+    number = 0
+    for byte in name:
+        number = (number * 16 + byte) % 2**32
+        high = number & 0xf0000000
+        number = (number ^ (high >> 24)) & ~high
+    return number
+
+
+def hash_words(names, buckets):
+    """The words of a good hash table of these names, which are the symbols from 1 on."""
+    first, chain = [0] * buckets, [0] * (len(names) + 1)
+    for index in range(len(names), 0, -1):
+        bucket = hash_number(names[index - 1]) % buckets
+        chain[index], first[bucket] = first[bucket], index
+    return [buckets, len(chain), *first, *chain]
+
+
+def texts(names):
+    """A string table of these names, and the places of each."""
+    held, places = bytearray(b"\0"), []
+    for name in names:
+        places.append(len(held))
+        held += name + b"\0"
+    return bytes(held), places
+
+
+def contents(layout: Layout):
+    """Name, type, data, link, info and size of an entry of each section from index 1 on, but for the names."""
+    wide = layout.wide
+    names = [b"alpha", b"beta", b"gamma", b"delta", b"\xc3\xa9psilon", b"zeta"]
+    held, places = texts(names)
+    symbols = layout.symbol(0, 0, 0, 0) + b"".join(
+        layout.symbol(place, 0x12 + 0x10 * (k % 2), (1, 2, 0xfff1, 0xffff, 3, 0)[k], 0x1000 + k, k % 4)
+        for k, place in enumerate(places))
+    entry = 24 if wide else 16
+    note = layout.words(4, 20, 3) + b"GNU\0" + bytes(range(20)) + layout.words(5, 3, 1) + b"LINK\0\0\0\0abc\0"
+    big = 32 if wide else 8
+    relocations = [(0x10, 1 << big | 7, 5), (0x20, 2 << big | 255, 2**31)]
+    rela = b"".join(layout.addresses(*it) for it in relocations)
+    rel = b"".join(layout.addresses(*it[:2]) for it in relocations)
+    tags = [(1, 1), (5, 0x100), (6, 0x200), (10, 30), (14, 9), (0x6ffffffb, 1), (0x6ffffef5, 3), (0x70000001, 4), (31, 1), (0, 0)]
+    dynamic = b"".join(layout.addresses(*tag) for tag in tags)
+    return [
+        (b".strtab", 3, held, 0, 0, 0),
+        (b".symtab", 2, symbols, 1, 1, entry),
+        (b".dynstr", 3, held, 0, 0, 0),
+        (b".dynsym", 11, symbols, 3, 1, entry),
+        (b".hash", 5, layout.words(*hash_words(names, 3)), 4, 0, 4),
+        (b".text", 1, bytes(range(48)), 0, 0, 0),
+        (b".note.gnu.build-id", 7, note, 0, 0, 0),
+        (b".gnu_debuglink", 1, b"a.debug\0" + layout.words(0x12345678), 0, 0, 0),
+        (b".gnu_debugaltlink", 1, b"b.debug\0" + bytes(range(20)), 0, 0, 0),
+        (b".rela.text", 4, rela, 2, 6, 24 if wide else 12),
+        (b".rel.text", 9, rel, 2, 6, 16 if wide else 8),
+        (b".init_array", 14, layout.addresses(0x1000, 0x1008), 0, 0, 0),
+        (b".group", 17, layout.words(1, 6, 10), 2, 1, 4),
+        (b".symtab_shndx", 18, layout.words(0, 0, 0, 0, 6, 0, 0), 2, 0, 4),
+        (b".dynamic", 6, dynamic, 3, 0, 16 if wide else 8),
+        (b".bss", 8, b"", 0, 0, 0),
+        (b".relr.dyn", 19, layout.addresses(0x1000, 3), 0, 0, 8),
+        (b".comment", 1, b"a comment\0", 0, 0, 1),
+        (b".gnu.hash", 0x6ffffff6, layout.words(1, 1, 1, 0, 0, 0, 0, 0), 4, 0, 0),
+        (b".texts", 3, b"one\0two\0three\0\0four\0", 0, 0, 0),
+    ]
+
+
+def chosen(sections, only):
+    """The sections of these names alone, with links to their new indices."""
+    kept = [it for it in sections if it[0].decode() in only]
+    index = {0: 0, **{sections.index(it) + 1: k + 1 for k, it in enumerate(kept)}}
+    return [(name, kind, held, index.get(link, 0), info, size) for name, kind, held, link, info, size in kept]
+
+
+def worked(wide: bool, order: str, hostile: str = "", only=()) -> bytes:
+    """A file whose every item is good; `hostile` makes its hash table `looped` or `shared`.
+
+    `only` names the sections that it has, beside that of the names.
+    """
+    layout = Layout(wide, order)
+    sections = contents(layout)
+    if hostile:
+        words = {"looped": [2, 7, 1, 2, 0, 3, 4, 5, 6, 1, 2], "shared": [7, 7, *[1] * 7, 0, 2, 3, 4, 5, 6, 0]}[hostile]
+        sections[4] = (b".hash", 5, layout.words(*words), 4, 0, 4)
+    if only:
+        sections = chosen(sections, only)
+    names, places = texts([it[0] for it in sections] + [b".shstrtab"])
+    sections.append((b".shstrtab", 3, names, 0, 0, 0))
+    segments = 7
+    data = bytearray(layout.header_size + segments * layout.segment_size)
+    where = []
+    for _, _, held, *_ in sections:
+        data += bytes(-len(data) % 8)
+        where.append(len(data))
+        data += held
+    data += bytes(-len(data) % 8)
+    start = len(data)
+    data += bytes(layout.section_size * (len(sections) + 1))
+    data[:7] = b"\x7fELF" + bytes([2 if wide else 1, 1 if order == "little" else 2, 1])
+    values = dict(type=3, machine=62, version=1, entry=0x1000, phoff=layout.header_size, shoff=start, flags=0,
+        ehsize=layout.header_size, phentsize=layout.segment_size, phnum=segments, shentsize=layout.section_size,
+        shnum=len(sections) + 1, shstrndx=len(sections))
+    for name, value in values.items():
+        layout.put(data, 0, layout.header[name], value)
+    for k, (section, place, offset) in enumerate(zip(sections, places, where)):
+        _, kind, held, link, info, entry = section
+        size = 64 if kind == 8 else len(held)
+        fields = dict(name=place, type=kind, flags=2, address=offset, offset=offset, size=size, link=link, info=info, align=8, entsize=entry)
+        for name, value in fields.items():
+            layout.put(data, start + layout.section_size * (k + 1), layout.section[name], value)
+    ranges = {it[0]: (offset, len(it[2])) for it, offset in zip(sections, where)}
+    dynamic, notes = ranges.get(b".dynamic", (0, 0)), ranges.get(b".note.gnu.build-id", (0, 0))
+    parts = [(6, layout.header_size, 100), (1, 0, len(data) - 8), (2, *dynamic), (4, *notes), (0, 0, 0), (0x6474e552, 0, 64), (7, 0, 0)]
+    for k, (kind, offset, size) in enumerate(parts):
+        fields = dict(type=kind, offset=offset, vaddr=offset, paddr=offset, filesz=size, memsz=size, flags=k, align=8)
+        for name, value in fields.items():
+            layout.put(data, layout.header_size + layout.segment_size * k, layout.segment[name], value)
+    return bytes(data)
+
+
+def elf_file(contents, segments=()):
+    """A file of class 64 of these sections from index 1 on, each with name, type, data, link and size of an entry, and of
+    program headers with these fields."""
+    layout = Layout(True, "little")
+    names, places = texts([it[0] for it in contents] + [b".shstrtab"])
+    data, headers = bytearray(64 + 56 * len(segments)), [bytes(64)]
+    for index, fields in enumerate(segments):
+        for name, value in fields.items():
+            layout.put(data, 64 + 56 * index, layout.segment[name], value)
+    for (_, kind, held, link, entry), place in zip([*contents, (b"", 3, names, 0, 0)], places):
+        headers.append(layout.words(place, kind) + layout.addresses(2, 0, len(data), len(held)) + layout.words(link, 0)
+                       + layout.addresses(4, entry))
+        data += held + bytes(-len(held) % 8)
+    data[:7] = b"\x7fELF\2\1\1"
+    values = dict(type=3, machine=62, version=1, phoff=64 if segments else 0, shoff=len(data), ehsize=64, phentsize=56,
+        phnum=len(segments), shentsize=64, shnum=len(headers), shstrndx=len(headers) - 1)
+    for name, value in values.items():
+        layout.put(data, 0, layout.header[name], value)
+    return bytes(data) + b"".join(headers)
+
+
+class Damage:
+    """One way to damage an ELF file a call."""
+
+    def __init__(self, data: bytes, random: randoms.Random):
+        self.data, self.random = bytearray(data), random
+        wide = len(data) > 4 and data[4] == 2
+        self.layout = Layout(wide, "big" if len(data) > 5 and data[5] == 2 else "little")
+        header = self.layout.header
+        read = lambda name: self.layout.get(self.data, 0, header[name])
+        self.sections = [read("shoff") + k * read("shentsize") for k in range(min(read("shnum"), 200))]
+        self.segments = [read("phoff") + k * read("phentsize") for k in range(min(read("phnum"), 40))]
+
+    def edge(self, letter: str) -> int:
+        """A number at an edge of its field, of the file, or any."""
+        length = len(self.data)
+        near = (length, length - 1, length + 1, length // 2, self.random.randrange(length + 1))
+        edges = {"B": range(256), "H": EDGES_16, "I": EDGES_32, "Q": EDGES_64}[letter]
+        return self.random.choice((self.random.choice(edges), self.random.choice(edges), self.random.choice(near)))
+
+    def set_field(self, base: int, fields):
+        name = self.random.choice(list(fields))
+        letter = fields[name][1]
+        value = self.random.choice(TYPES) if name == "type" and letter == "I" else self.edge(letter)
+        self.layout.put(self.data, base, fields[name], value)
+
+    def file_header(self):
+        self.set_field(0, self.layout.header)
+
+    def section_header(self):
+        if self.sections:
+            self.set_field(self.random.choice(self.sections), self.layout.section)
+
+    def segment_header(self):
+        if self.segments:
+            self.set_field(self.random.choice(self.segments), self.layout.segment)
+
+    def links(self):
+        if self.sections:
+            base = self.random.choice(self.sections)
+            name = self.random.choice(("link", "info"))
+            value = self.random.choice((self.edge("I"), self.random.randrange(len(self.sections) + 2)))
+            self.layout.put(self.data, base, self.layout.section[name], value)
+
+    def places_of(self, kinds):
+        """Where sections of these types lie: the place of the header, the offset and the size."""
+        get = lambda base, name: self.layout.get(self.data, base, self.layout.section[name])
+        found = [(base, get(base, "offset"), get(base, "size")) for base in self.sections if get(base, "type") in kinds]
+        return [it for it in found if it[2] and it[1] + it[2] <= len(self.data)]
+
+    def words_of(self, kinds, count):
+        for _, offset, size in self.places_of(kinds):
+            for _ in range(count):
+                place = offset + 4 * self.random.randrange(max(size // 4, 1))
+                value = self.random.choice((self.edge("I"), self.random.randrange(12)))
+                self.layout.put(self.data, place, (0, "I"), value)
+
+    def hash_table(self):
+        self.words_of((5,), self.random.choice((1, 2, 12)))
+
+    def notes(self):
+        for base, offset, size in self.places_of((7,)):
+            place = offset + 4 * self.random.randrange(3)
+            value = self.random.choice((self.edge("I"), self.random.randrange(size + 8)))
+            self.layout.put(self.data, place, (0, "I"), value)
+            if self.random.random() < 0.3:
+                self.layout.put(self.data, base, self.layout.section["size"], self.random.randrange(40))
+
+    def tables(self):
+        self.words_of((2, 4, 6, 9, 11, 14, 17, 18), 2)
+
+    def names(self):
+        """A zero byte of a string table that is none, or a byte that is no text."""
+        for _, offset, size in self.places_of((3,)):
+            if self.random.random() < 0.5:
+                place = offset + self.random.choice((size - 1, self.random.randrange(size)))
+                self.data[place] = self.random.choice((0, 0x41, 0x80, 0xc3, 0xff))
+
+    def cut(self):
+        """The end of the file, or of a section."""
+        if self.random.random() < 0.4:
+            ends = [self.random.randrange(len(self.data) + 1), len(self.data) - 1, self.layout.header_size]
+            ends += [self.random.choice(self.sections)] if self.sections else []
+            del self.data[max(0, self.random.choice(ends)):]
+        elif self.sections:
+            base = self.random.choice(self.sections)
+            size = self.layout.get(self.data, base, self.layout.section["size"])
+            by = self.random.choice((1, 2, 3, 4, 8, size // 2, size - 1, -1))
+            self.layout.put(self.data, base, self.layout.section["size"], size - by)
+
+    def moved(self):
+        """A section that lies elsewhere, over others or at an odd place."""
+        if self.sections:
+            base = self.random.choice(self.sections)
+            offset = self.layout.get(self.data, base, self.layout.section["offset"])
+            self.layout.put(self.data, base, self.layout.section["offset"], offset + self.random.choice((-8, -1, 1, 2, 4, 64)))
+
+    def numbering(self):
+        """Counts and the index of the names in section header 0."""
+        first = self.sections[0] if self.sections else 0
+        put = lambda name, value: self.layout.put(self.data, 0, self.layout.header[name], value)
+        here = lambda name, value: self.layout.put(self.data, first, self.layout.section[name], value)
+        which = self.random.randrange(3)
+        if which == 0:
+            here("size", self.random.choice((len(self.sections), self.edge("I"), self.edge("Q"))))
+            put("shnum", 0)
+        elif which == 1:
+            here("info", self.random.choice((len(self.segments), self.edge("I"))))
+            put("phnum", 0xffff)
+        else:
+            index = self.layout.get(self.data, 0, self.layout.header["shstrndx"])
+            here("link", self.random.choice((index, self.edge("I"))))
+            put("shstrndx", 0xffff)
+
+    def bytes(self):
+        for _ in range(self.random.choice((1, 1, 8))):
+            if self.data:
+                self.data[self.random.randrange(len(self.data))] = self.random.randrange(256)
+
+    def front(self):
+        """The class, the order and the version."""
+        if len(self.data) > 6:
+            self.data[self.random.choice((4, 5, 6))] = self.random.choice((0, 1, 2, 3, 255))
+
+    ALL = (file_header, file_header, section_header, section_header, section_header, segment_header, segment_header,
+        links, hash_table, hash_table, notes, tables, names, cut, moved, numbering, bytes, front)
+
+    # Those that leave each number at its place, so that they do the same in both orders.
+    IN_PLACE = (links, hash_table, hash_table, notes, names, cut)
+
+
+def mutated(data: bytes, random: randoms.Random, ways=Damage.ALL) -> bytes:
+    damage = Damage(data, random)
+    for way in random.choices(ways, k=random.choice((1, 1, 2, 3, 5))):
+        way(damage)
+    return bytes(damage.data)
+
+
+def damaged(seed: int, index: int) -> bytes:
+    random = randoms.Random(f"{seed}/{index}")
+    wide, hostile = random.random() < 0.6, random.choice(("", "", "", "looped", "shared"))
+    order = "big" if random.random() < 0.2 else "little"
+    return mutated(worked(wide, order, hostile), random)
+
+
+def twins(seed: int, index: int):
+    """A damaged little-endian file, and the same file in the other order."""
+    random = randoms.Random(f"{seed}/{index} twins")
+    wide, hostile = random.random() < 0.5, random.choice(("", "", "looped", "shared"))
+    for order in ("little", "big"):
+        yield mutated(worked(wide, order, hostile), randoms.Random(f"{seed}/{index}"), Damage.IN_PLACE)

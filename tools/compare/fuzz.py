@@ -1,0 +1,180 @@
+#!/usr/bin/env python3
+"""Runs the built programs on damaged files, under limits of time and memory.
+
+    tools/compare/fuzz.py --seed S --count N [--start K]
+
+File K of a seed is `damage.damaged(S, K)`, the same each time; the long files of `long_files` come first.
+Wanted of `elfinfo` and `elfanswers`: each ends with status 0 or 1, writes nothing else where it is built by
+Rattle's own compiler than where it is built by LLVM, in 512 MB. As built by LLVM it takes no more than 2
+seconds of a processor for a file below 1 MB, but for three of the long files, which are told of with the
+cause. What isn't so is printed with the number of the file, and the status is then 1.
+"""
+import argparse
+import os
+import pathlib
+import resource
+import signal
+import sys
+import tempfile
+import time
+
+import damage
+
+TOP = pathlib.Path(__file__).resolve().parents[2]
+ROOM = 512 * 2**20
+SECONDS = 2.0
+# A run that takes longer is ended.
+GIVEN_UP = 60
+# The cause of a run that may take longer, in the name of its file.
+SLOW = ", where the check without memory takes buckets and symbols times chains"
+# So many files at once go to elfanswers.
+AT_ONCE = 50
+
+
+def builds(name):
+    """The program as LLVM builds it, and as Rattle's own compiler does."""
+    folder = TOP / "crates" / name / "out"
+    found = [folder / name, folder / f"{name}.by-rattle"]
+    missing = [it.name for it in found if not it.exists()]
+    if missing:
+        print(f"not built, so not run: {', '.join(missing)}")
+    return [str(it) for it in found if it.exists()]
+
+
+def run(program, paths, output):
+    """The status, what was written and the seconds that a processor took."""
+    flags = os.O_WRONLY | os.O_CREAT | os.O_TRUNC
+    actions = [(os.POSIX_SPAWN_OPEN, 1, output, flags, 0o600), (os.POSIX_SPAWN_DUP2, 1, 2)]
+    pid = os.posix_spawn(program, [program, *paths], {}, file_actions=actions)
+    signal.signal(signal.SIGALRM, lambda *_: os.kill(pid, signal.SIGKILL))
+    signal.alarm(GIVEN_UP)
+    _, status, used = os.wait4(pid, 0)
+    signal.alarm(0)
+    written = pathlib.Path(output).read_bytes()
+    return os.waitstatus_to_exitcode(status), written, used.ru_utime + used.ru_stime
+
+
+def hash_file(names, words):
+    """Class 64: symbols of these names, and a hash table of these words."""
+    layout = damage.Layout(True, "little")
+    held, places = damage.texts(names)
+    symbols = bytes(24) + b"".join(layout.symbol(place, 0x12, 1, 1) for place in places)
+    return damage.elf_file([(b".dynstr", 3, held, 0, 0), (b".dynsym", 11, symbols, 1, 24), (b".hash", 5, layout.words(*words), 2, 4)])
+
+
+def names(count) -> list:
+    return [b"n%05d" % k for k in range(count)]
+
+
+def shared_chain(count) -> bytes:
+    """A file whose buckets all lead to one chain of all names, upwards."""
+    return hash_file(names(count), [count, count + 1, *[1] * count, 0, *range(2, count + 1), 0])
+
+
+def long_files():
+    """Files a little below 1 MB whose work is as much as their bytes allow, each with its name."""
+    count = 20_000
+    good = damage.hash_words(names(count), count // 2)
+    yield "a good hash table of 20,000 names", hash_file(names(count), good)
+    one = [1, count + 1, 1, *range(0, 1), *range(2, count + 1), 0]
+    yield f"20,000 names on the chain of one bucket{SLOW}", hash_file(names(count), one)
+    yield f"20,000 buckets that share one chain of 20,000 names{SLOW}", shared_chain(count)
+    looped = [count, count + 1, *[1] * count, 0, *range(2, count + 1), 1]
+    yield f"20,000 buckets that share one looped chain{SLOW}", hash_file(names(count), looped)
+    layout = damage.Layout(True, "little")
+    data = bytearray(damage.worked(True, "little"))
+    data += bytes(15_000 * 64)
+    start = len(damage.worked(True, "little"))
+    old = layout.get(data, 0, layout.header["shoff"])
+    data[start:start + 64 * 22] = data[old:old + 64 * 22]
+    for k in range(22, 15_000):
+        layout.put(data, start + 64 * k, layout.section["type"], 2)
+        layout.put(data, start + 64 * k, layout.section["size"], 960_000 // 24 * 24)
+    layout.put(data, 0, layout.header["shoff"], start)
+    layout.put(data, 0, layout.header["shnum"], 15_000)
+    yield "15,000 section headers, of which each is a table of 40,000 symbols", bytes(data)
+
+
+class Fuzzing:
+    def __init__(self, room):
+        self.room, self.faults, self.files = room, 0, 0
+        self.statuses, self.slowest = {}, {}
+        self.programs = {name: builds(name) for name in ("elfinfo", "elfanswers")}
+
+    def fault(self, name, said):
+        self.faults += 1
+        if self.faults <= 50:
+            print(f"NOT AS IT MUST: {name}: {said}", flush=True)
+
+    def check(self, program, names, paths):
+        """Runs each build on these files at once, and each of them alone where something isn't as it must."""
+        ends = [run(it, paths, f"{self.room}/output") for it in self.programs[program]]
+        if not ends:
+            return
+        worst = ends[0][2]
+        well = {status for status, _, _ in ends} <= {0, 1} and worst <= SECONDS
+        same = len({(status, written) for status, written, _ in ends}) == 1
+        if len(paths) > 1 and not (well and same):
+            for name, path in zip(names, paths):
+                self.check(program, [name], [path])
+            return
+        key = (program, ends[0][0])
+        self.statuses[key] = self.statuses.get(key, 0) + len(paths)
+        self.slowest[program] = max(self.slowest.get(program, (0, "")), (worst, names[0]))
+        for build, (status, _, seconds) in zip(self.programs[program], ends):
+            if status not in (0, 1):
+                self.fault(names[0], f"{pathlib.Path(build).name} ended with {status}")
+            if build.endswith(".by-rattle"):
+                continue
+            if seconds > SECONDS and SLOW in names[0] and program != "elfinfo":
+                print(f"{pathlib.Path(build).name} took {seconds:.2f} s: {names[0]}", flush=True)
+            elif seconds > SECONDS:
+                self.fault(names[0], f"{pathlib.Path(build).name} took {seconds:.2f} s")
+        if not same:
+            self.fault(names[0], f"the two builds of {program} differ")
+
+    def files_at_once(self, held):
+        names, paths = [], []
+        for k, (name, data) in enumerate(held):
+            pathlib.Path(f"{self.room}/{k}").write_bytes(data)
+            names.append(name)
+            paths.append(f"{self.room}/{k}")
+        for name, path in zip(names, paths):
+            self.check("elfinfo", [name], [path])
+        self.check("elfanswers", names, paths)
+        self.files += len(held)
+
+    def told(self, seconds):
+        print(f"{self.files} files in {seconds:.0f} s, {self.faults} not as they must be")
+        for (program, status), count in sorted(self.statuses.items()):
+            print(f"{program}: {count} files in runs that ended with {status}")
+        for program, (worst, name) in self.slowest.items():
+            print(f"{program}: at most {worst:.2f} s for one run: {name}")
+
+
+def main() -> int:
+    parser = argparse.ArgumentParser(description=__doc__, formatter_class=argparse.RawDescriptionHelpFormatter)
+    parser.add_argument("--seed", type=int, default=1)
+    parser.add_argument("--count", type=int, default=500)
+    parser.add_argument("--start", type=int, default=0)
+    options = parser.parse_args()
+    resource.setrlimit(resource.RLIMIT_AS, (ROOM, ROOM))
+    began = time.monotonic()
+    with tempfile.TemporaryDirectory(dir="/dev/shm" if os.path.isdir("/dev/shm") else None) as room:
+        fuzzing = Fuzzing(room)
+        if not any(fuzzing.programs.values()):
+            sys.exit("no program is built: run `rt run` in crates/elfinfo and crates/elfanswers first")
+        for name, data in long_files():
+            fuzzing.files_at_once([(name, data)])
+        # A check that walks along the chain for each name would take minutes.
+        pathlib.Path(f"{room}/shared").write_bytes(shared_chain(200_000))
+        fuzzing.check("elfinfo", ["200,000 buckets that share one chain of 200,000 names"], [f"{room}/shared"])
+        for start in range(options.start, options.start + options.count, AT_ONCE):
+            numbers = range(start, min(start + AT_ONCE, options.start + options.count))
+            fuzzing.files_at_once([(f"damage.damaged({options.seed}, {k})", damage.damaged(options.seed, k)) for k in numbers])
+        fuzzing.told(time.monotonic() - began)
+    return 1 if fuzzing.faults else 0
+
+
+if __name__ == "__main__":
+    sys.exit(main())

@@ -1,0 +1,156 @@
+#!/usr/bin/env python3
+"""Compares what the recipes of crates/elf_callers/src/recipes.rt print with readelf, over real files.
+
+    tools/compare/recipes.py [--elfrecipes PATH] [FILE..]
+
+The program is `elfrecipes`, which runs each recipe over a file; where none is given it is the one that `rt run` or
+`rt ci` has built in crates/elfrecipes. Without files it takes the programs and libraries of SYSTEM, and what gcc
+makes of a small source here: an object file, a program and a shared object of class 64, and by -m32 of class 32 an
+object file and, by -nostdlib, a shared object. Files that `elfrecipes` doesn't read count as differences.
+"""
+import argparse
+import re
+import subprocess
+import sys
+import tempfile
+from pathlib import Path
+
+import comparing
+from comparing import ROOT, SECTION, Tally, llvm, needed, parts, raw
+
+SYSTEM = ["/bin/ls", "/usr/bin/readelf", "/bin/bash", "/lib/x86_64-linux-gnu/libc.so.6", "/lib/x86_64-linux-gnu/libm.so.6"]
+OURS = ["crates/elfnm/data/add.o", "crates/elfsections/data/narrow.so", "crates/elfsections/data/wide.so", "crates/elfsym/data/stripped.so"]
+
+SOURCE = """
+extern int far(int);
+int shared_number = 3;
+static int hidden(int x) { return far(x) + shared_number; }
+int near(int x) { return hidden(x) * 2; }
+"""
+MAIN = "int far(int x) { return x; } int near(int); int main(void) { return near(0) & 1; }"
+
+# What is made of SOURCE, by the arguments of gcc.
+MADE = {
+    "object_64.o": ["-c", "near.c"],
+    "program_64": ["near.c", "main.c"],
+    "static_64": ["-static", "near.c", "main.c"],
+    "shared_64.so": ["-shared", "-fPIC", "near.c", "-lm", "-Wl,--no-as-needed,-lm,--hash-style=both"],
+    "object_32.o": ["-m32", "-c", "near.c"],
+    "shared_32.so": ["-m32", "-shared", "-fPIC", "-nostdlib", "near.c", "-Wl,--allow-shlib-undefined"],
+    "needs_32.so": ["-m32", "-shared", "-fPIC", "-nostdlib", "near.c", "-Wl,--no-as-needed", "./shared_32.so"],
+}
+
+RELOCATION = re.compile(r"([0-9a-f]{8,16}) +([0-9a-f]{8,16}) (\w+) *(.*)$")
+NO_BITS, LOAD = 8, 1
+
+
+def make(folder: Path) -> list:
+    """The files that gcc makes here; one that it can't make is told of and left out."""
+    (folder / "near.c").write_text(SOURCE)
+    (folder / "main.c").write_text(MAIN)
+    made = []
+    for name, arguments in MADE.items():
+        done = subprocess.run(["gcc", "-O1", *arguments, "-o", name], cwd=folder, capture_output=True, text=True)
+        made += [str(folder / name)] if done.returncode == 0 else []
+        if done.returncode != 0:
+            print(f"gcc makes no {name}: {done.stderr.strip().splitlines()[-1:]}")
+    return made
+
+
+def printed(program: str, path: str):
+    """What the recipes print of a file: for each the lines; None where the program ends with a fault."""
+    done = comparing.run([program, path])
+    if done.status != 0:
+        return None
+    parts_of = re.split(r"^\[([\w ]+)\]\n", done.output, flags=re.M)
+    return dict(zip(parts_of[1::2], (part.splitlines() for part in parts_of[2::2])))
+
+
+def symbols(said: list, is_dynamic: bool) -> list:
+    """The value, size and name of each symbol."""
+    found = []
+    for it in said:
+        # The name of a section's symbol is that of the section for readelf, and a version is no part of one.
+        name = "" if raw(it["Type"]) == SECTION else it["Name"]["Value"]
+        found.append((it["Value"], it["Size"], name.split("@")[0] if is_dynamic else name))
+    return found
+
+
+def addend(text: str) -> int:
+    """The addend at the end of a line of readelf -r: a signed number behind a symbol, or 64 bits alone."""
+    if signed := re.search(r" ([+-]) ([0-9a-f]+)$", text):
+        return int(signed[1] + signed[2], 16)
+    alone = int(text.split()[-1], 16)
+    return alone - (alone >> 63 << 64)
+
+
+def relocations(path: str, is_wide: bool, sections: list, tables: dict) -> list:
+    """The lines of the relocations of all sections, which llvm-readelf doesn't write in JSON."""
+    kinds = (32, 0xFFFFFFFF) if is_wide else (8, 0xFF)
+    links, names = {it["Name"]["Value"]: it["Link"] for it in sections}, [it["Name"]["Value"] for it in sections]
+    found, here, is_added = [], [], False
+    for line in comparing.run(["readelf", "-rW", path]).output.splitlines():
+        if start := re.match(r"Relocation section '(.*)' at", line):
+            link = links.get(start[1])
+            here = tables.get(names[link]) if link else None
+        elif "Offset" in line:
+            is_added = "Addend" in line
+        elif row := RELOCATION.match(line):
+            offset, info = int(row[1], 16), int(row[2], 16)
+            name = here[info >> kinds[0]][2] if here else "?"
+            found.append(f"{offset:x} {info & kinds[1]} {name}" + (f" {addend(row[4])}" if is_added else ""))
+    return found
+
+
+def wanted(path: str) -> dict:
+    """What readelf says of a file, in the form in which the recipes print it."""
+    said = llvm(path, "-h", "-S", "-l", "--symbols", "--dyn-syms", "-n")
+    header, sections = said["ElfHeader"], parts(said, "Sections", "Section")
+    is_wide, names = raw(header["Ident"]["Class"]) == 2, [it["Name"]["Value"] for it in sections]
+    tables = {".symtab": symbols(parts(said, "Symbols", "Symbol"), False), ".dynsym": symbols(parts(said, "DynamicSymbols", "Symbol"), True)}
+    loads = [it for it in parts(said, "ProgramHeaders", "ProgramHeader") if raw(it["Type"]) == LOAD]
+    entry = [it for it in loads if it["VirtualAddress"] <= header["Entry"] < it["VirtualAddress"] + it["MemSize"]]
+    ids = re.findall(r"'Build ID': '([0-9a-f]+)'", str(said.get("Notes")))
+    text = [it["Size"] for it in sections if it["Name"]["Value"] == ".text" and raw(it["Type"]) != NO_BITS]
+    own = tables[".symtab"] if ".symtab" in names else []
+    return {
+        "sections": [f"{index} {it['Size']} {it['Name']['Value']}" for index, it in enumerate(sections)],
+        "symbols": [f"{value:x} {size} {name}" for value, size, name in own],
+        "relocations": relocations(path, is_wide, sections, tables),
+        "needed": needed(path) if ".dynamic" in names else [],
+        "needed by segments": needed(path) if loads else [],
+        "build id": ids[:1] if is_wide and ".note.gnu.build-id" in names else [],
+        "segment of the entry point": [f"{it['VirtualAddress']:x} {it['MemSize']}" for it in entry[:1]],
+        "text": [str(text[0])] if text else [],
+        "first symbols": [str(len(own))] if is_wide and ".symtab" in names else [],
+    }
+
+
+def compare(tally: Tally, program: str, path: str) -> None:
+    said, read = printed(program, path), wanted(path)
+    tally["files"] += 1
+    if said is None:
+        tally.differ(path, "the run", "a fault", "a file")
+        return
+    for name, lines in read.items():
+        ours = said.get(name, [])
+        if ours != lines:
+            at = next((it for it, (one, other) in enumerate(zip(ours, lines)) if one != other), min(len(ours), len(lines)))
+            tally.differ(path, f"{name}, line {at + 1} of {len(ours)} and {len(lines)}", ours[at : at + 1], lines[at : at + 1])
+
+
+def main() -> int:
+    parser = argparse.ArgumentParser(description=__doc__, formatter_class=argparse.RawDescriptionHelpFormatter)
+    parser.add_argument("--elfrecipes", default=str(ROOT / "crates/elfrecipes/out/elfrecipes"), metavar="PATH")
+    parser.add_argument("files", nargs="*", metavar="FILE")
+    arguments, tally = parser.parse_args(), Tally("elfrecipes")
+    with tempfile.TemporaryDirectory() as room:
+        files = arguments.files or [*(str(ROOT / it) for it in OURS), *make(Path(room)), *(it for it in SYSTEM if Path(it).exists())]
+        for path in files:
+            compare(tally, arguments.elfrecipes, path)
+    print(tally)
+    return 1 if tally["differences"] or not tally["files"] else 0
+
+
+if __name__ == "__main__":
+    sys.exit(main())

@@ -1,0 +1,207 @@
+#!/usr/bin/env bash
+# Builds and tests what calls the static library `elf_c` from C, C++ and Rust.
+#   tools/exports/bindings.sh            the programs in C and C++, each export, the Rust crate with its own tests, its package
+#                                and its pages: no registry
+#   tools/exports/bindings.sh --compare  besides, all answers beside those of `object`, of Debian's librust-object-dev, over the
+#                                files of the system
+#   tools/exports/bindings.sh --valgrind besides, the tests of the Rust crate and the C example under valgrind, which tells of
+#                                reads and writes outside of memory that is the program's
+# XMAS_ELF_ARCHIVE: a folder that holds libelf_c.a; where it isn't set, `rt lib` makes it.
+set -euo pipefail
+cd "$(dirname "$0")/../.."
+case "${1:-}" in
+    --compare | --valgrind | "") ;;
+    --help) sed -n '2,9s/^# //p' tools/exports/bindings.sh; exit ;;
+    *) sed -n '2,9s/^# //p' tools/exports/bindings.sh >&2; exit 2 ;;
+esac
+room="$(mktemp -d)"
+trap 'rm -rf "$room"' EXIT
+
+tools/exports/statuses.py --check
+tools/exports/declarations.py --check
+if [ -z "${XMAS_ELF_ARCHIVE:-}" ]; then
+    # One job takes the fewest processor seconds.
+    (cd crates/elf_c && rt lib --jobs 1) > "$room/lib" 2>&1 || { tail -n 20 "$room/lib"; exit 1; }
+    XMAS_ELF_ARCHIVE="$PWD/crates/elf_c/out"
+fi
+export XMAS_ELF_ARCHIVE CARGO_TARGET_DIR="$room/target"
+archive="$XMAS_ELF_ARCHIVE/libelf_c.a"
+strict=(-O2 -Wall -Wextra -Werror -Wpedantic -Ibindings/include)
+
+# The names that a program prints, and those of readelf but for the sections, whose names it shows for theirs. It adds
+# versions behind an `@`, which a few names have too.
+printed() { awk 'NF == 3 { sub(/@.*/, "", $3); print $3 }' "$1" | sort; }
+names() { readelf --wide --symbols "$1" | awk '$1 ~ /^[0-9]+:$/ && $4 != "SECTION" && $8 != "" { sub(/@.*/, "", $8); print $8 }' | sort; }
+
+# The build id, and the index and the value of these names, as `find` prints them and as readelf has them.
+sought=(malloc qsort strtoul no_such_name)
+ids() { awk '/^build id / { print $3 }' "$1"; }
+looked_up() { awk 'NF == 4 && $2 ~ /^[0-9]+$/ { print $2, $3, $1 }' "$1" | sort; }
+held() {
+    readelf --wide --dyn-syms "$1" | awk -v names=" ${sought[*]} " '$1 ~ /^[0-9]+:$/ && $7 != "UND" {
+        sub(/@.*/, "", $8); sub(/:/, "", $1); if (index(names, " " $8 " ")) print $1, $2, $8 }' | sort
+}
+
+# What the header says of the archive: it has the exports of the list, needs `memcpy`, `memmove` and `memset` alone, keeps nothing (no section is
+# writable), has no unwind tables, and no absolute addresses in code.
+diff <(nm --defined-only --extern-only "$archive" | awk 'NF == 3 { print $3 }' | sort) \
+    <(python3 -c 'import sys; sys.path.insert(0, "tools"); from exports import listing
+for one in listing.read().functions: print(one.export)' | sort)
+diff <(nm --undefined-only "$archive" | awk '$1 == "U" { print $2 }' | grep -vxE 'mem(cpy|move|set)') /dev/null
+readelf --wide --sections --relocs "$archive" > "$room/archive"
+if grep -E 'eh_frame|R_X86_64_(32|32S|64) | WAT? ' "$room/archive"; then exit 1; fi
+
+for program in nm find speed; do
+    gcc -std=c11 "${strict[@]}" "bindings/c/$program.c" "$archive" -o "$room/${program}_c"
+done
+cxx=(g++)
+if command -v clang++ > /dev/null; then cxx+=(clang++); else echo "bindings: no clang here: by gcc alone"; fi
+for compiler in "${cxx[@]}"; do
+    "$compiler" -std=c++17 "${strict[@]}" -Wconversion bindings/cpp/nm.cpp "$archive" -o "$room/nm_$compiler"
+    "$compiler" -std=c++20 "${strict[@]}" -Wconversion bindings/cpp/dump.cpp "$archive" -o "$room/dump"
+    # C++11 has no [[nodiscard]]; a struct may have its zero as its value.
+    echo '#include "xmas_elf.h"' | "$compiler" -std=c++11 "${strict[@]}" -Wconversion -x c++ -fsyntax-only -
+    echo '#include "xmas_elf.h"
+        xmas_elf_counts_t counts{}; xmas_elf_section_t section{}; xmas_elf_range_t range = {0, 1};' |
+        "$compiler" -std=c++20 "${strict[@]}" -x c++ -fsyntax-only -
+done
+# Each export, over a program with both kinds of hash tables, packed relocations and a version of its own: of gcc, and of clang with
+# its checks at run time.
+echo 'EVERY_1 { every_finds_this; };' > "$room/every.map"
+both=(-rdynamic -Wl,--hash-style=both -Wl,--build-id -Wl,-z,pack-relative-relocs -Wl,--version-script="$room/every.map")
+gcc -std=c11 "${strict[@]}" "${both[@]}" bindings/c/every.c "$archive" -o "$room/every_gcc"
+"$room/every_gcc" "$room/every_gcc"
+if command -v clang > /dev/null; then
+    clang -std=c11 "${strict[@]}" "${both[@]}" -fsanitize=address,undefined bindings/c/every.c "$archive" -o "$room/every_clang"
+    "$room/every_clang" "$room/every_gcc"
+fi
+# The numbers of the standard, beside those of the C library.
+python3 - << 'END' | gcc -std=c11 -x c -fsyntax-only -
+import sys
+sys.path.insert(0, "tools")
+from exports import listing
+print("#include <elf.h>")
+for one in listing.constants():
+    print(f'_Static_assert({one.name} == {one.value}, "{one.name}");')
+END
+# The programs of the page.
+awk '/^```c$/ { on = 1; next } /^```$/ { on = 0 } on' bindings/c/README.md > "$room/shown.c"
+gcc -std=c11 "${strict[@]}" "$room/shown.c" "$archive" -o "$room/names_c"
+awk '/^```cpp$/ { on = 1; next } /^```$/ { on = 0 } on' bindings/c/README.md > "$room/shown.cpp"
+g++ -std=c++17 "${strict[@]}" -Wconversion "$room/shown.cpp" "$archive" -o "$room/names_cpp"
+diff <("$room/names_cpp" /lib/x86_64-linux-gnu/libz.so.1 | grep '^lib.*\.so') <(readelf --wide --dynamic /lib/x86_64-linux-gnu/libz.so.1 | sed -n 's/.*(NEEDED).*\[\(.*\)\]$/\1/p')
+cargo build --quiet --offline --release --manifest-path bindings/rust/Cargo.toml --examples
+# The header's version is that of the crate.
+grep -qx "#define XMAS_ELF_VERSION \"$(sed -n 's/^version = "\(.*\)"/\1/p' bindings/rust/Cargo.toml)\"" bindings/include/xmas_elf.h
+# The C++ header beside nm and readelf. A path that can't be opened is named.
+tools/compare/dump.py --program "$room/dump"
+for program in "$room/nm_c" "$room/find_c" "$room/nm_g++" "$room/dump" "$CARGO_TARGET_DIR"/release/examples/{nm,find,needed,dynsym,versions}; do
+    { "$program" /no/such/file 2>&1 || true; } | grep -q '^/no/such/file: No such file or directory' || { echo "$program doesn't name its path"; exit 1; }
+done
+# The texts of the dynamic segment, also of a file whose ELF header names no sections.
+linked() { readelf --wide --dynamic "$1" | sed -nE 's/.*\((NEEDED|SONAME|RUNPATH)\).*\[(.*)\]$/\1 \2/p' | sort; }
+echo 'int one(void) { return 1; }' | gcc -shared -fPIC -x c - -o "$room/libnamed.so" -Wl,-soname,libnamed.so.1 -Wl,-rpath,/a:/b -Wl,--enable-new-dtags
+cp "$room/libnamed.so" "$room/libcut.so"
+printf '%0.s\0' {1..8} | dd of="$room/libcut.so" bs=1 seek=40 conv=notrunc status=none
+for file in "$room/libnamed.so" /lib/x86_64-linux-gnu/libc.so.6 /lib/x86_64-linux-gnu/libm.so.6; do
+    "$CARGO_TARGET_DIR/release/examples/needed" "$file" | sort | diff - <(linked "$file")
+done
+"$CARGO_TARGET_DIR/release/examples/needed" "$room/libcut.so" | sort | diff - <(linked "$room/libnamed.so")
+# The symbols of the dynamic segment in order, also where the ELF header names no sections: those of readelf without the
+# versions that it adds to names.
+dynamic() {
+    readelf --wide --dyn-syms "$1" | awk '$1 ~ /^[0-9]+:$/ {
+        sub(/:/, "", $1); sub(/@.*/, "", $8); sub(/^UND$/, 0, $7); sub(/^ABS$/, 65521, $7); print $1, $2, $7, $8 }'
+}
+for file in "$room/libnamed.so" /lib/x86_64-linux-gnu/libc.so.6 /lib/x86_64-linux-gnu/libm.so.6; do
+    dynamic "$file" > "$room/dynamic"
+    [ -s "$room/dynamic" ] || { echo "readelf finds no symbols in $file"; exit 1; }
+    cp "$file" "$room/libcut.so"
+    printf '%0.s\0' {1..8} | dd of="$room/libcut.so" bs=1 seek=40 conv=notrunc status=none
+    for whole_or_cut in "$file" "$room/libcut.so"; do
+        "$CARGO_TARGET_DIR/release/examples/dynsym" "$whole_or_cut" | diff - "$room/dynamic" > "$room/difference" ||
+            { head "$room/difference"; exit 1; }
+    done
+done
+# The versions of symbols, and those that a file defines and needs, also where the ELF header names no sections.
+versions="$CARGO_TARGET_DIR/release/examples/versions"
+tools/compare/versions.py --program "$versions" "$room/every_gcc"
+cp /lib/x86_64-linux-gnu/libc.so.6 "$room/libcut.so"
+printf '%0.s\0' {1..8} | dd of="$room/libcut.so" bs=1 seek=40 conv=notrunc status=none
+"$versions" "$room/libcut.so" | cmp - <("$versions" /lib/x86_64-linux-gnu/libc.so.6)
+for file in "$room/nm_c" /lib/x86_64-linux-gnu/libc.so.6; do
+    "$room/nm_c" "$file" > "$room/of_c"
+    "$CARGO_TARGET_DIR/release/examples/nm" "$file" > "$room/of_rust"
+    cmp "$room/of_c" "$room/of_rust"
+    for compiler in "${cxx[@]}"; do "$room/nm_$compiler" "$file" | cmp - "$room/of_c"; done
+    diff <(printed "$room/of_c") <(names "$file") > "$room/difference" || { head "$room/difference"; exit 1; }
+    "$room/names_c" < "$file" > "$room/of_page"
+    diff <(sed 's/@.*//' "$room/of_page" | grep . | sort) <(names "$file") > "$room/difference" || { head "$room/difference"; exit 1; }
+    "$room/find_c" "$file" "${sought[@]}" > "$room/of_c"
+    "$CARGO_TARGET_DIR/release/examples/find" "$file" "${sought[@]}" > "$room/of_rust"
+    cmp "$room/of_c" "$room/of_rust"
+    diff <(ids "$room/of_c") <(readelf --wide --notes "$file" | sed -n 's/.*Build ID: //p')
+    diff <(looked_up "$room/of_c") <(held "$file")
+done
+mkdir "$room/damaged"
+python3 - "$room/damaged" << 'END'
+import pathlib
+import sys
+sys.path.insert(0, "tools")
+from compare import damage
+for index in range(1000):
+    (pathlib.Path(sys.argv[1]) / str(index)).write_bytes(damage.damaged(1, index))
+END
+# The tests want of each call over these a status that the list has for it.
+XMAS_ELF_DAMAGED="$room/damaged" cargo test --quiet --offline --release --manifest-path bindings/rust/Cargo.toml
+cargo build --quiet --offline --release --no-default-features --manifest-path bindings/rust/Cargo.toml
+echo "bindings: the programs in C and C++ and the Rust crate agree with readelf"
+
+# The crate as a release has it: with the archive inside it builds by itself. Its pages need no archive.
+cp -r bindings/rust "$room/crate"
+cp LICENSE-APACHE LICENSE-MIT "$room/crate/"
+rm -f "$room/crate/Cargo.lock"
+mkdir -p "$room/crate/lib/x86_64-unknown-linux-gnu"
+cp "$archive" "$room/crate/lib/x86_64-unknown-linux-gnu/"
+(cd "$room/crate" && env -u XMAS_ELF_ARCHIVE cargo package --quiet --offline --allow-dirty)
+tar -tf "$CARGO_TARGET_DIR"/package/xmas-elf-proved-*.crate > "$room/packed"
+for wanted in README.md LICENSE-MIT LICENSE-APACHE lib/x86_64-unknown-linux-gnu/libelf_c.a src/ffi.rs; do
+    grep -q "/$wanted\$" "$room/packed" || { echo "the package has no $wanted"; exit 1; }
+done
+rm -r "$room/crate/lib"
+(cd "$room/crate" && env -u XMAS_ELF_ARCHIVE DOCS_RS=1 RUSTDOCFLAGS="-D warnings" cargo doc --quiet --offline --no-deps)
+# Where the archive is missing, the build says so and what helps.
+script="$(find "$CARGO_TARGET_DIR/release/build" -path '*xmas-elf-proved*' -name build-script-build | head -n 1)"
+refused() { # ARCHITECTURE FOLDER WORD..
+    local said folder="$2"
+    said="$(env -i PATH=/nowhere TARGET="$1-test" CARGO_CFG_TARGET_ARCH="$1" CARGO_CFG_TARGET_OS=linux CARGO_CFG_TARGET_POINTER_WIDTH=64 \
+        CARGO_MANIFEST_DIR="$folder" "$script" 2>&1)" && { echo "built without an archive: $said"; exit 1; }
+    for word in "${@:3}"; do grep -qF -- "$word" <<< "$said" || { echo "no $word in: $said"; exit 1; }; done
+}
+refused x86_64 "$PWD/bindings/rust" libelf_c.a '`rt`' XMAS_ELF_ARCHIVE 'rt lib'
+refused x86_64 "$room/crate" libelf_c.a 'is missing' XMAS_ELF_ARCHIVE 'rt lib'
+refused aarch64 "$room/crate" 'the target is aarch64-test'
+echo "bindings: the Rust crate builds from its package"
+
+if [ "${1:-}" = --compare ]; then
+    (cd bindings/compare && cargo build --quiet --offline --release)
+    # Both classes and both orders, too.
+    mkdir "$room/worked"
+    python3 - "$room/worked" << 'END'
+import pathlib
+import sys
+sys.path.insert(0, "tools")
+from compare import damage
+for name, wide, order in (("a", True, "little"), ("b", True, "big"), ("c", False, "little"), ("d", False, "big")):
+    (pathlib.Path(sys.argv[1]) / name).write_bytes(damage.worked(wide, order, ""))
+END
+    "$CARGO_TARGET_DIR/release/compare" "$room"/worked/* /lib/x86_64-linux-gnu/*.so* /usr/bin/*
+fi
+
+if [ "${1:-}" = --valgrind ]; then
+    watched=(valgrind --quiet --error-exitcode=9)
+    export CARGO_TARGET_X86_64_UNKNOWN_LINUX_GNU_RUNNER="${watched[*]}"
+    XMAS_ELF_FILES=20 cargo test --quiet --offline --release --manifest-path bindings/rust/Cargo.toml --tests
+    "${watched[@]}" "$room/nm_c" /lib/x86_64-linux-gnu/libc.so.6 > "$room/of_c"
+    echo "bindings: valgrind finds no fault"
+fi

@@ -1,0 +1,107 @@
+"""Writes a call of each export for the tests in C and Rust, so that a new export is called without a line by hand.
+
+tools/exports/declarations.py puts them into bindings/c/calls.h and bindings/rust/src/calls.rs; what the tests ask of every call stands
+in bindings/c/every.c and bindings/rust/src/tests.rs."""
+import listing
+from listing import FILLED, IN, OUT, SLICE, VALUE
+
+ROOM = 3
+C_HEAD = """/* A call of each export, by the parts of a `struct asked`. Written by tools/exports/declarations.py. */
+
+/* What a call writes: its first and its second output. */
+union output {
+"""
+RUST_HEAD = """//! A call of each export, for the tests. Written by tools/exports/declarations.py.
+
+use crate::records::*;
+use crate::{ffi, Error};
+
+// What the calls are asked with.
+pub(crate) struct Asked<'a> {
+    pub(crate) input: &'a [u8],
+    pub(crate) header: Header,
+    pub(crate) part: Range,
+    pub(crate) table: SymbolTable,
+    pub(crate) hash: GnuTable,
+    pub(crate) name: &'a [u8],
+    pub(crate) section: u64,
+    pub(crate) index: u64,
+}
+
+// Hands on the name of each call, its answer, and the refusals that it may answer.
+pub(crate) fn every(asked: &Asked<'_>, mut heard: impl FnMut(&str, Result<(), Error>, &[Error])) {
+    let (input, header, part, table) = (asked.input, &asked.header, &asked.part, &asked.table);
+    let (hash, name, ranges) = (&asked.hash, asked.name, &[asked.part]);
+"""
+
+
+def value(parameter):
+    """The number that is handed to a parameter."""
+    return "section" if parameter.name == "section" else "index"
+
+
+def place_of(parameter):
+    """The record that is handed to a parameter."""
+    return {"header": "header", "symbol_table": "table", "gnu_table": "hash"}.get(parameter.type, "part")
+
+
+def c_argument(parameter, place, c_type):
+    if parameter.kind == VALUE:
+        return f"({c_type(parameter.type)})a->{value(parameter)}"
+    if parameter.kind == IN:
+        return f"&a->{place_of(parameter)}"
+    if parameter.kind == SLICE:
+        return {"input": "a->bytes, a->size", "ranges": "&a->part, 1"}.get(parameter.name, "a->name, a->name_size")
+    written = f"out[{place}].of_{parameter.type}"
+    return f"&{written}[0]" if parameter.kind == OUT else f"{written}, {ROOM}"
+
+
+def c_call(function, c_type):
+    place, arguments = 0, []
+    for parameter in function.parameters:
+        arguments.append(c_argument(parameter, place, c_type))
+        place += parameter.kind in (OUT, FILLED)
+    call = f"{function.export}({', '.join(arguments)})"
+    lines = [f"static uint32_t any_{function.name}(const struct asked *a, union output *out)", "{"]
+    if function.result == "status":
+        lines += ["    (void)out;"] if place == 0 else []
+        return lines + [f"    return {call};", "}"]
+    return lines + [f"    (void){call};", "    return XMAS_ELF_OK;", "}"]
+
+
+def c_text(listed, c_type):
+    written = dict.fromkeys(one.type for function in listed.functions for one in function.parameters if one.kind in (OUT, FILLED))
+    lines = [C_HEAD + "\n".join(f"    {c_type(kind)} of_{kind}[{ROOM}];" for kind in written), "};", ""]
+    rows = []
+    for function in listed.functions:
+        lines += c_call(function, c_type)
+        statuses = ", ".join(["XMAS_ELF_OK", *map(listing.constant, function.statuses)])
+        rows.append(f'    {{"{function.name}", any_{function.name}, {{{statuses}}}, {1 + len(function.statuses)}}},')
+    longest = 1 + max(len(function.statuses) for function in listed.functions)
+    lines += ["", "static const struct any {", "    const char *name;", "    uint32_t (*call)(const struct asked *, union output *);"]
+    lines += [f"    uint32_t answers[{longest}];", "    size_t answers_count;", "} every[] = {", *rows, "};"]
+    return "\n".join(lines) + "\n"
+
+
+def rust_argument(parameter, rust_type):
+    kind = rust_type(parameter.type)
+    return {
+        VALUE: f"asked.{value(parameter)}" if parameter.type == "u64" else f"asked.{value(parameter)} as {kind}",
+        IN: place_of(parameter),
+        SLICE: {"input": "input", "ranges": "ranges"}.get(parameter.name, "name"),
+        FILLED: f"&mut [{kind}::default(); {ROOM}]",
+    }[parameter.kind]
+
+
+def rust_text(listed, rust_type):
+    lines = []
+    for function in listed.functions:
+        arguments = ", ".join(rust_argument(one, rust_type) for one in function.parameters if one.kind != OUT)
+        call = f"ffi::{function.name}({arguments})"
+        if function.result == "status":
+            lines += [f"    let answer = {call}.map(|_| ());"]
+        else:
+            lines += [f"    {'let _size = ' if function.result == 'size' else ''}{call};", "    let answer = Ok(());"]
+        refusals = ", ".join(f"Error::{name}" for name in function.statuses)
+        lines.append(f'    heard("{function.name}", answer, &[{refusals}]);')
+    return RUST_HEAD + "\n".join(lines) + "\n}\n"

@@ -1,0 +1,74 @@
+#!/usr/bin/env bash
+# Writes the release folder: the static library that `rt lib` proves, its header, the Rust crate, the Python wheel and the
+# page for browsers.
+#   tools/exports/package.sh [--draft] [FOLDER]    FOLDER is dist where it isn't named; what it held is gone
+# Files that aren't committed are refused but for a draft, whose checksums say so. A draft may take the library from the
+# folder that XMAS_ELF_ARCHIVE names.
+set -euo pipefail
+cd "$(dirname "$0")/../.."
+if [ "${1:-}" = --help ]; then sed -n '2,6s/^# //p' tools/exports/package.sh; exit; fi
+draft=""
+[ "${1:-}" = --draft ] && { draft=" and changes to it: a draft"; shift; }
+dist="$(realpath -m "${1:-dist}")"
+target=x86_64-unknown-linux-gnu
+changed="$(git status --porcelain)"
+if [ -n "$changed" ] && [ -z "$draft" ]; then
+    printf 'these files differ from the commit:\n%s\n' "$changed" >&2
+    exit 1
+fi
+# Only what is in the folder of a release before may go.
+if [ -e "$dist" ] && [ ! -e "$dist/SHA256SUMS" ]; then
+    echo "$dist is there, and isn't a release" >&2
+    exit 1
+fi
+
+if [ -n "$draft" ] && [ -n "${XMAS_ELF_ARCHIVE:-}" ]; then
+    verdict="not asked: the library is that of XMAS_ELF_ARCHIVE"
+else
+    log="$(mktemp)"
+    trap 'rm -f "$log"' EXIT
+    (cd crates/elf_c && rt lib) > "$log" 2>&1 || { tail -n 20 "$log" >&2; exit 1; }
+    verdict="$(grep '^logic=proved ' "$log" | tail -n 1)"
+    XMAS_ELF_ARCHIVE="$PWD/crates/elf_c/out"
+fi
+export XMAS_ELF_ARCHIVE
+version="$(sed -n 's/^version = "\(.*\)"/\1/p' bindings/rust/Cargo.toml)"
+grep -qx "version = \"$version\"" bindings/python/pyproject.toml || { echo "the crate and the wheel differ in their version" >&2; exit 1; }
+grep -qx "#define XMAS_ELF_VERSION \"$version\"" bindings/include/xmas_elf.h || { echo "the crate and the header differ in their version" >&2; exit 1; }
+
+rm -rf "$dist"
+mkdir -p "$dist/lib/pkgconfig" "$dist/include" "$dist/c" "$dist/python" "$dist/rust/lib/$target"
+: > "$dist/SHA256SUMS"
+cp "$XMAS_ELF_ARCHIVE/libelf_c.a" "$dist/lib/"
+cp "$XMAS_ELF_ARCHIVE/libelf_c.a" "$dist/rust/lib/$target/"
+cp bindings/include/* "$dist/include/"
+cp bindings/c/README.md bindings/c/find.c bindings/c/nm.c bindings/cpp/nm.cpp "$dist/c/"
+cp bindings/INSTALL.md "$dist/README.md"
+cp -r bindings/python/README.md bindings/python/examples "$dist/python/"
+cp LICENSE-APACHE LICENSE-MIT "$dist/"
+cp LICENSE-APACHE LICENSE-MIT "$dist/rust/"
+(cd bindings/rust && git ls-files -co --exclude-standard | while read -r file; do [ ! -f "$file" ] || cp --parents "$file" "$dist/rust/"; done)
+cp -r bindings/examples "$dist/"
+cat > "$dist/lib/pkgconfig/xmas_elf.pc" << END
+prefix=\${pcfiledir}/../..
+Name: xmas_elf
+Description: A reader of ELF files whose every answer is proved
+Version: $version
+Cflags: -I\${prefix}/include
+Libs: -L\${prefix}/lib -lelf_c
+END
+python3 bindings/python/wheel_backend.py "$dist/python" > /dev/null
+# The page for browsers, but for a draft over an archive that is at hand, where the kit may be missing.
+if [ -z "$draft" ] || [ -n "${XMAS_ELF_MODULE:-}" ]; then
+    tools/web/web.sh --build > /dev/null
+    cp -r bindings/web/out/site "$dist/web"
+fi
+
+{
+    echo "# version $version, commit $(git rev-parse HEAD)$draft"
+    echo "# kit: $(rt version)"
+    echo "# verdict: $verdict"
+    cd "$dist"
+    find . -type f ! -name SHA256SUMS -printf '%P\n' | LC_ALL=C sort | xargs -d '\n' sha256sum
+} > "$dist/SHA256SUMS"
+echo "package: version $version in $dist"

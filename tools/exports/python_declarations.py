@@ -1,0 +1,170 @@
+#!/usr/bin/env python3
+"""Writes two modules of bindings/python/xmas_elf: _declarations.py, with the records, exports and statuses of the archive
+for ctypes and struct, and constants.py.
+
+Records and exports are those of bindings/exports.toml, statuses those of the header for C, constants those of
+bindings/constants.toml. --check: writes nothing, and fails where a file differs."""
+import re
+import sys
+import textwrap
+
+import listing
+from listing import FILLED, ROOT, SLICE, VALUE
+
+HEADER = ROOT / "bindings/include/xmas_elf.h"
+PACKAGE = ROOT / "bindings/python/xmas_elf"
+LETTERS = {"u8": "B", "u16": "H", "u32": "I", "u64": "Q"}
+KINDS = {"u8": "c_uint8", "u16": "c_uint16", "u32": "c_uint32", "u64": "c_uint64", "usize": "c_size_t"}
+RESULTS = {"status": "c_uint32", "size": "c_size_t", "none": "None"}
+# What the package's rows of a record have in front of its fields.
+NAME = (("name", "Optional[str]", "The name, or None if it can't be read."), ("name_status", "int", "The status of the name."))
+FILE = ("file", "ElfFile", "The file.")
+FRONT = {
+    "section": (FILE, ("index", "int", "The index of the section."), *NAME),
+    "segment": (FILE, ("index", "int", "The index of the segment.")),
+    "symbol": NAME,
+}
+HEAD = '''"""The records, exports and statuses of the archive. Written by tools/exports/python_declarations.py."""
+from __future__ import annotations
+
+from ctypes import {kinds}
+from enum import IntEnum
+from struct import Struct
+from typing import TYPE_CHECKING, Any, Dict, NamedTuple, Optional, Tuple
+
+from .constants import {groups}
+
+if TYPE_CHECKING:
+    from ._file import ElfFile
+
+
+def _document(record: Any, **fields: str) -> None:
+    """Gives the fields the texts that `help` shows."""
+    for name, text in fields.items():
+        getattr(record, name).__doc__ = text
+
+'''
+# The fields whose numbers have names.
+NAMED = {
+    ("header", "type"): "ET", ("header", "machine"): "EM", ("header", "os_abi"): "ELFOSABI",
+    ("section", "type"): "SHT", ("section", "flags"): "SHF", ("segment", "type"): "PT", ("segment", "flags"): "PF", ("dynamic", "tag"): "DT",
+}
+NUMBERS_HEAD = '''"""Numbers of the ELF standard by their names there. Written by tools/exports/python_declarations.py.
+
+Each kind of number is a class: `SHT(11)` is `SHT_DYNSYM`, whose `name` is the text `SHT_DYNSYM`, and `SHT["SHT_DYNSYM"]` is
+the number. A number without a name is allowed."""
+from ._numbers import Flags, Number
+'''
+
+
+def doc(text, indent="    "):
+    return textwrap.wrap(f'"""{text}"""', 118, initial_indent=indent, subsequent_indent=indent, break_long_words=False)
+
+
+def argument(name, text):
+    """An argument that is a text, which goes on in further lines."""
+    parts = textwrap.wrap(text, 100, break_long_words=False, drop_whitespace=False)
+    texts = ["'" + part.replace("\\", "\\\\").replace("'", "\\'") + "'" if '"' in part else f'"{part}"' for part in parts]
+    if len(texts) == 1:
+        return [f"    {name}={texts[0]},"]
+    return [f"    {name}=", *(f"        {it}" for it in texts[:-1]), f"        {texts[-1]},"]
+
+
+def flat(struct, listed):
+    """The letters for `struct`, and the fields with their comments; those of a record within stand in its place."""
+    letters, fields = "", []
+    for field in struct.fields:
+        name = "name_index" if field.name == "name" and field.type in LETTERS else field.c_name
+        if array := re.fullmatch(r"\[u8; (\d+)\]", field.type):
+            letters += f"{array[1]}x"
+        elif field.type in LETTERS:
+            letters += LETTERS[field.type]
+            fields.append((name, "int", field.comment))
+        else:
+            inner_letters, inner = flat(listed.struct(field.type), listed)
+            letters += inner_letters
+            fields += [(f"{name}_{it}", kind, f"{field.comment} {comment}") for it, kind, comment in inner]
+    return letters, fields
+
+
+def record(struct, listed):
+    letters, fields = flat(struct, listed)
+    name = "".join(word.capitalize() for word in struct.name.split("_"))
+    lines = ["", f"class {name}Record(NamedTuple):", *doc(struct.comment), ""]
+    all_fields = (*FRONT.get(struct.name, ()), *fields)
+    for field, kind, comment in all_fields:
+        # These fields hide methods of tuples.
+        hides = "  # type: ignore[assignment]" if field in ("index", "count") else ""
+        lines.append(f"    {field}: {NAMED.get((struct.name, field), kind)}{hides}")
+    lines += ["", "", "_document(", f"    {name}Record,"]
+    for field, _, comment in all_fields:
+        lines += argument(field, comment)
+    lines.append(")")
+    largest = next(letter for letter in "QIHB" if letter in letters)
+    # The count 0 at the end pads the record as C does.
+    return lines + ["", "", f'{struct.name.upper()} = Struct("@{letters}0{largest}")', ""]
+
+
+def export(function):
+    kinds = []
+    for parameter in function.parameters:
+        kinds.append(KINDS[parameter.type] if parameter.kind == VALUE else "c_void_p")
+        if parameter.kind in (SLICE, FILLED):
+            kinds.append("c_size_t")
+    return RESULTS[function.result], kinds
+
+
+def exports(listed):
+    lines = ["", "# What each export answers, and its parameters: a slice is a pointer and a count."]
+    lines.append("EXPORTS: Dict[str, Tuple[Any, Tuple[Any, ...]]] = {")
+    for function in listed.functions:
+        result, kinds = export(function)
+        lines.append(f'    "{function.export}": ({result}, ({", ".join(kinds)},)),')
+    return lines + ["}", ""]
+
+
+def statuses(text):
+    rows = re.findall(r"/\* (.*?)\. \*/\n\s+XMAS_ELF_(\w+) = (\d+)", text)
+    assert len(rows) > 60
+    lines = ["", "class Status(IntEnum):", *doc("The status of a call: OK, or an error. The numbers never change."), ""]
+    for comment, name, number in [("No refusal", "OK", "0"), *rows]:
+        lines += [f"    {name} = {number}", *doc(f"{comment}.")]
+    longest = re.search(r"define XMAS_ELF_LONGEST_MESSAGE (\d+)", text)[1]
+    return lines + ["", "", "# The size of the longest text of a status, in bytes.", f"LONGEST_MESSAGE = {longest}"]
+
+
+def declarations():
+    listed = listing.read()
+    kinds = {kind for function in listed.functions for result, all in [export(function)] for kind in (result, *all)}
+    head = HEAD.replace("{kinds}", ", ".join(sorted(kinds - {"None"})))
+    lines = [head.replace("{groups}", ", ".join(sorted(set(NAMED.values()))))]
+    for struct in listed.structs:
+        lines += record(struct, listed)
+    return "\n".join(lines + exports(listed) + statuses(HEADER.read_text())) + "\n"
+
+
+def constants():
+    listed = listing.constants()
+    lines, group = [NUMBERS_HEAD], ""
+    for constant in listed:
+        if constant.group != group:
+            group = constant.group
+            lines += ["", f"class {constant.prefix}({'Flags' if constant.is_flag else 'Number'}):", *doc(f"{group}."), ""]
+        value = f"{constant.value:#x}" if constant.value > 0xFFFF else str(constant.value)
+        lines += [f"    {constant.name} = {value}", *doc(constant.comment)]
+        if constant is listed[-1] or listed[listed.index(constant) + 1].group != group:
+            lines.append("")
+    lines.append("")
+    lines += [f"{it.name} = {it.prefix}.{it.name}" for it in listed]
+    return "\n".join(lines) + "\n"
+
+
+def main():
+    for path, text in ((PACKAGE / "_declarations.py", declarations()), (PACKAGE / "constants.py", constants())):
+        if "--check" not in sys.argv[1:]:
+            path.write_text(text)
+        elif not path.exists() or path.read_text() != text:
+            sys.exit(f"{path}: run tools/exports/python_declarations.py")
+
+
+main()

@@ -1,0 +1,108 @@
+#!/usr/bin/env python3
+"""Writes the list of statuses into bindings/include/xmas_elf.h and bindings/rust/src/error.rs.
+
+The numbers of `ElfError` are those that its variants are declared with, those of `LinkError` stand beside its texts in
+crates/elf_linking/src/error.rt, and the others in crates/elf_c/src/status.rt; the other texts are those of crates/elf_base
+and crates/elf_c.
+A number never changes: bindings/statuses.txt has each name with its number, and the script only adds lines to it. Where
+a refusal has another number than there, or a name there is no refusal's, the script fails, and writes nothing.
+--check: writes nothing, and fails where a file differs."""
+import pathlib
+import re
+import sys
+
+from listing import constant
+
+ROOT = pathlib.Path(__file__).resolve().parents[2]
+HEADER = ROOT / "bindings/include/xmas_elf.h"
+RUST = ROOT / "bindings/rust/src/error.rs"
+PINNED = ROOT / "bindings/statuses.txt"
+FIRST, LAST = "/* The statuses, written by tools/exports/statuses.py. */", "/* End of the statuses. */"
+
+
+def matched(path, pattern):
+    return re.findall(pattern, (ROOT / path).read_text())
+
+
+def statuses():
+    """Rows of name, number and text."""
+    errors = "crates/elf_base/src/error.rt"
+    texts = dict(matched(errors, r'Self::(\w+) => "([^"]*)"'))
+    links = matched("crates/elf_linking/src/error.rt", r'LinkError::(\w+) => \((\d+), "([^"]*)"\)')
+    source = "crates/elf_c/src/status.rt"
+    rows = [(name, int(number), texts[name]) for name, number in matched(errors, r"(?m)^    (\w+) = (\d+),$")]
+    rows += [("Link" + name, int(number), text) for name, number, text in links]
+    own_texts = dict(matched("crates/elf_c/src/message.rt", r'Refusal::(\w+) => "([^"]*)"'))
+    for name, number in matched(source, r"Refusal::(\w+) => (\d+)"):
+        rows.append((name, int(number), own_texts[name]))
+    numbers = [number for _, number, _ in rows]
+    assert len(set(numbers)) == len(numbers) and 0 not in numbers and len(rows) > 60
+    assert {name for name, _, _ in rows} >= set(texts) | set(own_texts)
+    return rows
+
+
+def numbered(rows):
+    """The lines of bindings/statuses.txt: a number and a name each."""
+    return [f"{number} {constant(name)}" for number, name in [(0, "Ok"), *((number, name) for name, number, _ in rows)]]
+
+
+def check_numbers_kept(rows):
+    """Fails where a line of bindings/statuses.txt is no longer true."""
+    pinned = PINNED.read_text().splitlines() if PINNED.exists() else []
+    for line in pinned:
+        if line not in numbered(rows):
+            sys.exit(f"{PINNED}: {line}: a number never changes, and here it has another name")
+
+
+def longest(rows):
+    return max(len(text.encode()) for _, _, text in rows)
+
+
+def c_part(rows):
+    lines = [FIRST, "enum xmas_elf_status {", "    XMAS_ELF_OK = 0,"]
+    for name, number, text in rows:
+        lines += [f"    /* {text}. */", f"    {constant(name)} = {number},"]
+    lines[-1] = lines[-1].rstrip(",")
+    lines += ["};", "", "/* How many bytes the longest text of a status has. */"]
+    return lines + [f"#define XMAS_ELF_LONGEST_MESSAGE {longest(rows)}", LAST]
+
+
+def rust_part(rows):
+    lines = ["//! The errors of the archive. Written by tools/exports/statuses.py.", ""]
+    lines += ["/// Why a file, or a part of it, can't be read.", "#[derive(Clone, Copy, Debug, PartialEq, Eq, Hash)]"]
+    lines += ["#[non_exhaustive]", "pub enum Error {"]
+    for name, _, text in rows:
+        lines += [f"    /// {text}.", f"    {name},"]
+    lines += ["    /// A status that this crate doesn't know: the archive is of another version.", "    Unknown(u32),", "}", ""]
+    lines += ["impl Error {", "    /// The error with this number, which isn't 0."]
+    lines += ["    pub(crate) fn of(status: u32) -> Error {", "        match status {"]
+    lines += [f"            {number} => Error::{name}," for name, number, _ in rows]
+    lines += ["            other => Error::Unknown(other),", "        }", "    }", ""]
+    lines += ["    /// The number of the error.", "    pub fn status(&self) -> u32 {", "        match self {"]
+    lines += [f"            Error::{name} => {number}," for name, number, _ in rows]
+    lines += ["            Error::Unknown(status) => *status,", "        }", "    }", "}", ""]
+    return lines + ["// How many bytes the longest text has.", f"pub(crate) const LONGEST: usize = {longest(rows)};"]
+
+
+def header_with(part):
+    text = HEADER.read_text()
+    if FIRST not in text:
+        return text.replace("/* STATUSES */", "\n".join(part))
+    before, after = text.index(FIRST), text.index(LAST) + len(LAST)
+    return text[:before] + "\n".join(part) + text[after:]
+
+
+def main():
+    rows = statuses()
+    check_numbers_kept(rows)
+    wanted = {HEADER: header_with(c_part(rows)), RUST: "\n".join(rust_part(rows)) + "\n"}
+    wanted[PINNED] = "\n".join(numbered(rows)) + "\n"
+    for path, text in wanted.items():
+        if "--check" not in sys.argv[1:]:
+            path.write_text(text)
+        elif not path.exists() or path.read_text() != text:
+            sys.exit(f"{path}: run tools/exports/statuses.py")
+
+
+if __name__ == "__main__":
+    main()

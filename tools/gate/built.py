@@ -1,0 +1,55 @@
+#!/usr/bin/env python3
+"""Has other commands take the libraries that `rt ci` has just proved and built, behind which `.ci/run` calls this.
+
+    tools/gate/built.py
+
+`rt ci` of some kits leaves a library in out/rlib without the sum of its sources, its stamp, and `rt check` of a crate
+above proves and builds it once more then. This writes the stamps, of libraries that are newer than their sources. Of a
+kit that knows no stamps nothing is written.
+"""
+import importlib.machinery
+import importlib.util
+import os
+import pathlib
+import shutil
+import sys
+
+ROOT = pathlib.Path(__file__).resolve().parents[2]
+
+
+def kit():
+    """The part of the kit that knows crates and their stamps."""
+    place = pathlib.Path(shutil.which("rt")).resolve().parent / "rtlib.py"
+    loader = importlib.machinery.SourceFileLoader("rtlib", str(place))
+    module = importlib.util.module_from_spec(importlib.util.spec_from_loader("rtlib", loader))
+    sys.dont_write_bytecode, sys.modules["rtlib"] = True, module
+    loader.exec_module(module)
+    return module
+
+
+def newest(folder: pathlib.Path) -> float:
+    """When the last of a crate's sources changed."""
+    files = (it for part in ("src", "specs", "proofs") for it in (folder / part).rglob("*") if it.is_file())
+    return max((it.stat().st_mtime for it in files), default=0)
+
+
+def main() -> int:
+    os.chdir(ROOT)
+    written = []
+    try:
+        crates = kit().crates_below(str(ROOT))
+        for crate in crates:
+            folder, built = pathlib.Path(crate.folder), pathlib.Path(crate.rlib)
+            sources = max(newest(pathlib.Path(it.folder)) for it in [crate, *crate.below()])
+            # Files that an earlier run on this machine built and kept are older than the folder that they were put into.
+            if (built / "format").is_file() and built.stat().st_mtime > sources and not crate.is_built():
+                (folder / "out" / "rlib" / "stamp").write_text(crate.stamp(), encoding="utf-8")
+                written.append(crate.name)
+    except (AttributeError, OSError, TypeError) as why:
+        print(f"this kit has no stamps that are known here: {why}")
+    print(f"stamps of {', '.join(written) or 'no library'}")
+    return 0
+
+
+if __name__ == "__main__":
+    sys.exit(main())

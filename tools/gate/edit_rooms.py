@@ -1,0 +1,296 @@
+"""Copies of a repository in which the functions of one crate are edited and checked."""
+import dataclasses
+import functools
+import os
+import pathlib
+import re
+import resource
+import shutil
+import subprocess
+
+import built
+from edits import Edit, EditedCrate, Function, Tried
+
+# How many processor seconds the check of a batch may take, or that of one edit, and that of a whole crate with an edit.
+LIMIT, LIMIT_OF_WHOLE = 480, 1800
+
+# What is said of a goal of a contract or of an invariant.
+CONTRACT = re.compile(r"what the function ensures|the invariant of the loop|the loop's invariant")
+# A refused line in a function's proof: where there is one, the check doesn't print the goals of the function that stay
+# open, which takes as long as it took to find them. That they are open is told all the same.
+UNPRINTED = "\nunprinted : ⊥\nunprinted = tt\n"
+# Lines of a check: an error of the front end, the last one, and a name that it doesn't know.
+FAULT = re.compile(r"(?:\./)?(src/\S+?):(\d+):\d+: error")
+REACHED = re.compile(r"^(?:logic=(proved|not-proved)|only=\d+ (?:proved|holes)=\d+$)", re.M)
+NO_FUNCTION = re.compile(r"^rattle: error: `\w+` has no function `(\S+)`", re.M)
+# The hole that the proofs of all stand-ins rest on, one of these proofs.
+UNPROVED = """-- Stands for the proofs of functions that aren't tried.
+pub any : {A : Type 2} → A
+any = ?
+"""
+STAND_IN = """use Rattle.{crate}.proofs.Unproved.{{any}}
+use Rattle.{crate}.proofs.{path}.Statement.{{statement}}
+
+pub {name}_spec : {{M : Type 1}} → statement M
+{name}_spec = any
+"""
+
+
+@dataclasses.dataclass
+class Checked:
+    """What a check said, its status, its processor seconds, and whether it was ended at its limit."""
+
+    said: str
+    status: int
+    seconds: float
+    is_cut: bool = False
+
+
+def check(folder: pathlib.Path, *words: str, verb: str = "check", limit=None) -> Checked:
+    """Checks the crate in a folder, or does what else `rt` does with a crate."""
+    return checked(folder, ["rt", verb, *words], limit)
+
+
+kit = functools.cache(built.kit)
+
+
+def check_once(folder: pathlib.Path, *words: str, limit=None) -> Checked:
+    """Checks the crate in a folder, and keeps nothing for a later check. `rt check` would keep what it proves, and for
+    long checks starts several processes one after another, each of which loads the libraries."""
+    try:
+        crates = kit().crates_below(str(folder.parent.parent))
+        crate = next(it for it in crates if os.path.samefile(it.folder, folder))
+        ran = [kit().RATTLE, "check", *crate.words(list(words), keeps=False)]
+    except (AttributeError, OSError, StopIteration, SystemExit, TypeError):
+        # Another kit may have other names for these.
+        return check(folder, *words, limit=limit)
+    return checked(folder, ran, limit)
+
+
+def checked(folder: pathlib.Path, ran: list, limit=None) -> Checked:
+    """What a check says, and what it takes. A process that takes more processor seconds than the limit is ended."""
+    kept = {"stdout": subprocess.PIPE, "stderr": subprocess.STDOUT, "text": True, "errors": "replace"}
+    limited = limit and (lambda: resource.setrlimit(resource.RLIMIT_CPU, (limit, limit + 5)))
+    with subprocess.Popen(ran, cwd=folder, preexec_fn=limited, **kept) as started:
+        said = started.stdout.read()
+        _, status, used = os.wait4(started.pid, 0)
+        started.returncode = os.waitstatus_to_exitcode(status)
+    seconds = used.ru_utime + used.ru_stime
+    is_cut = bool(limit) and seconds > 0.95 * limit and started.returncode != 0
+    return Checked(said, started.returncode, seconds, is_cut)
+
+
+def copied(source: str, place: str):
+    """Copies a file of kept work, by a link where a check replaces such a file and never changes it."""
+    return os.link(source, place) if source.endswith(".oantt") else shutil.copy2(source, place)
+
+
+class Room:
+    """A copy of the repository in which one crate is changed and checked again and again: with stand-ins for all
+    functions that aren't tried, or as it stands."""
+
+    def __init__(self, root: pathlib.Path, crate: EditedCrate, below, place: pathlib.Path, kept=None, whole=False):
+        self.root, self.crate, self.below, self.is_whole = root, crate, below, whole
+        self.folder, self.kept = place / "crates" / crate.name, kept
+        self.words = [] if whole else ["--allow-holes"]
+        self.texts = crate.texts if whole else crate.with_stand_ins(set())
+        # what each check took, and whether the last one was ended at its limit
+        self.times, self.is_cut = [], False
+        place.mkdir()
+        needed = [*below, crate.name]
+        lines = (root / "crates.txt").read_text(encoding="utf-8").splitlines(keepends=True)
+        (place / "crates.txt").write_text("".join(it for it in lines if re.split(r"[ :]", it)[0] in needed), encoding="utf-8")
+        for name in needed:
+            source, copy = root / "crates" / name, place / "crates" / name
+            for part in ("src", "specs", "proofs"):
+                if (source / part).is_dir():
+                    shutil.copytree(source / part, copy / part)
+            if name != crate.name and (source / "out" / "rlib").is_dir():
+                shutil.copytree(source / "out" / "rlib", copy / "out" / "rlib")
+        if not whole:
+            self.make_stand_ins()
+
+    def make_stand_ins(self):
+        """Writes the stand-ins, and for each a proof that rests on the one hole."""
+        proofs = self.folder / "proofs"
+        proofs.mkdir(exist_ok=True)
+        (proofs / "Unproved.antt").write_text(UNPROVED, encoding="utf-8")
+        with open(proofs / "Lib.antt", "a", encoding="utf-8") as modules:
+            modules.write("pub mod Unproved\n")
+        for file, text in self.texts.items():
+            (self.folder / file).write_text(text, encoding="utf-8")
+        for one in filter(self.crate.stands_in, self.crate.functions):
+            self.leave_unproved(one)
+
+    def leave_unproved(self, one: Function):
+        """Puts the proof of a stand-in in the place of its function's."""
+        proofs, path = self.folder / "proofs", self.crate.told_path(one).split("::")[1:]
+        for parts in self.crate.proofs_of(one):
+            shutil.rmtree(proofs.joinpath(*parts), ignore_errors=True)
+        text = STAND_IN.format(crate=self.crate.name, path=".".join(path), name=path[-1])
+        shutil.rmtree(proofs.joinpath(*path), ignore_errors=True)
+        proofs.joinpath(*path).mkdir(parents=True)
+        proofs.joinpath(*path, "Proof.antt").write_text(text, encoding="utf-8")
+
+    def give_proof(self, one: Function):
+        """Puts the proof of a function, if it has one, in the place of its stand-in's."""
+        proofs = self.folder / "proofs"
+        shutil.rmtree(proofs.joinpath(*self.crate.told_path(one).split("::")[1:]))
+        for parts in self.crate.proofs_of(one):
+            shutil.copytree(self.crate.folder.joinpath("proofs", *parts), proofs.joinpath(*parts))
+
+    def whole(self):
+        """Another room, with the crate as it stands."""
+        place = self.folder.parent.parent / "whole"
+        shutil.rmtree(place, ignore_errors=True)
+        return Room(self.root, self.crate, self.below, place, self.crate.folder / "out" / "incremental", whole=True)
+
+    def keeps(self) -> bool:
+        """Whether a check of the crate kept what the checks here can begin with."""
+        return self.kept is not None and self.kept.is_dir()
+
+    def begin(self):
+        """Takes what a check of the crate kept before any edit: a check with an edit replaces what was kept of its function."""
+        there = self.folder / "out" / "incremental"
+        shutil.rmtree(there, ignore_errors=True)
+        if self.keeps():
+            shutil.copytree(self.kept, there, copy_function=copied)
+
+    def check(self, edits, tried: Tried, functions) -> str:
+        """What a check of these functions says of the crate with these edits made (none: of all); takes them back."""
+        self.begin()
+        proofs = self.made(tried)
+        paths = sorted({self.crate.told_path(one) for one in functions})
+        unprinted = [self.unprinted(it) for it in paths]
+        ran = self.check_only(paths)
+        self.is_cut = ran.is_cut and not REACHED.search(ran.said)
+        for file, text in unprinted:
+            file.write_text(text, encoding="utf-8") if text else file.unlink()
+        self.unmade(tried, proofs)
+        self.times.append((ran.seconds, edits[0].label() if len(edits) == 1 else f"{self.crate.name}: {len(edits)} edits"))
+        return ran.said
+
+    def unprinted(self, path: str):
+        """Adds the refused line to the proof of a function; gives the file, and what it was (nothing: it had none)."""
+        file = self.folder.joinpath("proofs", *path.split("::")[1:], "Answers.antt")
+        text = file.read_text(encoding="utf-8") if file.exists() else ""
+        file.parent.mkdir(parents=True, exist_ok=True)
+        file.write_text(text + UNPRINTED, encoding="utf-8")
+        return file, text
+
+    def made(self, tried: Tried) -> list:
+        """Writes the files that edits change, and the proofs of functions beside others; gives the folders of these."""
+        for file, text in tried.texts.items():
+            (self.folder / file).write_text(text, encoding="utf-8")
+        for one in filter(self.crate.stands_in, tried.in_place):
+            self.give_proof(one)
+        return [it for copy, one in tried.copies.items() for it in self.copy_proofs(one, copy.name())]
+
+    def copy_proofs(self, one: Function, name: str) -> list:
+        """Copies the proof of a function and those of its closures for one of another name; gives the folders."""
+        *above, old = self.crate.told_path(one).split("::")[1:]
+        proofs, made = self.folder / "proofs", []
+
+        def moved(found) -> str:
+            parts = found[0].split(".")
+            at = next((at for at, it in enumerate(parts) if it == old and [it for it in parts[3:at] if it != "fn"] == above), None)
+            return found[0] if at is None else ".".join([*parts[:at], name, *parts[at + 1 :]])
+
+        for parts in self.crate.proofs_of(one):
+            made.append(pathlib.Path(shutil.copytree(self.crate.folder.joinpath("proofs", *parts), proofs.joinpath(*parts[:-1], name))))
+            for file in made[-1].rglob("*.antt"):
+                text = file.read_text(encoding="utf-8")
+                file.write_text(re.sub(rf"Rattle\.{self.crate.name}\.proofs(\.[\w+]+)+", moved, text), encoding="utf-8")
+        # Where there is none, the refused line makes one.
+        return made or [proofs.joinpath(*above, name)]
+
+    def unmade(self, tried: Tried, proofs):
+        """Takes edits and the proofs that were made for them back."""
+        for file in tried.texts:
+            (self.folder / file).write_text(self.texts[file], encoding="utf-8")
+        for one in filter(self.crate.stands_in, tried.in_place):
+            self.leave_unproved(one)
+        for folder in proofs:
+            shutil.rmtree(folder, ignore_errors=True)
+
+    def uncompiled(self, edits) -> list:
+        """Those of the edits that don't compile, each with the error."""
+        self.begin()
+        tried = self.crate.tried(edits, self.is_whole)
+        proofs = self.made(tried)
+        # A check of a function that isn't there ends once the crate is compiled.
+        said = check(self.folder, "--jobs", "1", "--only", "no_such::function").said
+        self.unmade(tried, proofs)
+        if NO_FUNCTION.search(said):
+            return []
+        if len(edits) > 1:
+            return [it for part in self.apart(edits, tried, said) for it in self.uncompiled(part)]
+        why = [it for it in said.split("\n") if "error" in it] or said.strip().split("\n")[-1:]
+        return [(edits[0], why[0])]
+
+    def check_only(self, functions) -> Checked:
+        """A check of some functions, by their paths, and of what they call; of none: of the whole crate."""
+        words = ["--jobs", "1", *self.words, *(word for name in functions for word in ("--only", name))]
+        one = check if self.keeps() else check_once
+        ran = one(self.folder, *words, limit=LIMIT_OF_WHOLE if self.is_whole else LIMIT)
+        unknown = NO_FUNCTION.search(ran.said)
+        # A method of a built-in type has no such name: its edit is then tried alone.
+        return self.check_only([it for it in functions if it != unknown[1]]) if unknown else ran
+
+    def left_open(self, edits) -> list:
+        """What is left open of each of these functions beside themselves, in a check of them all."""
+        tried = self.crate.tried(edits, self.is_whole)
+        said = self.check(edits, tried, [tried.of[it.label()][0] for it in edits])
+        goals = tried.goals(said)
+        if not REACHED.search(said):
+            return [(edits[0], "the check did not come to an end")]
+        return [(it, goal) for it in edits for goal in self.own(it, tried, goals)[:1]]
+
+    @staticmethod
+    def own(edit: Edit, tried: Tried, goals: dict) -> list:
+        """The goals of the functions of an edit, those of the clause that it names if the others say nothing."""
+        own = [it for one in tried.of[edit.label()] for it in goals.get(one, [])]
+        is_of_one = edit.clause and edit.inside and edit.beside()
+        return [it for it in own if f"-clause-{edit.clause}`" in it] if is_of_one else own
+
+    def apart(self, edits, tried: Tried, said: str) -> list:
+        """Edits that don't compile together, in parts: those of which that is said, and the others; two halves where
+        nothing is said, or where the check was ended at its limit."""
+        blamed = set() if self.is_cut else {tried.function_at(it[1], int(it[2])) for it in FAULT.finditer(said)}
+        parts = [[it for it in edits if bool(blamed & {*tried.of[it.label()]}) is is_blamed] for is_blamed in (True, False)]
+        return parts if all(parts) else [edits[::2], edits[1::2]]
+
+    def judge(self, edits) -> list:
+        """Each edit with the goal for which it is refused, or with none and a fault."""
+        tried = self.crate.tried(edits, self.is_whole)
+        functions = {one for some in tried.of.values() for one in some}
+        said = self.check(edits, tried, [] if self.is_whole else functions - {None})
+        reached = REACHED.search(said)
+        if not self.is_whole and len(edits) == 1 and (None in functions or reached and not tried.goals(said)):
+            # A line that stands in no function, as a constant's, and what a function does for others, may be refused there.
+            whole = self.whole()
+            judged = whole.judge(edits)
+            self.times += whole.times
+            return judged
+        if not reached and len(edits) > 1:
+            if self.is_cut:
+                print(f"{self.crate.name}: a check of {len(edits)} edits was ended after {LIMIT} processor seconds: two halves", flush=True)
+            return [it for part in self.apart(edits, tried, said) for it in self.judge(part)]
+        if not reached:
+            why = [it for it in said.split("\n") if "error" in it] or said.strip().split("\n")[-1:]
+            limit = LIMIT_OF_WHOLE if self.is_whole else LIMIT
+            fault = f"its check was ended after {limit} processor seconds" if self.is_cut else f"it does not compile: {why[0]}"
+            return [(edits[0], "", fault)]
+        goals = tried.goals(said)
+        if len(edits) == 1:
+            own = [it for one in tried.of[edits[0].label()] for it in goals.get(one, [])]
+            others = [it for them in goals.values() for it in them]
+            goal = next((it for it in [*own, *others]), "")
+            fault = "the crate is still proved" if reached[1] == "proved" else "no goal is left open, only a name that it took away"
+            return [(edits[0], goal, "" if goal else fault)]
+        judged = []
+        hidden = all(it.inside or it.beside() for it in edits)
+        for edit in edits:
+            own = [it for it in self.own(edit, tried, goals) if hidden or CONTRACT.search(it)]
+            judged += [(edit, own[0], "")] if own else self.judge([edit])
+        return judged

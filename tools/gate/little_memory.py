@@ -1,0 +1,189 @@
+#!/usr/bin/env python3
+"""Has each request of the built elfinfo, elfsym and elfbind for memory refused in turn, and each read and write failed.
+
+Over some files and each build of a program, until a run makes no more such calls. With memory refused it
+says that it cannot read its arguments, then that it cannot read the file, then that memory is short; with a
+read failed that it cannot read the file; each with status 1 and without output. With a write failed it
+ends with 1, and what was written before is the front of the output, whether the next write works again or
+all fail. The last run is as if nothing failed. Reads and writes are failed of a run that makes as few as it
+likes, and of one whose reads and writes take a few bytes each.
+A library made by a C compiler stands before the C library's calls. Run it at the top of the repository, once
+the programs are built: tools/gate/little_memory.py [PROGRAM..]
+"""
+import dataclasses
+import os
+import pathlib
+import shutil
+import subprocess
+import sys
+import tempfile
+
+from program_ends import builds_of
+
+TOP = pathlib.Path(__file__).resolve().parents[2]
+CRATES = TOP / "crates"
+SAMPLE = CRATES / "elfanswers" / "data"
+STRTAB = (CRATES / "elfinfo" / "data" / "strtab.elf").read_bytes()
+LINKED = (CRATES / "elfsym" / "data" / "versions.so").read_bytes()
+FIRST = (CRATES / "elfbind" / "data" / "libfirst.so").read_bytes()
+# What this library alone is bound to, as `readelf -rsW` says of it before its section headers are cut off.
+FIRST_LINES = b"".join(
+    b"a.elf %s@V1 -> a.elf %s\n" % line
+    for line in (
+        (b"per_thread", b"0x4"), (b"per_thread", b"0x4"), (b"shared", b"0x16d4"), (b"own", b"0x4e3"), (b"own", b"0x4e3"), (b"choose", b"0x4f5"),
+    )
+)
+
+
+@dataclasses.dataclass(frozen=True)
+class Program:
+    """A program: its words behind the path of the file, the files, and the output that is wanted of the first."""
+
+    name: str
+    words: list
+    files: dict
+    first: bytes
+    # So many bytes a read and a write takes where it takes few.
+    few: tuple
+
+    def texts(self) -> list:
+        """What it says where it can't read its arguments, can't read the file, lacks memory, and can't write."""
+        ends = ("cannot read the arguments", "cannot read a.elf", "not enough memory", "cannot write")
+        return [f"{self.name}: {it}\n".encode() for it in ends]
+
+
+FILES = {"a string table": STRTAB, "links": (SAMPLE / "notes-64.elf").read_bytes(),
+    "a hash table": (SAMPLE / "dynamic-64.elf").read_bytes(), "three bytes": STRTAB[:3]}
+PROGRAMS = [
+    Program("elfinfo", [], FILES, (CRATES / "elfinfo" / "stdout").read_bytes(), (20, 300)),
+    Program("elfsym", (CRATES / "elfsym" / "args").read_text().split()[1:], {"a hash table": LINKED, "three bytes": LINKED[:3]},
+        (CRATES / "elfsym" / "stdout").read_bytes(), (20, 16)),
+    Program("elfbind", [], {"a library": FIRST, "three bytes": FIRST[:3]}, FIRST_LINES, (40, 4)),
+]
+
+# More calls of a kind than the program makes.
+MOST = 120
+
+# The calls that are failed: the one of a number, or all of the output from a number on; and whether each takes few bytes.
+WAYS = (
+    ("FAIL_MEMORY", False), ("FAIL_READ", False), ("FAIL_WRITE", False), ("FAIL_READ", True), ("FAIL_WRITE", True), ("FAIL_OUTPUT", True),
+)
+
+FAILING = r"""
+#include <errno.h>
+#include <stddef.h>
+#include <stdlib.h>
+#include <sys/types.h>
+void *__libc_malloc(size_t), *__libc_realloc(void *, size_t);
+ssize_t __read(int, void *, size_t), __write(int, const void *, size_t);
+static int number(const char *name) {
+    const char *text = getenv(name);
+    return text ? atoi(text) : 0;
+}
+static int fails(const char *kind) {
+    static int made;
+    return number(kind) && ++made == number(kind);
+}
+static size_t few(const char *name, size_t size) {
+    size_t most = number(name);
+    return most && size > most ? most : size;
+}
+void *malloc(size_t size) {
+    if (fails("FAIL_MEMORY")) { errno = ENOMEM; return 0; }
+    return __libc_malloc(size);
+}
+void *realloc(void *old, size_t size) {
+    if (fails("FAIL_MEMORY")) { errno = ENOMEM; return 0; }
+    return __libc_realloc(old, size);
+}
+ssize_t read(int file, void *to, size_t size) {
+    if (fails("FAIL_READ")) { errno = EIO; return -1; }
+    return __read(file, to, few("FEW_READ", size));
+}
+ssize_t write(int file, const void *from, size_t size) {
+    static int made;
+    int is_cut = number("FAIL_OUTPUT") && file == 1 && ++made >= number("FAIL_OUTPUT");
+    if (is_cut || fails("FAIL_WRITE")) { errno = EIO; return -1; }
+    return __write(file, from, few("FEW_WRITE", size));
+}
+"""
+
+def library(room):
+    """The path of the library whose calls fail."""
+    compiler = next((it for it in ("cc", "gcc", "clang") if shutil.which(it)), None)
+    if compiler is None:
+        sys.exit("no C compiler: its library is needed to fail calls of the program")
+    pathlib.Path(room, "failing.c").write_text(FAILING)
+    subprocess.run([compiler, "-shared", "-fPIC", "-O1", "-o", "failing.so", "failing.c"], cwd=room, check=True)
+    return f"{room}/failing.so"
+
+
+def run(program, words, room, **failing):
+    """How the run ends whose call of this kind and number fails: status, output and error text."""
+    failed = {name: str(number) for name, number in failing.items()}
+    ran = subprocess.run([program, "a.elf", *words], cwd=room, capture_output=True, timeout=60, env={"LD_PRELOAD": f"{room}/failing.so", **failed})
+    return ran.returncode, ran.stdout, ran.stderr
+
+
+def is_well(kind, end, whole, texts, before):
+    """Whether a run with such a call failed may end so, where the whole one ends with `whole`.
+
+    `before` is how much was written before a write that failed, if each takes so few bytes.
+    """
+    status, output, said = end
+    _, read, _, write = texts
+    if kind == "FAIL_MEMORY":
+        return status == 1 and output == b"" and said in texts[:3]
+    if kind == "FAIL_READ":
+        return (status, output, said) == (1, b"", read)
+    if whole[0] == 0:
+        is_cut = before is None or len(output) == before
+        return status == 1 and said == write and whole[1].startswith(output) and output != whole[1] and is_cut
+    # What can't be said on standard error is passed over.
+    return (status, output) == (1, b"") and whole[2].startswith(said) and said != whole[2]
+
+
+def unlike(built, program, room, name) -> int:
+    """Prints how many calls were failed, and returns how many runs didn't end as they must."""
+    texts, words = program.texts(), program.words
+    whole, count = run(built, words, room), 0
+    for kind, is_few in WAYS:
+        few = dict(zip(("FEW_READ", "FEW_WRITE"), program.few)) if is_few else {}
+        ends, wrong = [], []
+        for number in range(1, MOST):
+            ends.append(run(built, words, room, **{kind: number}, **few))
+            if ends[-1] == whole:
+                break
+            before = (number - 1) * program.few[1] if is_few else None
+            if not is_well(kind, ends[-1], whole, texts, before):
+                wrong.append(ends[-1])
+        last = ends.pop()
+        said = [texts.index(it[2]) for it in ends if it not in wrong and kind == "FAIL_MEMORY"]
+        # A refused file has no output that could fail.
+        is_tried = ends or (kind == "FAIL_OUTPUT" and whole[0])
+        how = kind[5:].lower() + (", of a few bytes" if is_few else "")
+        if last != whole or wrong or said != sorted(said) or not is_tried:
+            count += 1
+            print(f"{built.name} NOT AS IT MUST: {name}, {kind}: {wrong[:2]}, and last {last}, not {whole}"[:900])
+        else:
+            print(f"{built.name} ends as it must: {name}, each of {len(ends)} calls failed in turn: {how}")
+    return count
+
+
+def main() -> int:
+    builds = builds_of([it.name for it in PROGRAMS])
+    count = 0
+    with tempfile.TemporaryDirectory() as room:
+        os.environ.pop("LD_PRELOAD", None)
+        library(room)
+        for program in PROGRAMS:
+            for at, (name, held) in enumerate(program.files.items()):
+                pathlib.Path(room, "a.elf").write_bytes(held)
+                for built in builds[program.name]:
+                    count += unlike(built, program, room, name)
+                    count += at == 0 and run(built, program.words, room) != (0, program.first, b"")
+    return 1 if count else 0
+
+
+if __name__ == "__main__":
+    sys.exit(main())

@@ -1,0 +1,111 @@
+#!/usr/bin/env python3
+"""Wants the built elfsections and elfsym to write names of any bytes as readelf does in the C locale, and elfnm as they
+stand.
+
+Names of files that the repository keeps get control characters, and bytes that aren't UTF-8. `readelf` of GNU
+binutils must show each name with the escapes that are made here; of needed libraries it shows the bytes as they
+stand. Each build of a program must write what it writes of the file as it is kept, but for these names and for what
+is wanted of a hash table whose names have other hash numbers. Run it at the top of the repository, once the programs
+are built: tools/gate/names.py [PROGRAM..]
+"""
+import dataclasses
+import os
+import pathlib
+import subprocess
+import sys
+import tempfile
+
+from program_ends import CRATES, builds_of
+
+
+@dataclasses.dataclass(frozen=True)
+class Case:
+    """A file, the program that reads it, how readelf shows its names, and which names become which."""
+
+    program: str
+    file: str
+    words: list
+    readelf: str
+    names: dict
+    # What the program writes of the file as it is kept, and parts of that which change apart from names.
+    kept: bytes
+    changed: dict = dataclasses.field(default_factory=dict)
+
+
+def stored_part(program: str, first: bytes, end: bytes) -> bytes:
+    """The lines of a stored run from one on, up to another."""
+    stored = (CRATES / program / "stdout").read_bytes()
+    start = stored.index(first)
+    return stored[start : stored.index(end, start) if end else len(stored)]
+
+
+CASES = [
+    Case("elfnm", "elfnm/data/add.o", ["names.elf"], "-sSW",
+        {b".data": b".\x01\x7f\xc3\xff", b".bss": b"\x1f\x80\xa9_", b"twice": b"t\t\xfe\ne", b"total": b"\xc3\xa9\x02\x7f\x1b"},
+        (CRATES / "elfnm" / "stdout").read_bytes()),
+    Case("elfsections", "elfsections/data/wide.so", ["names.elf"], "-nSW",
+        {b".note.gnu.build-id": b".note\x01gnu\xffbuild\x7fid", b".relr.dyn": b".re\x1f\xc3\xa9dyn", b".gnu.hash": b"\xc3\xa9\t\xff_hash",
+            b"GNU": b"G\xfe\x02"},
+        stored_part("elfsections", b"wide.so\n", b"symbols.so\n").replace(b"wide.so\n", b"names.elf\n")),
+    # A name with another hash number isn't found, and nor is one that isn't UTF-8.
+    Case("elfsections", "elfsections/data/symbols.so", ["names.elf"], "-SW --dyn-syms",
+        {b"outer": b"o\xff\x01\x7fr", b"third": b"t\x7f\x02rd", b"fifth": b"f\xc3fth"},
+        stored_part("elfsections", b"symbols.so\n", b"").replace(b"symbols.so\n", b"names.elf\n"),
+        {b"\nok\n": b"\n! Symbol is missing from the GNU hash table\n", b"2 2 third": b"2 - third", b"3 3 fifth": b"3 - fifth"}),
+    Case("elfsym", "elfsym/data/needs.so", ["--needed", "names.elf"], "-dW",
+        {b"libneed.so": b"l\x01\x1f\x7f\x80\xff\xc3\t\n."}, b"libneed.so\n"),
+]
+
+
+def escaped(name: bytes) -> bytes:
+    """The bytes of a name with its control characters escaped."""
+    return b"".join(b"^%c" % (byte + 0x40) if byte < 0x20 or byte == 0x7F else b"%c" % byte for byte in name)
+
+
+def replaced(text: bytes, parts: dict) -> bytes:
+    """A text with each of these parts replaced, which must stand in it."""
+    for old, new in parts.items():
+        if old not in text:
+            sys.exit(f"{old!r} isn't in {text[:400]!r}")
+        text = text.replace(old, new)
+    return text
+
+
+def shown(case: Case, room: str) -> bytes:
+    """What readelf shows of the changed file."""
+    ran = subprocess.run(["readelf", *case.readelf.split(), "names.elf"], cwd=room, capture_output=True, env={**os.environ, "LC_ALL": "C"})
+    return ran.stdout
+
+
+def unlike(case: Case, built: dict, room: str) -> int:
+    """Prints what readelf and each build of the program say, and returns how often that isn't as it must be."""
+    held = (CRATES / case.file).read_bytes()
+    changed = replaced(held, {old + b"\0": new + b"\0" for old, new in case.names.items()})
+    assert len(changed) == len(held), case.file
+    pathlib.Path(room, "names.elf").write_bytes(changed)
+    by_readelf, count = shown(case, room), 0
+    for name in case.names.values():
+        wanted = name if case.readelf.startswith("-d") else escaped(name)
+        if wanted not in by_readelf:
+            count += 1
+            print(f"readelf shows {name!r} OTHERWISE than as {wanted!r}")
+    written = {old: new if case.program == "elfnm" else escaped(new) for old, new in case.names.items()}
+    wanted = replaced(replaced(case.kept, case.changed), written)
+    for program in built[case.program]:
+        ran = subprocess.run([program, *case.words], cwd=room, capture_output=True, timeout=60)
+        if (ran.returncode, ran.stdout, ran.stderr) == (0, wanted, b""):
+            print(f"{program.name} writes names as it must: {case.file}")
+        else:
+            count += 1
+            print(f"{program.name} NOT AS IT MUST: {case.file}: wanted {wanted!r}, but got {ran}"[:1800])
+    return count
+
+
+def main() -> int:
+    built = builds_of(sorted({it.program for it in CASES}))
+    with tempfile.TemporaryDirectory() as room:
+        return 1 if sum(unlike(it, built, room) for it in CASES) else 0
+
+
+if __name__ == "__main__":
+    sys.exit(main())

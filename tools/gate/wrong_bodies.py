@@ -1,0 +1,368 @@
+#!/usr/bin/env python3
+"""Wants the prover to refuse each wrong body of crates/NAME/wrong-bodies/TOPIC/*.edit.
+
+A function is proved by the contracts of what it calls, and not by their bodies. So many edits are tried together, in
+one check of a copy of the crate, and each is judged by what is said of its own function. Of a free function or an
+inherent method each wrong body stands beside the right one, as a function of another name, with a copy of its proof;
+of its clauses all but that which the edit's line `clause:` names say nothing there. The method of a trait keeps its
+name, so one edit of it is made in its place. Every other function is a stand-in there: `loop {}` for its body, and
+for its proof a hole, since it has been proved. Any goal that is left open there will do while no edit of the batch
+changes a line outside a body in place; else it must be a goal of the contract. An edit of which that isn't said is
+tried alone and in place, among stand-ins and then in the whole crate, where any goal will do, since nothing else was
+changed. An edit fails that doesn't apply or compile, that changes nothing, or with which the crate is still proved.
+
+    tools/gate/wrong_bodies.py [--jobs N] [NAME..]    a NAME is that of a crate, a topic or an edit; none: all
+    tools/gate/wrong_bodies.py --since COMMIT         those of functions that changed since this commit, or of which a
+                                                      definition changed that the clauses lead to, and new edits
+    tools/gate/wrong_bodies.py --gate                 those of docs/wrong_bodies.txt, and those since the commit that
+                                                      docs/wrong_bodies_commit.txt names; all where it isn't known here
+    tools/gate/wrong_bodies.py --all                  all, and stores the commit there if each is refused
+    tools/gate/wrong_bodies.py --proved [NAME..]      behind `rt ci`: no crate is checked first as it stands
+    tools/gate/wrong_bodies.py --list [NAME..]        the batches, and nothing is tried
+    tools/gate/wrong_bodies.py --compile [NAME..]     only whether each edit compiles, some ten seconds a batch
+    tools/gate/wrong_bodies.py --right [NAME..]       whether each right body is proved beside itself, as the wrong ones are tried
+    tools/gate/wrong_bodies.py --self-test            whether the script itself tells right from wrong
+
+Since a wrong body is judged by the contract of its function, a change of another function's body doesn't make it
+right. A check of a batch is ended after some minutes (LIMIT), and each half of it is tried then.
+
+Each crate must be proved as it stands, and is checked first, unless `rt ci` has just proved it. At the end stand what
+the checks of each crate took, and the slowest ones. The last line is `N refused, M failed`.
+"""
+import argparse
+import collections
+import concurrent.futures
+import dataclasses
+import pathlib
+import shutil
+import subprocess
+import sys
+import tempfile
+import threading
+
+from edit_rooms import Room, check
+from edits import BATCH, Edit, EditedCrate, batches_of
+from pages import sources
+from pages.sources import ROOT
+
+# The names of the edits that must stay, and the commit at which each edit was last refused.
+MUST_STAY = ROOT / "docs" / "wrong_bodies.txt"
+REFUSED_AT = ROOT / "docs" / "wrong_bodies_commit.txt"
+
+# How many checks are listed at the end.
+SLOWEST = 12
+
+
+@dataclasses.dataclass
+class Task:
+    """A crate whose edits are to be tried: the crates below it, its batches, and copies of it that are free."""
+
+    crate: EditedCrate
+    below: list
+    batches: list
+    state: str
+    rooms: list = dataclasses.field(default_factory=list)
+
+
+class Trial:
+    """All edits of a repository that are to be tried, by several workers."""
+
+    def __init__(self, root: pathlib.Path, names, jobs: int, since=None, proved=False):
+        self.root, self.jobs, self.lock = root, jobs, threading.Lock()
+        self.of_crate = collections.Counter()
+        self.refused, self.failed, self.times = [], [], []
+        self.tasks, self.idle, self.made = [], jobs, 0
+        self.may_be_empty = since is not None
+        used = sources.crates(root)
+        for name in used:
+            crate = EditedCrate(root / "crates" / name)
+            edits = [crate.read_edit(it) for it in sorted((crate.folder / "wrong-bodies").glob("*/*.edit"))]
+            edits = [it for it in edits if not names or any(self.is_named(it, word) for word in names)]
+            if since is not None:
+                edits = [it for it in edits if since.touches(it)]
+            for edit in edits:
+                if edit.fault:
+                    self.tell(edit, "", edit.fault)
+            batches = batches_of(crate, [it for it in edits if not it.fault])
+            if batches:
+                self.tasks.append(Task(crate, sources.below(used, name), batches, "proved" if proved else "unproved"))
+
+    @staticmethod
+    def is_named(edit: Edit, word: str) -> bool:
+        parts = edit.label().split("/")
+        return word in parts or word in ("/".join(parts[:2]), edit.label())
+
+    def tell(self, edit: Edit, goal: str, fault: str):
+        with self.lock:
+            (self.failed if fault else self.refused).append(edit.label())
+            print(f"{edit.label()}: " + (f"FAILED: {fault}" if fault else f"refused: {goal}")[:200], flush=True)
+
+    def prove(self, task: Task, jobs: int):
+        """Checks a crate as it stands."""
+        folder = task.crate.folder
+        ran = [check(folder, "--jobs", str(jobs))]
+        # The check of a crate above would build it, and so change what is being copied.
+        if not ran[0].status and any(task.crate.name in it.below for it in self.tasks):
+            ran.append(check(folder, "--jobs", str(jobs), verb="lib"))
+        is_proved = not any(it.status for it in ran)
+        with self.lock:
+            self.of_crate["the crates as they stand"] += sum(it.seconds for it in ran)
+            task.state = "proved" if is_proved else "not proved"
+            if not is_proved:
+                self.failed.append(task.crate.name)
+                print(f"{task.crate.name}: FAILED: it is not proved as it stands", flush=True)
+
+    def work(self, task: Task, batch: list, room, place: pathlib.Path):
+        """Tries a batch in a copy of its crate, which is left for the next one."""
+        room = room or Room(self.root, task.crate, task.below, place)
+        for edit, goal, fault in room.judge(batch):
+            self.tell(edit, goal, fault)
+        with self.lock:
+            self.of_crate[task.crate.name] += sum(it[0] for it in room.times)
+            self.times, room.times = self.times + room.times, []
+            is_wanted = len(task.rooms) < len(task.batches)
+            if is_wanted:
+                task.rooms.append(room)
+        # A copy of a large crate takes a gigabyte.
+        if not is_wanted:
+            shutil.rmtree(room.folder.parent.parent, ignore_errors=True)
+
+    def startable(self, rooms: str):
+        """What can begin now: a call, and how many workers it takes. A crate comes after those below it."""
+        unproved = [it for it in self.tasks if it.state == "unproved"]
+        names = {it.crate.name for it in self.tasks if it.state in ("unproved", "checked now")}
+        ready = [it for it in unproved if not names & set(it.below)]
+        proved = [it for it in self.tasks if it.state == "proved" and it.batches]
+        checks_one = any(it.state == "checked now" for it in self.tasks)
+        if self.idle and ready and not checks_one:
+            # One at a time, since a check locks the crates below. Others wait for it: one worker is for batches.
+            jobs = min(self.idle, max(1, self.jobs // 2, self.idle - bool(proved)))
+            ready[0].state = "checked now"
+            return (lambda: self.prove(ready[0], jobs)), jobs
+        if self.idle and proved:
+            # The longest batch, so that none is the last to end.
+            task = max(proved, key=lambda it: len(it.batches[0]))
+            batch, room = task.batches.pop(0), task.rooms.pop() if task.rooms else None
+            self.made += 1
+            place = pathlib.Path(rooms, f"{task.crate.name}-{self.made}")
+            return (lambda: self.work(task, batch, room, place)), 1
+        return None, 0
+
+    def run(self) -> int:
+        running = {}
+        with tempfile.TemporaryDirectory(prefix="wrong-bodies-") as rooms, concurrent.futures.ThreadPoolExecutor(self.jobs) as pool:
+            while True:
+                with self.lock:
+                    call, workers = self.startable(rooms)
+                if call:
+                    self.idle -= workers
+                    running[pool.submit(call)] = workers
+                    continue
+                if not running:
+                    break
+                for it in concurrent.futures.wait(running, return_when=concurrent.futures.FIRST_COMPLETED).done:
+                    self.idle += running.pop(it)
+                    it.result()
+        for name, seconds in self.of_crate.items():
+            print(f"{name}: {seconds:.0f} processor seconds")
+        if self.times:
+            print(f"{sum(it[0] for it in self.times):.0f} processor seconds in {len(self.times)} checks of wrong bodies, of these")
+        for seconds, what in sorted(self.times, reverse=True)[:SLOWEST]:
+            print(f"{seconds:6.0f} {what}")
+        if self.failed:
+            print(f"FAILED: {' '.join(sorted(self.failed))}")
+        print(f"{len(self.refused)} refused, {len(self.failed)} failed")
+        return 1 if self.failed or not (self.refused or self.may_be_empty) else 0
+
+    def compile(self) -> int:
+        """Says of the edits that don't compile why."""
+        for task in self.tasks:
+            with tempfile.TemporaryDirectory(prefix="wrong-bodies-") as rooms:
+                room = Room(self.root, task.crate, task.below, pathlib.Path(rooms, task.crate.name))
+                for batch in task.batches:
+                    for edit, why in room.uncompiled(batch):
+                        self.tell(edit, "", f"it does not compile: {why}")
+            print(f"{task.crate.name}: {sum(map(len, task.batches))} edits compiled", flush=True)
+        print(f"{len(self.failed)} failed")
+        return 1 if self.failed else 0
+
+    def right(self) -> int:
+        """Tries the right body of each function that edits change beside itself: where it isn't proved there, that a
+        wrong one is refused there says nothing."""
+        for task in self.tasks:
+            clauses = {(it.beside(), it.clause if it.inside else "") for batch in task.batches for it in batch if it.beside()}
+            clauses = sorted(clauses, key=lambda it: (it[0].file, it[0].first, it[1]))
+            edits = [Edit(task.crate.name, f"{one.path} {clause}".strip(), [], {one}, clause=clause) for one, clause in clauses]
+            with tempfile.TemporaryDirectory(prefix="wrong-bodies-") as rooms:
+                room = Room(self.root, task.crate, task.below, pathlib.Path(rooms, task.crate.name))
+                for some in (edits[at : at + BATCH] for at in range(0, len(edits), BATCH)):
+                    # One alone would stand in its own place.
+                    for edit, goal in room.left_open(some + edits[:1] * (len(some) == 1)):
+                        self.tell(edit, "", f"its right body is not proved beside it: {goal}")
+            print(f"{task.crate.name}: {len(edits)} right bodies tried", flush=True)
+        print(f"{len(self.failed)} failed")
+        return 1 if self.failed else 0
+
+    def list(self) -> int:
+        """Prints the batches."""
+        for task in self.tasks:
+            for number, batch in enumerate(task.batches):
+                print(f"{task.crate.name}, batch {number}: {len(batch)} edits")
+                for edit in batch:
+                    print(f"    {edit.label()}: {', '.join(it.tail() if it else 'no function' for it in edit.functions)}")
+        edits = sum(len(it) for task in self.tasks for it in task.batches)
+        print(f"{edits} edits in {sum(len(it.batches) for it in self.tasks)} batches, {len(self.failed)} failed")
+        return 1 if self.failed else 0
+
+
+class Since:
+    """The functions that changed since a commit, those of which a definition changed that their clauses lead to, and
+    names of edits that count besides."""
+
+    def __init__(self, commit: str, names=()):
+        import changed
+
+        base, self.names = changed.base(commit), names
+        self.functions = {(name, one.file, one.path) for name, change in changed.changes(base).items() for one in change.functions}
+        self.functions |= changed.Reach(base).functions(sources.crates())
+        self.files = {it for it in changed.changed_files(base) if it.endswith(".edit")}
+
+    def touches(self, edit: Edit) -> bool:
+        """Whether an edit is named or new, or one of its functions is among those."""
+        is_new = any(it.startswith(f"crates/{edit.crate}/wrong-bodies/{edit.name}.") for it in self.files)
+        is_named = edit.name.rpartition("/")[2] in self.names
+        return is_new or is_named or any(one and (edit.crate, one.file, one.path) in self.functions for one in edit.functions)
+
+
+PAIR = """//! Three functions, of which one calls another.
+
+#![tactic(auto)]
+
+ghost use Rattle.std.specs.Prelude.{◌≡◌, ◌/◌, ◌≤◌, ℕ};
+
+/// The larger of two numbers.
+pub fn larger(one: u32, other: u32) -> u32
+    ensures least { one ≤ result }
+    ensures too { other ≤ result }
+{
+    if one < other { other } else { one }
+}
+
+/// Half of a number.
+pub fn half(number: u32) -> u32
+    ensures { result ≡ number / 2 }
+{
+    let parts = 2;
+    number / parts
+}
+
+/// The largest of three numbers.
+pub fn largest(one: u32, other: u32, third: u32) -> u32
+    ensures { one ≤ result }
+{
+    let found = larger(one, other);
+    larger(found, third)
+}
+"""
+
+# Edits of that crate, whether each is refused as it must be, and the clause that it says it breaks.
+TOLD_APART = {
+    "smaller": ("if one < other { other }", "if one > other { other }", True, "least"),
+    "third": ("let parts = 2;", "let parts = 3;", True, ""),
+    "breaks_another_clause": ("if one < other { other }", "if one < other { one }", True, "least"),
+    "nothing_changed": ("let parts = 2;", "let parts = 2;", False, ""),
+    "does_not_compile": ("if one < other { other }", "if one < true { other }", False, ""),
+    "right_in_other_words": ("if one < other { other }", "if one <= other { other }", False, ""),
+    "right_but_for_no_clause": ("if one < other { other }", "if one <= other { other }", False, "too"),
+    # In a batch the called function is a stand-in, which the proof of a right body must be able to rest on.
+    "right_by_a_call": ("larger(found, third)", "larger(third, found)", False, ""),
+    "first_left_out_of_a_call": ("larger(one, other);", "larger(other, other);", True, ""),
+    "not_there": ("if one == other", "if one < other", False, ""),
+}
+
+
+def self_test() -> int:
+    """Whether a crate with right and wrong edits gets the verdict that it must get."""
+    with tempfile.TemporaryDirectory(prefix="wrong-bodies-") as place:
+        root = pathlib.Path(place)
+        folder = root / "crates" / "pair"
+        (folder / "src").mkdir(parents=True)
+        (folder / "wrong-bodies" / "numbers").mkdir(parents=True)
+        (root / "crates.txt").write_text("pair:\n", encoding="utf-8")
+        (root / "HANDLES").write_text("Handles allowed: none.\n", encoding="utf-8")
+        (folder / "src" / "lib.rt").write_text(PAIR, encoding="utf-8")
+        for name, (old, new, _, clause) in TOLD_APART.items():
+            lines = f"file: src/lib.rt\n{clause and f'clause: {clause}'}\nold: {old}\nnew: {new}\n"
+            (folder / "wrong-bodies" / "numbers" / f"{name}.edit").write_text(lines, encoding="utf-8")
+        trial = Trial(root, [], 1)
+        status = trial.run()
+    wanted = {f"pair/numbers/{name}" for name, (_, _, is_refused, _) in TOLD_APART.items() if is_refused}
+    well = status == 1 and set(trial.refused) == wanted and len(trial.failed) == len(TOLD_APART) - len(wanted)
+    print(f"the script {'tells' if well else 'DOES NOT TELL'} right bodies from wrong ones")
+    return 0 if well else 1
+
+
+def must_stay() -> list:
+    lines = MUST_STAY.read_text(encoding="utf-8").splitlines()
+    return [it for it in lines if it and not it.startswith("#")]
+
+
+def lost() -> list:
+    """The names of edits that must stay, and that no edit has."""
+    there = {it.stem for folder in ("wrong-bodies/*", "must-fail") for it in ROOT.glob(f"crates/*/{folder}/*.edit")}
+    return [it for it in must_stay() if it not in there]
+
+
+def git(*words: str) -> subprocess.CompletedProcess:
+    return subprocess.run(["git", *words], cwd=ROOT, capture_output=True, text=True, check=False)
+
+
+def of_gate():
+    """What the gate tries; None for all, where the commit of the last whole run isn't known here."""
+    commit = REFUSED_AT.read_text(encoding="utf-8").strip() if REFUSED_AT.exists() else ""
+    if not commit or git("cat-file", "-e", f"{commit}^{{commit}}").returncode:
+        print(f"{REFUSED_AT.name}: commit {commit or 'none'} is not here, so that all edits are tried")
+        return None
+    return Since(commit, set(must_stay()))
+
+
+def store() -> int:
+    """Stores the commit at which all edits were refused."""
+    if git("diff", "--quiet", "HEAD", "--", "crates").returncode:
+        print("crates/ differs from the last commit, so that none is stored")
+        return 1
+    REFUSED_AT.write_text(git("rev-parse", "HEAD").stdout, encoding="utf-8")
+    return 0
+
+
+def main() -> int:
+    words = argparse.ArgumentParser(description=__doc__, formatter_class=argparse.RawDescriptionHelpFormatter)
+    words.add_argument("--jobs", type=int, default=2, help="how many checks run side by side (each takes some 2 GB)")
+    words.add_argument("--self-test", action="store_true", help="try the script on a crate of three functions")
+    words.add_argument("--since", metavar="COMMIT", help="only edits of functions that changed since this commit, and edits that are new")
+    words.add_argument("--gate", action="store_true", help="only those that must stay, and those since the commit of the last whole run")
+    words.add_argument("--all", action="store_true", help="all; store the commit if each is refused")
+    words.add_argument("--proved", action="store_true", help="each crate is proved as it stands, and isn't checked first")
+    words.add_argument("--list", action="store_true", help="print the batches, and try none")
+    words.add_argument("--compile", action="store_true", help="say only which edits don't compile")
+    words.add_argument("--right", action="store_true", help="try right bodies in place of the wrong ones; they must be proved")
+    words.add_argument("names", nargs="*", metavar="NAME", help="a crate, a topic or an edit")
+    given = words.parse_args()
+    if given.self_test:
+        return self_test()
+    if missing := lost():
+        print(f"FAILED: no edit has the name {', '.join(missing)}")
+        return 1
+    since = of_gate() if given.gate else Since(given.since) if given.since else None
+    trial = Trial(ROOT, given.names, max(given.jobs, 1), since, given.proved)
+    if given.compile:
+        return trial.compile()
+    if given.right:
+        return trial.right()
+    if given.list:
+        return trial.list()
+    return trial.run() or (store() if given.all and not given.names else 0)
+
+
+if __name__ == "__main__":
+    sys.exit(main())

@@ -1,0 +1,260 @@
+#!/usr/bin/env python3
+"""Writes docs/api/CRATE.md: each public item that a library declares, with its doc, its signature and its clauses.
+
+    tools/pages/api.py            writes the pages
+    tools/pages/api.py --check    fails where a page isn't what the sources give, where a public item stands on none, and
+                                  where crates/xmas_elf/specs/Types.antt lacks a name; writes nothing
+
+tools/pages/sources.py reads the sources. An item stands on the page of the crate that declares it, under its public
+path there. At the end of elf_base's page stands which calls return which error, as tools/pages/errors.py reads it off
+their docs.
+
+The clauses of other crates import the types, constants and errors of xmas_elf from Types.antt. A `pub use` passes on
+what a lower crate declares. What xmas_elf itself declares reaches no other crate through one, neither in Types.antt nor
+by way of Prelude.antt: an import there is refused with "has no `Thing` that can be named from here". So such a name
+counts only where Types.antt has an `abbrev pub` of it.
+"""
+import pathlib
+import re
+import sys
+
+sys.path.insert(0, str(pathlib.Path(__file__).resolve().parents[1]))
+from exports import listing
+from pages import errors
+from pages.sources import ITEM, ROOT, impls_of, modules, public_items, read
+
+PAGES = ROOT / "docs" / "api"
+
+# The libraries that have a page: first those that a user names.
+LIBRARIES = ("xmas_elf", "elf_linking", "elf_addresses", "elf_base", "elf_records", "elf_c")
+
+TITLE = {"struct": "a struct", "enum": "an enum", "trait": "a trait", "type": "a type", "fn": "a function", "const": "a constant"}
+
+HEAD = """# The public items of `{crate}`
+
+{about}
+
+In a clause `result` is what the call returns, `self.now` the value that it is called on, `x.now` what a reference `x` points to. [CONTRACTS.md](../CONTRACTS.md#words-of-clauses) explains the other words, [MODEL.md](../MODEL.md) says where definitions are. A call with no `requires` can be called with anything. The other pages: {others}.
+"""
+
+ERRORS = """## Errors
+
+Which calls return which error, with its text. The description of a call says when it returns an error, and its clause `exact` in which order the errors are tested.
+
+`report::report` returns the error of `ElfFile::new` as `ReportFault::Elf`. The iterators over headers, `find_section_by_name`, `shstr_is` and the calls of `Extensions` return no error: they don't say why there is nothing. `SectionStrings::next` returns its errors as items.
+
+| Error | Text | Calls |
+|---|---|---|"""
+
+SPECS = ROOT / "crates" / "xmas_elf" / "specs"
+TYPES, PRELUDE = SPECS / "Types.antt", SPECS / "Prelude.antt"
+
+# The enums that are called `Type`, by their module, as TYPES names them.
+TYPE_OF = {"header": "Header", "program": "Segment", "symbol_table": "Symbol"}
+
+# What xmas_elf makes public and TYPES doesn't have, and why. Traits are named by a bound alone.
+NOT_IN_TYPES = {
+    "P32": "a clause writes ℕ",
+    "P64": "a clause writes ℕ",
+    "SymbolTable": "an abbreviation can't name what its bounds stand for; other crates import it from its module",
+}
+
+# What TYPES has besides, and why.
+ONLY_IN_TYPES = {"HashVerdict": "clauses on a report speak of it, and no public path leads to it"}
+
+
+def anchor(heading: str) -> str:
+    """What a link names a heading by."""
+    return re.sub(r"[^\w\- ]", "", heading.lower()).replace(" ", "-")
+
+
+def declaration(item) -> str:
+    """An item as the page shows it: of a trait, and of a struct without a public field, only its head."""
+    if item.kind == "trait":
+        return item.text.split("{")[0] + "{ /* members below */ }"
+    if item.kind != "struct" or re.search(r"^    pub |\(pub ", item.text, re.M):
+        return item.text
+    head, opens = re.match(r"([^{(]*)([{(])", item.text).groups()
+    return head + ("{ /* private fields */ }" if opens == "{" else "(/* private fields */);")
+
+
+class CratePage:
+    """The page of a crate: its lines, how many items they name, and the lines of the sources that they show."""
+
+    def __init__(self, sources: dict, crate: str):
+        self.sources, self.crate = sources, crate
+        self.lines, self.count, self.reached = [], 0, set()
+        self.exports = {one.export: one for one in listing.read().functions}
+        self.homes = {}
+        for path, item in public_items(sources, crate):
+            if item.source.crate == crate and not any(item is one for one in self.homes.values()):
+                self.homes[path] = item
+
+    def head(self, level: str, label: str, doc: str, title: str = ""):
+        """A heading with its doc."""
+        self.lines += [f"{level} `{label}`" + (f", {title}" if title else ""), "", doc, ""]
+        self.count += 1
+
+    def code(self, text: str):
+        self.lines += ["```rust", text, "```", ""]
+
+    def function(self, level: str, label: str, source, at: int, margin: str):
+        self.head(level, label, source.doc_above(at))
+        self.reached.add((source.module, at))
+        self.code(source.text_from(at, margin))
+        if export := self.exports.get(label.split("::")[-1]):
+            said = ", ".join(f"`{it}`" for it in export.statuses)
+            each = ", ".join(f"`{it}`" for it in export.item_statuses)
+            self.lines += [f"Statuses but 0, in the order of the tests: {said or 'none'}." + (f" Of each record: {each}." if each else ""), ""]
+
+    def methods(self, item, label: str):
+        traits = [it.strip() for line in item.source.above(item.at) for it in ", ".join(re.findall(r"derive\(([^)]*)\)", line)).split(",")]
+        shown = []
+        for block in impls_of(self.sources, item):
+            if not block.trait:
+                self.block(block, label)
+                continue
+            given = block.source.given_by(block.trait)
+            traits += given or [block.trait.split("::")[-1]]
+            shown += [] if given else [self.members(block)]
+        said = sorted({*traits} - {"Drop", ""})
+        if said:
+            self.lines += [f"`{item.name}` implements {', '.join(f'`{it}`' for it in said)}.", ""]
+        for text in filter(None, shown):
+            self.code(text)
+
+    @staticmethod
+    def members(block) -> str:
+        """What an impl of a trait says of its associated types and ghost members."""
+        lines, taken, inside = block.source.lines, [], False
+        for at, line in enumerate(lines[block.at + 1 : block.end]):
+            inside = inside or re.match(r"    (type|ghost(?! use)) ", line) is not None
+            taken += [line] if inside else []
+            inside = inside and not line.endswith(";")
+            if said := re.match("    fn ", line) and [it for it in block.source.above(block.at + 1 + at) if it.startswith("///")]:
+                taken += ["", *(f"    {it}" for it in said), line.removesuffix(" {")]
+        head = " ".join(" ".join(lines[block.at : block.at + 6]).split("{")[0].split())
+        return "\n".join([head, *taken]) if taken else ""
+
+    def block(self, block, label: str):
+        arguments = re.match(r"impl \w+<(P32|P64)>", block.source.lines[block.at])
+        owner = label + (f"<{arguments[1]}>" if arguments else "")
+        for one in block.source.functions:
+            if block.at < one.named_at <= block.end and block.source.lines[one.named_at - 1].startswith("    pub "):
+                self.function("####", f"{owner}::{one.name()}", block.source, one.named_at - 1, "    ")
+
+    def trait(self, item, label: str):
+        source = item.source
+        for at in range(item.at, source.lines.index("}", item.at)):
+            found = re.match(r"    (?:final )?(fn|const|ghost) (\w+)", source.lines[at])
+            if found and found[1] == "fn":
+                self.function("####", f"{label}::{found[2]}", source, at, "    ")
+            elif found and found[2] != "use":
+                self.lines += [f"- `{source.lines[at].strip()}` {source.doc_above(at)}", ""]
+
+    def item(self, item, path: str):
+        label = path.removeprefix(f"{self.crate}::")
+        self.reached.add((item.source.module, item.at))
+        if item.kind == "fn":
+            self.function("###", label, item.source, item.at, "")
+            return
+        self.head("###", label, item.doc, TITLE[item.kind])
+        self.code(declaration(item))
+        (self.trait if item.kind == "trait" else self.methods)(item, label)
+
+    def constants(self, module: str, found: list):
+        self.lines += [f"### Constants of `{module}`", "", "| Name | Type | Value | What it is |", "|---|---|---|---|"]
+        for item in found:
+            said = re.match(r"pub const (\w+): (.*?) = (.*);", item.text)
+            self.reached.add((item.source.module, item.at))
+            self.lines.append(f"| `{said[1]}` | `{said[2]}` | `{said[3]}` | {' '.join(item.doc.split())} |")
+        self.count += len(found)
+        self.lines.append("")
+
+    def errors(self):
+        """The table of the errors of the port, on the page of the crate that declares them."""
+        texts, calls = errors.texts(), errors.calls_by_error()
+        rows = [f"| `{name}` | {texts[name]} | {', '.join(f'`{it}`' for it in of) or 'none'} |" for name, of in calls.items()]
+        self.lines += [ERRORS, *rows, ""]
+
+    def text(self) -> str:
+        for module in modules(self.sources, self.crate):
+            path = "::".join(it for it in (self.crate, module) if it)
+            here = {name: item for name, item in self.homes.items() if name.rpartition("::")[0] == path}
+            if module:
+                self.lines += [f"## `{path}`", "", self.sources[self.crate, module].about(), ""]
+            for name, item in here.items():
+                if item.kind != "const":
+                    self.item(item, name)
+            if constants := [it for it in here.values() if it.kind == "const"]:
+                self.constants(path, constants)
+        if self.crate == "elf_base":
+            self.errors()
+        others = ", ".join(f"[`{it}`]({it}.md)" for it in LIBRARIES if it != self.crate)
+        head = HEAD.format(crate=self.crate, about=self.sources[self.crate, ""].about(), others=others)
+        found = re.findall(r"^## (`[\w:]+`|Errors)$", "\n".join(self.lines), re.M)
+        contents = "\n".join(f"- [{it}](#{anchor(it)})" for it in found)
+        return re.sub(r"\n{3,}", "\n\n", "\n".join([head, contents, "", *self.lines])).rstrip() + "\n"
+
+    def missing(self) -> list:
+        """The lines of the sources that make something public, and that the page doesn't have."""
+        public = set(modules(self.sources, self.crate))
+        found = []
+        for (crate, module), source in self.sources.items():
+            for at, line in enumerate(source.lines if crate == self.crate else []):
+                if not re.match(r"pub (?!use |mod |\()", line) or (module, at) in self.reached:
+                    continue
+                if module in public or not ITEM.match(line):
+                    found.append(f"{crate}::{module}: no page has {line}")
+        return found
+
+
+def public_types(sources: dict) -> set:
+    """The structs, enums, types and constants that xmas_elf makes public, as TYPES is to name them."""
+    found = set()
+    for path, item in public_items(sources, "xmas_elf"):
+        *_, module, name = path.split("::")
+        if item.kind in ("struct", "enum", "type", "const"):
+            found.add(TYPE_OF[module] + name if name in ("Type", "Type_") else name)
+    return found
+
+
+def passed_on(path) -> dict:
+    """The names that the `pub use` lines of a spec file pass on, each with the path behind it."""
+    text, found = path.read_text(encoding="utf-8"), {}
+    for start, names in re.findall(r"^pub use ([\w.]+)\.\{([^}]*)\}", text, re.M):
+        for name in names.split(","):
+            there, _, here = name.strip().partition(" as ")
+            found[here or there] = start
+    return found
+
+
+def faults_of_types(sources: dict) -> list:
+    """The names that TYPES lacks, those that it shouldn't have, and those that reach no other crate."""
+    wanted = public_types(sources) - set(NOT_IN_TYPES) | set(ONLY_IN_TYPES) | set(errors.texts())
+    origins, behind = passed_on(TYPES), passed_on(PRELUDE)
+    origins = {name: behind.get(name, start) if start.endswith(".Prelude") else start for name, start in origins.items()}
+    own = {name for name, start in origins.items() if start.startswith("Rattle.xmas_elf.")}
+    named = set(origins) - own | set(re.findall(r"^abbrev pub (\w+) :", TYPES.read_text(encoding="utf-8"), re.M))
+    said = [f"{it} is passed on by `pub use`, and reaches no other crate: write an `abbrev pub`" for it in sorted(own)]
+    said += [f"{it} is missing" for it in sorted(wanted - named - own)] + [f"{it} isn't public" for it in sorted(named - wanted)]
+    return [f"{TYPES.relative_to(ROOT)}: {it}" for it in said]
+
+
+def main() -> int:
+    sources = read()
+    pages = {crate: CratePage(sources, crate) for crate in LIBRARIES}
+    texts = {PAGES / f"{crate}.md": page.text() for crate, page in pages.items()}
+    faults = [fault for page in pages.values() for fault in page.missing()] + faults_of_types(sources)
+    if sys.argv[1:] != ["--check"]:
+        for path, text in texts.items():
+            path.write_text(text, encoding="utf-8")
+    differing = [path for path, text in texts.items() if not path.exists() or path.read_text(encoding="utf-8") != text]
+    faults += [f"{path.relative_to(ROOT)} is not what the sources give" for path in differing]
+    said = [f"{page.count} of {crate}" for crate, page in pages.items()]
+    print("\n".join([*faults, f"{', '.join(said)}: public items on {len(texts)} pages, {len(faults)} faults"]))
+    return 1 if faults else 0
+
+
+if __name__ == "__main__":
+    sys.exit(main())

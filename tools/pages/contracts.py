@@ -1,0 +1,105 @@
+#!/usr/bin/env python3
+"""Lists the public functions whose contracts leave something open.
+
+    tools/pages/contracts.py            prints the list
+    tools/pages/contracts.py --check    fails at a line of the list without a reason in docs/contracts.toml, and at a
+                                  reason for a line that isn't there
+
+A line is a kind and a function, as `one-sided elf_linking::view::loaded::bytes_from`. The kinds are:
+
+    one-sided    the clauses speak of an answer that is Ok or Some, and of no other
+    no-place     a slice is lent from the input, and no clause says where it lies
+
+The sources are read as `rt fmt` lays them out, by tools/pages/sources.py. At the end docs/contracts.toml has the
+clauses that refuse no wrong body by themselves; --check fails where no such function or clause is there.
+"""
+import fnmatch
+import pathlib
+import re
+import sys
+import tomllib
+
+sys.path.insert(0, str(pathlib.Path(__file__).resolve().parents[1]))
+from pages.sources import ROOT, Crate
+
+REASONS = ROOT / "docs" / "contracts.toml"
+
+# The libraries whose contracts users read, and the crates of callers.
+LIBRARIES = ("elf_base", "elf_records", "xmas_elf", "elf_linking", "elf_addresses")
+CALLERS = ("elf_callers", "linking_callers")
+
+# Words of a clause that speak of Ok or Some alone.
+ONE_SIDE = re.compile(r"\b(IfOk|IfSome|Lends|OnOk)\b")
+# Words and clauses that say what the other answers are, or when they come.
+OTHER_SIDE = re.compile(
+    r"\b(Match\w+|IsOk|IsOkAnd|IsSome|IsSomeAnd|IfErr|IfNone|IsErr\w*|Answers|lent result)\b|result(\.0)? ≡|≡ result|"
+    r"ensures (exact|only|answer|missing|refused)\b"
+)
+# A slice in what is returned, and words that say where it lies.
+LENT = re.compile(r"&'a \[|-> &\[|Table<'a|Notes<'a")
+PLACE = re.compile(r"Lies|Lie[A-Z]|PartLies|ref_ptr|result ≡|table_bytes|≡ notes\.entry")
+
+
+def clauses_of(head: str) -> str:
+    return "\n".join(re.findall(r"^ *ensures .*(?:\n(?! *(?:ensures|requires) ).*)*", head, re.MULTILINE))
+
+
+def returned(head: str) -> str:
+    found = re.search(r"^ *(?:\)|.*fn .*\)) -> (.*)$", head, re.MULTILINE)
+    return found[1] if found else ""
+
+
+def faults_of(head: str) -> list:
+    """The kinds of lines that a public function of a library has."""
+    if not re.search(r"^ *pub fn ", head, re.MULTILINE):
+        return []
+    clauses = clauses_of(head)
+    found = []
+    if ONE_SIDE.search(clauses) and not OTHER_SIDE.search(clauses):
+        found.append("one-sided")
+    if LENT.search("-> " + returned(head)) and not PLACE.search(clauses):
+        found.append("no-place")
+    return found
+
+
+def lines() -> list:
+    """The whole list, in the order of the crates and of their files."""
+    found = []
+    for name in LIBRARIES + CALLERS:
+        crate = Crate(ROOT / "crates" / name)
+        for one in crate.functions:
+            found += [f"{kind} {one.path}" for kind in faults_of(crate.head(one))]
+    return found
+
+
+def heads() -> dict:
+    """The functions of the libraries by their paths, each up to the line that opens its body."""
+    crates = [Crate(ROOT / "crates" / name) for name in LIBRARIES]
+    return {one.path: crate.head(one) for crate in crates for one in crate.functions}
+
+
+def lost(group: dict, functions: dict) -> list:
+    """The functions of a group that aren't there, and the clauses that none of them has."""
+    own = [name for pattern in group["of"] for name in fnmatch.filter(functions, f"*::{pattern}")]
+    missing = [it for it in group["of"] if not fnmatch.filter(functions, f"*::{it}")]
+    named = {it for name in own for it in re.findall(r"ensures (\w+) {", functions[name])}
+    return missing + [it for it in (*group.get("clauses", ()), *group.get("but", ())) if it not in named]
+
+
+def main() -> int:
+    found = lines()
+    if sys.argv[1:] != ["--check"]:
+        print("\n".join(found))
+        return 0
+    reasons = tomllib.loads(REASONS.read_text(encoding="utf-8"))
+    groups, functions = reasons["reason"], heads()
+    patterns = [pattern for group in groups for pattern in group["of"]]
+    faults = [f"no reason: {line}" for line in found if not any(fnmatch.fnmatchcase(line, it) for it in patterns)]
+    faults += [f"not in the list: {it}" for it in patterns if not fnmatch.filter(found, it)]
+    faults += [f"not in the sources: {it}" for group in reasons["follows"] for it in lost(group, functions)]
+    print("\n".join(faults + [f"{REASONS.relative_to(ROOT)}: {len(found)} lines, {len(faults)} faults"]))
+    return 1 if faults else 0
+
+
+if __name__ == "__main__":
+    sys.exit(main())

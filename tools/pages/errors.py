@@ -1,0 +1,92 @@
+#!/usr/bin/env python3
+"""Which calls return which error of `ElfError`, by the docs of the calls.
+
+The doc of a call names the errors that it returns, such as `DataRange`, and the calls whose errors it
+passes on: "those of `bytes::text_at`", "as in `parse_header`" or "The result of `lookup`". tools/pages/api.py
+writes the table into docs/api/elf_base.md. Run by itself, tools/pages/errors.py fails if a doc names a call that it
+doesn't find, and if no call returns an error, except for those in UNUSED.
+"""
+import pathlib
+import re
+import sys
+
+sys.path.insert(0, str(pathlib.Path(__file__).resolve().parents[1]))
+from pages.sources import ROOT, read
+
+CRATES = ("elf_base", "elf_records", "xmas_elf")
+ENUM = ROOT / "crates/elf_base/src/error.rt"
+
+# Errors that stay for code that names them.
+UNUSED = {"WideIndex"}
+
+HANDED_ON = re.compile(r"(?:(?<!such )\bas(?: in)?|those of|answers? of|The result of) `([\w:]+)`")
+NAME = re.compile(r"`([\w:]+)`")
+
+
+def texts() -> dict[str, str]:
+    """The variants of `ElfError`, in order, each with its text."""
+    text = ENUM.read_text(encoding="utf-8")
+    body = text.split("pub enum ElfError {")[1].split("\n}")[0]
+    names = re.findall(r"^    (\w+) = \d+,$", body, re.MULTILINE)
+    said = dict(re.findall(r'Self::(\w+) =>\s*(?:\{\s*)?"([^"]*)"', text))
+    return {name: said[name] for name in names}
+
+
+def calls_in(source) -> dict[str, str]:
+    """The docs of the calls of a file, by `Type::call`, `Trait::call` or `module::call`."""
+    module = source.module.split("::")[0]
+    # Several enums are called `Type`. An impl for all types of a trait, as `impl<K: Kept> Entry for K`, goes by the trait.
+    owner = lambda of: f"{module}::{of}" if of in ("Type", "Type_") else of or module
+    return {f"{owner(one.of)}::{one.name()}": " ".join(source.doc_above(one.named_at - 1).split("\n")) for one in source.functions}
+
+
+def meant(name: str, caller: str, docs: dict[str, str]) -> str:
+    """The call that a doc names: by its whole name, or as one of the same owner, or of any one owner."""
+    if name in docs:
+        return name
+    sibling = f"{caller.split('::')[0]}::{name}"
+    if sibling in docs:
+        return sibling
+    ends = [call for call in docs if call.endswith(f"::{name}")]
+    if len(ends) != 1:
+        sys.exit(f"{caller}: its doc names `{name}`, which is one of {ends}")
+    return ends[0]
+
+
+def answers(call: str, docs: dict[str, str], known: set[str], seen: frozenset[str] = frozenset()) -> set[str]:
+    """The errors that a call answers by its doc, and by the docs of those whose refusals it hands on."""
+    doc = docs[call]
+    found = known & set(NAME.findall(doc))
+    for name in HANDED_ON.findall(doc):
+        other = meant(name, call, docs)
+        if other not in seen:
+            found |= answers(other, docs, known, seen | {call})
+    return found
+
+
+def calls_by_error() -> dict[str, list[str]]:
+    """The calls that answer each error, in the order of the enum and of the sources."""
+    docs = {}
+    for source in read().values():
+        if source.crate in CRATES and source.module.split("::")[0] != "tests":
+            for call, doc in calls_in(source).items():
+                docs[call] = docs.get(call) or doc
+    names = texts()
+    said = {name: [] for name in names}
+    for call in docs:
+        for name in answers(call, docs, set(names)):
+            said[name].append(call)
+    return said
+
+
+def main() -> int:
+    said = calls_by_error()
+    failed = [name for name, calls in said.items() if bool(calls) == (name in UNUSED)]
+    for name in failed:
+        print(f"{name}: {'answered by ' + ', '.join(said[name]) if said[name] else 'no call answers it'}")
+    print(f"{len(said)} errors, {len(failed)} of which the docs of the calls don't say what they should")
+    return 1 if failed else 0
+
+
+if __name__ == "__main__":
+    sys.exit(main())

@@ -1,0 +1,115 @@
+#!/usr/bin/env python3
+"""Wants each code block of the pages to stand in a file of the repository that the gate proves, and each
+link to lead somewhere.
+
+A block is told by its language, `rust` or `antt`. Its paragraphs must all stand in one source file of
+crates/, but for how their lines are broken. Of a paragraph of imports, `ghost use PATH.{NAME, NAME}`, the
+file must import each name by that path: a page shows the imports that its example needs, and the file has
+those of its other functions too. The pages of docs/api have a script of their own for their blocks.
+
+A link may name a heading of its page or of another, or a line of a file, as `specs/Text.antt#L12`. A path to a caller
+that a page names, as `callers::first::data_named`, must lead to one; without a crate before it, it is one of
+elf_callers. Each caller has a doc of its own, which says what it shows.
+"""
+import pathlib
+import re
+import sys
+
+sys.path.insert(0, str(pathlib.Path(__file__).resolve().parents[1]))
+from pages.sources import ROOT, read
+
+BLOCK = re.compile(r"^ *```(rust|antt)\n(.*?)^ *```$", re.MULTILINE | re.DOTALL)
+ENDS = {"rust": ".rt", "antt": ".antt"}
+LINK = re.compile(r"\]\(([^)\s]+)\)")
+IMPORT = re.compile(r"ghost use ([\w.]+)\.\{([^}]*)\};")
+HEADING = re.compile(r"^#+ (.*)$", re.MULTILINE)
+CALLERS = ("elf_callers", "linking_callers")
+CALLER = re.compile(r"`((?:elf_callers::|linking_callers::)?(?:callers(?:::[a-z]\w*)+|recipes::\w+|evidence(?:::\w+)+)|elf_evidence(?:::\w+)+)`")
+
+
+def paragraphs(text: str) -> list:
+    """Runs of lines with no empty one between, less a first line that only names a file."""
+    text = re.sub(r"\A-- \S+\.antt\n", "", text)
+    return [one_line(it) for it in re.split(r"\n\s*\n", text) if it.strip()]
+
+
+def one_line(text: str) -> str:
+    return " ".join(text.split())
+
+
+def imports(text: str) -> set:
+    """Each name that a text imports for clauses, with its path."""
+    return {(path, name.strip()) for path, names in IMPORT.findall(text) for name in names.split(",")}
+
+
+def stands_in(part: str, text: str) -> bool:
+    """Whether a file has a paragraph, or all the imports of one that has nothing else."""
+    return part in text or not IMPORT.sub("", part).strip() and imports(part) <= imports(text)
+
+
+def anchors(text: str) -> set:
+    """What a link within a page can name: its headings, in small letters, with dashes for blanks."""
+    return {re.sub(r"[^\w\- ]", "", it.lower()).replace(" ", "-") for it in HEADING.findall(text)}
+
+
+def leads(page: pathlib.Path, link: str, headings: dict) -> bool:
+    """Whether a link of a page leads to a file, and there to a heading or a line."""
+    path, _, inside = link.partition("#")
+    target = (page.parent / path).resolve() if path else page
+    if not target.exists() or not inside:
+        return target.exists()
+    if line := re.fullmatch(r"L(\d+)", inside):
+        return int(line[1]) <= target.read_text(encoding="utf-8").count("\n")
+    if target not in headings:
+        headings[target] = anchors(target.read_text(encoding="utf-8"))
+    return inside in headings[target]
+
+
+def broken_links(page: pathlib.Path, text: str, headings: dict) -> list:
+    """The links of a page to files, headings and lines that aren't there."""
+    return [it for it in LINK.findall(text) if "://" not in it and not leads(page, it, headings)]
+
+
+def callers() -> tuple:
+    """The paths of the modules and items of the crates of callers, and the items without a doc of their own."""
+    found = [it for it in read().values() if it.crate in CALLERS]
+    known = {it.path_of for it in found} | {f"{it.path_of}::{name}" for it in found for name in it.items}
+    faults = []
+    for source in found:
+        docs = [it.doc for it in source.items.values()]
+        faults += [f"{source.path_of}: {it.name} has no doc of its own" for it in source.items.values() if not it.doc or docs.count(it.doc) > 1]
+    return known, faults
+
+
+def lost(said: str, known: set) -> list:
+    """The paths to callers that a page names, and that lead to none."""
+    return [it for it in sorted(set(CALLER.findall(said))) if not {it, f"elf_callers::{it}"} & known]
+
+
+def main() -> int:
+    files = [it for it in ROOT.glob("crates/*/*/**/*") if it.suffix in ENDS.values() and "out" not in it.parts]
+    texts = {it: one_line(it.read_text(encoding="utf-8")) for it in files}
+    pages = [ROOT / "README.md", ROOT / "CONTRIBUTING.md", ROOT / "CALLING.md", *sorted((ROOT / "docs").rglob("*.md"))]
+    known, faults = callers()
+    print("\n".join(faults), end="\n" if faults else "")
+    failed, count, headings = len(faults), 0, {}
+    for page in pages:
+        said = page.read_text(encoding="utf-8")
+        for link in broken_links(page, said, headings):
+            failed += 1
+            print(f"{page.relative_to(ROOT)}: the link {link} leads nowhere")
+        for path in lost(said, known):
+            failed += 1
+            print(f"{page.relative_to(ROOT)}: {path} is nowhere")
+        for language, block in BLOCK.findall(said if page.parent.name != "api" else ""):
+            count += 1
+            parts = paragraphs(block)
+            if not any(it.suffix == ENDS[language] and all(stands_in(part, text) for part in parts) for it, text in texts.items()):
+                failed += 1
+                print(f"{page.relative_to(ROOT)}: NOT QUOTED from one file: {parts[0][:90]}")
+    print(f"{count} code blocks, {failed} faults")
+    return 1 if failed else 0
+
+
+if __name__ == "__main__":
+    sys.exit(main())

@@ -1,0 +1,99 @@
+"""Drives a headless Chromium by Debian's selenium, for tools/web/page.py.
+
+    with Chromium("http://127.0.0.1:8042/", 1440, 900) as page:
+        page.run("document.title")
+"""
+import time
+
+from selenium import webdriver
+from selenium.common.exceptions import WebDriverException
+from selenium.webdriver.chrome.service import Service
+from selenium.webdriver.common.action_chains import ActionChains
+from selenium.webdriver.common.keys import Keys
+
+KEYS = {
+    "Tab": Keys.TAB, "Enter": Keys.ENTER, "Home": Keys.HOME, "End": Keys.END, "PageDown": Keys.PAGE_DOWN, "ArrowUp": Keys.ARROW_UP,
+    "ArrowDown": Keys.ARROW_DOWN, "ArrowRight": Keys.ARROW_RIGHT}
+OPTIONS = ("--headless=new", "--no-sandbox", "--disable-gpu", "--no-first-run", "--disable-extensions", "--disable-background-networking")
+
+
+class Failed(Exception):
+    """A command failed, a script threw, or a condition never came true."""
+
+
+class Chromium:
+    """One page of a browser with a profile of its own."""
+
+    def __init__(self, address, width, height):
+        options = webdriver.ChromeOptions()
+        for it in OPTIONS:
+            options.add_argument(it)
+        options.set_capability("goog:loggingPrefs", {"browser": "ALL"})
+        self.driver = webdriver.Chrome(service=Service("/usr/bin/chromedriver"), options=options)
+        self.resize(width, height)
+        self.driver.get(address)
+
+    def __enter__(self):
+        return self
+
+    def __exit__(self, *_):
+        self.driver.quit()
+
+    def send(self, method, **params):
+        """The answer to a command of the DevTools protocol."""
+        try:
+            return self.driver.execute_cdp_cmd(method, params)
+        except WebDriverException as failure:
+            raise Failed(f"{method}: {failure.msg}") from failure
+
+    def resize(self, width, height):
+        self.send("Emulation.setDeviceMetricsOverride", width=width, height=height, deviceScaleFactor=1, mobile=False)
+
+    def run(self, script):
+        """The value of an expression, waited for where it is a promise."""
+        said = self.send("Runtime.evaluate", expression=script, awaitPromise=True, returnByValue=True)
+        if "exceptionDetails" in said:
+            detail = said["exceptionDetails"]
+            raise Failed(detail.get("exception", {}).get("description", detail["text"]))
+        return said["result"].get("value")
+
+    def holds(self, condition):
+        """Whether an expression is true. While another page is being opened, none is."""
+        try:
+            return self.run(condition)
+        except Failed as failure:
+            if "navigated" in str(failure) or "context" in str(failure):
+                return False
+            raise
+
+    def wait(self, condition, seconds=30):
+        """Waits until an expression is true."""
+        until = time.monotonic() + seconds
+        while not self.holds(condition):
+            if time.monotonic() > until:
+                raise Failed(f"never true: {condition}")
+            time.sleep(0.02)
+
+    def choose_files(self, selector, paths):
+        root = self.send("DOM.getDocument")["root"]["nodeId"]
+        node = self.send("DOM.querySelector", nodeId=root, selector=selector)["nodeId"]
+        self.send("DOM.setFileInputFiles", nodeId=node, files=[str(it) for it in paths])
+
+    def drop(self, paths, x=600, y=400):
+        """Drops files on the page, as the mouse does."""
+        data = {"items": [], "files": [str(it) for it in paths], "dragOperationsMask": 1}
+        for kind in ("dragEnter", "dragOver", "drop"):
+            self.send("Input.dispatchDragEvent", type=kind, x=x, y=y, data=data)
+
+    def key(self, name):
+        """Presses a key, as `Enter` or `PageDown`."""
+        ActionChains(self.driver).send_keys(KEYS[name]).perform()
+
+    def look(self, scheme):
+        """Light or dark, with no transition between them."""
+        wanted = {"prefers-color-scheme": scheme, "prefers-reduced-motion": "reduce"}
+        self.send("Emulation.setEmulatedMedia", features=[{"name": name, "value": value} for name, value in wanted.items()])
+
+    def faults(self):
+        """What the page's console says of errors and refused policies."""
+        return [it["message"] for it in self.driver.get_log("browser") if it["level"] == "SEVERE"]

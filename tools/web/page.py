@@ -1,0 +1,528 @@
+#!/usr/bin/env python3
+"""Tests the page of bindings/web in headless Chromium.
+
+    tools/web/page.py [--site FOLDER] [--files N] [--only WORD]
+
+Drops files on the page and compares what it shows with readelf; opens damaged and foreign files, an empty one and one that
+doesn't fit; filters and scrolls a long table; stops work; and goes through the page by the keyboard. FOLDER is a built one,
+bindings/web/out/site where none is given. Where Debian's selenium or its driver isn't installed it says so, and the
+status is 0.
+"""
+import argparse
+import functools
+import http.server
+import pathlib
+import re
+import shutil
+import subprocess
+import sys
+import tempfile
+import threading
+import time
+
+sys.path.insert(1, str(pathlib.Path(__file__).resolve().parents[1]))
+import files
+import readelf
+from compare import damage
+from comparison import compare_file, compare_segments
+
+try:
+    from chromium import Chromium
+except ImportError as missing:
+    Chromium, WHY = None, missing
+
+TOP = pathlib.Path(__file__).resolve().parents[2]
+MOST_ROWS = 800
+SIZE = (1440, 2400)
+TABS = ("Overview", "Layout", "Sections", "Segments", "Symbols", "Relocations", "Dynamic", "Notes", "Hash tables")
+
+# Texts in view whose contrast with what is behind them is below 4.5, as the accessibility guidelines ask for.
+CONTRAST = """
+(() => {
+  const parts = (color) => color.match(/[\\d.]+/g).map(Number);
+  const light = (channel) => (channel / 255 <= 0.04045 ? channel / 255 / 12.92 : ((channel / 255 + 0.055) / 1.055) ** 2.4);
+  const luminance = ([red, green, blue]) => 0.2126 * light(red) + 0.7152 * light(green) + 0.0722 * light(blue);
+  const behind = (node) => {
+    for (let it = node; it; it = it.parentElement) {
+      const color = parts(getComputedStyle(it).backgroundColor);
+      if (color.length === 3 || color[3] === 1) return color;
+    }
+    return [255, 255, 255];
+  };
+  const drawnBehind = (text) => {
+    const { left, top, width, height } = text.getBoundingClientRect();
+    const isRect = (it) => it.tagName === "rect" && getComputedStyle(it).fillOpacity === "1" && getComputedStyle(it).fill !== "none";
+    const rect = document.elementsFromPoint(left + width / 2, top + height / 2).find(isRect);
+    return rect ? parts(getComputedStyle(rect).fill) : behind(text.closest("svg").parentElement);
+  };
+  const found = new Set();
+  for (const node of document.body.querySelectorAll("*")) {
+    const hasText = Array.from(node.childNodes).some((it) => it.nodeType === 3 && it.textContent.trim());
+    if (!hasText || node.closest("title, .hidden") || !node.checkVisibility({ visibilityProperty: true })) continue;
+    const isDrawn = node.closest("svg");
+    const [one, other] = isDrawn ? [luminance(parts(getComputedStyle(node).fill)), luminance(drawnBehind(node))]
+      : [luminance(parts(getComputedStyle(node).color)), luminance(behind(node))];
+    const contrast = (Math.max(one, other) + 0.05) / (Math.min(one, other) + 0.05);
+    if (contrast < 4.5) found.add(`${node.tagName} ${node.className} ${contrast.toFixed(2)}`);
+  }
+  return [...found].slice(0, 8);
+})()
+"""
+
+# References of one element to another by an id that no element has, and stops of the keyboard that no mark shows.
+REFERENCES = """
+(() => {
+  const names = ["aria-controls", "aria-labelledby", "aria-describedby", "for"];
+  const ids = (node, name) => (node.getAttribute(name) ?? "").split(" ").filter(Boolean);
+  return Array.from(document.querySelectorAll("body *")).flatMap((node) => names.flatMap((name) =>
+    ids(node, name).filter((id) => !document.getElementById(id)).map((id) => `${node.tagName} ${name} ${id}`)));
+})()
+"""
+STOP = """
+(() => {
+  const it = document.activeElement;
+  const { outlineStyle, outlineWidth } = getComputedStyle(it);
+  const name = it.getAttribute("aria-label") || it.labels?.[0]?.textContent.trim() || it.textContent.trim().slice(0, 40);
+  return { name, isSeen: outlineStyle !== "none" && outlineWidth !== "0px", isBody: it === document.body };
+})()
+"""
+# Roles that a screen reader says together with a name.
+NAMED = {"button", "textbox", "searchbox", "combobox", "grid", "listbox", "option", "tab", "tablist", "tabpanel", "progressbar",
+         "columnheader", "link", "image", "region", "heading", "menuitem"}
+
+# Rows of the table in view: the first ones up to a number, and the last.
+ROWS = """
+async (most) => {
+  const table = document.querySelector("[role=tabpanel]:not([hidden]) .table");
+  const count = Number(table.getAttribute("aria-rowcount")) - 1;
+  const frame = () => new Promise((resume) => requestAnimationFrame(resume));
+  const found = {};
+  const take = async () => {
+    await frame();
+    await frame();
+    while (table.querySelector(".waiting")) await frame();
+    for (const row of table.querySelectorAll(".row")) {
+      found[row.dataset.index] = Array.from(row.children, (cell) => cell.textContent);
+    }
+  };
+  for (let top = 0; ; top += table.clientHeight - 120) {
+    table.scrollTop = top;
+    await take();
+    if (top + table.clientHeight >= table.scrollHeight || Object.keys(found).length >= most) break;
+  }
+  table.scrollTop = table.scrollHeight;
+  await take();
+  return { count, found };
+}
+"""
+
+
+class Test:
+    """The page, and what differed."""
+
+    def __init__(self, page):
+        self.page, self.differences, self.compared = page, [], 0
+
+    def same(self, where, shown, wanted):
+        self.compared += 1
+        if shown != wanted:
+            self.differences.append(f"{where}: the page says {shown!r}, and {wanted!r} is wanted")
+
+    def open(self, path, drops=False):
+        """Opens a file by the file dialog's input, or drops it."""
+        self.page.run("document.body.dataset.state = 'waiting'")
+        if drops:
+            self.page.drop([path])
+        else:
+            self.page.choose_files("#file", [path])
+        self.page.wait("document.body.dataset.state === 'ready'", 60)
+
+    def tab(self, title):
+        name = title.lower().replace(" ", "")
+        self.page.run(f"document.getElementById('tab-{name}').click()")
+
+    def rows(self, most=MOST_ROWS):
+        said = self.page.run(f"({ROWS})({most})")
+        return said["count"], {int(index): cells for index, cells in said["found"].items()}
+
+    def choose(self, label, text):
+        """Chooses, in the panel in view, the option that begins with a text."""
+        return self.page.run("""((label, text) => {
+          const panel = document.querySelector("[role=tabpanel]:not([hidden])");
+          const field = Array.from(panel.querySelectorAll("label")).find((it) => it.firstChild.textContent === label);
+          const chosen = field?.querySelector("select");
+          const option = chosen && Array.from(chosen.options).find((it) => it.textContent.startsWith(text + " ("));
+          if (!option) return false;
+          chosen.value = option.value;
+          chosen.dispatchEvent(new Event("change"));
+          return true;
+        })(%r, %r)""" % (label, text))
+
+
+
+def system_files(count):
+    """Files of this system, of all sizes up to 8 MiB, and small ones of this repository."""
+    found = [TOP / "crates/elfnm/data/add.o", TOP / "crates/elfsym/data/stripped.so"]
+    found += [pathlib.Path(it) for it in ("/usr/lib32/libc.so.6", "/usr/lib32/libm.so.6", "/usr/lib/x86_64-linux-gnu/crt1.o", "/usr/lib/x86_64-linux-gnu/libc.so.6",
+                                          "/usr/lib/x86_64-linux-gnu/libm.so.6", "/usr/bin/readelf", "/usr/bin/python3")]
+    others = [it for folder in ("/usr/lib/x86_64-linux-gnu", "/usr/bin") for it in sorted(pathlib.Path(folder).iterdir())
+              if it.is_file() and not it.is_symlink() and it.stat().st_size < 8 << 20 and is_elf(it)]
+    step = max(1, len(others) // count)
+    return [it for it in [*found, *others[::step]] if it.exists()][:count]
+
+
+def large_file():
+    """The largest library that is likely to be here: the compiler of Rust, LLVM's, or Python."""
+    rust = shutil.which("rustc") and subprocess.run(["rustc", "--print", "sysroot"], capture_output=True, text=True).stdout.strip()
+    compilers = sorted(pathlib.Path(rust, "lib").glob("librustc_driver-*.so")) if rust else []
+    others = ("/usr/lib/x86_64-linux-gnu/libLLVM-15.so.1", "/usr/lib/x86_64-linux-gnu/libLLVM-14.so.1", "/usr/bin/python3")
+    return next(it for it in [*compilers, *map(pathlib.Path, others)] if it.exists())
+
+
+def is_elf(path):
+    with open(path, "rb") as file:
+        return file.read(4) == b"\x7fELF"
+
+
+def try_comparison(test, options, room):
+    """Files of the system and of other machines, of both classes and byte orders, compared with readelf."""
+    paths = [*system_files(options.files), *files.of_other_machines(room)]
+    for index, path in enumerate(paths):
+        compare_file(test, path, drops=index % 10 == 0)
+    headers = [readelf.header(path) for path in paths]
+    kinds = sorted({f"{it['Class']} {it['Data'].split()[-2]}-endian" for it in headers})
+    machines = len({it["Machine"] for it in headers})
+    print(f"web: compared {len(paths)} files for {machines} machines with readelf: {', '.join(kinds)}")
+
+
+def refusal_of(test, path):
+    test.open(path)
+    return test.page.run("document.body.dataset.view === 'viewer' ? null : document.getElementById('message').textContent")
+
+
+def try_foreign(test, options, room):
+    """Files that are no ELF files, and one that doesn't fit, are refused by name and reason."""
+    foreign = {"a.txt": (b"plain text\n" * 9, "Did not find ELF magic number"), "empty": (b"", "File is shorter than the first ELF header part"),
+               "<img src=x onerror=alert(1)>": (b"\x7fELF", "File is shorter than the first ELF header part")}
+    for name, (data, text) in foreign.items():
+        (room / name).write_bytes(data)
+        said = refusal_of(test, room / name)
+        test.same(f"{name}: refused", bool(said) and name in said and text in said, True)
+    large = room / "too-large.elf"
+    with open(large, "wb") as file:
+        file.truncate(1 << 40)
+    said = refusal_of(test, large)
+    test.same("too large: refused by name", bool(said) and "too-large.elf" in said and "does not fit" in said, True)
+
+
+def try_damaged(test, options, room):
+    """Damaged files are shown as far as they can be read, each tab of them."""
+    for index in range(30):
+        path = room / f"damaged-{index}"
+        path.write_bytes(damage.damaged(1, index))
+        test.open(path)
+        if test.page.run("document.body.dataset.view") == "viewer":
+            for tab in TABS:
+                test.tab(tab)
+            test.compared += 1
+    test.tab("Overview")
+
+
+# What the Overview says of the checks; the labels of the columns of the table in view.
+CHECKS = """
+(() => {
+  const card = Array.from(document.querySelectorAll(".card")).find((it) => it.querySelector("h3").textContent === "What the checks say");
+  return Array.from(card.querySelectorAll("dt"), (it) => `${it.textContent}: ${it.nextElementSibling.textContent}`);
+})()
+"""
+LABELS = "Array.from(document.querySelectorAll('[role=tabpanel]:not([hidden]) [role=columnheader]'), (it) => it.textContent)"
+
+
+def said_of(test, tab, label):
+    """The texts of a column of a table, by row; none where the table hasn't the column."""
+    test.tab(tab)
+    labels, (_, rows) = test.page.run(LABELS), test.rows()
+    return {index: row[labels.index(label)] for index, row in rows.items()} if label in labels else {}
+
+
+def try_checks(test, options, room):
+    """What the checks of the header, of each section and of each segment say of a whole file, and of one with faults."""
+    size, kind, end = "header_size does not match size of header", "Invalid sh type", "entry point out of range"
+    align, none, outside = "Invalid combination of virtual_addr, offset, and align", "Attempt to get data of a null header", "Data is out of range"
+    rows = lambda text: lambda count, faults: {**dict.fromkeys(range(count), text), **faults}
+    passing, silent = rows("passes"), rows("")
+    wanted = [(["Header: passes", "Sections: passes", "Segments: passes"], passing(6, {}), {}, passing(7, {}), silent(7, {4: none})),
+              ([f"Header: {size}", f"Sections: {kind} at section 3", f"Segments: {align} at segment 0, and 1 more"],
+               passing(6, {3: kind}), silent(6, {3: kind, 4: outside}), passing(7, {0: align, 1: end}), silent(7, {1: outside, 4: none}))]
+    for path, (checks, *columns) in zip(files.checked(room), wanted):
+        test.open(path)
+        test.tab("Overview")
+        test.same(f"{path}: checks", test.page.run(CHECKS), checks)
+        shown = [said_of(test, tab, label) for tab in ("Sections", "Segments") for label in ("Check", "Data")]
+        test.same(f"{path}: checks and data of sections and segments", shown, columns)
+
+
+def try_hardening(test, options, room):
+    """What the overview says of how a file is hardened, for programs linked in several ways and shared objects."""
+    import hardening
+
+    card = CHECKS.replace("What the checks say", "How it is hardened").replace("Array.from(card.", "!card ? [] : Array.from(card.")
+    libraries = [pathlib.Path("/usr/lib/x86_64-linux-gnu") / it for it in ("libc.so.6", "libz.so.1")]
+    for path in (*hardening.programs(room), *(it for it in libraries if it.exists())):
+        test.open(path)
+        test.tab("Overview")
+        test.same(f"{path}: hardening", test.page.run(card), hardening.said_of(path))
+
+
+def try_packed_relocations(test, options, room):
+    """A section of type RELR passes its check, and nothing of it is an error."""
+    path = room / "packed.elf"
+    (room / "packed.c").write_text("int a; int *p[200] = {&a, 0, &a, [9] = &a, [150] = &a}; int main(void) { return 0; }\n")
+    subprocess.run(["gcc", room / "packed.c", "-o", path, "-Wl,-z,pack-relative-relocs"], check=True)
+    test.open(path)
+    test.tab("Overview")
+    test.same(f"{path}: sections", "Sections: passes" in test.page.run(CHECKS), True)
+    test.same(f"{path}: data", "Data of" in test.page.run("document.querySelector('.overview').textContent"), False)
+    test.tab("Sections")
+    labels, (_, rows) = test.page.run(LABELS), test.rows()
+    test.same(f"{path}: type", any("RELR" in row for row in rows.values()) and "Type" in labels, True)
+
+
+def try_cut(test, options, room):
+    """A file without its second half: its segments are those that readelf lists, and it is said what is refused."""
+    libc = pathlib.Path("/usr/lib/x86_64-linux-gnu/libc.so.6")
+    path = files.cut_file(room, libc, libc.stat().st_size // 2)
+    test.open(path)
+    compare_segments(test, path, holds_sections=False)
+    test.tab("Overview")
+    said = test.page.run("document.querySelector('.refusals').textContent")
+    for what in ("Section headers end early", "Data of segment", "Entries of the dynamic segment"):
+        test.same(f"{path}: {what}", what in said, True)
+    test.tab("Sections")
+    said = test.page.run("document.querySelector('[role=tabpanel]:not([hidden]) .notice').textContent")
+    test.same(f"{path}: refused sections", "can be read" in said and "File is shorter than section header offset" in said, True)
+
+
+def try_many_symbols(test, options, room):
+    """A table of 165,000 symbols scrolls, by the scroll bar and by keys, shows each row where it belongs, and is filtered."""
+    count = 165_000
+    test.page.resize(1440, 900)
+    test.open(files.many_symbols(room, count))
+    test.tab("Symbols")
+    shown, rows = test.rows(200)
+    test.same("number of symbols", shown, count)
+    test.same("names of rows", {at: row[7] for at, row in rows.items() if at}, {at: f"symbol_{at}" for at in rows if at})
+    test.same("the last row", count - 1 in rows, True)
+    test.same("rows in the page", test.page.run("document.querySelectorAll('[role=tabpanel]:not([hidden]) .row').length") < 400, True)
+    test.page.run("document.querySelector('[role=tabpanel]:not([hidden]) .table').focus()")
+    for key in ("Home", "PageDown", "End", "ArrowUp", "Enter"):
+        test.page.key(key)
+    test.page.wait(f"document.querySelector('[role=tabpanel]:not([hidden]) [aria-selected=true]')?.dataset.index === '{count - 2}'")
+    test.page.wait("/Symbol 164,998 symbol_164998/.test(document.getElementById('place').textContent)")
+    test.page.run("(() => { const it = document.querySelector('[role=tabpanel]:not([hidden]) input[type=search]'); it.value = 'BOL_1649'; it.dispatchEvent(new Event('input')); })()")
+    test.page.wait("/ of /.test(document.querySelector('[role=tabpanel]:not([hidden]) .said').textContent)")
+    shown = test.page.run("document.querySelector('[role=tabpanel]:not([hidden]) .said').textContent")
+    test.same("symbols with a text", int(shown.split()[0].replace(",", "")), sum("1649" in str(it)[:4] for it in range(1, count)))
+    test.page.resize(*SIZE)
+
+
+def try_stop(test, options):
+    """Work stops at the button, and what is shown says so."""
+    path = large_file()
+    test.page.run("document.body.dataset.state = 'waiting'")
+    test.page.choose_files("#file", [path])
+    test.page.run("document.getElementById('stop').click()")
+    test.page.wait("document.body.dataset.state === 'ready'", 60)
+    said = test.page.run("document.getElementById('message').textContent")
+    test.same("stopped", "was stopped" in said, True)
+
+
+def stops_of(page):
+    """What Tab leads to from the first stop on, until it leaves the page."""
+    stops = []
+    for _ in range(80):
+        page.key("Tab")
+        stop = page.run(STOP)
+        if stop["isBody"]:
+            break
+        stops.append(stop)
+    return stops
+
+
+def unnamed(page):
+    """What a screen reader meets without a name."""
+    nodes = [it for it in page.send("Accessibility.getFullAXTree")["nodes"] if not it["ignored"]]
+    return [it["role"]["value"] for it in nodes if it["role"]["value"] in NAMED and not it.get("name", {}).get("value", "").strip()]
+
+
+def try_screen_reader(test, options):
+    """Whatever a screen reader meets in a view has a name, and refers to what is there."""
+    test.page.run("document.body.dataset.state = 'left'; document.querySelector('.brand').click()")
+    test.page.wait("document.body?.dataset.state === 'ready'")
+    test.same("without a name before a file is opened", unnamed(test.page), [])
+    test.open(options.site / "example.elf")
+    for tab in TABS:
+        test.tab(tab)
+        test.same(f"without a name in {tab}", unnamed(test.page), [])
+        test.same(f"references in {tab}", test.page.run(REFERENCES), [])
+        heads = test.page.run("Array.from(document.querySelectorAll('[role=tabpanel]:not([hidden]) h2'), (it) => it.textContent).length")
+        test.same(f"headings of {tab}", heads, 1)
+
+
+def try_keyboard(test, options):
+    """The page by the keyboard alone: each stop has a name and is seen, tabs and tables move by arrows."""
+    page = test.page
+    test.open(TOP / "crates/elfnm/data/add.o")
+    test.tab("Overview")
+    page.run("document.activeElement?.blur(); window.getSelection()?.removeAllRanges(); document.querySelector('.skip').focus()")
+    stops = stops_of(page)
+    test.same("each stop of the keyboard has a name", [it for it in stops if not it["name"]], [])
+    test.same("each stop of the keyboard is seen", [it for it in stops if not it["isSeen"]], [])
+    order = ["Open a file", "Overview", "Bytes", "Go to", "Number in base 16", "Go", "Bytes", "Fields of the record"]
+    heads = [re.split(r"\s*[\n,]", it["name"])[0] for it in stops]
+    test.same("stops of the keyboard in order", [it for it in heads if it in order], order)
+    page.run("document.getElementById('tab-overview').focus(); document.getElementById('tab-overview').click()")
+    page.key("ArrowDown")
+    page.key("ArrowDown")
+    test.same("arrows change the tab", page.run("document.activeElement.textContent.startsWith('Sections')"), True)
+    page.run("document.querySelector('[role=tabpanel]:not([hidden]) .table').focus()")
+    for key in ("Home", "ArrowDown", "ArrowDown", "Enter"):
+        page.key(key)
+    test.same("Enter chooses a row", page.run("document.querySelector('[role=tabpanel]:not([hidden]) [aria-selected=true]').dataset.index"), "2")
+    page.run("document.getElementById('bytes').focus()")
+    before = page.run("document.getElementById('bytes').getAttribute('aria-activedescendant')")
+    page.key("ArrowRight")
+    after = page.run("document.getElementById('bytes').getAttribute('aria-activedescendant')")
+    test.same("arrows move in the bytes", int(after.split("-")[1]), int(before.split("-")[1]) + 1)
+
+
+def try_fields(test, options):
+    """The field under the pointer is named."""
+    page, path = test.page, TOP / "crates/elfsym/data/stripped.so"
+    test.open(path)
+    test.tab("Overview")
+    page.run("(() => { document.querySelector('table.plain button').click(); })()")
+    x, y = page.run("(() => { const it = document.getElementById('byte-24').getBoundingClientRect(); return [it.x + 6, it.y + 6]; })()")
+    page.send("Input.dispatchMouseEvent", type="mouseMoved", x=x, y=y)
+    page.wait("/e_entry/.test(document.getElementById('place').textContent)", 5)
+    shown = page.run("document.querySelector('.fieldrow.current .fieldvalue').textContent")
+    test.same("the value of the field", int(shown.split()[0], 16), int(readelf.header(path)["Entry point address"], 16))
+
+
+def try_addresses(test, options):
+    """Bytes are found by their address, by a record's button and by "Go to", and an address in no segment is refused."""
+    page, path = test.page, "/usr/lib/x86_64-linux-gnu/libc.so.6"
+    test.open(path)
+    entry = int(readelf.header(path)["Entry point address"], 16)
+    load = next(row for row in readelf.segments(path) if row[0] == "LOAD" and 0 <= entry - int(row[2], 16) < int(row[4], 16))
+    offset = entry - int(load[2], 16) + int(load[1], 16)
+    page.run("document.querySelector('.follow button').click()")
+    page.wait(f"document.getElementById('bytes').getAttribute('aria-activedescendant') === 'byte-{offset}'", 5)
+    go = "(() => { const it = document.getElementById('go'); it.elements.what.value = 'address'; it.elements.where.value = '%s'; it.requestSubmit(); })()"
+    page.run(go % "0xffffffffffff0000")
+    page.wait("/Address is in no loaded segment/.test(document.getElementById('goanswer').textContent)", 5)
+    page.run(go % hex(entry + 16))
+    page.wait(f"document.getElementById('bytes').getAttribute('aria-activedescendant') === 'byte-{offset + 16}'", 5)
+    test.compared += 3
+
+
+def try_contrast(test, options):
+    """All text of each view has enough contrast, in light and in dark."""
+    test.open(options.site / "example.elf")
+    for tab in TABS:
+        test.tab(tab)
+        for scheme in ("dark", "light"):
+            test.page.look(scheme)
+            time.sleep(0.05)
+            test.same(f"contrast of {tab} in {scheme}", test.page.run(CONTRAST), [])
+
+
+# Texts of the view, and how many elements there are that no module of the page makes.
+SEEN = """
+(() => {
+  const made = document.querySelectorAll("body script, body img:not(.brand img), body b, body i, body [onerror], body [onload]");
+  return { texts: document.querySelector("[role=tabpanel]:not([hidden])").textContent, made: made.length };
+})()
+"""
+
+
+def try_hostile_names(test, options, room):
+    """Names that look like markup are shown as the text that they are, in each view, and nothing is made of them."""
+    path = files.markup(room)
+    test.open(path)
+    test.same("the file's name", test.page.run("document.getElementById('filename').textContent"), path.name)
+    wanted = {"Overview": 5, "Layout": 5, "Sections": 5, "Segments": 0, "Symbols": 5, "Relocations": 0, "Dynamic": 5, "Notes": 1, "Hash tables": 0}
+    for tab, least in wanted.items():
+        test.tab(tab)
+        if tab in ("Sections", "Symbols", "Dynamic", "Notes"):
+            test.rows()
+        seen = test.page.run(SEEN)
+        test.same(f"markup in {tab}: elements made of it", seen["made"], 0)
+        shown = sum(it in seen["texts"] for it in files.MARKUP)
+        test.same(f"markup in {tab}: names shown as they are", shown >= least, True)
+    refused = test.page.run("(() => { try { document.createElement('p').innerHTML = '<b>x</b>'; return false; } catch { return true; } })()")
+    test.same("markup of strings is refused", refused, True)
+    test.page.faults()
+
+
+def try_slow_check(test, options, room):
+    """The page answers while the check of a hash table takes long, and the check can be stopped."""
+    test.open(files.slow_table(room))
+    test.tab("Hash tables")
+    test.page.wait("document.querySelector('.checked button') !== null", 5)
+    test.tab("Symbols")
+    count, rows = test.rows(100)
+    test.same("symbols beside a running check", [count, rows[1][7]], [60000, "a"])
+    test.tab("Hash tables")
+    test.page.run("document.querySelector('.checked button').click()")
+    test.page.wait("/was stopped/.test(document.querySelector('.checked').textContent)", 5)
+    test.compared += 1
+
+
+def try_old_browser(test, options):
+    """Without memory64 the page says so, and offers no file."""
+    script = test.page.send("Page.addScriptToEvaluateOnNewDocument", source="WebAssembly.validate = () => false")["identifier"]
+    test.page.send("Page.reload")
+    test.page.wait("document.body?.dataset.state === 'unsupported'")
+    shown = test.page.run("document.getElementById('unsupported').checkVisibility() && !document.getElementById('choose').checkVisibility()")
+    test.same("an old browser is told", shown, True)
+    test.page.send("Page.removeScriptToEvaluateOnNewDocument", identifier=script)
+    test.page.send("Page.reload")
+    test.page.wait("document.body?.dataset.state === 'ready'")
+
+
+def serve(site):
+    handler = functools.partial(http.server.SimpleHTTPRequestHandler, directory=str(site))
+    handler.func.log_message = lambda *_: None
+    server = http.server.ThreadingHTTPServer(("127.0.0.1", 0), handler)
+    threading.Thread(target=server.serve_forever, daemon=True).start()
+    return server.server_address[1]
+
+
+def main():
+    parser = argparse.ArgumentParser()
+    parser.add_argument("--site", type=pathlib.Path, default=TOP / "bindings/web/out/site")
+    parser.add_argument("--files", type=int, default=50)
+    parser.add_argument("--only", default="")
+    options = parser.parse_args()
+    if not Chromium or not shutil.which("chromedriver"):
+        print(f"web: the page is not tested: {WHY if not Chromium else 'chromedriver is not installed'}")
+        return 0
+    with tempfile.TemporaryDirectory() as room, Chromium(f"http://127.0.0.1:{serve(options.site)}/", *SIZE) as page:
+        test = Test(page)
+        page.wait("document.body?.dataset.state === 'ready'")
+        tries = {name: it for name, it in globals().items() if name.startswith("try_") and options.only in name}
+        for name, it in tries.items():
+            rooms = [pathlib.Path(room)] if it.__code__.co_argcount == 3 else []
+            began = time.monotonic()
+            it(test, options, *rooms)
+            print(f"web: {name.removeprefix('try_')}: {time.monotonic() - began:.1f} s", flush=True)
+            test.same(f"{name}: faults of the page", page.faults(), [])
+    for difference in test.differences[:40]:
+        print(f"web: {difference}")
+    print(f"web: {test.compared} comparisons, {len(test.differences)} differences")
+    return int(bool(test.differences))
+
+
+if __name__ == "__main__":
+    sys.exit(main())
