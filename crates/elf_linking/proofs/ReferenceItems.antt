@@ -46,10 +46,11 @@ references_few : (machine : ℕ) (relocations : List Reference) → length (filt
 references_few machine [] = omega arith
 references_few machine (x ∷ relocations) = few_by (names_symbol machine x) x (filter (names_symbol machine) relocations) (length relocations) (references_few machine relocations)
 
-pub references_fit : (machine : ℕ) (rela rel plt : List Reference) → length rela < 2 ^ 61 → length rel < 2 ^ 61 → length plt < 2 ^ 61
-    → length (filter (names_symbol machine) (rela ++ (rel ++ plt))) < 2 ^ 64
-references_fit machine rela rel plt a b c =
-    let few = references_few machine (rela ++ (rel ++ plt)) in
+pub relocations_fit : (rela rel plt : List Reference) → length rela < 2 ^ 61 → length rel < 2 ^ 61 → length plt < 2 ^ 61 → length (rela ++ (rel ++ plt)) < 2 ^ 64
+relocations_fit rela rel plt a b c =
     let both = length-append rela (rel ++ plt) in
     let last = length-append rel plt in
-    omega (arith, few, both, last, a, b, c)
+    omega (arith, both, last, a, b, c)
+
+pub references_fit : (machine : ℕ) (relocations : List Reference) → length relocations < 2 ^ 64 → length (filter (names_symbol machine) relocations) < 2 ^ 64
+references_fit machine relocations below = let few = references_few machine relocations in omega (arith, few, below)

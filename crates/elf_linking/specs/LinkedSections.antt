@@ -1,11 +1,17 @@
 -- The sections that a dynamic linker reads (gABI, "Sections": SHT_RELR; SHT_GNU_HASH of GNU binutils and
 -- glibc), in the class and byte order of the file.
-use Rattle.std.specs.Prelude.{◌≡◌, ◌≢◌, List, Option, None, Some, Result, Ok, Err, ℕ}
+use Rattle.std.specs.Prelude.{◌≡◌, ◌≢◌, List, Option, None, Some, Result, Ok, Err, ℕ, IsSomeAnd, MatchResult, ok_or}
 use Rattle.elf_base.specs.FileHeader.{class_of, file_class, file_order}
-use Rattle.elf_linking.specs.DynamicView.{as_link_error, checked}
+use Rattle.elf_base.specs.Refusal.{and_then}
+use Rattle.elf_linking.specs.DynamicView.{as_link_error, checked, number_with}
 use Rattle.elf_linking.specs.Layouts.{gnu_table_of}
-use Rattle.elf_linking.specs.Relr.{relr_of}
+use Rattle.elf_linking.specs.Loaded.{bytes_at_of}
+use Rattle.elf_linking.specs.Relr.{relr_of, relr_rest}
 use Rattle.elf_linking.specs.declared.error.LinkError.{LinkError}
+use Rattle.elf_linking.specs.declared.error.LinkError.TheVariants.{NoEntry}
+use Rattle.elf_linking.specs.declared.relr.Relr.{Relr}
+use Rattle.elf_linking.specs.declared.view.tags.TheConstants.{DT_RELR, DT_RELRSZ}
+use Rattle.elf_records.specs.declared.dynamic.Dynamic.{Dynamic}
 use Rattle.xmas_elf.specs.Ranges.{range_of}
 use Rattle.xmas_elf.specs.SectionData.{section_data_of}
 use Rattle.xmas_elf.specs.SectionHeader.{section_fields}
@@ -30,3 +36,15 @@ section_range_of file section =
 abbrev pub relr_in : ElfFile → Result (List ℕ) LinkError → Result (List ℕ) LinkError
 relr_in file (Ok bytes) = relr_of (class_of (file_class file.header)) (file_order file.header) bytes
 relr_in file (Err error) = Err error
+
+-- the addresses of the packed relocations at an address, by their size in bytes, or why there are none
+abbrev pub relr_at : ElfFile → Option ℕ → ℕ → Result (List ℕ) LinkError
+relr_at file size address = relr_in file (and_then (ok_or size NoEntry) (bytes_at_of file address))
+
+-- the packed relocations of a dynamic segment (gABI, "Dynamic Section": DT_RELR and DT_RELRSZ); `None` if it has no
+-- entry with their address
+abbrev pub IsRelr : ElfFile → List (Dynamic ℕ) → Option (Result Relr LinkError) → Type 0
+IsRelr file entries None = number_with DT_RELR entries ≡ None
+IsRelr file entries (Some answer) = IsSomeAnd (number_with DT_RELR entries) (λ address.
+    let addresses = relr_at file (number_with DT_RELRSZ entries) address in
+    MatchResult answer (λ relr. addresses ≡ Ok (relr_rest relr)) (λ error. addresses ≡ Err error))

@@ -1,13 +1,15 @@
 -- The bytes of a file at addresses of its loaded segments (gABI, "Program Header": PT_LOAD, p_vaddr and
 -- p_filesz; that the first segment with all of the bytes is the one read is this project's own).
-use Rattle.std.specs.Prelude.{◌≡◌, ◌≢◌, ℕ, ◌+◌, ◌-◌, ◌<◌, ◌≤◌, ◌&&◌, nat_le, Bool, List, Option, Result, Ok, Err, ok_or, drop, take, length}
+use Rattle.std.specs.Prelude.{◌≡◌, ◌≢◌, ℕ, ◌+◌, ◌-◌, ◌<◌, ◌≤◌, ◌&&◌, ◌==◌, if◌then◌else◌, nat_le, Bool, List, Option, Result, Ok, Err, ok_or, drop, take, length}
 use Rattle.std.specs.Borrow.{Bor}
 use Rattle.std.specs.List.{find}
+use Rattle.elf_base.specs.FileHeader.{file_class, file_order}
 use Rattle.elf_base.specs.Lent.{LiesAt}
+use Rattle.elf_base.specs.Number.{number}
 use Rattle.elf_base.specs.Refusal.{and_then}
 use Rattle.elf_base.specs.declared.error.ElfError.{ElfError}
 use Rattle.elf_linking.specs.declared.error.LinkError.{LinkError}
-use Rattle.elf_linking.specs.declared.error.LinkError.TheVariants.{Address, Elf}
+use Rattle.elf_linking.specs.declared.error.LinkError.TheVariants.{Address, Elf, UnknownClass}
 use Rattle.elf_records.specs.ProgramNumbers.{has_ph_type}
 use Rattle.elf_records.specs.declared.program.Type.TheVariants.{Load}
 use Rattle.xmas_elf.specs.HeaderTable.{EachBelow}
@@ -83,3 +85,12 @@ bytes_at_of file address count = bytes_of_segment file address (take count) (seg
 -- the bytes from an address on, or why there are none, as a function
 unfoldable pub bytes_from_of : ElfFile → ℕ → Result (List ℕ) LinkError
 bytes_from_of file address = bytes_of_segment file address (λ bytes. bytes) (segment_at_of file address 1)
+
+-- the number in this many bytes at an address
+abbrev pub number_at : ElfFile → ℕ → ℕ → Result ℕ LinkError
+number_at file width address = and_then (bytes_at_of file address width) (λ bytes. Ok (number (file_order file.header) width 0 bytes))
+
+-- the number in a word at an address, which is as wide as the addresses of the file's class
+abbrev pub word_at_of : ElfFile → ℕ → Result ℕ LinkError
+word_at_of file address = if file_class file.header == 1 then number_at file 4 address
+    else (if file_class file.header == 2 then number_at file 8 address else Err UnknownClass)

@@ -12,6 +12,7 @@ use Rattle.elf_linking.specs.declared.error.LinkError.TheVariants.{Elf, NoEntry,
 use Rattle.elf_linking.specs.declared.find.Use.{Use}
 use Rattle.elf_linking.specs.declared.find.Use.TheVariants.{Any, Copy, Defined}
 use Rattle.elf_linking.specs.declared.references.Reference.{Reference}
+use Rattle.elf_linking.specs.declared.references.AllRelocations.{AllRelocations}
 use Rattle.elf_linking.specs.declared.references.References.{References}
 use Rattle.elf_linking.specs.declared.references.tables.Relocations.{Relocations}
 use Rattle.elf_linking.specs.declared.references.tables.Relocations.TheVariants.{Absent, Rel32, Rel64, Rela32, Rela64}
@@ -117,11 +118,15 @@ names_symbol machine relocation = not (relocation.symbol == 0) && not (takes_no_
 abbrev pub file_machine : ElfFile → ℕ
 file_machine file = machine_number (header_fields file.header.pt2).machine
 
--- the relocations that name a symbol, of the three tables in this order, or the first error
+-- the relocations of the three tables in this order, or the first error
+unfoldable pub relocations_of : ElfFile → List (Dynamic ℕ) → Result (List Reference) LinkError
+relocations_of file entries = and_then (rela_table file entries) (λ rela.
+    and_then (rel_table file entries) (λ rel. and_then (plt_table file entries) (λ plt. Ok (rela ++ (rel ++ plt)))))
+
+-- those that name a symbol
 unfoldable pub references_of : ElfFile → List (Dynamic ℕ) → Result (List Reference) LinkError
-references_of file entries = and_then (rela_table file entries) (λ rela.
-    and_then (rel_table file entries) (λ rel.
-    and_then (plt_table file entries) (λ plt. Ok (filter (names_symbol (file_machine file)) (rela ++ (rel ++ plt))))))
+references_of file entries =
+    and_then (relocations_of file entries) (λ all. Ok (filter (names_symbol (file_machine file)) all))
 
 -- the relocations that an iterator over one table has not yet read
 abbrev pub relocations_left : Relocations → List Reference
@@ -131,13 +136,13 @@ relocations_left (Rela64 rest) = map (rela_reference symbol_in_64 type_in_64) (t
 relocations_left (Rel32 rest) = map (rel_reference symbol_in_32 type_in_32) (table_items (table_rest rest))
 relocations_left (Rel64 rest) = map (rel_reference symbol_in_64 type_in_64) (table_items (table_rest rest))
 
--- the relocations that an iterator over all three tables has not yet read
-abbrev pub tables_left : References → List Reference
-tables_left iter = relocations_left iter.rela ++ (relocations_left iter.rel ++ relocations_left iter.plt)
+-- the relocations that an iterator over all three tables has not yet returned
+abbrev pub all_left : AllRelocations → List Reference
+all_left iter = relocations_left iter.rela ++ (relocations_left iter.rel ++ relocations_left iter.plt)
 
--- the references that it has not yet returned
+-- the references that an iterator has not yet returned
 abbrev pub references_left : References → List Reference
-references_left iter = filter (names_symbol iter.machine) (tables_left iter)
+references_left iter = filter (names_symbol iter.machine) (all_left iter.all)
 
 -- What a relocation of a type wants of its symbol, by the machine (the processor supplements of the System V
 -- ABI, tables of relocation types; that these types want a defined symbol is the rule of glibc's linker).

@@ -1,4 +1,4 @@
 pub mod HashNumbers
 pub mod NamedRows
-pub mod NoteParts
 pub mod Tags
+pub mod lemmas

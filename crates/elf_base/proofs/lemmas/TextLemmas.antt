@@ -10,6 +10,8 @@ use Rattle.elf_base.specs.Text.{EndsInZero, IsText, TextIfUtf8, as_text, before_
 use Rattle.elf_base.specs.declared.error.ElfError.{ElfError}
 use Rattle.elf_base.specs.declared.error.ElfError.TheVariants.{TextStart, TextEnd, TextUtf8}
 use Rattle.elf_base.proofs.Texts
+-- the bytes up to a zero byte are those computed, and so are the reasons why there are none, and why there is no text
+pub use Rattle.elf_base.proofs.Texts.{bytes-ended, bytes-refused, text_of-refused}
 
 -- a byte other than zero before a text without a zero byte
 no_zero_before : (byte : ℕ) (text : List ℕ) → byte ≢ 0 → ((k : ℕ) → k < length text → slice_index text k ≢ 0) → (k : ℕ) → k < length (byte ∷ text) → slice_index (byte ∷ text) k ≢ 0

@@ -1,4 +1,5 @@
-//! The relocation types that want a certain symbol, by machine: those that are not here take any.
+//! The relocation types that want a certain symbol or take none, by machine: those that are not here
+//! take any.
 
 /// `EM_386`: the machine of the 386 (gABI, "ELF Header", e_machine).
 pub const EM_386: u16 = 3;
@@ -9,11 +10,17 @@ pub const EM_X86_64: u16 = 62;
 /// `EM_AARCH64`: the machine AArch64 (gABI, "ELF Header", e_machine).
 pub const EM_AARCH64: u16 = 183;
 
+/// `R_X86_64_NONE`: relocates nothing (x86-64 psABI, "Relocation Types").
+pub const R_X86_64_NONE: u32 = 0;
+
 /// `R_X86_64_COPY`: copies the object of the symbol (x86-64 psABI, "Relocation Types").
 pub const R_X86_64_COPY: u32 = 5;
 
 /// `R_X86_64_JUMP_SLOT`: an entry of the procedure linkage table (x86-64 psABI).
 pub const R_X86_64_JUMP_SLOT: u32 = 7;
+
+/// `R_X86_64_RELATIVE`: the load address and the addend (x86-64 psABI).
+pub const R_X86_64_RELATIVE: u32 = 8;
 
 /// `R_X86_64_DTPMOD64`: the module of a thread-local variable (x86-64 psABI).
 pub const R_X86_64_DTPMOD64: u32 = 16;
@@ -28,11 +35,20 @@ pub const R_X86_64_TPOFF64: u32 = 18;
 /// `R_X86_64_TLSDESC`: the descriptor of a thread-local variable (x86-64 psABI).
 pub const R_X86_64_TLSDESC: u32 = 36;
 
+/// `R_X86_64_RELATIVE64`: the load address and the addend, in 64 bits (x86-64 psABI, ILP32).
+pub const R_X86_64_RELATIVE64: u32 = 38;
+
+/// `R_386_NONE`: relocates nothing (386 psABI, "Relocation Types").
+pub const R_386_NONE: u32 = 0;
+
 /// `R_386_COPY`: copies the object of the symbol (386 psABI, "Relocation Types").
 pub const R_386_COPY: u32 = 5;
 
 /// `R_386_JMP_SLOT`: an entry of the procedure linkage table (386 psABI).
 pub const R_386_JMP_SLOT: u32 = 7;
+
+/// `R_386_RELATIVE`: the load address and the addend (386 psABI).
+pub const R_386_RELATIVE: u32 = 8;
 
 /// `R_386_TLS_TPOFF`: the offset of a thread-local variable from the thread pointer, which is
 /// negative (386 psABI).
@@ -51,11 +67,20 @@ pub const R_386_TLS_TPOFF32: u32 = 37;
 /// `R_386_TLS_DESC`: the descriptor of a thread-local variable (386 psABI).
 pub const R_386_TLS_DESC: u32 = 41;
 
+/// `R_AARCH64_NONE`: relocates nothing (AArch64 psABI, "Relocation types").
+pub const R_AARCH64_NONE: u32 = 0;
+
+/// The older number of `R_AARCH64_NONE`, withdrawn (AArch64 psABI).
+pub const R_AARCH64_WITHDRAWN: u32 = 256;
+
 /// `R_AARCH64_COPY`: copies the object of the symbol (AArch64 psABI, "Dynamic relocations").
 pub const R_AARCH64_COPY: u32 = 1024;
 
 /// `R_AARCH64_JUMP_SLOT`: an entry of the procedure linkage table (AArch64 psABI).
 pub const R_AARCH64_JUMP_SLOT: u32 = 1026;
+
+/// `R_AARCH64_RELATIVE`: the load address and the addend (AArch64 psABI).
+pub const R_AARCH64_RELATIVE: u32 = 1027;
 
 /// `R_AARCH64_TLS_DTPMOD`: the module of a thread-local variable (AArch64 psABI).
 pub const R_AARCH64_TLS_DTPMOD: u32 = 1028;

@@ -2,11 +2,14 @@
 
 ghost use Rattle.std.specs.Prelude.{◌≡◌, ◌≢◌, ◌↔◌, IfNone, IfOk, IfSome, IsErrOf, length};
 ghost use Rattle.elf_linking.specs.Loaded.{IsAt, IsFirstWithBytes, LiesAsLoaded, NoneHasFileBytes};
-ghost use Rattle.elf_linking.specs.Loaded.{bytes_at_of, bytes_from_of, segment_at_of, has_file_bytes, lent};
+ghost use Rattle.elf_linking.specs.Loaded.{bytes_at_of, bytes_from_of, has_file_bytes, lent};
+ghost use Rattle.elf_linking.specs.Loaded.{segment_at_of, word_at_of};
 ghost use Rattle.elf_linking.specs.declared.error.LinkError.TheVariants.{Address};
 ghost use Rattle.xmas_elf.specs.ProgramHeader.{program_list};
 
 use crate::LinkError;
+use elf_base::bytes::Record;
+use elf_base::header::Class;
 use xmas_elf::ElfFile;
 use xmas_elf::program::{ProgramHeader, Type};
 
@@ -80,4 +83,24 @@ pub fn bytes_from<'a>(file: &ElfFile<'a>, address: u64) -> Result<&'a [u8], Link
         Err(error) => return Err(LinkError::Elf(error)),
     };
     Ok(&data[(address - program.virtual_addr()) as usize..])
+}
+
+/// The number in the word at an address, in the byte order of the file. A word is as wide as the
+/// addresses of the file's class: 4 bytes for class 32, 8 for class 64.
+///
+/// Errors: `UnknownClass` if the class is neither 1 nor 2; those of `bytes_at`.
+pub fn word_at(file: &ElfFile<'_>, address: u64) -> Result<u64, LinkError>
+    ensures { result ≡ word_at_of file.now address }
+{
+    match file.header.pt1.class() {
+        Class::ThirtyTwo => {
+            let word = bytes_at(file, address, 4)?;
+            Ok(u64::from(u32::decode(word, file.byte_order())))
+        }
+        Class::SixtyFour => {
+            let word = bytes_at(file, address, 8)?;
+            Ok(u64::decode(word, file.byte_order()))
+        }
+        Class::None | Class::Other(_) => Err(LinkError::UnknownClass),
+    }
 }

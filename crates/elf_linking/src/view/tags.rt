@@ -57,6 +57,12 @@ pub const DT_RUNPATH: u64 = 29;
 /// (gABI).
 pub const DT_FLAGS: u64 = 30;
 
+/// `DT_RELRSZ`: the size of the packed relative relocations, in bytes (gABI).
+pub const DT_RELRSZ: u64 = 35;
+
+/// `DT_RELR`: the address of the packed relative relocations (gABI).
+pub const DT_RELR: u64 = 36;
+
 /// `DT_GNU_HASH`: the address of GNU's hash table (GNU binutils and glibc, `elf.h`).
 pub const DT_GNU_HASH: u64 = 0x6fff_fef5;
 

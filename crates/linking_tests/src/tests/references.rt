@@ -9,7 +9,7 @@ use elf_base::ElfError;
 use elf_base::bytes::Order;
 use elf_linking::find::Use;
 use elf_linking::references::{Reference, use_of};
-use elf_linking::view::DynamicView;
+use elf_linking::view::{DynamicView, word_at};
 use elf_linking::{DynamicObject, LinkError};
 use std::process::Abort;
 use worked_files::files::with_class;
@@ -210,6 +210,85 @@ fn lists_relocations_that_name_symbols(rt: HostRuntime) -> Result<(), LinkError>
         for (number, &row) in ROWS.iter().enumerate() {
             check_row(&rt, number, kind, row)?;
         }
+    }
+    Ok(())
+}
+
+#[test]
+fn lists_all_relocations(rt: HostRuntime) -> Result<(), LinkError> {
+    let entries = [
+        RELA_AT, RELA_SIZE, REL_AT, REL_SIZE, PLT_AT, PLT_SIZE, PLT_KIND,
+    ];
+    for &(class, order) in KINDS {
+        let bytes = reference_file(class, order, &entries);
+        let file = open(&rt, &bytes);
+        let mut found = DynamicView::read(&file)?.relocations(&file)?;
+        for &row in RELA_ROWS.iter().chain(REL_ROWS).chain(PLT_ROWS) {
+            want(&rt, found.next(), Some(reference(row, class)));
+        }
+        want(&rt, found.next(), None);
+    }
+    Ok(())
+}
+
+// Packed relocations at the table Rel: the first word of each record is an address, and the second
+// of the first record marks the words 7 and 8 after it in class 32, and 31 and 32 in class 64.
+const RELR_AT: Entry = (36, 0x1180, 0x1180);
+
+const PACKED: &[(&[Entry], Option<LinkError>)] = &[
+    (&[REL_AT, (35, 8, 16)], None),
+    (&[RELR_AT], Some(LinkError::NoEntry)),
+    (&[RELR_AT, (35, 6, 12)], Some(LinkError::NotMultiple)),
+    (
+        &[(36, 0x9000, 0x9000), (35, 8, 16)],
+        Some(LinkError::Address),
+    ),
+];
+
+#[test]
+fn lists_packed_relocations(rt: HostRuntime) -> Result<(), LinkError> {
+    for &(class, order) in KINDS {
+        for (number, &(entries, wanted)) in PACKED.iter().enumerate() {
+            let bytes = reference_file(class, order, entries);
+            let file = open(&rt, &bytes);
+            let found = DynamicView::read(&file)?.relr(&file);
+            let error = found.and_then(|relr| relr.err());
+            want_at(&rt, number, error, wanted);
+        }
+        let bytes = reference_file(class, order, &[RELR_AT, (35, 8, 16)]);
+        let file = open(&rt, &bytes);
+        let marked = if class == 1 {
+            [0x2018, 0x2038, 0x203c]
+        } else {
+            [0x2018, 0x2118, 0x2120]
+        };
+        let Some(found) = DynamicView::read(&file)?.relr(&file) else {
+            return Err(LinkError::NoEntry);
+        };
+        let mut found = found?;
+        for address in marked {
+            want(&rt, found.next(), Some(address));
+        }
+        want(&rt, found.next(), None);
+    }
+    Ok(())
+}
+
+#[test]
+fn reads_words(rt: HostRuntime) -> Result<(), LinkError> {
+    for &(class, order) in KINDS {
+        let bytes = reference_file(class, order, &[]);
+        let file = open(&rt, &bytes);
+        let (width, info) = if class == 1 {
+            (4, 0x301)
+        } else {
+            (8, 0x3_0000_0001)
+        };
+        want(&rt, word_at(&file, 0x1180), Ok(0x2018));
+        want(&rt, word_at(&file, 0x1180 + width), Ok(info));
+        want(&rt, word_at(&file, 0x9000), Err(LinkError::Address));
+        let other = with_class(&file, 3);
+        want(&rt, word_at(&other, 0x1180), Err(LinkError::UnknownClass));
     }
     Ok(())
 }

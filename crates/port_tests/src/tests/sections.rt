@@ -2,7 +2,7 @@
 //!
 //! Sections by index, by iterator and by name are in the rows of `elfanswers`, `sections.rows`.
 
-use crate::tests::want::{open, want};
+use crate::tests::want::{open, want, want_at};
 use elf_callers::callers;
 use std::string::ToString;
 use std::test::Fail;
@@ -53,6 +53,31 @@ fn prints_a_section_header(rt: HostRuntime) -> Result<(), Fail> {
         PRINTED_REFUSED,
     );
     Ok(())
+}
+
+// By type, offset and size of a section of a file of 397 bytes: the range of its bytes there.
+const STORED: &[(u64, u64, u64, Result<Option<(usize, usize)>, ElfError>)] = &[
+    (1, 365, 12, Ok(Some((365, 12)))),
+    (0, 365, 12, Ok(None)),
+    (8, u64::MAX, u64::MAX, Ok(None)),
+    (19, 0, 397, Ok(Some((0, 397)))),
+    (12, 397, 0, Ok(Some((397, 0)))),
+    (1, 1, 397, Err(ElfError::DataRange)),
+    (3, u64::MAX, 1, Err(ElfError::DataRange)),
+];
+
+#[test]
+fn stored_ranges_are_by_type_and_place(rt: HostRuntime) {
+    let bytes = debug_link_file();
+    let file = open(&rt, &bytes);
+    for &(kind, offset, size, wanted) in STORED {
+        let mut record = [0; 64];
+        set(&mut record, 0, section_64::TYPE, kind, LITTLE);
+        set(&mut record, 0, section_64::OFFSET, offset, LITTLE);
+        set(&mut record, 0, section_64::SIZE, size, LITTLE);
+        let section = SectionHeader::Sh64(SectionHeader_::<P64>::decode(&record, LITTLE));
+        want_at(&rt, kind, section.stored_range(&file), wanted);
+    }
 }
 
 #[test]

@@ -9,6 +9,8 @@ use Rattle.xmas_elf.specs.HashTable.{FindsAll, Looks, LooksWhere}
 use Rattle.xmas_elf.specs.Symbol.{IsGlobal, Symbols}
 use Rattle.xmas_elf.proofs.lemmas.Walks.{looks_alike}
 use Rattle.xmas_elf.specs.Symbols.{Decides, DecidesWhere, IsMatch, IsMatchWhere, ReturnsWhere}
+-- the check of a table has only one result
+pub use Rattle.xmas_elf.proofs.ChainChecks.{check_once}
 
 -- a test that passes each symbol with P
 module _ {F E : Type 0} (test : Shared F (Bor E × Unit {0}) Bool) (f : F) (P : E → Type 0) (passes : (e : Bor E) → P e.now → test.post f (e, tt) true) where

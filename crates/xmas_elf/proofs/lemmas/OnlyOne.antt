@@ -7,7 +7,7 @@ use Rattle.elf_base.specs.Text.{TextIfUtf8, lent_text}
 use Rattle.elf_base.specs.TextCompared.{TextCompared}
 use Rattle.elf_records.specs.SectionNumbers.{is_sh_type}
 use Rattle.elf_records.specs.declared.sections.ShType.TheVariants.{Null}
-use Rattle.xmas_elf.specs.NameTable.{HasName, HasNameBytes, IsNameAt, IsNameBytesAt, IsNameTable, NameCompared, name_bytes_of, name_of, name_table_of, section_named, shstr_bytes_of, shstr_of}
+use Rattle.xmas_elf.specs.NameTable.{HasName, HasNameBytes, IsFirstNamed, IsNameAt, IsNameBytesAt, IsNameTable, NameCompared, name_bytes_of, name_of, name_table_of, section_named, shstr_bytes_of, shstr_of}
 use Rattle.xmas_elf.specs.Prelude.{ElfError, ElfFile, SectionHeader}
 use Rattle.xmas_elf.specs.SectionData.{HasSectionData, IsDataNamed, IsSectionData, section_data_of}
 use Rattle.xmas_elf.specs.SectionHeader.{section_by_u16, section_fields, section_of}
@@ -45,6 +45,10 @@ texts_at file index r as_text = lent_texts (IsNameAt file index) (shstr_of file 
 
 pub section_texts : (file : ElfFile) (section : SectionHeader) (r : Result (Bor (List ℕ)) ElfError) → name_of file section ≡ lent_text r → TextIfUtf8 (HasName file section) r
 section_texts file section r as_text = lent_texts (HasName file section) (name_of file section) r as_text (named.name_of-has_name file section) (is-name_of file section)
+
+-- the first section with a name
+pub is-section_named : (file : ElfFile) (name : List ℕ) (index : ℕ) (section : SectionHeader) → IsFirstNamed file name index section → section_named file name ≡ Some section
+is-section_named = named.first_named-is
 
 -- the data of a section, and of the first section with a name
 pub is-section_data_of : (file : ElfFile) (section : SectionHeader) (bytes : List ℕ) → HasSectionData file section → IsSectionData file section bytes → section_data_of file section ≡ Ok bytes

@@ -14,6 +14,7 @@ ghost use Rattle.xmas_elf.specs.NameTable.{HasName, HasNameBytes, LiesAsName, na
 ghost use Rattle.xmas_elf.specs.NameTable.{name_of, name_table_of};
 ghost use Rattle.xmas_elf.specs.Place.{LiesAsSection};
 ghost use Rattle.xmas_elf.specs.SectionData.{HasSectionData, IsSectionData, section_data_of};
+ghost use Rattle.xmas_elf.specs.SectionData.{stored_range_of};
 ghost use Rattle.xmas_elf.specs.SectionHeader.{HasSectionEntry, HasSectionHeader, record_fields};
 ghost use Rattle.xmas_elf.specs.SectionHeader.{section_at_index, section_at_place, section_by_u16};
 ghost use Rattle.xmas_elf.specs.SectionHeader.{section_entry, section_fields, section_header_32};
@@ -24,11 +25,16 @@ ghost use Rattle.xmas_elf.specs.declared.ElfFile.{ElfFile};
 use crate::bytes::{Order, Record, stands_at};
 use crate::header::Class::{SixtyFour, ThirtyTwo};
 use crate::header::{Class_, Header};
-use crate::ranges::{entry_at, range_at};
+use crate::ranges::{entry_at, is_within, range_at};
 use crate::sections::{SHN_LORESERVE, ShType, ShType_};
 use crate::{ElfError, ElfFile, P32, P64};
 use elf_base::bytes::{read_u32, read_u64};
 use elf_base::header::byte_order;
+
+// The types of sections without bytes in the file (gABI, "Sections", sh_type).
+const SHT_NULL: u32 = 0;
+
+const SHT_NOBITS: u32 = 8;
 
 /// A section header with numbers of type `P`; `SectionHeader` has its getters (gABI, "Sections").
 #[derive(Clone, Copy, Debug)]
@@ -341,6 +347,23 @@ impl SectionHeader {
     {
         let bytes = self.raw_data(file)?;
         Ok((self.offset() as usize, bytes.len()))
+    }
+
+    /// The range of the bytes that the file stores for the section: the offset of the first, and
+    /// their number; `None` for the types Null and NoBits, which have no bytes in the file. All
+    /// other types have a range, RELR and unknown ones too.
+    ///
+    /// Error: `DataRange` if the range extends past the end of the input.
+    pub fn stored_range(&self, file: &ElfFile<'_>) -> Result<Option<(usize, usize)>, ElfError>
+        ensures { result ≡ stored_range_of file.now self.now }
+    {
+        if matches!(self.type_().raw(), SHT_NULL | SHT_NOBITS) {
+            return Ok(None);
+        }
+        if !is_within(file.input, self.offset(), self.size()) {
+            return Err(ElfError::DataRange);
+        }
+        Ok(Some((self.offset() as usize, self.size() as usize)))
     }
 
     // The fields in the record of class 64.

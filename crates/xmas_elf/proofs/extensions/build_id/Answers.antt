@@ -1,6 +1,6 @@
 use Rattle.std.specs.Prelude.{codes}
 use Rattle.elf_records.specs.Note.{note_name_size}
-use Rattle.elf_records.proofs.NoteParts.{is-note_name}
+use Rattle.elf_records.proofs.lemmas.NoteParts.{is-note_name}
 use Rattle.xmas_elf.proofs.extensions.build_id.Goals as goal
 
 pub returns-in_default-clause-only : goal.returns-in_default-clause-only

@@ -1,4 +1,4 @@
-use Rattle.xmas_elf.proofs.ChainChecks.{check_once}
+use Rattle.xmas_elf.proofs.lemmas.HashTables.{check_once}
 use Rattle.elf_callers.proofs.callers.lookups.same_checks.Goals as goal
 
 pub returns-clause-same : goal.returns-clause-same

@@ -1,7 +1,7 @@
 use Rattle.std.proofs.Common.{rules}
 use Rattle.elf_base.specs.declared.error.ElfError.TheVariants.{NoteName}
 use Rattle.elf_base.proofs.lemmas.TextLemmas.{refuses_only}
-use Rattle.elf_records.proofs.NoteParts.{note_name-refused}
+use Rattle.elf_records.proofs.lemmas.NoteParts.{note_name-refused}
 use Rattle.xmas_elf.specs.Note.{note_name_of, note_name_size}
 use Rattle.elf_callers.proofs.callers.notes.name_refusal.Goals as goal
 
