@@ -3,7 +3,7 @@
 
 ghost use Rattle.std.specs.Prelude.{◌≡◌, ◌==◌, [], ◌∷◌, None, if◌then◌else◌, length, nat_lt, not};
 ghost use Rattle.std.specs.Result.{result_ok};
-ghost use Rattle.elf_base.specs.FileHeader.{class_number};
+ghost use Rattle.elf_base.specs.FileHeader.{class_number, header_fields};
 ghost use Rattle.elf_base.specs.Refusal.{unless};
 ghost use Rattle.elf_base.specs.declared.error.ElfError.{ElfError};
 ghost use Rattle.xmas_elf.specs.SectionHeader.{first_section, program_count_of, section_at_place};
@@ -12,10 +12,10 @@ ghost use Rattle.xmas_elf.specs.SectionHeader.{shstr_index_of};
 ghost use Rattle.xmas_elf.specs.HeaderTable.{entry_place, is_known_class};
 
 use crate::bytes::Order;
-use crate::header::Class_;
+use crate::header::{Class_, HeaderPt2_};
 use crate::ranges::entry_at;
 use crate::sections::{SHN_LORESERVE, SHN_XINDEX, SectionHeader, read_at_place};
-use crate::{ElfError, ElfFile};
+use crate::{ElfError, ElfFile, P64};
 
 // PN_XNUM: the number of program headers is in section header 0.
 const PN_XNUM: u16 = 0xffff;
@@ -23,27 +23,45 @@ const PN_XNUM: u16 = 0xffff;
 impl ElfFile<'_> {
     /// The number of sections: that of the ELF header, or if it is 0, the size of section header 0;
     /// 0 if section header 0 cannot be read (gABI, "ELF Header", e_shnum).
-    #[tactic(auto, unfolding(crate::specs::SectionHeader::section_count_of))]
     #[inline(always)]
     pub fn section_count(&self) -> u64
         ensures { result ≡ section_count_of self.now }
     {
-        match self.header.pt2.sh_count() {
-            0 => self.first_section().map_or(0, |first| first.size()),
+        self.section_count_by(&self.header.pt2.numbers())
+    }
+
+    // The same, by the fields of part 2.
+    #[tactic(auto, unfolding(crate::specs::SectionHeader::section_count_of))]
+    #[inline(always)]
+    pub(crate) fn section_count_by(&self, part: &HeaderPt2_<P64>) -> u64
+        requires { part.now ≡ header_fields self.now.header.pt2 }
+        ensures { result ≡ section_count_of self.now }
+    {
+        match part.sh_count {
+            0 => self.first_section(part).map_or(0, |first| first.size()),
             count => u64::from(count),
         }
     }
 
     /// The number of segments: that of the ELF header, or if it is 0xffff, the info of section
     /// header 0; 0xffff if section header 0 cannot be read (gABI, "ELF Header", e_phnum).
-    #[tactic(auto, unfolding(crate::specs::SectionHeader::program_count_of))]
     #[inline(always)]
     pub fn program_count(&self) -> u32
         ensures { result ≡ program_count_of self.now }
     {
-        match self.header.pt2.ph_count() {
+        self.program_count_by(&self.header.pt2.numbers())
+    }
+
+    // The same, by the fields of part 2.
+    #[tactic(auto, unfolding(crate::specs::SectionHeader::program_count_of))]
+    #[inline(always)]
+    pub(crate) fn program_count_by(&self, part: &HeaderPt2_<P64>) -> u32
+        requires { part.now ≡ header_fields self.now.header.pt2 }
+        ensures { result ≡ program_count_of self.now }
+    {
+        match part.ph_count {
             PN_XNUM => {
-                let wide = self.first_section().map(|first| first.info());
+                let wide = self.first_section(part).map(|first| first.info());
                 wide.unwrap_or(u32::from(PN_XNUM))
             }
             count => u32::from(count),
@@ -62,7 +80,8 @@ impl ElfFile<'_> {
     {
         match self.header.pt2.sh_str_index() {
             SHN_XINDEX => {
-                let link = self.first_section().map(|first| first.link());
+                let part = self.header.pt2.numbers();
+                let link = self.first_section(&part).map(|first| first.link());
                 link.ok_or(ElfError::ReservedIndex)
             }
             index if index >= SHN_LORESERVE => Err(ElfError::ReservedIndex),
@@ -73,13 +92,13 @@ impl ElfFile<'_> {
     // Section header 0, if there is a section header table and it can be read.
     #[tactic(auto, unfolding(crate::specs::SectionHeader::first_section, crate::specs::SectionHeader::section_entry))]
     #[inline(always)]
-    fn first_section(&self) -> Option<SectionHeader>
+    fn first_section(&self, part: &HeaderPt2_<P64>) -> Option<SectionHeader>
+        requires { part.now ≡ header_fields self.now.header.pt2 }
         ensures { result ≡ first_section self.now }
     {
-        let offset = self.header.pt2.sh_offset();
-        let entry_size = self.header.pt2.sh_entry_size();
         let order = self.byte_order();
-        first_at(self.input, offset, entry_size, self.header.pt1.class, order)
+        let class = self.header.pt1.class;
+        first_at(self.input, part.sh_offset, part.sh_entry_size, class, order)
     }
 }
 

@@ -60,11 +60,11 @@ pub fn sanity_check(file: &ElfFile<'_>) -> Result<(), ElfError>
     if pt1.encoding.is_none() {
         return Err(ElfError::NoDataFormat);
     }
-    let ph_count = u64::from(file.program_count());
+    let ph_count = u64::from(file.program_count_by(&part));
     if !table_is_within(file.input, part.ph_offset, part.ph_entry_size, ph_count) {
         return Err(ElfError::PhTableRange);
     }
-    let sh_count = file.section_count();
+    let sh_count = file.section_count_by(&part);
     if !table_is_within(file.input, part.sh_offset, part.sh_entry_size, sh_count) {
         return Err(ElfError::ShTableRange);
     }
