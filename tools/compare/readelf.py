@@ -3,23 +3,16 @@
 
     tools/compare/readelf.py [--elfinfo PATH] FILE..
 
-Runs the built elfinfo and `llvm-readelf --elf-output-style=JSON -hSl` on each FILE and compares the numbers of the ELF
-header, the name and type of each section, and the type of each segment. A FILE may be a folder. PATH is
-crates/elfinfo/out/elfinfo under the repository root where it isn't given. A FILE that doesn't begin with the ELF magic
-number is passed over silently.
-
-Each difference is a line `FILE: field: elfinfo says X, readelf says Y`, and the last line holds the counts. What elfinfo
-refuses by design is counted as an expected refusal. The results of elfinfo's own checks aren't compared: the check line,
-what follows the type of a segment, and the hash line. Where a number stands in section 0 (extended numbering), the
-fields of the ELF header are compared as they stand there, and the lists go by section 0. The exit status is 0 if there
-is no difference, 1 if there is one, and 2 if the comparison couldn't be run.
+`llvm-readelf -hSl` has the numbers of the ELF header, the name and type of each section, and the type of each segment.
+What elfinfo refuses by design is counted as an expected refusal. The results of elfinfo's own checks aren't compared: the
+check line, what follows the type of a segment, and the hash line. Where a number stands in section 0 (extended numbering),
+the fields of the ELF header are compared as they stand there, and the lists go by section 0.
 """
 import re
 import sys
 from typing import Dict, NamedTuple
 
-import comparing
-from comparing import Tally, llvm, parts, raw, read_elf, run
+from comparing import Tally, compare_all, llvm, parts, raw, run
 
 # The number of each name that elfinfo prints, by the numbers that the gABI gives. A name with its number in brackets,
 # as `Other(22)`, stands for none of these.
@@ -179,10 +172,8 @@ def compare_lists(path: str, says: Report, reads: dict, tally: Tally) -> None:
         tally["expected errors"] += kind in TYPE_REFUSALS
 
 
-def compare_file(path: str, elfinfo: str, tally: Tally) -> None:
+def compare(path: str, elfinfo: str, tally: Tally) -> None:
     """Runs both programs on a file and compares what they print."""
-    if not read_elf(path):
-        return
     tally["files"] += 1
     status, own, errors = run([elfinfo, path])
     reads = llvm(path, "-h", "-S", "-l")
@@ -193,15 +184,10 @@ def compare_file(path: str, elfinfo: str, tally: Tally) -> None:
         else:
             tally.differ(path, "file", f"status {status} ({errors.strip()})", f"{sorted(reads)}")
         return
-    try:
-        says = read_elfinfo(own)
-    except ValueError as strange:
-        tally.differ(path, "output", f"'{strange}'", "no such line")
-        return
+    says = read_elfinfo(own)
     compare_header(path, says, reads["ElfHeader"], tally)
     compare_lists(path, says, reads, tally)
 
 
 if __name__ == "__main__":
-    compared = Tally("elfinfo", "sections", "segments", "expected errors")
-    sys.exit(comparing.compare_all(__doc__, compared, lambda path, elfinfo: compare_file(path, elfinfo, compared)))
+    sys.exit(compare_all(__doc__, Tally("elfinfo", "sections", "segments", "expected errors"), compare))
