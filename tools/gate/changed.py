@@ -31,8 +31,8 @@ class Change:
     functions: list = dataclasses.field(default_factory=list)
 
 
-def git(*words: str) -> str:
-    return subprocess.run(["git", *words], cwd=ROOT, capture_output=True, text=True, check=True).stdout
+def git(*words: str, check=True) -> str:
+    return subprocess.run(["git", *words], cwd=ROOT, capture_output=True, text=True, check=check).stdout
 
 
 def base(given=None) -> str:
@@ -53,8 +53,7 @@ def changed_files(commit: str) -> list:
 
 def changed_lines(commit: str, path: str):
     """The lines of a file as it stands that differ from the commit; None where it is new or gone."""
-    known = subprocess.run(["git", "cat-file", "-e", f"{commit}:{path}"], cwd=ROOT, capture_output=True, check=False)
-    if known.returncode or not (ROOT / path).exists():
+    if not git("cat-file", "-t", f"{commit}:{path}", check=False) or not (ROOT / path).exists():
         return None
     said = git("diff", "--unified=0", commit, "--", path)
     spans = [(int(first), 1 if count is None else int(count)) for first, count in (it.groups() for it in HUNK.finditer(said))]

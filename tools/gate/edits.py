@@ -61,20 +61,14 @@ class EditedCrate(Crate):
 
     def read_edit(self, path: pathlib.Path) -> Edit:
         """The edit of a file, with a fault where it can't be tried."""
-        file, old, changes, functions, clause = "", "", [], set(), ""
+        changes, functions, said = [], set(), {}
         for line in path.read_text(encoding="utf-8").split("\n"):
             word, _, text = line.partition(":")
-            text = text.removeprefix(" ")
-            if word == "file":
-                file = text.strip()
-            elif word == "old":
-                old = text
-            elif word == "new":
-                changes.append((file, old, text))
-            elif word == "clause":
-                clause = text.strip()
-        folder = path.parent.relative_to(self.folder / "wrong-bodies")
-        edit = Edit(self.name, str(folder / path.stem), changes, functions, clause=clause)
+            said[word] = text.removeprefix(" ")
+            if word == "new":
+                changes.append((said["file"].strip(), said["old"], said["new"]))
+        name = "/".join(path.relative_to(self.folder).with_suffix("").parts[1:])
+        edit = Edit(self.name, name, changes, functions, clause=said.get("clause", "").strip())
         try:
             self.changed([edit])
         except ValueError as error:

@@ -35,11 +35,11 @@ import concurrent.futures
 import dataclasses
 import pathlib
 import shutil
-import subprocess
 import sys
 import tempfile
 import threading
 
+import changed
 from edit_rooms import Room, check
 from edits import BATCH, Edit, EditedCrate, batches_of
 from pages import sources
@@ -174,32 +174,13 @@ class Trial:
         print(f"{len(self.refused)} refused, {len(self.failed)} failed")
         return 1 if self.failed or not (self.refused or self.may_be_empty) else 0
 
-    def compile(self) -> int:
-        """Says of the edits that don't compile why."""
+    def alone(self, faults, what: str) -> int:
+        """Prints the faults that a function finds in a copy of each crate, one crate after the other."""
         for task in self.tasks:
             with tempfile.TemporaryDirectory(prefix="wrong-bodies-") as rooms:
-                room = Room(self.root, task.crate, task.below, pathlib.Path(rooms, task.crate.name))
-                for batch in task.batches:
-                    for edit, why in room.uncompiled(batch):
-                        self.tell(edit, "", f"it does not compile: {why}")
-            print(f"{task.crate.name}: {sum(map(len, task.batches))} edits compiled", flush=True)
-        print(f"{len(self.failed)} failed")
-        return 1 if self.failed else 0
-
-    def right(self) -> int:
-        """Tries the right body of each function that edits change beside itself: where it isn't proved there, that a
-        wrong one is refused there says nothing."""
-        for task in self.tasks:
-            clauses = {(it.beside(), it.clause if it.inside else "") for batch in task.batches for it in batch if it.beside()}
-            clauses = sorted(clauses, key=lambda it: (it[0].file, it[0].first, it[1]))
-            edits = [Edit(task.crate.name, f"{one.path} {clause}".strip(), [], {one}, clause=clause) for one, clause in clauses]
-            with tempfile.TemporaryDirectory(prefix="wrong-bodies-") as rooms:
-                room = Room(self.root, task.crate, task.below, pathlib.Path(rooms, task.crate.name))
-                for some in (edits[at : at + BATCH] for at in range(0, len(edits), BATCH)):
-                    # One alone would stand in its own place.
-                    for edit, goal in room.left_open(some + edits[:1] * (len(some) == 1)):
-                        self.tell(edit, "", f"its right body is not proved beside it: {goal}")
-            print(f"{task.crate.name}: {len(edits)} right bodies tried", flush=True)
+                for edit, fault in faults(task, Room(self.root, task.crate, task.below, pathlib.Path(rooms, task.crate.name))):
+                    self.tell(edit, "", fault)
+            print(f"{task.crate.name}: {what}", flush=True)
         print(f"{len(self.failed)} failed")
         return 1 if self.failed else 0
 
@@ -215,13 +196,28 @@ class Trial:
         return 1 if self.failed else 0
 
 
+def uncompiled(task: Task, room: Room):
+    """The edits that don't compile, and why."""
+    return [(edit, f"it does not compile: {why}") for batch in task.batches for edit, why in room.uncompiled(batch)]
+
+
+def unproved(task: Task, room: Room):
+    """The functions that edits change, and whose right body isn't proved beside itself: that a wrong one is refused there says
+    nothing."""
+    clauses = {(it.beside(), it.clause if it.inside else "") for batch in task.batches for it in batch if it.beside()}
+    clauses = sorted(clauses, key=lambda it: (it[0].file, it[0].first, it[1]))
+    edits = [Edit(task.crate.name, f"{one.path} {clause}".strip(), [], {one}, clause=clause) for one, clause in clauses]
+    for some in (edits[at : at + BATCH] for at in range(0, len(edits), BATCH)):
+        # One alone would stand in its own place.
+        for edit, goal in room.left_open(some + edits[:1] * (len(some) == 1)):
+            yield edit, f"its right body is not proved beside it: {goal}"
+
+
 class Since:
     """The functions that changed since a commit, those of which a definition changed that their clauses lead to, and
     names of edits that count besides."""
 
     def __init__(self, commit: str, names=()):
-        import changed
-
         base, self.names = changed.base(commit), names
         self.functions = {(name, one.file, one.path) for name, change in changed.changes(base).items() for one in change.functions}
         self.functions |= changed.Reach(base).functions(sources.crates())
@@ -307,20 +303,10 @@ def must_stay() -> list:
     return [it for it in lines if it and not it.startswith("#")]
 
 
-def lost() -> list:
-    """The names of edits that must stay, and that no edit has."""
-    there = {it.stem for folder in ("wrong-bodies/*", "must-fail") for it in ROOT.glob(f"crates/*/{folder}/*.edit")}
-    return [it for it in must_stay() if it not in there]
-
-
-def git(*words: str) -> subprocess.CompletedProcess:
-    return subprocess.run(["git", *words], cwd=ROOT, capture_output=True, text=True, check=False)
-
-
 def of_gate():
     """What the gate tries; None for all, where the commit of the last whole run isn't known here."""
     commit = REFUSED_AT.read_text(encoding="utf-8").strip() if REFUSED_AT.exists() else ""
-    if not commit or git("cat-file", "-e", f"{commit}^{{commit}}").returncode:
+    if not commit or not changed.git("cat-file", "-t", commit, check=False).startswith("commit"):
         print(f"{REFUSED_AT.name}: commit {commit or 'none'} is not here, so that all edits are tried")
         return None
     return Since(commit, set(must_stay()))
@@ -328,37 +314,33 @@ def of_gate():
 
 def store() -> int:
     """Stores the commit at which all edits were refused."""
-    if git("diff", "--quiet", "HEAD", "--", "crates").returncode:
+    if changed.git("diff", "HEAD", "--", "crates"):
         print("crates/ differs from the last commit, so that none is stored")
         return 1
-    REFUSED_AT.write_text(git("rev-parse", "HEAD").stdout, encoding="utf-8")
+    REFUSED_AT.write_text(changed.git("rev-parse", "HEAD"), encoding="utf-8")
     return 0
 
 
 def main() -> int:
     words = argparse.ArgumentParser(description=__doc__, formatter_class=argparse.RawDescriptionHelpFormatter)
     words.add_argument("--jobs", type=int, default=2, help="how many checks run side by side (each takes some 2 GB)")
-    words.add_argument("--self-test", action="store_true", help="try the script on a crate of three functions")
-    words.add_argument("--since", metavar="COMMIT", help="only edits of functions that changed since this commit, and edits that are new")
-    words.add_argument("--gate", action="store_true", help="only those that must stay, and those since the commit of the last whole run")
-    words.add_argument("--all", action="store_true", help="all; store the commit if each is refused")
-    words.add_argument("--proved", action="store_true", help="each crate is proved as it stands, and isn't checked first")
-    words.add_argument("--list", action="store_true", help="print the batches, and try none")
-    words.add_argument("--compile", action="store_true", help="say only which edits don't compile")
-    words.add_argument("--right", action="store_true", help="try right bodies in place of the wrong ones; they must be proved")
+    words.add_argument("--since", metavar="COMMIT")
+    for flag in ("gate", "all", "proved", "list", "compile", "right", "self-test"):
+        words.add_argument(f"--{flag}", action="store_true")
     words.add_argument("names", nargs="*", metavar="NAME", help="a crate, a topic or an edit")
     given = words.parse_args()
     if given.self_test:
         return self_test()
-    if missing := lost():
+    there = {it.stem for folder in ("wrong-bodies/*", "must-fail") for it in ROOT.glob(f"crates/*/{folder}/*.edit")}
+    if missing := [it for it in must_stay() if it not in there]:
         print(f"FAILED: no edit has the name {', '.join(missing)}")
         return 1
     since = of_gate() if given.gate else Since(given.since) if given.since else None
     trial = Trial(ROOT, given.names, max(given.jobs, 1), since, given.proved)
     if given.compile:
-        return trial.compile()
+        return trial.alone(uncompiled, "its edits were compiled")
     if given.right:
-        return trial.right()
+        return trial.alone(unproved, "its right bodies were tried")
     if given.list:
         return trial.list()
     return trial.run() or (store() if given.all and not given.names else 0)
