@@ -71,19 +71,14 @@ def replaced(text: bytes, parts: dict) -> bytes:
     return text
 
 
-def shown(case: Case, room: str) -> bytes:
-    """What readelf shows of the changed file."""
-    ran = subprocess.run(["readelf", *case.readelf.split(), "names.elf"], cwd=room, capture_output=True, env={**os.environ, "LC_ALL": "C"})
-    return ran.stdout
-
-
 def unlike(case: Case, built: dict, room: str) -> int:
     """Prints what readelf and each build of the program say, and returns how often that isn't as it must be."""
     held = (CRATES / case.file).read_bytes()
     changed = replaced(held, {old + b"\0": new + b"\0" for old, new in case.names.items()})
     assert len(changed) == len(held), case.file
     pathlib.Path(room, "names.elf").write_bytes(changed)
-    by_readelf, count = shown(case, room), 0
+    command, environment = ["readelf", *case.readelf.split(), "names.elf"], {**os.environ, "LC_ALL": "C"}
+    by_readelf, count = subprocess.run(command, cwd=room, capture_output=True, env=environment, check=False).stdout, 0
     for name in case.names.values():
         wanted = name if case.readelf.startswith("-d") else escaped(name)
         if wanted not in by_readelf:
