@@ -40,7 +40,7 @@ bring() {
     return 1
 }
 
-# A program, its packages, whether the gate can't do without it, and what calls it.
+# A program, its packages, whether the gate can't do without it (`wished`: it can, and root installs it), and what calls it.
 while IFS='|' read -r program packages kind for; do
     older=""
     [ "$program" != cargo ] || older=" with Rust $rust or newer"
@@ -70,8 +70,8 @@ node|nodejs|optional|checks of the page outside of a browser
 chromedriver|chromium-driver chromium|optional|tools/web/web.sh --test
 pkg-config|pkg-config|optional|tools/exports/try_package.sh, the commands with pkg-config
 Python's ensurepip|python3-venv|needed|tools/exports/try_package.sh, the Python wheel
-Python's pytest|python3-pytest|optional|tools/exports/python.sh
-Python's elftools|python3-pyelftools|optional|tools/exports/python.sh
-Python's selenium|python3-selenium|optional|tools/web/web.sh --test
+Python's pytest|python3-pytest|wished|tools/exports/python.sh
+Python's elftools|python3-pyelftools|wished|tools/exports/python.sh
+Python's selenium|python3-selenium|wished|tools/web/web.sh --test
 END
 exit $((missing > 0))
