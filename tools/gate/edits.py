@@ -209,5 +209,4 @@ def batches_of(crate: EditedCrate, edits) -> list:
     for edit in sorted(edits, key=rank):
         batch = next((it for it in batches if joins(it, edit)), None)
         batch.append(edit) if batch else batches.append([edit])
-    # The longest begin first, so that none is the last to end.
-    return sorted(batches, key=len, reverse=True)
+    return batches

@@ -55,23 +55,23 @@ SLOWEST = 12
 
 @dataclasses.dataclass
 class Task:
-    """A crate whose edits are to be tried: the crates below it, its batches, and copies of it that are free."""
+    """A crate whose edits are to be tried: the crates below it, its batches, copies of it that are free, and how many of the
+    batches haven't begun."""
 
     crate: EditedCrate
     below: list
     batches: list
-    state: str
     rooms: list = dataclasses.field(default_factory=list)
+    left: int = 0
 
 
 class Trial:
     """All edits of a repository that are to be tried, by several workers."""
 
     def __init__(self, root: pathlib.Path, names, jobs: int, since=None, proved=False):
-        self.root, self.jobs, self.lock = root, jobs, threading.Lock()
+        self.root, self.jobs, self.proved, self.lock = root, jobs, proved, threading.Lock()
         self.of_crate = collections.Counter()
-        self.refused, self.failed, self.times = [], [], []
-        self.tasks, self.idle, self.made = [], jobs, 0
+        self.refused, self.failed, self.times, self.tasks = [], [], [], []
         self.may_be_empty = since is not None
         used = sources.crates(root)
         for name in used:
@@ -85,7 +85,7 @@ class Trial:
                     self.tell(edit, "", edit.fault)
             batches = batches_of(crate, [it for it in edits if not it.fault])
             if batches:
-                self.tasks.append(Task(crate, sources.below(used, name), batches, "proved" if proved else "unproved"))
+                self.tasks.append(Task(crate, sources.below(used, name), batches))
 
     @staticmethod
     def is_named(edit: Edit, word: str) -> bool:
@@ -97,72 +97,50 @@ class Trial:
             (self.failed if fault else self.refused).append(edit.label())
             print(f"{edit.label()}: " + (f"FAILED: {fault}" if fault else f"refused: {goal}")[:200], flush=True)
 
-    def prove(self, task: Task, jobs: int):
-        """Checks a crate as it stands."""
+    def is_proved(self, task: Task) -> bool:
+        """Checks a crate as it stands, unless that has been done."""
+        if self.proved:
+            return True
         folder = task.crate.folder
-        ran = [check(folder, "--jobs", str(jobs))]
+        ran = [check(folder, "--jobs", str(self.jobs))]
         # The check of a crate above would build it, and so change what is being copied.
         if not ran[0].status and any(task.crate.name in it.below for it in self.tasks):
-            ran.append(check(folder, "--jobs", str(jobs), verb="lib"))
-        is_proved = not any(it.status for it in ran)
-        with self.lock:
-            self.of_crate["the crates as they stand"] += sum(it.seconds for it in ran)
-            task.state = "proved" if is_proved else "not proved"
-            if not is_proved:
-                self.failed.append(task.crate.name)
-                print(f"{task.crate.name}: FAILED: it is not proved as it stands", flush=True)
+            ran.append(check(folder, "--jobs", str(self.jobs), verb="lib"))
+        self.of_crate["the crates as they stand"] += sum(it.seconds for it in ran)
+        if any(it.status for it in ran):
+            self.failed.append(task.crate.name)
+            print(f"{task.crate.name}: FAILED: it is not proved as it stands", flush=True)
+        return not any(it.status for it in ran)
 
-    def work(self, task: Task, batch: list, room, place: pathlib.Path):
+    def work(self, task: Task, batch: list, place: pathlib.Path):
         """Tries a batch in a copy of its crate, which is left for the next one."""
+        with self.lock:
+            task.left -= 1
+            room = task.rooms.pop() if task.rooms else None
         room = room or Room(self.root, task.crate, task.below, place)
         for edit, goal, fault in room.judge(batch):
             self.tell(edit, goal, fault)
         with self.lock:
             self.of_crate[task.crate.name] += sum(it[0] for it in room.times)
             self.times, room.times = self.times + room.times, []
-            is_wanted = len(task.rooms) < len(task.batches)
+            is_wanted = len(task.rooms) < task.left
             if is_wanted:
                 task.rooms.append(room)
         # A copy of a large crate takes a gigabyte.
         if not is_wanted:
             shutil.rmtree(room.folder.parent.parent, ignore_errors=True)
 
-    def startable(self, rooms: str):
-        """What can begin now: a call, and how many workers it takes. A crate comes after those below it."""
-        unproved = [it for it in self.tasks if it.state == "unproved"]
-        names = {it.crate.name for it in self.tasks if it.state in ("unproved", "checked now")}
-        ready = [it for it in unproved if not names & set(it.below)]
-        proved = [it for it in self.tasks if it.state == "proved" and it.batches]
-        checks_one = any(it.state == "checked now" for it in self.tasks)
-        if self.idle and ready and not checks_one:
-            # One at a time, since a check locks the crates below. Others wait for it: one worker is for batches.
-            jobs = min(self.idle, max(1, self.jobs // 2, self.idle - bool(proved)))
-            ready[0].state = "checked now"
-            return (lambda: self.prove(ready[0], jobs)), jobs
-        if self.idle and proved:
-            # The longest batch, so that none is the last to end.
-            task = max(proved, key=lambda it: len(it.batches[0]))
-            batch, room = task.batches.pop(0), task.rooms.pop() if task.rooms else None
-            self.made += 1
-            place = pathlib.Path(rooms, f"{task.crate.name}-{self.made}")
-            return (lambda: self.work(task, batch, room, place)), 1
-        return None, 0
-
     def run(self) -> int:
-        running = {}
+        # Lower crates first, since a check locks the crates below.
+        proved = [it for it in self.tasks if self.is_proved(it)]
+        for task in proved:
+            task.left = len(task.batches)
+        # The longest batch first, so that none is the last to end.
+        batches = sorted(((task, batch) for task in proved for batch in task.batches), key=lambda it: -len(it[1]))
         with tempfile.TemporaryDirectory(prefix="wrong-bodies-") as rooms, concurrent.futures.ThreadPoolExecutor(self.jobs) as pool:
-            while True:
-                with self.lock:
-                    call, workers = self.startable(rooms)
-                if call:
-                    self.idle -= workers
-                    running[pool.submit(call)] = workers
-                    continue
-                if not running:
-                    break
-                for it in concurrent.futures.wait(running, return_when=concurrent.futures.FIRST_COMPLETED).done:
-                    self.idle += running.pop(it)
-                    it.result()
+            places = (pathlib.Path(rooms, str(number)) for number in range(len(batches)))
+            for it in [pool.submit(self.work, task, batch, place) for (task, batch), place in zip(batches, places)]:
+                it.result()
         for name, seconds in self.of_crate.items():
             print(f"{name}: {seconds:.0f} processor seconds")
         if self.times:
