@@ -19,7 +19,7 @@ import re
 import subprocess
 import sys
 import tempfile
-from typing import List, NamedTuple, Optional, Tuple
+from typing import List, NamedTuple, Tuple
 
 from comparing import ABOUT, ROOT, Finished, Tally, ended, files_of, llvm, parser_of, parts, read_elf, run
 

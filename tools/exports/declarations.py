@@ -16,6 +16,7 @@ import listing
 import refusals
 import statuses
 from listing import FILLED, IN, OUT, ROOT, SIZES, SLICE, VALUE
+from pages.writing import differing, parser_of
 
 HEADER = ROOT / "bindings/include/xmas_elf.h"
 RUST = ROOT / "bindings/rust/src"
@@ -282,19 +283,16 @@ def differing_sources(listed):
 
 
 def main():
-    listed = listing.read()
+    is_check, listed = parser_of(__doc__).parse_args().check, listing.read()
     wanted = {HEADER: header_text(listed), RUST / "records.rs": records_text(listed), RUST / "ffi.rs": ffi_text(listed)}
     wanted[RUST / "constants.rs"] = constants_text()
     wanted[RUST / "calls.rs"] = calls.rust_text(listed, lambda name: rust_type(name, listed))
     wanted[ROOT / "bindings/c/calls.h"] = calls.c_text(listed, lambda name: c_type(name, listed))
-    if "--check" not in sys.argv[1:]:
-        for path, text in wanted.items():
-            path.write_text(text, encoding="utf-8")
-        return 0
-    named = {name for one in listed.functions for name in one.statuses + one.item_statuses + one.never}
-    failed = [f"the list names the status {name}, which is none" for name in sorted(named - set(ALL_STATUSES))]
-    failed += [f"{path}: run tools/exports/declarations.py" for path, text in wanted.items() if not path.exists() or path.read_text(encoding="utf-8") != text]
-    failed += differing_sources(listed) + refusals.differing(listed)
+    failed = differing(wanted, is_check)
+    if is_check:
+        named = {name for one in listed.functions for name in one.statuses + one.item_statuses + one.never}
+        failed += [f"the list names the status {name}, which is none" for name in sorted(named - set(ALL_STATUSES))]
+        failed += differing_sources(listed) + refusals.differing(listed)
     print("\n".join(failed + [f"{len(listed.functions)} exports, {len(listed.structs)} structs, {len(failed)} differences"]))
     return 1 if failed else 0
 
