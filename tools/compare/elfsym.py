@@ -22,7 +22,7 @@ from collections import defaultdict
 from pathlib import Path
 from typing import Dict, List, NamedTuple, Set, Tuple
 
-from comparing import ABSOLUTE, LOCAL, THREAD, UNDEFINED, Tally, compare_all, dynamic_symbols, read_elf, run, texts_of
+from comparing import ABSOLUTE, LOCAL, THREAD, UNDEFINED, Symbol, Tally, compare_all, dynamic_symbols, read_elf, run, texts_of
 
 # The types that a dynamic linker takes: none, an object, a function, a common block, thread-local, an indirect function.
 TYPES = {0, 1, 2, 5, 6, 10}
@@ -30,19 +30,9 @@ TYPES = {0, 1, 2, 5, 6, 10}
 # How many names are asked for in one run.
 AT_ONCE = 300
 
-Answer = Tuple[int, int]
-
-
-class Symbol(NamedTuple):
-    """A symbol that a dynamic linker takes: its value and size, its version or none, and whether it isn't hidden."""
-
-    answer: Answer
-    version: str
-    default: bool
-
 
 class Listing(NamedTuple):
-    """What llvm-readelf lists: the versions of each name, the symbols that count of each, and what is needed."""
+    """What readelf lists: the versions of each name, the symbols that count of each, and what is needed."""
 
     names: Dict[str, Set[str]]
     symbols: Dict[str, List[Symbol]]
@@ -50,36 +40,22 @@ class Listing(NamedTuple):
 
 
 def read_symbols(path: str) -> Listing:
-    """What llvm-readelf lists of the dynamic symbols and of the needed libraries."""
     listing = Listing(defaultdict(set), defaultdict(list), texts_of(path, "NEEDED"))
     for it in filter(lambda it: it.name, dynamic_symbols(path)):
         listing.names[it.name] |= {it.version, ""}
         has_place = it.value or it.section == ABSOLUTE or (it.kind == THREAD and it.section != UNDEFINED)
         if it.kind in TYPES and has_place and it.binding != LOCAL:
-            listing.symbols[it.name].append(Symbol((it.value, it.size), it.version, it.is_shown))
+            listing.symbols[it.name].append(it)
     return listing
 
 
-def wanted_of(symbols: List[Symbol], version: str) -> Set[Answer]:
-    """The answers that are right for a name with these symbols, asked with a version or without one."""
-    plain = {it.answer for it in symbols if not it.version}
+def wanted_of(symbols: List[Symbol], version: str) -> Set[Tuple[int, int]]:
+    """The values and sizes that are right for a name with these symbols, asked with a version or without one."""
+    plain = {(it.value, it.size) for it in symbols if not it.version}
     if version:
-        return plain | {it.answer for it in symbols if it.version == version}
-    defaults = [it.answer for it in symbols if it.default]
+        return plain | {(it.value, it.size) for it in symbols if it.version == version}
+    defaults = [(it.value, it.size) for it in symbols if it.is_shown]
     return plain or set(defaults if len(defaults) == 1 else [])
-
-
-def compare_names(path: str, file: str, elfsym: str, reads: Listing, tally: Tally) -> None:
-    """Asks for each name and version that readelf lists, and compares the values and sizes."""
-    names = [f"{name}@{it}" if it else name for name in sorted(reads.names) for it in sorted(reads.names[name])]
-    for asked in (names[at : at + AT_ONCE] for at in range(0, len(names), AT_ONCE)):
-        status, own, said = run([elfsym, file, *asked])
-        lines = own.rstrip("\n").split("\n") if own else []
-        if status != 0 or len(lines) != len(asked):
-            tally.differ(path, "names", f"status {status}: {said.strip()}", f"{len(asked)} names")
-            return
-        for reference, line in zip(asked, lines):
-            compare_line(path, reference, line, reads, tally)
 
 
 def compare_line(path: str, reference: str, line: str, reads: Listing, tally: Tally) -> None:
@@ -87,26 +63,26 @@ def compare_line(path: str, reference: str, line: str, reads: Listing, tally: Ta
     name, _, version = reference.partition("@")
     symbols = reads.symbols.get(name, [])
     wanted = wanted_of(symbols, version)
-    if not wanted:
-        tally["others"] += 1
-        if line != f"{reference}: none":
-            tally.differ(path, reference, line, "none")
-        return
-    if version:
-        tally["names with a version that has a symbol"] += 1
-    else:
-        tally["names with a symbol"] += 1
-        tally["of them with several values"] += len({it.answer for it in symbols}) > 1
-    if line not in {f"{reference} {value:#x} {size:#x}" for value, size in wanted}:
-        tally.differ(path, reference, line, sorted(wanted))
+    tally["others" if not wanted else "names with a version that has a symbol" if version else "names with a symbol"] += 1
+    tally["of them with several values"] += bool(wanted) and not version and len({(it.value, it.size) for it in symbols}) > 1
+    if line not in ({f"{reference} {value:#x} {size:#x}" for value, size in wanted} or {f"{reference}: none"}):
+        tally.differ(path, reference, line, sorted(wanted) or "none")
 
 
 def compare_file(path: str, file: str, elfsym: str, reads: Listing, tally: Tally) -> None:
     """Compares all that elfsym says of a file, which may be a copy, with what readelf lists."""
     tally["files"] += 1
-    compare_names(path, file, elfsym, reads, tally)
+    names = [f"{name}@{it}" if it else name for name in sorted(reads.names) for it in sorted(reads.names[name])]
+    for asked in (names[at : at + AT_ONCE] for at in range(0, len(names), AT_ONCE)):
+        status, own, said = run([elfsym, file, *asked])
+        lines = own.split("\n")[:-1]
+        if status != 0 or len(lines) != len(asked):
+            tally.differ(path, "names", f"status {status}: {said.strip()}", f"{len(asked)} names")
+            break
+        for reference, line in zip(asked, lines):
+            compare_line(path, reference, line, reads, tally)
     status, own, said = run([elfsym, "--needed", file])
-    needed = own.rstrip("\n").split("\n") if own else []
+    needed = own.split("\n")[:-1]
     tally["needed libraries"] += len(needed)
     if status != 0 or needed != reads.needed:
         tally.differ(path, "needed", f"{needed} {said.strip()}", reads.needed)
