@@ -4,25 +4,18 @@
     tools/compare/bindings.py [--elfbind PATH] [--dir DIR].. [--damaged N] [--seed S] [--times N] PROGRAM..
 
 The programs are those given, and all dynamically linked ELF programs in the folders DIR. The files of each are the
-program and its libraries in the order in which the linker lists them (LD_TRACE_LOADED_OBJECTS=1, as ldd does),
-without linux-vdso. elfbind is run on them, and the linker binds all references at once and prints each
-(LD_DEBUG=bindings LD_BIND_NOW=1, with LD_WARN=1 beside LD_TRACE_LOADED_OBJECTS=1, so that it runs nothing). The two
-are compared as sets of a file, the file it is bound to, the name and the version. Left out on both sides are the
-linker's own look-ups: those of linux-vdso and of the linker itself, __libc_early_init, and calloc, free, malloc and
-realloc of the program. Status 1 of elfbind and an undefined symbol that the linker reports must come together.
+program and its libraries in the order in which the linker lists them (as ldd does), without linux-vdso. elfbind is run on
+them, and the linker binds all references at once and prints each (BINDINGS), so that it runs nothing. The two are compared
+as sets of a file, the file it is bound to, the name and the version. Left out on both sides are the linker's own look-ups
+(`is_own`). Status 1 of elfbind and an undefined symbol that the linker reports must come together.
 
-Each difference is a line with its cause:
-
-- unique: the symbol is STB_GNU_UNIQUE, which glibc merges by name over the process;
-- ifunc: the symbol is an indirect function;
-- unexplained: none of these.
+Each difference is a line with its cause: `unique`, since glibc merges symbols of type STB_GNU_UNIQUE by name over the
+process; `ifunc`, an indirect function; or `unexplained`, for which the exit status is 1.
 
 --damaged N runs elfbind on N copies of the files of the program with fewest bindings, with one damaged, at random
 from the seed S: it must end within two seconds, with status 0 or 1. --times N prints for the N programs with most
 bindings the least time of five runs of elfbind, and of the linker, with and without binding (it prints only the
 libraries then).
-
-The last line holds the counts. The exit status is 0 if there is no difference that is unexplained.
 """
 import functools
 import os

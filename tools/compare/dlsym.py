@@ -3,13 +3,11 @@
 
     tools/compare/dlsym.py [--jobs N] [--differences N] [FILE..]
 
-Takes the shared libraries FILE, else those of the system: /usr/lib/x86_64-linux-gnu/*.so.*. Each is loaded in a
-process of its own by dlopen with RTLD_NOW and RTLD_LOCAL; one that can't be loaded, or whose process doesn't end by
-itself, is passed over and counted. Asked for are each name of `llvm-readelf --dyn-syms`, by `dlsym` and by
-`xmas_elf_find_symbol` without a version; each name with each version listed with it, by `dlvsym` and with that
-version; and each name that has a version with the versions of other names of the file, which should find nothing.
-Compared are whether a symbol is found in the library itself, and its address less that at which the library is
-loaded.
+Takes the shared libraries FILE, else those of the system: /usr/lib/x86_64-linux-gnu/*.so.*. Each is loaded in a process of
+its own; one that can't be loaded, or whose process doesn't end by itself, is passed over and counted. Asked for are each name
+of `llvm-readelf --dyn-syms` without a version, and with each version listed with it; and each name that has a version with
+two versions of other names of the file, which should find nothing. Compared are whether a symbol is found in the library
+itself, and its address less that at which the library is loaded.
 
 Not compared, and counted apart, are GNU's indirect functions, for which dlsym calls the function that chooses one,
 and thread-local symbols, which have an address in each thread. So are names that dlsym finds in another library,

@@ -1,15 +1,7 @@
 #!/usr/bin/env python3
 """Wants the prover to refuse each wrong body of crates/NAME/wrong-bodies/TOPIC/*.edit.
 
-A function is proved by the contracts of what it calls, and not by their bodies. So many edits are tried together, in
-one check of a copy of the crate, and each is judged by what is said of its own function. Of a free function or an
-inherent method each wrong body stands beside the right one, as a function of another name, with a copy of its proof;
-of its clauses all but that which the edit's line `clause:` names say nothing there. The method of a trait keeps its
-name, so one edit of it is made in its place. Every other function is a stand-in there: `loop {}` for its body, and
-for its proof a hole, since it has been proved. Any goal that is left open there will do while no edit of the batch
-changes a line outside a body in place; else it must be a goal of the contract. An edit of which that isn't said is
-tried alone and in place, among stand-ins and then in the whole crate, where any goal will do, since nothing else was
-changed. An edit fails that doesn't apply or compile, that changes nothing, or with which the crate is still proved.
+How they are tried, many in one check of a copy of their crate, stands in docs/WRONG_BODIES.md.
 
     tools/gate/wrong_bodies.py [--jobs N] [NAME..]    a NAME is that of a crate, a topic or an edit; none: all
     tools/gate/wrong_bodies.py --since COMMIT         those of functions that changed since this commit, or of which a
@@ -22,9 +14,6 @@ changed. An edit fails that doesn't apply or compile, that changes nothing, or w
     tools/gate/wrong_bodies.py --compile [NAME..]     only whether each edit compiles, some ten seconds a batch
     tools/gate/wrong_bodies.py --right [NAME..]       whether each right body is proved beside itself, as the wrong ones are tried
     tools/gate/wrong_bodies.py --self-test            whether the script itself tells right from wrong
-
-Since a wrong body is judged by the contract of its function, a change of another function's body doesn't make it
-right. A check of a batch is ended after some minutes (LIMIT), and each half of it is tried then.
 
 Each crate must be proved as it stands, and is checked first, unless `rt ci` has just proved it. At the end stand what
 the checks of each crate took, and the slowest ones. The last line is `N refused, M failed`.
