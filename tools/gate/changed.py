@@ -64,15 +64,12 @@ def changed_lines(commit: str, path: str):
 def read_source(change: Change, crate, commit: str, path: str):
     """Adds what changed in a source file of a crate."""
     file, lines = path.split("/", 2)[2], changed_lines(commit, path)
-    functions = [it for it in crate.functions if it.file == file]
     if lines is None:
         change.kind = "contracts"
-        change.functions += functions
+        change.functions += [it for it in crate.functions if it.file == file]
         return
-    text = crate.texts[file].split("\n")
-    for line in lines:
-        if re.match(r" *(//|$)", text[line - 1] if line <= len(text) else ""):
-            continue
+    text = [*crate.texts[file].split("\n"), ""]
+    for line in (it for it in lines if not re.match(r" *(//|$)", text[min(it, len(text)) - 1])):
         inner = crate.function_at(file, line)
         if inner is None or line <= inner.body:
             change.kind = "contracts"
@@ -150,8 +147,8 @@ def main() -> int:
         print(f"{change.kind} {name}")
         for one in change.functions:
             print(f"function {name} {one.file} {one.path}")
-    above = [name for name in under if name not in found and set(under[name]) & {it for it in found if found[it].kind != "data"}]
-    for name in sorted(above, key=lambda it: len(under[it])):
+    touched = {name for name, change in found.items() if change.kind != "data"}
+    for name in sorted((it for it in under if it not in found and touched & {*under[it]}), key=lambda it: len(under[it])):
         print(f"above {name}")
     return 0
 

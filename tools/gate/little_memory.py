@@ -118,10 +118,10 @@ def is_well(kind, end, whole, texts, before):
     if kind == "FAIL_MEMORY":
         return status == 1 and output == b"" and said in texts[:3]
     if kind == "FAIL_READ":
-        return (status, output, said) == (1, b"", read)
+        return end == (1, b"", read)
     if whole[0] == 0:
-        is_cut = before is None or len(output) == before
-        return status == 1 and said == write and whole[1].startswith(output) and output != whole[1] and is_cut
+        is_front = whole[1].startswith(output) and output != whole[1] and before in (None, len(output))
+        return (status, said) == (1, write) and is_front
     # What can't be said on standard error is passed over.
     return (status, output) == (1, b"") and whole[2].startswith(said) and said != whole[2]
 

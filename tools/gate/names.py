@@ -15,7 +15,7 @@ import subprocess
 import sys
 import tempfile
 
-from program_ends import CRATES, builds_of
+from program_ends import CRATES, builds_of, run
 
 
 @dataclasses.dataclass(frozen=True)
@@ -87,12 +87,11 @@ def unlike(case: Case, built: dict, room: str) -> int:
     written = {old: new if case.program == "elfnm" else escaped(new) for old, new in case.names.items()}
     wanted = replaced(replaced(case.kept, case.changed), written)
     for program in built[case.program]:
-        ran = subprocess.run([program, *case.words], cwd=room, capture_output=True, timeout=60)
-        if (ran.returncode, ran.stdout, ran.stderr) == (0, wanted, b""):
-            print(f"{program.name} writes names as it must: {case.file}")
-        else:
-            count += 1
-            print(f"{program.name} NOT AS IT MUST: {case.file}: wanted {wanted!r}, but got {ran}"[:1800])
+        ran = run(program, case.words, room)
+        is_well = (ran.returncode, ran.stdout, ran.stderr) == (0, wanted, b"")
+        count += not is_well
+        print(f"{program.name} writes names as it must: {case.file}" if is_well else
+              f"{program.name} NOT AS IT MUST: {case.file}: wanted {wanted!r}, but got {ran}"[:1800])
     return count
 
 

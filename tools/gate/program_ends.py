@@ -261,11 +261,9 @@ def unlike(program, built: pathlib.Path) -> int:
             pathlib.Path(room, os.fsdecode(name)).write_bytes(held)
         for ends in (told_ends, unwritten_ends, *([long_ends] if program.name == "elfinfo" else [])):
             for name, wanted, came in ends(program, built, room):
-                if came == wanted:
-                    print(f"{built.name} ends as it must: {name}")
-                else:
-                    count += 1
-                    print(f"{built.name} NOT AS IT MUST: {name}: wanted {wanted}, but got {came}"[:900])
+                count += came != wanted
+                how = "ends as it must" if came == wanted else "NOT AS IT MUST"
+                print(f"{built.name} {how}: {name}" + ("" if came == wanted else f": wanted {wanted}, but got {came}"[:900]))
     return count
 
 
