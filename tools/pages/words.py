@@ -40,15 +40,8 @@ PARTS = (
 
 # The greatest count of each page, and of the comments of each crate; what isn't here may have none.
 MOST = {
-    "crates/address_tests": 1,
     "crates/elf_callers": 80,
-    "crates/elfanswers": 34,
-    "crates/elfinfo": 1,
-    "crates/elfsections": 2,
     "crates/linking_callers": 38,
-    "crates/linking_tests": 9,
-    "crates/port_tests": 8,
-    "crates/worked_files": 2,
 }
 
 
