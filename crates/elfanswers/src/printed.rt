@@ -141,7 +141,7 @@ impl Display for Place {
     }
 }
 
-/// Writes the line of a call with what it results.
+/// Writes the line of a call with what it returns.
 pub fn tell<A: Display, W: Write>(call: &str, answer: &A, out: &mut W) -> io::Result<()> {
     writeln!(out, "{call} = {answer}")
 }
