@@ -24,6 +24,7 @@ import re
 import sys
 import tempfile
 import time
+import timeit
 from collections import Counter, defaultdict
 from pathlib import Path
 from typing import Dict, List, NamedTuple, Optional, Set, Tuple
@@ -95,11 +96,8 @@ def programs_in(folder: str) -> List[str]:
 
 def is_own(program: Program, file: str, name: str) -> bool:
     """Whether a look-up is the linker's own."""
-    own = real(program.linker)
-    return (
-        "linux-vdso" in file or "linux-gate" in file or real(file) == own
-        or name == "__libc_early_init" or (file == program.path and name in OWN_NAMES)
-    )
+    is_of_linker = "linux-vdso" in file or "linux-gate" in file or real(file) == real(program.linker)
+    return is_of_linker or name == "__libc_early_init" or (file == program.path and name in OWN_NAMES)
 
 
 class Bindings(NamedTuple):
@@ -176,28 +174,14 @@ def try_damaged(program: Program, elfbind: str, copies: int, seed: int, tally: T
     print(f"{copies} damaged copies: {dict(statuses)}, {longest:.2f} s at most")
 
 
-def least_time(command: List[str], **variables: str) -> float:
-    """The least time of five runs, in milliseconds."""
-    times = []
-    for _ in range(5):
-        began = time.monotonic()
-        run(command, **variables)
-        times.append(1000 * (time.monotonic() - began))
-    return min(times)
-
-
 def print_times(programs: List[Tuple[int, Program]], elfbind: str) -> None:
-    """Prints the time of elfbind on some programs, beside that in which the linker binds them."""
+    """Prints the least time of five runs of elfbind on some programs, beside that in which the linker binds them."""
+    least = lambda command, **variables: f"{1000 * min(timeit.repeat(lambda: run(command, **variables), number=1)):.1f} ms"
     for count, program in programs:
-        size = sum(os.path.getsize(file) for file in program.files)
-        command = [program.linker, program.path]
-        loading = least_time(command, **TRACE)
-        binding = least_time(command, **{name: held for name, held in BINDINGS.items() if name != "LD_DEBUG"})
-        print(
-            f"{program.path}: {count} bindings, {len(program.files)} files of {size / 1e6:.1f} MB:"
-            f" elfbind {least_time([elfbind, *program.files]):.1f} ms,"
-            f" the linker {binding:.1f} ms, of which {loading:.1f} ms without binding"
-        )
+        size, command = sum(os.path.getsize(file) for file in program.files), [program.linker, program.path]
+        binding = {name: held for name, held in BINDINGS.items() if name != "LD_DEBUG"}
+        print(f"{program.path}: {count} bindings, {len(program.files)} files of {size / 1e6:.1f} MB: elfbind {least([elfbind, *program.files])},"
+              f" the linker {least(command, **binding)}, of which {least(command, **TRACE)} without binding")
 
 
 def main() -> int:
