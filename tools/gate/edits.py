@@ -70,19 +70,16 @@ class EditedCrate(Crate):
         name = "/".join(path.relative_to(self.folder).with_suffix("").parts[1:])
         edit = Edit(self.name, name, changes, functions, clause=said.get("clause", "").strip())
         try:
-            self.changed([edit])
+            lines = self.lines_of(edit)
         except ValueError as error:
-            edit.fault = str(error)
+            lines, edit.fault = {}, str(error)
         if not changes or all(old == new for _, old, new in changes):
             edit.fault = "it changes nothing"
-        for at, (file, old, _) in enumerate([] if edit.fault else changes):
-            # An edit keeps the number of lines, so a line has its number before and behind the changes above it.
-            text = self.changed([Edit("", "", changes[:at], set())]).get(file, self.texts[file])
-            line = text.count("\n", 0, text.find(old)) + 1
-            if not text.split("\n")[line - 1].startswith(("use ", "ghost use ")):
-                one = self.function_at(file, line)
+        for file, at in lines:
+            if not self.texts[file].split("\n")[at].startswith(("use ", "ghost use ")):
+                one = self.function_at(file, at + 1)
                 functions.add(one)
-                edit.inside &= one is not None and one.body < line
+                edit.inside &= one is not None and one.body <= at
         return edit
 
     def lines_of(self, edit) -> dict:
