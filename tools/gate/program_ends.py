@@ -141,42 +141,25 @@ BIND_ENDS = ends_of(
     definitions_that_are_cut=failing("elfbind", ["caller", "cut.so"], "cut.so: Version record is cut off"),
     such_definitions_to_check=(["--check", "cut.so"], 1, b"cut.so: Version record is cut off\n", b""))
 
-SECTIONS = 1000
+# Where the section headers are of a file that a reader doesn't take at once, and how many there are in a long one.
+FAR, MANY = (1 << 20) + 4096, 1000
 
 
-def long_file() -> bytes:
-    """The file of strtab.elf with more sections, all of type ProgBits and with an empty name."""
-    start = 52 + 40 * SECTIONS
-    sections = bytearray(STRTAB[52:132]) + bytearray(40 * (SECTIONS - 2))
-    sections[56:60] = start.to_bytes(4, "little")
-    for index in range(2, SECTIONS):
+def larger(start: int, count: int) -> bytes:
+    """The file of strtab.elf with its section headers at an offset, and more of them, of type ProgBits and with an empty name."""
+    sections = bytearray(STRTAB[52:132]) + bytearray(40 * (count - 2))
+    sections[56:60] = (start + 40 * count).to_bytes(4, "little")
+    for index in range(2, count):
         sections[40 * index + 4] = 1
-    header = STRTAB[:48] + SECTIONS.to_bytes(2, "little") + STRTAB[50:52]
-    return header + bytes(sections) + STRTAB[132:]
+    header = STRTAB[:32] + start.to_bytes(4, "little") + STRTAB[36:48] + count.to_bytes(2, "little") + STRTAB[50:52]
+    return header + bytes(start - len(header)) + bytes(sections) + STRTAB[132:]
 
 
-def long_report() -> bytes:
-    lines = b"".join(b"%d Ok(ProgBits) = \n" % index for index in range(2, SECTIONS))
+def larger_report(start: int, count: int) -> bytes:
     first = b"1 Ok(StrTab) = .strtab\n"
-    report = REPORT.replace(b"sh_count:         2\n", b"sh_count:         %d\n" % SECTIONS)
-    return report.replace(first, first + lines)
-
-
-# More bytes than a reader takes at once.
-FAR = (1 << 20) + 4096
-
-
-def far_file() -> bytes:
-    """The file of strtab.elf with its sections behind a mebibyte of zeros."""
-    names = FAR + 80
-    sections = bytearray(STRTAB[52:132])
-    sections[56:60] = names.to_bytes(4, "little")
-    header = STRTAB[:32] + FAR.to_bytes(4, "little") + STRTAB[36:52]
-    return header + bytes(FAR - len(header)) + bytes(sections) + STRTAB[132:]
-
-
-def far_report() -> bytes:
-    return REPORT.replace(b"sh_offset:        52\n", b"sh_offset:        %d\n" % FAR)
+    lines = first + b"".join(b"%d Ok(ProgBits) = \n" % index for index in range(2, count))
+    report = REPORT.replace(b"sh_count:         2\n", b"sh_count:         %d\n" % count)
+    return report.replace(b"sh_offset:        52\n", b"sh_offset:        %d\n" % start).replace(first, lines)
 
 
 @dataclasses.dataclass(frozen=True)
@@ -231,8 +214,8 @@ def long_ends(program, built, room):
     """How the report ends of a file that a reader doesn't take at once, and a long one in a file that takes so many bytes
     and then fails: nothing comes after the fault."""
     ended = run(built, ["far.elf"], room)
-    yield "a file of more than a mebibyte", [0, far_report(), b""], [ended.returncode, ended.stdout, ended.stderr]
-    report = long_report()
+    yield "a file of more than a mebibyte", [0, larger_report(FAR, 2), b""], [ended.returncode, ended.stdout, ended.stderr]
+    report = larger_report(52, MANY)
     for limit in [*range(0, len(report), 2500), len(report) - 1, len(report)]:
         def allow_few_bytes():
             signal.signal(signal.SIGXFSZ, signal.SIG_IGN)
@@ -251,7 +234,7 @@ def unlike(program, built: pathlib.Path) -> int:
     count = 0
     files = {NOT_UTF8: STRTAB, b"cut.so": CUT_VERSIONS, b"narrow.so": (CRATES / "elfsections" / "data" / "narrow.so").read_bytes(),
         b"strtab.elf": STRTAB, b"empty.elf": b"", b"zeros.elf": bytes(16), b"three.elf": STRTAB[:3], b"link.elf": debug_link(),
-        b"hash.elf": hash_file(), b"far.elf": far_file(), b"long.elf": long_file(), b"linked.so": LINKED, b"needs.so": NEEDS,
+        b"hash.elf": hash_file(), b"far.elf": larger(FAR, 2), b"long.elf": larger(52, MANY), b"linked.so": LINKED, b"needs.so": NEEDS,
         b"stripped.so": (CRATES / "elfsym" / "data" / "stripped.so").read_bytes(),
         **{name.encode(): (BOUND / name).read_bytes() for name in WIDE_BOUND + NARROW_BOUND},
         **{b"damaged-%d.so" % place: damaged(place, byte) for place, byte, _ in NEEDS_REFUSALS}}
