@@ -40,8 +40,6 @@ PARTS = (
 
 # The greatest count of each page, and of the comments of each crate; what isn't here may have none.
 MOST = {
-    "crates/elf_callers": 80,
-    "crates/linking_callers": 38,
 }
 
 
