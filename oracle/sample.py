@@ -9,6 +9,7 @@ otherwise: a panic is a refusal there, and the like. `tools/compare/rust.py` has
 differences by name, or nothing is written.
 """
 import pathlib
+import subprocess
 import sys
 
 TOP = pathlib.Path(__file__).resolve().parent.parent
@@ -47,7 +48,8 @@ def main() -> int:
     for name, data in held.items():
         path = CRATE / "data" / f"{name}.elf"
         path.write_bytes(data)
-        told[name] = [rust.run(it, [path.name], path.parent)[1] for it in programs]
+        ran = [subprocess.run([it, path.name], cwd=path.parent, capture_output=True, check=False).stdout for it in programs]
+        told[name] = [it.decode("utf-8", "replace") for it in ran]
         tally.compare(name, *(rust.answers(it)[0] for it in told[name]))
     tally.told()
     if tally.left:

@@ -11,6 +11,7 @@ here is skipped, and the line says what is missing. Each line of docs/TESTS.md b
 `<!-- /oracles -->` has the counts of one comparison, its commit and the machine; a comparison that was skipped or failed
 keeps its line. The exit status is 1 if one found a difference.
 """
+import argparse
 import dataclasses
 import os
 import pathlib
@@ -22,7 +23,6 @@ import sys
 import time
 
 ROOT = pathlib.Path(__file__).resolve().parents[2]
-HERE = ROOT / "tools" / "compare"
 PAGE = ROOT / "docs" / "TESTS.md"
 ROOM = re.compile(r"(?<=<!-- oracles -->\n).*?(?=<!-- /oracles -->)", re.S)
 
@@ -40,9 +40,8 @@ def built(name: str) -> str:
 
 @dataclasses.dataclass
 class Oracle:
-    """A comparison: its script, what it runs on whole and as a sample, and the programs and files that it needs."""
+    """A comparison: what its script of that name runs on whole and as a sample, and the programs and files that it needs."""
 
-    script: str
     whole: list
     sample: list
     needs: tuple
@@ -59,58 +58,54 @@ class Oracle:
 
 
 ORACLES = {
-    "readelf": Oracle("readelf.py", SYSTEM, FEW, (built("elfinfo"), "llvm-readelf")),
-    "notes": Oracle("notes.py", SYSTEM, FEW, (built("elfsections"), "llvm-readelf", "readelf")),
-    "symbols": Oracle("symbols.py", SYSTEM, FEW, (built("elfsections"), "llvm-readelf")),
-    "elfsym": Oracle("elfsym.py", SYSTEM, FEW, (built("elfsym"), "llvm-readelf", "readelf")),
-    "recipes": Oracle("recipes.py", [], [], (built("elfrecipes"), "readelf", "gcc")),
-    "versions": Oracle("versions.py", SYSTEM, LIBRARIES, (ARCHIVE, "readelf", "cargo")),
-    "dlsym": Oracle("dlsym.py", [], LIBRARIES, (ARCHIVE, "llvm-readelf", "gcc")),
-    "bindings": Oracle("bindings.py", ["--dir", "/usr/bin", "--dir", "/usr/sbin"], ["/usr/bin/readelf", "/usr/bin/python3"],
+    "readelf": Oracle(SYSTEM, FEW, (built("elfinfo"), "llvm-readelf")),
+    "notes": Oracle(SYSTEM, FEW, (built("elfsections"), "llvm-readelf", "readelf")),
+    "symbols": Oracle(SYSTEM, FEW, (built("elfsections"), "llvm-readelf")),
+    "elfsym": Oracle(SYSTEM, FEW, (built("elfsym"), "llvm-readelf", "readelf")),
+    "recipes": Oracle([], [], (built("elfrecipes"), "readelf", "gcc")),
+    "versions": Oracle(SYSTEM, LIBRARIES, (ARCHIVE, "readelf", "cargo")),
+    "dlsym": Oracle([], LIBRARIES, (ARCHIVE, "llvm-readelf", "gcc"), ("bindings/python/wheel_backend.py",)),
+    "bindings": Oracle(["--dir", "/usr/bin", "--dir", "/usr/sbin"], ["/usr/bin/readelf", "/usr/bin/python3"],
         (built("elfbind"), "llvm-readelf")),
-    "fuzz_bindings": Oracle("fuzz_bindings.py", ["--seed", "1", "--count", "2500"], ["--seed", "1", "--count", "100"],
+    "fuzz_bindings": Oracle(["--seed", "1", "--count", "2500"], ["--seed", "1", "--count", "100"],
         (built("elfbind"), built("elfsym"), "gcc")),
-    "rust": Oracle("rust.py", [*FROM, "--damaged", "1", "--worked", "2000", "/usr/bin", "/usr/lib"], [*FROM, "--worked", "40", *LIBRARIES[:1]],
+    "rust": Oracle([*FROM, "--damaged", "1", "--worked", "2000", "/usr/bin", "/usr/lib"], [*FROM, "--worked", "40", *LIBRARIES[:1]],
         (built("elfanswers"), "cargo"), ("oracle/build.sh", *CRATE)),
-    "fuzz": Oracle("fuzz.py", ["--seed", "1", "--count", "33334"], ["--seed", "1", "--count", "500"], (built("elfinfo"), built("elfanswers"))),
+    "fuzz": Oracle(["--seed", "1", "--count", "33334"], ["--seed", "1", "--count", "500"], (built("elfinfo"), built("elfanswers"))),
 }
 
 
 def machine() -> str:
     """The system and the processor's family, as pages name them."""
-    release = pathlib.Path("/etc/os-release")
-    names = dict(re.findall(r'^(NAME|VERSION_ID)="?(.*?)"?$', release.read_text() if release.exists() else "", re.M))
-    system = f"{names.get('NAME', 'Linux').split()[0]} {names.get('VERSION_ID', '')}".strip()
-    return f"{system} ({platform.machine().replace('_', '-')})"
-
-
-def commit() -> str:
-    return subprocess.run(["git", "rev-parse", "--short", "HEAD"], cwd=ROOT, capture_output=True, text=True, check=True).stdout.strip()
+    names = platform.freedesktop_os_release()
+    return f"{names['NAME'].split()[0]} {names.get('VERSION_ID', '')} ({platform.machine().replace('_', '-')})"
 
 
 def write(counts: dict):
     """Puts the lines of comparisons into the page in place of those that it has of them."""
     text = PAGE.read_text(encoding="utf-8")
+    commit = subprocess.run(["git", "rev-parse", "--short", "HEAD"], cwd=ROOT, capture_output=True, text=True, check=True).stdout.strip()
     lines = dict(re.findall(r"^- `(\w+)`: (.*)$", ROOM.search(text)[0], re.M))
     for name, (said, words) in counts.items():
-        lines[name] = f"{said}. Measured at {commit()} by `{' '.join(words)}` on {machine()}."
+        lines[name] = f"{said}. Measured at {commit} by `{' '.join(words)}` on {machine()}."
     held = "".join(f"- `{name}`: {lines[name]}\n" for name in ORACLES if name in lines)
     PAGE.write_text(ROOM.sub(lambda _: held, text, count=1), encoding="utf-8")
 
 
-def main(words: list) -> int:
-    is_sample, names = "--sample" in words, [it for it in words if not it.startswith("-")]
-    if unknown := [it for it in names if it not in ORACLES] + [it for it in words if it.startswith("-") and it != "--sample"]:
-        print(f"{__doc__}\n{', '.join(unknown)}: there is no such comparison", file=sys.stderr)
-        return 2
+def main() -> int:
+    parser = argparse.ArgumentParser(description=__doc__, formatter_class=argparse.RawDescriptionHelpFormatter)
+    parser.add_argument("--sample", action="store_true")
+    parser.add_argument("names", nargs="*", metavar="NAME", help=", ".join(ORACLES))
+    given = parser.parse_args()
+    if unknown := set(given.names) - set(ORACLES):
+        parser.error(f"{', '.join(unknown)}: there is no such comparison")
     failed, counts = [], {}
-    for name, oracle in ORACLES.items():
-        if names and name not in names:
-            continue
+    for name in given.names or ORACLES:
+        oracle = ORACLES[name]
         if missing := oracle.missing():
             print(f"{name}: skipped, since {missing} is not here", flush=True)
             continue
-        command, began = [f"tools/compare/{oracle.script}", *(oracle.sample if is_sample else oracle.whole)], time.monotonic()
+        command, began = [f"tools/compare/{name}.py", *(oracle.sample if given.sample else oracle.whole)], time.monotonic()
         ran = subprocess.run(command, cwd=ROOT, capture_output=True, text=True, errors="replace", check=False)
         lines = ran.stdout.strip().split("\n")
         said = next((it for it in reversed(lines) if re.match(r"\d+ .*(differences|left over|as they must be)", it)), lines[-1])
@@ -118,7 +113,7 @@ def main(words: list) -> int:
         if ran.returncode:
             failed.append(name)
             print("\n".join([*lines[-20:], ran.stderr.strip()[-2000:]]))
-        elif not is_sample:
+        elif not given.sample:
             counts[name] = (said, command)
     if counts:
         write(counts)
@@ -127,4 +122,4 @@ def main(words: list) -> int:
 
 
 if __name__ == "__main__":
-    sys.exit(main(sys.argv[1:]))
+    sys.exit(main())

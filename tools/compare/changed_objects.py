@@ -2,9 +2,7 @@
 
 import random
 import struct
-from typing import Dict, List, NamedTuple, Set, Tuple
-
-from bindings import segments
+from typing import Callable, Dict, Iterable, List, NamedTuple, Set, Tuple
 
 INDIRECT, THREAD, UNIQUE, SYMBOLIC = 10, 6, 10, 2
 
@@ -23,26 +21,30 @@ class Object:
 
     def __init__(self, content: bytes) -> None:
         self.content = content
-        self.parts = list(segments(content))
-        dynamic = next(offset for kind, offset, _, _ in self.parts if kind == 2)
+        table, = self.fields("Q", 32)
+        self.parts = [self.fields("IIQQQQ", table + 56 * index) for index in range(*self.fields("H", 56))]
+        dynamic = next(offset for kind, _, offset, *_ in self.parts if kind == 2)
         self.entries: Dict[int, Tuple[int, int]] = {}
         for place in range(dynamic, len(content) - 15, 16):
-            tag, number = struct.unpack_from("<QQ", content, place)
+            tag, number = self.fields("QQ", place)
             if tag == 0:
                 break
             self.entries.setdefault(tag, (number, place + 8))
-        self.strings = self.offset(5)
-        self.symbols = self.offset(6)
+        self.strings, self.symbols = self.offset(5), self.offset(6)
         # GNU ld puts the strings behind the symbols.
         self.count = (self.strings - self.symbols) // 24
+
+    def fields(self, form: str, place: int) -> Tuple[int, ...]:
+        return struct.unpack_from("<" + form, self.content, place)
+
+    def number(self, place: int, form: str = "I") -> int:
+        return self.fields(form, place)[0]
 
     def offset(self, tag: int) -> int:
         """The offset in the file of the address that an entry has, or 0."""
         address = self.entries.get(tag, (0, 0))[0]
-        for kind, offset, start, size in self.parts:
-            if kind == 1 and start <= address < start + size:
-                return offset + address - start
-        return 0
+        loads = [(offset, start) for kind, _, offset, start, _, size in self.parts if kind == 1 and start <= address < start + size]
+        return loads[0][0] + address - loads[0][1] if loads else 0
 
     def text(self, name: int) -> str:
         """The string at a place of the string table."""
@@ -51,14 +53,18 @@ class Object:
 
     def symbol(self, index: int) -> Tuple[str, int, int, int, int]:
         """The name, the information, the visibility, the section index and the value of a symbol."""
-        name, info, other, section, value = struct.unpack_from("<IBBHQ", self.content, self.symbols + 24 * index)
-        return self.text(name), info, other, section, value
+        name, *fields = self.fields("IBBHQ", self.symbols + 24 * index)
+        return self.text(name), *fields
+
+    def names_with(self, test: Callable[[int], bool]) -> Set[str]:
+        """The names of the symbols whose information passes a test."""
+        return {name for name, info, *_ in map(self.symbol, range(self.count)) if test(info)}
 
     def definitions(self) -> List[Tuple[int, int]]:
         """The places of the definitions of versions, and of the first name of each."""
         found, place = [], self.offset(0x6FFFFFFC)
         while place:
-            aux, step = struct.unpack_from("<II", self.content, place + 12)
+            aux, step = self.fields("II", place + 12)
             found.append((place, place + aux))
             place = place + step if step else 0
         return found
@@ -67,20 +73,20 @@ class Object:
         """The places of the parts of the needs of versions."""
         found, place = [], self.offset(0x6FFFFFFE)
         while place:
-            count, _, aux, step = struct.unpack_from("<HIII", self.content, place + 2)
+            count, _, aux, step = self.fields("HIII", place + 2)
             part = place + aux
             for _ in range(count):
                 found.append(part)
-                part += struct.unpack_from("<I", self.content, part + 12)[0]
+                part += self.number(part + 12)
             place = place + step if step else 0
         return found
 
     def numbers(self) -> Tuple[Set[int], Set[int]]:
         """The numbers of versions that symbols have, and those that definitions and needs have, their low 15 bits."""
         table = self.offset(0x6FFFFFF0)
-        used = {struct.unpack_from("<H", self.content, table + 2 * i)[0] & 0x7FFF for i in range(self.count)} if table else set()
-        of_definitions = {struct.unpack_from("<H", self.content, place + 4)[0] & 0x7FFF for place, _ in self.definitions()}
-        return used, of_definitions | {struct.unpack_from("<H", self.content, place + 6)[0] & 0x7FFF for place in self.needs()}
+        used = {self.number(table + 2 * i, "H") & 0x7FFF for i in range(self.count)} if table else set()
+        places = [place + 4 for place, _ in self.definitions()] + [place + 6 for place in self.needs()]
+        return used, {self.number(place, "H") & 0x7FFF for place in places}
 
     def has_room(self) -> bool:
         """Whether the linker's own table of versions, which has a place for each number, has all versions of the file.
@@ -89,14 +95,13 @@ class Object:
         number than all of them.
         """
         used, known = self.numbers()
-        definitions = [struct.unpack_from("<HH", self.content, place + 2) for place, _ in self.definitions()]
-        numbers = [number & 0x7FFF for flags, number in definitions if not flags & 1]
-        numbers += [struct.unpack_from("<H", self.content, place + 6)[0] & 0x7FFF for place in self.needs()]
+        places = [place + 4 for place, _ in self.definitions() if not self.number(place + 2, "H") & 1] + [place + 6 for place in self.needs()]
+        numbers = [self.number(place, "H") & 0x7FFF for place in places]
         return len(set(numbers)) == len(numbers) and min(numbers, default=2) >= 2 and max(used, default=0) <= max(known, default=1)
 
     def versions(self) -> List[str]:
         """The names of the versions that are defined."""
-        return [self.text(struct.unpack_from("<I", self.content, aux)[0]) for _, aux in self.definitions()]
+        return [self.text(self.number(aux)) for _, aux in self.definitions()]
 
 
 def change_of_symbol(held: Object, chance: random.Random, kinds: List[int]) -> Change:
@@ -127,10 +132,8 @@ def change_of_version(held: Object, chance: random.Random) -> Change:
         index = chance.randrange(1, held.count)
         number = chance.choice(known) | chance.choice((0, 0x8000))
         return Change(f"version number of {held.symbol(index)[0]}", table + 2 * index, "<H", number)
-    hashes = [struct.unpack_from("<I", held.content, place + 8)[0] for place, _ in definitions]
-    hashes += [struct.unpack_from("<I", held.content, place)[0] for place in needs]
-    names = [struct.unpack_from("<I", held.content, aux)[0] for _, aux in definitions]
-    names += [struct.unpack_from("<I", held.content, place + 8)[0] for place in needs]
+    hashes = [held.number(place) for place in [*(place + 8 for place, _ in definitions), *needs]]
+    names = [held.number(place) for place in [*(aux for _, aux in definitions), *(place + 8 for place in needs)]]
     number = chance.choice(known[1:]) | chance.choice((0, 0x8000))
     if definitions and (what == 2 or not needs):
         place, aux = chance.choice(definitions)
@@ -168,9 +171,6 @@ def changed(content: bytes, chance: random.Random, kinds: List[int]) -> Tuple[by
             return bytes(copy), changes
 
 
-def unique_names(files: List[bytes]) -> Set[str]:
+def unique_names(files: Iterable[bytes]) -> Set[str]:
     """The names of which a file has a unique symbol."""
-    found = set()
-    for held in map(Object, files):
-        found |= {held.symbol(i)[0] for i in range(held.count) if held.symbol(i)[1] >> 4 == UNIQUE}
-    return found
+    return set().union(*(it.names_with(lambda info: info >> 4 == UNIQUE) for it in map(Object, files)))

@@ -1,4 +1,4 @@
-"""What the scripts share that compare a program of this repository with readelf over many files."""
+"""What the scripts share that compare a program of this repository with others over many files."""
 import argparse
 import collections
 import contextlib
@@ -9,10 +9,18 @@ import pathlib
 import re
 import subprocess
 import sys
-from typing import Callable, Iterator, List, NamedTuple, Tuple
+from typing import Callable, Iterator, List, NamedTuple, Optional, Tuple
 
 ROOT = pathlib.Path(__file__).resolve().parents[2]
 MAGIC = b"\x7fELF"
+
+# Said of each script by --help.
+ABOUT = """
+A FILE may be a folder, whose files are then compared, but for links. What doesn't begin with the ELF magic number is passed
+over silently. The program is that of crates/*/out where PATH isn't given. Each difference is a line, as `FILE: what: PROGRAM
+says X, readelf says Y`, and the last line holds the counts. The exit status is 0 if there is no difference, 1 if there is
+one, and 2 if the comparison couldn't be run.
+"""
 
 # The numbers of a symbol's section, type and binding that scripts ask for.
 UNDEFINED, ABSOLUTE = 0, 0xFFF1
@@ -40,6 +48,13 @@ class Tally(collections.Counter):
         self["differences"] += 1
         print(f"{path}: {what}: {self.program} says {says}"[:600] + f", readelf says {reads}"[:600])
 
+    def output(self, path: str, *command: str) -> str:
+        """What a program says of a file; a status other than 0 is a difference."""
+        done = run([*command])
+        if done.status != 0:
+            self.differ(path, "file", f"status {done.status} ({done.errors.strip()})", "a file")
+        return done.output if done.status == 0 else ""
+
     def __str__(self) -> str:
         return ", ".join(f"{self[name]} {name}" for name in self.names)
 
@@ -58,14 +73,10 @@ def run(command: List[str], seconds=600, **variables: str) -> Finished:
 
 def read_elf(path: str) -> bytes:
     """The bytes of a file that begins with the ELF magic number, and else none."""
-    try:
-        with open(path, "rb") as file:
-            if file.read(len(MAGIC)) != MAGIC:
-                return b""
-            file.seek(0)
-            return file.read()
-    except OSError:
-        return b""
+    with contextlib.suppress(OSError), open(path, "rb") as file:
+        start = file.read(len(MAGIC))
+        return start + file.read() if start == MAGIC else b""
+    return b""
 
 
 def listed(pairs: list) -> dict:
@@ -129,9 +140,23 @@ def dynamic_symbols(path: str) -> Tuple[Symbol, ...]:
     return tuple(found)
 
 
-def needed(path: str) -> List[str]:
-    """The names of the libraries that GNU's readelf lists as needed."""
-    return re.findall(r"\(NEEDED\) +Shared library: \[(.*)\]$", run(["readelf", "-dW", "--", path]).output, re.M)
+def texts_of(path: str, *tags: str) -> List[str]:
+    """The texts of the dynamic entries with these tags that GNU's readelf lists, as those of NEEDED."""
+    return re.findall(rf"\((?:{'|'.join(tags)})\) +[^\[]*\[(.*)\]$", run(["readelf", "-dW", "--", path]).output, re.M)
+
+
+def sections_of(output: str) -> List[Tuple[str, str, List[str]]]:
+    """What elfsections prints of a file: for each section what it holds (`notes`, `relr` or `hash`), its name and its lines."""
+    found: List[Tuple[str, str, List[str]]] = []
+    for line in output.rstrip("\n").split("\n")[1:]:
+        kind, _, name = line.partition(" ")
+        if kind in ("notes", "relr", "hash"):
+            found.append((kind, name, []))
+        elif found:
+            found[-1][2].append(line)
+        else:
+            raise ValueError(line)
+    return found
 
 
 def files_of(paths: List[str]) -> Iterator[str]:
@@ -145,16 +170,30 @@ def files_of(paths: List[str]) -> Iterator[str]:
             yield from (it for it in inside if os.path.isfile(it) and not os.path.islink(it))
 
 
-def compare_all(doc: str, tally: Tally, compare: Callable[[str, str], None]) -> int:
-    """Compares each file that is given by its path and the program's, and tells whether there was a difference."""
-    parser = argparse.ArgumentParser(description=doc, formatter_class=argparse.RawDescriptionHelpFormatter)
-    default = ROOT / "crates" / tally.program / "out" / tally.program
-    parser.add_argument(f"--{tally.program}", dest="program", default=str(default), metavar="PATH")
-    parser.add_argument("files", nargs="+", metavar="FILE")
-    arguments = parser.parse_args()
+def parser_of(doc: Optional[str], *programs: str) -> argparse.ArgumentParser:
+    """A reader of arguments, with an option for the path of each of these programs."""
     # Names that aren't UTF-8 go out as they came in.
-    sys.stdout.reconfigure(encoding="utf-8", errors="surrogateescape")
-    for path in files_of(arguments.files):
-        compare(path, arguments.program)
+    sys.stdout.reconfigure(encoding="utf-8", errors="surrogateescape", line_buffering=True)
+    parser = argparse.ArgumentParser(description=doc, formatter_class=argparse.RawDescriptionHelpFormatter)
+    for name in programs:
+        parser.add_argument(f"--{name}", default=str(ROOT / "crates" / name / "out" / name), metavar="PATH")
+    return parser
+
+
+def ended(tally: Tally) -> int:
+    """Prints the counts, and gives the status."""
     print(tally)
     return 1 if tally["differences"] else 0
+
+
+def compare_all(doc: Optional[str], tally: Tally, compare: Callable[[str, str, Tally], None]) -> int:
+    """Compares each file that is given by its path, the program's and the tally."""
+    parser = parser_of((doc or "") + ABOUT, tally.program)
+    parser.add_argument("files", nargs="+", metavar="FILE")
+    arguments = parser.parse_args()
+    for path in filter(read_elf, files_of(arguments.files)):
+        try:
+            compare(path, vars(arguments)[tally.program], tally)
+        except ValueError as strange:
+            tally.differ(path, "output", f"'{strange}'", "no such line")
+    return ended(tally)

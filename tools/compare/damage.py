@@ -9,35 +9,29 @@ import struct
 EDGES_16 = (0, 1, 2, 3, 0x1f, 0x20, 0x27, 0x28, 0x37, 0x38, 0x3f, 0x40, 0x41, 0x7fff, 0x8000, 0xfeff, 0xff00, 0xfff1, 0xfffe, 0xffff)
 EDGES_32 = (0, 1, 2, 3, 4, 8, 12, 16, 24, 0x7fffffff, 0x80000000, 0xfffffffc, 0xffffffff)
 EDGES_64 = (*EDGES_32, 2**32, 2**63 - 1, 2**63, 2**64 - 8, 2**64 - 1)
+EDGES = {"B": range(256), "H": EDGES_16, "I": EDGES_32, "Q": EDGES_64}
 
 TYPES = (*range(0, 22), 0x5fffffff, 0x60000000, 0x6ffffff6, 0x6fffffff, 0x70000000, 0x7fffffff, 0x80000000, 0xffffffff)
 
-# The fields of the headers: their names, and their struct letters by class (P is the width of an address).
-FILE_HEADER = (("type", "H"), ("machine", "H"), ("version", "I"), ("entry", "P"), ("phoff", "P"), ("shoff", "P"),
-    ("flags", "I"), ("ehsize", "H"), ("phentsize", "H"), ("phnum", "H"), ("shentsize", "H"), ("shnum", "H"), ("shstrndx", "H"))
-SECTION = (("name", "I"), ("type", "I"), ("flags", "P"), ("address", "P"), ("offset", "P"), ("size", "P"),
-    ("link", "I"), ("info", "I"), ("align", "P"), ("entsize", "P"))
-SEGMENT_32 = (("type", "I"), ("offset", "I"), ("vaddr", "I"), ("paddr", "I"), ("filesz", "I"), ("memsz", "I"), ("flags", "I"), ("align", "I"))
-SEGMENT_64 = (("type", "I"), ("flags", "I"), ("offset", "Q"), ("vaddr", "Q"), ("paddr", "Q"), ("filesz", "Q"), ("memsz", "Q"), ("align", "Q"))
+# The fields of the headers: their names, each with its struct letter (P is the width of an address).
+FILE_HEADER = "type H machine H version I entry P phoff P shoff P flags I ehsize H phentsize H phnum H shentsize H shnum H shstrndx H"
+SECTION = "name I type I flags P address P offset P size P link I info I align P entsize P"
+SEGMENT_32 = "type I offset I vaddr I paddr I filesz I memsz I flags I align I"
+SEGMENT_64 = "type I flags I offset Q vaddr Q paddr Q filesz Q memsz Q align Q"
 
 
 class Layout:
     """Where the fields of one class and order stand."""
 
     def __init__(self, wide: bool, order: str):
-        self.wide, self.mark = wide, "<" if order == "little" else ">"
-        self.address = "Q" if wide else "I"
-        self.header_size = 64 if wide else 52
-        self.section_size = 64 if wide else 40
-        self.segment_size = 56 if wide else 32
-        self.header = self.places(FILE_HEADER, 16)
-        self.section = self.places(SECTION, 0)
+        self.wide, self.order, self.mark, self.address = wide, order, "<" if order == "little" else ">", "Q" if wide else "I"
+        self.header_size, self.section_size, self.segment_size = (64, 64, 56) if wide else (52, 40, 32)
+        self.header, self.section = self.places(FILE_HEADER, 16), self.places(SECTION, 0)
         self.segment = self.places(SEGMENT_64 if wide else SEGMENT_32, 0)
 
-    def places(self, fields, start):
-        found = {}
-        for name, letter in fields:
-            letter = letter.replace("P", self.address)
+    def places(self, fields: str, start: int) -> dict:
+        found, words = {}, fields.replace("P", self.address).split()
+        for name, letter in zip(words[::2], words[1::2]):
             found[name] = (start, letter)
             start += struct.calcsize("<" + letter)
         return found
@@ -48,12 +42,14 @@ class Layout:
         if 0 <= base + place and base + place + size <= len(data):
             struct.pack_into(self.mark + letter, data, base + place, value % 2 ** (8 * size))
 
+    def fill(self, data: bytearray, base: int, fields: dict, **values: int):
+        for name, value in values.items():
+            self.put(data, base, fields[name], value)
+
     def get(self, data: bytes, base: int, field) -> int:
         place, letter = field
-        size = struct.calcsize("<" + letter)
-        if 0 <= base + place and base + place + size <= len(data):
-            return struct.unpack_from(self.mark + letter, data, base + place)[0]
-        return 0
+        is_inside = 0 <= base + place and base + place + struct.calcsize("<" + letter) <= len(data)
+        return struct.unpack_from(self.mark + letter, data, base + place)[0] if is_inside else 0
 
     def words(self, *values):
         return struct.pack(f"{self.mark}{len(values)}I", *(value % 2**32 for value in values))
@@ -106,10 +102,7 @@ def contents(layout: Layout):
     note = layout.words(4, 20, 3) + b"GNU\0" + bytes(range(20)) + layout.words(5, 3, 1) + b"LINK\0\0\0\0abc\0"
     big = 32 if wide else 8
     relocations = [(0x10, 1 << big | 7, 5), (0x20, 2 << big | 255, 2**31)]
-    rela = b"".join(layout.addresses(*it) for it in relocations)
-    rel = b"".join(layout.addresses(*it[:2]) for it in relocations)
     tags = [(1, 1), (5, 0x100), (6, 0x200), (10, 30), (14, 9), (0x6ffffffb, 1), (0x6ffffef5, 3), (0x70000001, 4), (31, 1), (0, 0)]
-    dynamic = b"".join(layout.addresses(*tag) for tag in tags)
     return [
         (b".strtab", 3, held, 0, 0, 0),
         (b".symtab", 2, symbols, 1, 1, entry),
@@ -120,12 +113,12 @@ def contents(layout: Layout):
         (b".note.gnu.build-id", 7, note, 0, 0, 0),
         (b".gnu_debuglink", 1, b"a.debug\0" + layout.words(0x12345678), 0, 0, 0),
         (b".gnu_debugaltlink", 1, b"b.debug\0" + bytes(range(20)), 0, 0, 0),
-        (b".rela.text", 4, rela, 2, 6, 24 if wide else 12),
-        (b".rel.text", 9, rel, 2, 6, 16 if wide else 8),
+        (b".rela.text", 4, b"".join(layout.addresses(*it) for it in relocations), 2, 6, 24 if wide else 12),
+        (b".rel.text", 9, b"".join(layout.addresses(*it[:2]) for it in relocations), 2, 6, 16 if wide else 8),
         (b".init_array", 14, layout.addresses(0x1000, 0x1008), 0, 0, 0),
         (b".group", 17, layout.words(1, 6, 10), 2, 1, 4),
         (b".symtab_shndx", 18, layout.words(0, 0, 0, 0, 6, 0, 0), 2, 0, 4),
-        (b".dynamic", 6, dynamic, 3, 0, 16 if wide else 8),
+        (b".dynamic", 6, b"".join(layout.addresses(*tag) for tag in tags), 3, 0, 16 if wide else 8),
         (b".bss", 8, b"", 0, 0, 0),
         (b".relr.dyn", 19, layout.addresses(0x1000, 3), 0, 0, 8),
         (b".comment", 1, b"a comment\0", 0, 0, 1),
@@ -141,6 +134,29 @@ def chosen(sections, only):
     return [(name, kind, held, index.get(link, 0), info, size) for name, kind, held, link, info, size in kept]
 
 
+def assembled(layout: Layout, sections, segments: int, **values: int):
+    """A file of these sections and of the one of their names, with room for some segments; and the offset of each section."""
+    names, places = texts([*(it[0] for it in sections), b".shstrtab"])
+    sections, where = [*sections, (b"", 3, names, 0, 0, 0)], []
+    data = bytearray(layout.header_size + segments * layout.segment_size)
+    for _, _, held, *_ in sections:
+        data += bytes(-len(data) % 8)
+        where.append(len(data))
+        data += held
+    data += bytes(-len(data) % 8)
+    start = len(data)
+    data += bytes(layout.section_size * (len(sections) + 1))
+    data[:7] = b"\x7fELF" + bytes([2 if layout.wide else 1, 1 if layout.order == "little" else 2, 1])
+    layout.fill(
+        data, 0, layout.header, type=3, machine=62, version=1, shoff=start, ehsize=layout.header_size, phentsize=layout.segment_size,
+        phnum=segments, shentsize=layout.section_size, shnum=len(sections) + 1, shstrndx=len(sections), **values)
+    for k, ((_, kind, held, link, info, entry), place, offset) in enumerate(zip(sections, places, where), 1):
+        layout.fill(
+            data, start + layout.section_size * k, layout.section, name=place, type=kind, flags=2, offset=offset,
+            size=64 if kind == 8 else len(held), link=link, info=info, align=4, entsize=entry)
+    return data, where
+
+
 def worked(wide: bool, order: str, hostile: str = "", only=()) -> bytes:
     """A file whose every item is good; `hostile` makes its hash table `looped` or `shared`.
 
@@ -153,37 +169,17 @@ def worked(wide: bool, order: str, hostile: str = "", only=()) -> bytes:
         sections[4] = (b".hash", 5, layout.words(*words), 4, 0, 4)
     if only:
         sections = chosen(sections, only)
-    names, places = texts([it[0] for it in sections] + [b".shstrtab"])
-    sections.append((b".shstrtab", 3, names, 0, 0, 0))
-    segments = 7
-    data = bytearray(layout.header_size + segments * layout.segment_size)
-    where = []
-    for _, _, held, *_ in sections:
-        data += bytes(-len(data) % 8)
-        where.append(len(data))
-        data += held
-    data += bytes(-len(data) % 8)
-    start = len(data)
-    data += bytes(layout.section_size * (len(sections) + 1))
-    data[:7] = b"\x7fELF" + bytes([2 if wide else 1, 1 if order == "little" else 2, 1])
-    values = dict(type=3, machine=62, version=1, entry=0x1000, phoff=layout.header_size, shoff=start, flags=0,
-        ehsize=layout.header_size, phentsize=layout.segment_size, phnum=segments, shentsize=layout.section_size,
-        shnum=len(sections) + 1, shstrndx=len(sections))
-    for name, value in values.items():
-        layout.put(data, 0, layout.header[name], value)
-    for k, (section, place, offset) in enumerate(zip(sections, places, where)):
-        _, kind, held, link, info, entry = section
-        size = 64 if kind == 8 else len(held)
-        fields = dict(name=place, type=kind, flags=2, address=offset, offset=offset, size=size, link=link, info=info, align=8, entsize=entry)
-        for name, value in fields.items():
-            layout.put(data, start + layout.section_size * (k + 1), layout.section[name], value)
+    data, where = assembled(layout, sections, 7, entry=0x1000, phoff=layout.header_size)
+    start = layout.get(data, 0, layout.header["shoff"])
+    for k, offset in enumerate(where, 1):
+        layout.fill(data, start + layout.section_size * k, layout.section, address=offset, align=8)
     ranges = {it[0]: (offset, len(it[2])) for it, offset in zip(sections, where)}
     dynamic, notes = ranges.get(b".dynamic", (0, 0)), ranges.get(b".note.gnu.build-id", (0, 0))
     parts = [(6, layout.header_size, 100), (1, 0, len(data) - 8), (2, *dynamic), (4, *notes), (0, 0, 0), (0x6474e552, 0, 64), (7, 0, 0)]
     for k, (kind, offset, size) in enumerate(parts):
-        fields = dict(type=kind, offset=offset, vaddr=offset, paddr=offset, filesz=size, memsz=size, flags=k, align=8)
-        for name, value in fields.items():
-            layout.put(data, layout.header_size + layout.segment_size * k, layout.segment[name], value)
+        layout.fill(
+            data, layout.header_size + layout.segment_size * k, layout.segment, type=kind, offset=offset, vaddr=offset, paddr=offset,
+            filesz=size, memsz=size, flags=k, align=8)
     return bytes(data)
 
 
@@ -191,32 +187,19 @@ def elf_file(contents, segments=()):
     """A file of class 64 of these sections from index 1 on, each with name, type, data, link and size of an entry, and of
     program headers with these fields."""
     layout = Layout(True, "little")
-    names, places = texts([it[0] for it in contents] + [b".shstrtab"])
-    data, headers = bytearray(64 + 56 * len(segments)), [bytes(64)]
+    data, _ = assembled(layout, [(*it[:4], 0, it[4]) for it in contents], len(segments), phoff=64 if segments else 0)
     for index, fields in enumerate(segments):
-        for name, value in fields.items():
-            layout.put(data, 64 + 56 * index, layout.segment[name], value)
-    for (_, kind, held, link, entry), place in zip([*contents, (b"", 3, names, 0, 0)], places):
-        headers.append(layout.words(place, kind) + layout.addresses(2, 0, len(data), len(held)) + layout.words(link, 0)
-                       + layout.addresses(4, entry))
-        data += held + bytes(-len(held) % 8)
-    data[:7] = b"\x7fELF\2\1\1"
-    values = dict(type=3, machine=62, version=1, phoff=64 if segments else 0, shoff=len(data), ehsize=64, phentsize=56,
-        phnum=len(segments), shentsize=64, shnum=len(headers), shstrndx=len(headers) - 1)
-    for name, value in values.items():
-        layout.put(data, 0, layout.header[name], value)
-    return bytes(data) + b"".join(headers)
+        layout.fill(data, 64 + 56 * index, layout.segment, **fields)
+    return bytes(data)
 
 
 class Damage:
     """One way to damage an ELF file a call."""
 
     def __init__(self, data: bytes, random: randoms.Random):
-        self.data, self.random = bytearray(data), random
-        wide = len(data) > 4 and data[4] == 2
-        self.layout = Layout(wide, "big" if len(data) > 5 and data[5] == 2 else "little")
-        header = self.layout.header
-        read = lambda name: self.layout.get(self.data, 0, header[name])
+        self.data, self.random, self.pick = bytearray(data), random, random.choice
+        self.layout = Layout(len(data) > 4 and data[4] == 2, "big" if len(data) > 5 and data[5] == 2 else "little")
+        read = lambda name: self.layout.get(self.data, 0, self.layout.header[name])
         self.sections = [read("shoff") + k * read("shentsize") for k in range(min(read("shnum"), 200))]
         self.segments = [read("phoff") + k * read("phentsize") for k in range(min(read("phnum"), 40))]
 
@@ -224,13 +207,11 @@ class Damage:
         """A number at an edge of its field, of the file, or any."""
         length = len(self.data)
         near = (length, length - 1, length + 1, length // 2, self.random.randrange(length + 1))
-        edges = {"B": range(256), "H": EDGES_16, "I": EDGES_32, "Q": EDGES_64}[letter]
-        return self.random.choice((self.random.choice(edges), self.random.choice(edges), self.random.choice(near)))
+        return self.pick((self.pick(EDGES[letter]), self.pick(EDGES[letter]), self.pick(near)))
 
     def set_field(self, base: int, fields):
-        name = self.random.choice(list(fields))
-        letter = fields[name][1]
-        value = self.random.choice(TYPES) if name == "type" and letter == "I" else self.edge(letter)
+        name = self.pick(list(fields))
+        value = self.pick(TYPES) if name == "type" and fields[name][1] == "I" else self.edge(fields[name][1])
         self.layout.put(self.data, base, fields[name], value)
 
     def file_header(self):
@@ -238,42 +219,44 @@ class Damage:
 
     def section_header(self):
         if self.sections:
-            self.set_field(self.random.choice(self.sections), self.layout.section)
+            self.set_field(self.pick(self.sections), self.layout.section)
 
     def segment_header(self):
         if self.segments:
-            self.set_field(self.random.choice(self.segments), self.layout.segment)
+            self.set_field(self.pick(self.segments), self.layout.segment)
+
+    def of_section(self, base: int, name: str) -> int:
+        return self.layout.get(self.data, base, self.layout.section[name])
+
+    def put_in(self, base: int, **values: int):
+        """Changes fields of a section header."""
+        self.layout.fill(self.data, base, self.layout.section, **values)
 
     def links(self):
         if self.sections:
-            base = self.random.choice(self.sections)
-            name = self.random.choice(("link", "info"))
-            value = self.random.choice((self.edge("I"), self.random.randrange(len(self.sections) + 2)))
-            self.layout.put(self.data, base, self.layout.section[name], value)
+            base, name = self.pick(self.sections), self.pick(("link", "info"))
+            self.put_in(base, **{name: self.pick((self.edge("I"), self.random.randrange(len(self.sections) + 2)))})
 
     def places_of(self, kinds):
         """Where sections of these types lie: the place of the header, the offset and the size."""
-        get = lambda base, name: self.layout.get(self.data, base, self.layout.section[name])
-        found = [(base, get(base, "offset"), get(base, "size")) for base in self.sections if get(base, "type") in kinds]
+        found = [(it, self.of_section(it, "offset"), self.of_section(it, "size")) for it in self.sections if self.of_section(it, "type") in kinds]
         return [it for it in found if it[2] and it[1] + it[2] <= len(self.data)]
 
     def words_of(self, kinds, count):
         for _, offset, size in self.places_of(kinds):
             for _ in range(count):
                 place = offset + 4 * self.random.randrange(max(size // 4, 1))
-                value = self.random.choice((self.edge("I"), self.random.randrange(12)))
-                self.layout.put(self.data, place, (0, "I"), value)
+                self.layout.put(self.data, place, (0, "I"), self.pick((self.edge("I"), self.random.randrange(12))))
 
     def hash_table(self):
-        self.words_of((5,), self.random.choice((1, 2, 12)))
+        self.words_of((5,), self.pick((1, 2, 12)))
 
     def notes(self):
         for base, offset, size in self.places_of((7,)):
             place = offset + 4 * self.random.randrange(3)
-            value = self.random.choice((self.edge("I"), self.random.randrange(size + 8)))
-            self.layout.put(self.data, place, (0, "I"), value)
+            self.layout.put(self.data, place, (0, "I"), self.pick((self.edge("I"), self.random.randrange(size + 8))))
             if self.random.random() < 0.3:
-                self.layout.put(self.data, base, self.layout.section["size"], self.random.randrange(40))
+                self.put_in(base, size=self.random.randrange(40))
 
     def tables(self):
         self.words_of((2, 4, 6, 9, 11, 14, 17, 18), 2)
@@ -282,54 +265,47 @@ class Damage:
         """A zero byte of a string table that is none, or a byte that is no text."""
         for _, offset, size in self.places_of((3,)):
             if self.random.random() < 0.5:
-                place = offset + self.random.choice((size - 1, self.random.randrange(size)))
-                self.data[place] = self.random.choice((0, 0x41, 0x80, 0xc3, 0xff))
+                place = offset + self.pick((size - 1, self.random.randrange(size)))
+                self.data[place] = self.pick((0, 0x41, 0x80, 0xc3, 0xff))
 
     def cut(self):
         """The end of the file, or of a section."""
         if self.random.random() < 0.4:
             ends = [self.random.randrange(len(self.data) + 1), len(self.data) - 1, self.layout.header_size]
-            ends += [self.random.choice(self.sections)] if self.sections else []
-            del self.data[max(0, self.random.choice(ends)):]
+            ends += [self.pick(self.sections)] if self.sections else []
+            del self.data[max(0, self.pick(ends)):]
         elif self.sections:
-            base = self.random.choice(self.sections)
-            size = self.layout.get(self.data, base, self.layout.section["size"])
-            by = self.random.choice((1, 2, 3, 4, 8, size // 2, size - 1, -1))
-            self.layout.put(self.data, base, self.layout.section["size"], size - by)
+            base = self.pick(self.sections)
+            size = self.of_section(base, "size")
+            self.put_in(base, size=size - self.pick((1, 2, 3, 4, 8, size // 2, size - 1, -1)))
 
     def moved(self):
         """A section that lies elsewhere, over others or at an odd place."""
         if self.sections:
-            base = self.random.choice(self.sections)
-            offset = self.layout.get(self.data, base, self.layout.section["offset"])
-            self.layout.put(self.data, base, self.layout.section["offset"], offset + self.random.choice((-8, -1, 1, 2, 4, 64)))
+            base = self.pick(self.sections)
+            self.put_in(base, offset=self.of_section(base, "offset") + self.pick((-8, -1, 1, 2, 4, 64)))
 
     def numbering(self):
         """Counts and the index of the names in section header 0."""
-        first = self.sections[0] if self.sections else 0
-        put = lambda name, value: self.layout.put(self.data, 0, self.layout.header[name], value)
-        here = lambda name, value: self.layout.put(self.data, first, self.layout.section[name], value)
-        which = self.random.randrange(3)
+        first, which = self.sections[0] if self.sections else 0, self.random.randrange(3)
         if which == 0:
-            here("size", self.random.choice((len(self.sections), self.edge("I"), self.edge("Q"))))
-            put("shnum", 0)
+            self.put_in(first, size=self.pick((len(self.sections), self.edge("I"), self.edge("Q"))))
         elif which == 1:
-            here("info", self.random.choice((len(self.segments), self.edge("I"))))
-            put("phnum", 0xffff)
+            self.put_in(first, info=self.pick((len(self.segments), self.edge("I"))))
         else:
             index = self.layout.get(self.data, 0, self.layout.header["shstrndx"])
-            here("link", self.random.choice((index, self.edge("I"))))
-            put("shstrndx", 0xffff)
+            self.put_in(first, link=self.pick((index, self.edge("I"))))
+        self.layout.fill(self.data, 0, self.layout.header, **({"shnum": 0}, {"phnum": 0xffff}, {"shstrndx": 0xffff})[which])
 
     def bytes(self):
-        for _ in range(self.random.choice((1, 1, 8))):
+        for _ in range(self.pick((1, 1, 8))):
             if self.data:
                 self.data[self.random.randrange(len(self.data))] = self.random.randrange(256)
 
     def front(self):
         """The class, the order and the version."""
         if len(self.data) > 6:
-            self.data[self.random.choice((4, 5, 6))] = self.random.choice((0, 1, 2, 3, 255))
+            self.data[self.pick((4, 5, 6))] = self.pick((0, 1, 2, 3, 255))
 
     ALL = (file_header, file_header, section_header, section_header, section_header, segment_header, segment_header,
         links, hash_table, hash_table, notes, tables, names, cut, moved, numbering, bytes, front)

@@ -9,72 +9,39 @@ their versions, and the versions needed and defined; of each file besides its se
 symbol that is found by both, and by the name alone where the version is the default one.
 
 Each difference is a line. The exit status is 0 if there is none, 1 if there is one, 2 if nothing could be compared."""
-import argparse
 import collections
-import os
 import re
-import subprocess
 import sys
 import tempfile
 from pathlib import Path
 
+from comparing import llvm, parser_of, parts, read_elf, run, texts_of
+from elfsym import stripped
+
 LARGEST = 400_000
 
 
-def output(*command):
-    """What a command prints in the C locale."""
-    done = subprocess.run([str(it) for it in command], capture_output=True, env=dict(os.environ, LC_ALL="C"), check=False)
-    return done.stdout.decode("utf-8", "surrogateescape")
-
-
-def is_elf(path):
-    try:
-        with open(path, "rb") as stream:
-            return path.is_file() and not path.is_symlink() and path.stat().st_size < LARGEST and stream.read(5) == b"\x7fELF\2"
-    except OSError:
-        return False
-
-
 def spread(wanted):
-    found = [it for folder in ("/usr/bin", "/usr/lib/x86_64-linux-gnu") for it in sorted(Path(folder).iterdir()) if it.is_file() and is_elf(it)]
+    files = (it for folder in ("/usr/bin", "/usr/lib/x86_64-linux-gnu") for it in sorted(Path(folder).iterdir()))
+    found = [it for it in files if it.is_file() and not it.is_symlink() and it.stat().st_size < LARGEST and read_elf(it)[4:5] == b"\2"]
     return found[:: max(1, len(found) // wanted)][:wanted]
 
 
 def symbols_of_nm(path):
     """The values, with the names and their versions, of the dynamic symbols."""
-    for line in output("nm", "-D", path).splitlines():
-        yield (line[:16].strip() or "0" * 16), line[19:]
+    return [(line[:16].strip() or "0" * 16, line[19:]) for line in run(["nm", "-D", path]).output.splitlines()]
 
 
 def wanted_dynamic(path):
     """The lines of what the dynamic segment says, in no order."""
-    printed = output("readelf", "--wide", "--dynamic", "--notes", "--version-info", path)
-    lines = [f"needed {it}" for it in re.findall(r"\(NEEDED\).*\[(.*)\]", printed)]
-    lines += [f"soname {it}" for it in re.findall(r"\(SONAME\).*\[(.*)\]", printed)]
-    lines += [f"run path {it}" for it in re.findall(r"\((?:RUNPATH|RPATH)\).*\[(.*)\]", printed)[:1]]
-    lines += [f"build id {it}" for it in re.findall(r"Build ID: ([0-9a-f]+)", printed)[:1]]
+    said = llvm(path, "-V", "-n")
+    lines = [f"{word} {it}" for word, tag in (("needed", "NEEDED"), ("soname", "SONAME")) for it in texts_of(path, tag)]
+    lines += [f"run path {it}" for it in texts_of(path, "RUNPATH", "RPATH")[:1]]
+    lines += [f"build id {it}" for it in re.findall(r"'Build ID': '([0-9a-f]+)'", str(said.get("Notes")))[:1]]
     lines += [f"symbol {value} {name}" for value, name in symbols_of_nm(path)]
-    lines += [f"definition {it}" for it in re.findall(r"Rev: \d+ +Flags: .* Name: (\S+)", printed)]
-    library = None
-    for line in printed.splitlines():
-        if match := re.search(r"Version: \d+  File: (\S+)", line):
-            library = match[1]
-        elif match := re.search(r"Name: (\S+)  Flags: ", line):
-            lines.append(f"need {library} {match[1]}")
-    return lines
-
-
-def wanted_sections(path):
-    printed = output("readelf", "--wide", "--sections", path)
-    row = r"^ +\[ *(\d+)\] (.*?) *(?:[A-Z_]+[0-9a-z_]*|[0-9a-f]{8}: <unknown>|VER\w+) +[0-9a-f]{16} [0-9a-f]{6,} ([0-9a-f]{6,}) "
-    return [f"section {index} {name} {int(size, 16)}" for index, name, size in re.findall(row, printed, re.M)]
-
-
-def without_sections(data):
-    start = int.from_bytes(data[40:48], "little")
-    changed = bytearray(data[:start] + bytes(len(data) - start))
-    changed[40:48], changed[60:64] = bytes(8), bytes(4)
-    return changed
+    lines += [f"definition {it['Name']}" for it in parts(said, "VersionDefinitions", "Definition")]
+    needs = parts(said, "VersionRequirements", "Dependency")
+    return lines + [f"need {it['FileName']} {entry['Name']}" for it in needs for entry in parts(it, "Entries", "Entry")]
 
 
 def differences(path, printed, wanted):
@@ -82,32 +49,34 @@ def differences(path, printed, wanted):
     return [f"{path}: here {it}" for it in ours - theirs] + [f"{path}: there {it}" for it in theirs - ours]
 
 
-def printed_by(program, path, names=()):
-    return output(program, path, *names).splitlines()
-
-
 def compare(program, path, room):
-    versioned = [name for value, name in symbols_of_nm(path) if "@" in name and int(value, 16)][:200]
-    asked = [it.replace("@@", "@") for it in versioned] + [it.split("@")[0] for it in versioned if "@@" in it]
-    lines = printed_by(program, path, asked)
-    values = {name: value for value, name in symbols_of_nm(path)}
-    found = [f"found {name.replace('@@', '@')} {values[name]} {name[name.index('@') :]}" for name in versioned]
-    found += [f"found {name.split('@')[0]} {values[name]} {name[name.index('@') :]}" for name in versioned if "@@" in name]
+    nm, found, asked = symbols_of_nm(path), [], []
+    values = {name: value for value, name in nm}
+    for name in [name for value, name in nm if "@" in name and int(value, 16)][:200]:
+        plain, version = name[: name.index("@")], name[name.index("@") :]
+        for it in [name.replace("@@", "@"), *([plain] if "@@" in name else [])]:
+            asked.append(it)
+            found.append(f"found {it} {values[name]} {version}")
+    lines = run([program, path, *asked]).output.splitlines()
     sections = [re.sub(r" \d+ (\d+) \d+$", r" \1", it) for it in lines if it.startswith("section ")]
     dynamic = [it for it in lines if not it.startswith(("section ", "found "))]
-    wanted = wanted_dynamic(path)
+    wanted, headers = wanted_dynamic(path), parts(llvm(path, "-S"), "Sections", "Section")
+    # GNU's hash table alone doesn't count the symbols of a file that exports none.
+    if not any(it.startswith("symbol ") for it in dynamic):
+        wanted = [it for it in wanted if not it.startswith(f"symbol {'0' * 16} ")]
     result = differences(path, dynamic, wanted)
-    result += differences(path, sections, wanted_sections(path))
+    result += differences(path, sections, [f"section {it['Index']} {it['Name']['Value']} {it['Size']}" for it in headers])
     result += differences(path, [it for it in lines if it.startswith("found ")], found)
     cut = Path(room, "cut")
-    cut.write_bytes(without_sections(path.read_bytes()))
+    cut.write_bytes(stripped(path.read_bytes()))
     if int.from_bytes(path.read_bytes()[56:58], "little"):
-        result += differences(f"{path} without sections", [it for it in printed_by(program, cut) if not it.startswith("section ")], wanted)
+        lines = run([program, cut]).output.splitlines()
+        result += differences(f"{path} without sections", [it for it in lines if not it.startswith("section ")], wanted)
     return len(wanted) + len(sections) + len(found), result
 
 
 def main():
-    parser = argparse.ArgumentParser(description=__doc__, formatter_class=argparse.RawDescriptionHelpFormatter)
+    parser = parser_of(__doc__)
     parser.add_argument("--program", required=True)
     parser.add_argument("--files", type=int, default=300)
     parser.add_argument("paths", nargs="*", type=Path, metavar="FILE")
@@ -118,10 +87,9 @@ def main():
             compared, different = compare(asked.program, path, room)
             count += compared
             lines += different
-    for line in lines[:40]:
-        print(line)
-    print(f"{len(files)} files, {count} lines compared, {len(lines)} differences")
-    sys.exit(1 if lines else 0 if count else 2)
+    print("\n".join([*lines[:40], f"{len(files)} files, {count} lines compared, {len(lines)} differences"]))
+    return 1 if lines else 0 if count else 2
 
 
-main()
+if __name__ == "__main__":
+    sys.exit(main())

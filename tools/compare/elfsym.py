@@ -3,10 +3,9 @@
 
     tools/compare/elfsym.py [--elfsym PATH] FILE..
 
-Runs the built elfsym and llvm-readelf on each FILE that begins with the ELF magic number and has a dynamic segment
-with dynamic symbols. It is asked for each name that `llvm-readelf --dyn-syms` lists, and for NAME@VERSION of each
-version listed with it. What counts are the symbols that a dynamic linker takes: not local, of a type that it knows,
-and with a value, absolute or thread-local (an undefined one only with a value). It must answer
+It is asked for each name that `llvm-readelf --dyn-syms` lists, and for NAME@VERSION of each version listed with it. What
+counts are the symbols that a dynamic linker takes: not local, of a type that it knows, and with a value, absolute or
+thread-local (an undefined one only with a value). It must answer
 
 - a name by the value and the size of such a symbol without a version; if there is none, by those of the only one with
   a version that isn't hidden: a default (`@@`), or one that the file needs;
@@ -14,20 +13,16 @@ and with a value, absolute or thread-local (an undefined one only with a value).
 - otherwise by `none`.
 
 `elfsym --needed` must print what `readelf -dW` lists as needed. All of this is asked again of a copy without section
-headers: e_shoff, e_shnum and e_shstrndx are 0. PATH is crates/elfsym/out/elfsym under the repository root where it
-isn't given.
-
-Each difference is a line `FILE: what: elfsym says X, readelf says Y`, and the last line holds the counts. The exit
-status is 0 if there is no difference, 1 if there is one, and 2 if the comparison couldn't be run.
+headers: e_shoff, e_shnum and e_shstrndx are 0. A FILE without dynamic symbols is passed over.
 """
+import functools
 import sys
 import tempfile
 from collections import defaultdict
 from pathlib import Path
 from typing import Dict, List, NamedTuple, Set, Tuple
 
-import comparing
-from comparing import ABSOLUTE, LOCAL, THREAD, UNDEFINED, Tally, dynamic_symbols, read_elf, run
+from comparing import ABSOLUTE, LOCAL, THREAD, UNDEFINED, Symbol, Tally, compare_all, dynamic_symbols, read_elf, run, texts_of
 
 # The types that a dynamic linker takes: none, an object, a function, a common block, thread-local, an indirect function.
 TYPES = {0, 1, 2, 5, 6, 10}
@@ -35,19 +30,9 @@ TYPES = {0, 1, 2, 5, 6, 10}
 # How many names are asked for in one run.
 AT_ONCE = 300
 
-Answer = Tuple[int, int]
-
-
-class Symbol(NamedTuple):
-    """A symbol that a dynamic linker takes: its value and size, its version or none, and whether it isn't hidden."""
-
-    answer: Answer
-    version: str
-    default: bool
-
 
 class Listing(NamedTuple):
-    """What llvm-readelf lists: the versions of each name, the symbols that count of each, and what is needed."""
+    """What readelf lists: the versions of each name, the symbols that count of each, and what is needed."""
 
     names: Dict[str, Set[str]]
     symbols: Dict[str, List[Symbol]]
@@ -55,42 +40,22 @@ class Listing(NamedTuple):
 
 
 def read_symbols(path: str) -> Listing:
-    """What llvm-readelf lists of the dynamic symbols and of the needed libraries."""
-    listing = Listing(defaultdict(set), defaultdict(list), [])
+    listing = Listing(defaultdict(set), defaultdict(list), texts_of(path, "NEEDED"))
     for it in filter(lambda it: it.name, dynamic_symbols(path)):
         listing.names[it.name] |= {it.version, ""}
         has_place = it.value or it.section == ABSOLUTE or (it.kind == THREAD and it.section != UNDEFINED)
         if it.kind in TYPES and has_place and it.binding != LOCAL:
-            listing.symbols[it.name].append(Symbol((it.value, it.size), it.version, it.is_shown))
-    listing.needed.extend(comparing.needed(path))
+            listing.symbols[it.name].append(it)
     return listing
 
 
-def wanted_of(symbols: List[Symbol], version: str) -> Set[Answer]:
-    """The answers that are right for a name with these symbols, asked with a version or without one."""
-    plain = {it.answer for it in symbols if not it.version}
+def wanted_of(symbols: List[Symbol], version: str) -> Set[Tuple[int, int]]:
+    """The values and sizes that are right for a name with these symbols, asked with a version or without one."""
+    plain = {(it.value, it.size) for it in symbols if not it.version}
     if version:
-        return plain | {it.answer for it in symbols if it.version == version}
-    defaults = [it.answer for it in symbols if it.default]
+        return plain | {(it.value, it.size) for it in symbols if it.version == version}
+    defaults = [(it.value, it.size) for it in symbols if it.is_shown]
     return plain or set(defaults if len(defaults) == 1 else [])
-
-
-def references_of(reads: Listing) -> List[str]:
-    """Each name, and each with a version, as elfsym is asked."""
-    return [f"{name}@{it}" if it else name for name in sorted(reads.names) for it in sorted(reads.names[name])]
-
-
-def compare_names(path: str, file: str, elfsym: str, reads: Listing, tally: Tally) -> None:
-    """Asks for each name and version that readelf lists, and compares the values and sizes."""
-    names = references_of(reads)
-    for asked in (names[at : at + AT_ONCE] for at in range(0, len(names), AT_ONCE)):
-        status, own, said = run([elfsym, file, *asked])
-        lines = own.rstrip("\n").split("\n") if own else []
-        if status != 0 or len(lines) != len(asked):
-            tally.differ(path, "names", f"status {status}: {said.strip()}", f"{len(asked)} names")
-            return
-        for reference, line in zip(asked, lines):
-            compare_line(path, reference, line, reads, tally)
 
 
 def compare_line(path: str, reference: str, line: str, reads: Listing, tally: Tally) -> None:
@@ -98,26 +63,26 @@ def compare_line(path: str, reference: str, line: str, reads: Listing, tally: Ta
     name, _, version = reference.partition("@")
     symbols = reads.symbols.get(name, [])
     wanted = wanted_of(symbols, version)
-    if not wanted:
-        tally["others"] += 1
-        if line != f"{reference}: none":
-            tally.differ(path, reference, line, "none")
-        return
-    if version:
-        tally["names with a version that has a symbol"] += 1
-    else:
-        tally["names with a symbol"] += 1
-        tally["of them with several values"] += len({it.answer for it in symbols}) > 1
-    if line not in {f"{reference} {value:#x} {size:#x}" for value, size in wanted}:
-        tally.differ(path, reference, line, sorted(wanted))
+    tally["others" if not wanted else "names with a version that has a symbol" if version else "names with a symbol"] += 1
+    tally["of them with several values"] += bool(wanted) and not version and len({(it.value, it.size) for it in symbols}) > 1
+    if line not in ({f"{reference} {value:#x} {size:#x}" for value, size in wanted} or {f"{reference}: none"}):
+        tally.differ(path, reference, line, sorted(wanted) or "none")
 
 
 def compare_file(path: str, file: str, elfsym: str, reads: Listing, tally: Tally) -> None:
     """Compares all that elfsym says of a file, which may be a copy, with what readelf lists."""
     tally["files"] += 1
-    compare_names(path, file, elfsym, reads, tally)
+    names = [f"{name}@{it}" if it else name for name in sorted(reads.names) for it in sorted(reads.names[name])]
+    for asked in (names[at : at + AT_ONCE] for at in range(0, len(names), AT_ONCE)):
+        status, own, said = run([elfsym, file, *asked])
+        lines = own.split("\n")[:-1]
+        if status != 0 or len(lines) != len(asked):
+            tally.differ(path, "names", f"status {status}: {said.strip()}", f"{len(asked)} names")
+            break
+        for reference, line in zip(asked, lines):
+            compare_line(path, reference, line, reads, tally)
     status, own, said = run([elfsym, "--needed", file])
-    needed = own.rstrip("\n").split("\n") if own else []
+    needed = own.split("\n")[:-1]
     tally["needed libraries"] += len(needed)
     if status != 0 or needed != reads.needed:
         tally.differ(path, "needed", f"{needed} {said.strip()}", reads.needed)
@@ -126,28 +91,24 @@ def compare_file(path: str, file: str, elfsym: str, reads: Listing, tally: Tally
 def stripped(content: bytes) -> bytes:
     """The same file without section headers: e_shoff, e_shnum and e_shstrndx are 0."""
     copy = bytearray(content)
-    places = [(32, 4), (48, 4)] if copy[4] == 1 else [(40, 8), (60, 4)]
-    for place, size in places:
+    for place, size in [(32, 4), (48, 4)] if copy[4] == 1 else [(40, 8), (60, 4)]:
         copy[place : place + size] = bytes(size)
     return bytes(copy)
 
 
-def compare_with_copy(path: str, elfsym: str, copy: Path, tally: Tally) -> None:
+def compare(copy: Path, path: str, elfsym: str, tally: Tally) -> None:
     """Compares a file with dynamic symbols, and a copy of it without section headers."""
-    content = read_elf(path)
-    reads = read_symbols(path) if content else None
-    if not reads or not reads.names:
+    reads = read_symbols(path)
+    if not reads.names:
         return
     compare_file(path, path, elfsym, reads, tally)
-    copy.write_bytes(stripped(content))
+    copy.write_bytes(stripped(read_elf(path)))
     tally["of them copies without section headers"] += 1
     compare_file(f"{path}, stripped", str(copy), elfsym, reads, tally)
 
 
 if __name__ == "__main__":
-    compared = Tally(
-        "elfsym", "of them copies without section headers", "names with a symbol", "of them with several values",
+    counted = ("of them copies without section headers", "names with a symbol", "of them with several values",
         "names with a version that has a symbol", "others", "needed libraries")
     with tempfile.TemporaryDirectory() as folder:
-        copied = Path(folder, "copy")
-        sys.exit(comparing.compare_all(__doc__, compared, lambda path, elfsym: compare_with_copy(path, elfsym, copied, compared)))
+        sys.exit(compare_all(__doc__, Tally("elfsym", *counted), functools.partial(compare, Path(folder, "copy"))))

@@ -9,18 +9,18 @@ Rattle's own compiler than where it is built by LLVM, in 512 MB. As built by LLV
 seconds of a processor for a file below 1 MB, but for three of the long files, which are told of with the
 cause. What isn't so is printed with the number of the file, and the status is then 1.
 """
-import argparse
+import collections
 import os
 import pathlib
 import resource
-import signal
+import subprocess
 import sys
 import tempfile
 import time
 
 import damage
+from comparing import ROOT, parser_of
 
-TOP = pathlib.Path(__file__).resolve().parents[2]
 ROOM = 512 * 2**20
 SECONDS = 2.0
 # A run that takes longer is ended.
@@ -33,25 +33,22 @@ AT_ONCE = 50
 
 def builds(name):
     """The program as LLVM builds it, and as Rattle's own compiler does."""
-    folder = TOP / "crates" / name / "out"
+    folder = ROOT / "crates" / name / "out"
     found = [folder / name, folder / f"{name}.by-rattle"]
-    missing = [it.name for it in found if not it.exists()]
-    if missing:
+    if missing := [it.name for it in found if not it.exists()]:
         print(f"not built, so not run: {', '.join(missing)}")
-    return [str(it) for it in found if it.exists()]
+    return [it for it in found if it.exists()]
 
 
-def run(program, paths, output):
+def run(program, paths, room):
     """The status, what was written and the seconds that a processor took."""
-    flags = os.O_WRONLY | os.O_CREAT | os.O_TRUNC
-    actions = [(os.POSIX_SPAWN_OPEN, 1, output, flags, 0o600), (os.POSIX_SPAWN_DUP2, 1, 2)]
-    pid = os.posix_spawn(program, [program, *paths], {}, file_actions=actions)
-    signal.signal(signal.SIGALRM, lambda *_: os.kill(pid, signal.SIGKILL))
-    signal.alarm(GIVEN_UP)
-    _, status, used = os.wait4(pid, 0)
-    signal.alarm(0)
-    written = pathlib.Path(output).read_bytes()
-    return os.waitstatus_to_exitcode(status), written, used.ru_utime + used.ru_stime
+    limit = lambda: resource.setrlimit(resource.RLIMIT_CPU, (GIVEN_UP, GIVEN_UP))
+    with open(f"{room}/output", "w+b") as output:
+        with subprocess.Popen([program, *paths], env={}, stdout=output, stderr=output, preexec_fn=limit) as started:
+            _, status, used = os.wait4(started.pid, 0)
+            started.returncode = os.waitstatus_to_exitcode(status)
+        output.seek(0)
+        return started.returncode, output.read(), used.ru_utime + used.ru_stime
 
 
 def hash_file(names, words):
@@ -76,29 +73,24 @@ def long_files():
     count = 20_000
     good = damage.hash_words(names(count), count // 2)
     yield "a good hash table of 20,000 names", hash_file(names(count), good)
-    one = [1, count + 1, 1, *range(0, 1), *range(2, count + 1), 0]
+    one = [1, count + 1, 1, 0, *range(2, count + 1), 0]
     yield f"20,000 names on the chain of one bucket{SLOW}", hash_file(names(count), one)
     yield f"20,000 buckets that share one chain of 20,000 names{SLOW}", shared_chain(count)
     looped = [count, count + 1, *[1] * count, 0, *range(2, count + 1), 1]
     yield f"20,000 buckets that share one looped chain{SLOW}", hash_file(names(count), looped)
-    layout = damage.Layout(True, "little")
-    data = bytearray(damage.worked(True, "little"))
-    data += bytes(15_000 * 64)
-    start = len(damage.worked(True, "little"))
-    old = layout.get(data, 0, layout.header["shoff"])
-    data[start:start + 64 * 22] = data[old:old + 64 * 22]
+    layout, data = damage.Layout(True, "little"), bytearray(damage.worked(True, "little"))
+    start, old = len(data), layout.get(data, 0, layout.header["shoff"])
+    data += data[old : old + 64 * 22] + bytes(64 * (15_000 - 22))
     for k in range(22, 15_000):
-        layout.put(data, start + 64 * k, layout.section["type"], 2)
-        layout.put(data, start + 64 * k, layout.section["size"], 960_000 // 24 * 24)
-    layout.put(data, 0, layout.header["shoff"], start)
-    layout.put(data, 0, layout.header["shnum"], 15_000)
+        layout.fill(data, start + 64 * k, layout.section, type=2, size=960_000 // 24 * 24)
+    layout.fill(data, 0, layout.header, shoff=start, shnum=15_000)
     yield "15,000 section headers, of which each is a table of 40,000 symbols", bytes(data)
 
 
 class Fuzzing:
     def __init__(self, room):
         self.room, self.faults, self.files = room, 0, 0
-        self.statuses, self.slowest = {}, {}
+        self.statuses, self.slowest = collections.Counter(), {}
         self.programs = {name: builds(name) for name in ("elfinfo", "elfanswers")}
 
     def fault(self, name, said):
@@ -108,7 +100,7 @@ class Fuzzing:
 
     def check(self, program, names, paths):
         """Runs each build on these files at once, and each of them alone where something isn't as it must."""
-        ends = [run(it, paths, f"{self.room}/output") for it in self.programs[program]]
+        ends = [run(it, paths, self.room) for it in self.programs[program]]
         if not ends:
             return
         worst = ends[0][2]
@@ -118,30 +110,26 @@ class Fuzzing:
             for name, path in zip(names, paths):
                 self.check(program, [name], [path])
             return
-        key = (program, ends[0][0])
-        self.statuses[key] = self.statuses.get(key, 0) + len(paths)
+        self.statuses[program, ends[0][0]] += len(paths)
         self.slowest[program] = max(self.slowest.get(program, (0, "")), (worst, names[0]))
         for build, (status, _, seconds) in zip(self.programs[program], ends):
+            took = f"{build.name} took {seconds:.2f} s"
             if status not in (0, 1):
-                self.fault(names[0], f"{pathlib.Path(build).name} ended with {status}")
-            if build.endswith(".by-rattle"):
-                continue
-            if seconds > SECONDS and SLOW in names[0] and program != "elfinfo":
-                print(f"{pathlib.Path(build).name} took {seconds:.2f} s: {names[0]}", flush=True)
-            elif seconds > SECONDS:
-                self.fault(names[0], f"{pathlib.Path(build).name} took {seconds:.2f} s")
+                self.fault(names[0], f"{build.name} ended with {status}")
+            if seconds > SECONDS and build.suffix != ".by-rattle":
+                if SLOW in names[0] and program != "elfinfo":
+                    print(f"{took}: {names[0]}", flush=True)
+                else:
+                    self.fault(names[0], took)
         if not same:
             self.fault(names[0], f"the two builds of {program} differ")
 
     def files_at_once(self, held):
-        names, paths = [], []
-        for k, (name, data) in enumerate(held):
-            pathlib.Path(f"{self.room}/{k}").write_bytes(data)
-            names.append(name)
-            paths.append(f"{self.room}/{k}")
-        for name, path in zip(names, paths):
+        paths = [pathlib.Path(self.room, str(k)) for k in range(len(held))]
+        for path, (name, data) in zip(paths, held):
+            path.write_bytes(data)
             self.check("elfinfo", [name], [path])
-        self.check("elfanswers", names, paths)
+        self.check("elfanswers", [name for name, _ in held], paths)
         self.files += len(held)
 
     def told(self, seconds):
@@ -153,10 +141,9 @@ class Fuzzing:
 
 
 def main() -> int:
-    parser = argparse.ArgumentParser(description=__doc__, formatter_class=argparse.RawDescriptionHelpFormatter)
-    parser.add_argument("--seed", type=int, default=1)
-    parser.add_argument("--count", type=int, default=500)
-    parser.add_argument("--start", type=int, default=0)
+    parser = parser_of(__doc__)
+    for name, number in (("seed", 1), ("count", 500), ("start", 0)):
+        parser.add_argument(f"--{name}", type=int, default=number)
     options = parser.parse_args()
     resource.setrlimit(resource.RLIMIT_AS, (ROOM, ROOM))
     began = time.monotonic()
@@ -167,11 +154,11 @@ def main() -> int:
         for name, data in long_files():
             fuzzing.files_at_once([(name, data)])
         # A check that walks along the chain for each name would take minutes.
-        pathlib.Path(f"{room}/shared").write_bytes(shared_chain(200_000))
+        pathlib.Path(room, "shared").write_bytes(shared_chain(200_000))
         fuzzing.check("elfinfo", ["200,000 buckets that share one chain of 200,000 names"], [f"{room}/shared"])
-        for start in range(options.start, options.start + options.count, AT_ONCE):
-            numbers = range(start, min(start + AT_ONCE, options.start + options.count))
-            fuzzing.files_at_once([(f"damage.damaged({options.seed}, {k})", damage.damaged(options.seed, k)) for k in numbers])
+        numbers = range(options.start, options.start + options.count)
+        for some in (numbers[at : at + AT_ONCE] for at in range(0, options.count, AT_ONCE)):
+            fuzzing.files_at_once([(f"damage.damaged({options.seed}, {k})", damage.damaged(options.seed, k)) for k in some])
         fuzzing.told(time.monotonic() - began)
     return 1 if fuzzing.faults else 0
 

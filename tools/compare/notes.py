@@ -3,21 +3,15 @@
 
     tools/compare/notes.py [--elfsections PATH] FILE..
 
-Runs the built elfsections, `llvm-readelf -n` and `readelf -rW` on each FILE. Of each section of notes it compares the
-number of notes, and the type, the name and the size of the description of each, but for the names of GNU's build
-attributes, which hold other bytes; of each RELR section the addresses.
-PATH is crates/elfsections/out/elfsections under the repository root where it isn't given. A FILE that doesn't begin with
-the ELF magic number is passed over silently.
-
-Each difference is a line `FILE: what: elfsections says X, readelf says Y`, and the last line holds the counts. The exit
-status is 0 if there is no difference, 1 if there is one, and 2 if the comparison couldn't be run.
+Of each section of notes `llvm-readelf -n` says how many there are, and of each the type, the name and the size of the
+description, but for the names of GNU's build attributes, which hold other bytes; `readelf -rW` has the addresses of each RELR
+section.
 """
 import re
 import sys
 from typing import List, NamedTuple, Optional, Tuple
 
-import comparing
-from comparing import Tally, llvm, parts, read_elf, run
+from comparing import Tally, compare_all, llvm, parts, run, sections_of
 
 # The number of each type that llvm-readelf prints by a name, of the owner GNU and of others. `Unknown (0x..)` has it.
 TYPES = {
@@ -25,9 +19,7 @@ TYPES = {
     "NT_VERSION": 1, "NT_ARCH": 2, "OPEN": 0x100, "func": 0x101}
 
 UNKNOWN_TYPE = re.compile(r"Unknown \(0x([0-9A-Fa-f]+)\)")
-RELR_HEADING = re.compile(r"Relocation section '(.*)' at offset .* contains")
-ADDRESS = re.compile(r"[0-9a-f]+$")
-OWN_NOTE = re.compile(r"([0-9a-f]+) (\d+) (\d+) (.*)$")
+OWN_NOTE = re.compile(r"([0-9a-f]+) \d+ (\d+) (.*)$")
 
 
 class Note(NamedTuple):
@@ -38,33 +30,10 @@ class Note(NamedTuple):
     size: int
 
 
-class Contents(NamedTuple):
-    """What a file has, by section in order."""
-
-    notes: List[Tuple[str, List[Note]]]
-    addresses: List[Tuple[str, List[int]]]
-
-
-def read_own(output: str) -> Contents:
-    """Takes what elfsections prints of one file apart, but for hash tables; raises ValueError at a strange line."""
-    contents = Contents([], [])
-    place = ""
-    for line in output.split("\n")[1:]:
-        word, _, rest = line.partition(" ")
-        note = OWN_NOTE.match(line)
-        if word in ("notes", "relr"):
-            place = word
-            (contents.notes if word == "notes" else contents.addresses).append((rest, []))
-        elif word == "hash" or place == "hash":
-            place = "hash"
-        elif place == "notes" and note:
-            name = None if note[4].startswith("! ") else note[4]
-            contents.notes[-1][1].append(Note(int(note[1], 16), name, int(note[3])))
-        elif place == "relr" and ADDRESS.match(line):
-            contents.addresses[-1][1].append(int(line, 16))
-        elif line:
-            raise ValueError(line)
-    return contents
+def own_note(line: str) -> Note:
+    if not (found := OWN_NOTE.match(line)):
+        raise ValueError(line)
+    return Note(int(found[1], 16), None if found[3].startswith("! ") else found[3], int(found[2]))
 
 
 def read_note(said: dict) -> Note:
@@ -85,15 +54,10 @@ def read_notes(path: str) -> List[Tuple[str, List[Note]]]:
 
 def read_addresses(output: str) -> List[Tuple[str, List[int]]]:
     """The packed relocations that readelf lists, by section: llvm-readelf writes none of these in JSON."""
-    found, name, inside = [], "", False
-    for line in output.split("\n"):
-        if heading := RELR_HEADING.match(line):
-            name, inside = heading[1], False
-        elif re.match(r"  \d+ offsets$", line):
-            found.append((name, []))
-            inside = True
-        elif inside and ADDRESS.match(line):
-            found[-1][1].append(int(line, 16))
+    found = []
+    for name, lines in re.findall(r"^Relocation section '(.*)' at offset .* contains .*\n((?:.+\n)*)", output + "\n", re.M):
+        if re.search(r"^  \d+ offsets$", lines, re.M):
+            found.append((name, [int(it, 16) for it in re.findall(r"^[0-9a-f]+$", lines, re.M)]))
     return found
 
 
@@ -103,34 +67,26 @@ def same_note(says: Note, reads: Note) -> bool:
     return same_name and says.kind == reads.kind and says.size == reads.size
 
 
-def compare_file(path: str, elfsections: str, tally: Tally) -> None:
+def compare(path: str, elfsections: str, tally: Tally) -> None:
     """Runs the programs on a file and compares what they print."""
-    if not read_elf(path):
-        return
     tally["files"] += 1
-    status, own, _ = run([elfsections, path])
-    if status != 0:
-        tally.differ(path, "file", f"status {status}", "a file")
+    if not (own := tally.output(path, elfsections, path)):
         return
-    try:
-        says = read_own(own)
-    except ValueError as strange:
-        tally.differ(path, "output", f"'{strange}'", "no such line")
-        return
+    says = [(name, [own_note(it) for it in lines]) for kind, name, lines in sections_of(own) if kind == "notes"]
+    packed = [(name, [int(it, 16) for it in lines]) for kind, name, lines in sections_of(own) if kind == "relr"]
     notes, addresses = read_notes(path), read_addresses(run(["readelf", "-rW", "--", path]).output)
-    if [name for name, _ in says.notes] != [name for name, _ in notes]:
-        tally.differ(path, "sections of notes", says.notes, notes)
-    for (name, one), (_, other) in zip(says.notes, notes):
+    if [name for name, _ in says] != [name for name, _ in notes]:
+        tally.differ(path, "sections of notes", says, notes)
+    for (name, one), (_, other) in zip(says, notes):
         tally["sections of notes"] += 1
         tally["notes"] += len(one)
         if len(one) != len(other) or not all(map(same_note, one, other)):
             tally.differ(path, name, one, other)
-    tally["RELR sections"] += len(says.addresses)
-    tally["packed relocations"] += sum(len(some) for _, some in says.addresses)
-    if says.addresses != addresses:
-        tally.differ(path, "packed relocations", says.addresses, addresses)
+    tally["RELR sections"] += len(packed)
+    tally["packed relocations"] += sum(len(some) for _, some in packed)
+    if packed != addresses:
+        tally.differ(path, "packed relocations", packed, addresses)
 
 
 if __name__ == "__main__":
-    compared = Tally("elfsections", "sections of notes", "notes", "RELR sections", "packed relocations")
-    sys.exit(comparing.compare_all(__doc__, compared, lambda path, elfsections: compare_file(path, elfsections, compared)))
+    sys.exit(compare_all(__doc__, Tally("elfsections", "sections of notes", "notes", "RELR sections", "packed relocations"), compare))

@@ -3,23 +3,16 @@
 
     tools/compare/readelf.py [--elfinfo PATH] FILE..
 
-Runs the built elfinfo and `llvm-readelf --elf-output-style=JSON -hSl` on each FILE and compares the numbers of the ELF
-header, the name and type of each section, and the type of each segment. A FILE may be a folder. PATH is
-crates/elfinfo/out/elfinfo under the repository root where it isn't given. A FILE that doesn't begin with the ELF magic
-number is passed over silently.
-
-Each difference is a line `FILE: field: elfinfo says X, readelf says Y`, and the last line holds the counts. What elfinfo
-refuses by design is counted as an expected refusal. The results of elfinfo's own checks aren't compared: the check line,
-what follows the type of a segment, and the hash line. Where a number stands in section 0 (extended numbering), the
-fields of the ELF header are compared as they stand there, and the lists go by section 0. The exit status is 0 if there
-is no difference, 1 if there is one, and 2 if the comparison couldn't be run.
+`llvm-readelf -hSl` has the numbers of the ELF header, the name and type of each section, and the type of each segment.
+What elfinfo refuses by design is counted as an expected refusal. The results of elfinfo's own checks aren't compared: the
+check line, what follows the type of a segment, and the hash line. Where a number stands in section 0 (extended numbering),
+the fields of the ELF header are compared as they stand there, and the lists go by section 0.
 """
 import re
 import sys
 from typing import Dict, NamedTuple
 
-import comparing
-from comparing import Tally, llvm, parts, raw, read_elf, run
+from comparing import Tally, compare_all, llvm, parts, raw, run
 
 # The number of each name that elfinfo prints, by the numbers that the gABI gives. A name with its number in brackets,
 # as `Other(22)`, stands for none of these.
@@ -66,49 +59,42 @@ NUMBERED = re.compile(r"(?:Ok\()?(\w+)\((\d+)\)\)?$")
 
 
 class Section(NamedTuple):
-    """A section's type and name, or the message that stands for the name."""
+    """A section's type, `=` and its name, or `!` and the message that stands for the name."""
 
     kind: str
-    name: str
-    refusal: str
+    mark: str
+    text: str
 
 
 class Report(NamedTuple):
-    """What elfinfo says of a file."""
+    """What elfinfo says of a file: the fields of the header, the sections from 1 on, and the types of segments."""
 
     header: Dict[str, str]
     sections: Dict[int, Section]
     segments: Dict[int, str]
 
 
-def add_at(found: Dict, first: int, line: str, index: str, value: object) -> None:
-    """Adds what a line says, if its index is the next one."""
-    if int(index) != first + len(found):
-        raise ValueError(line)
-    found[int(index)] = value
+def rows_of(text: str, shape: re.Pattern, first: int) -> Dict[int, tuple]:
+    """The lines of a list, whose indices have to go up from the first."""
+    rows = {}
+    for at, line in enumerate(filter(None, text.split("\n")), first):
+        found = shape.match(line)
+        if not found or int(found[1]) != at:
+            raise ValueError(line)
+        rows[at] = found.groups()[1:]
+    return rows
 
 
 def read_elfinfo(output: str) -> Report:
-    """Takes elfinfo's report apart; raises ValueError at a strange line. The indices of sections have to go up from 1,
-    those of segments from 0."""
-    report = Report({}, {}, {})
-    place = "header"
-    for line in output.split("\n"):
-        field, section, segment = (it.match(line) for it in (FIELD_LINE, SECTION_LINE, SEGMENT_LINE))
-        if line.startswith("hash: "):
-            break
-        if line in ("sections", "program headers"):
-            place = line
-        elif place == "header" and field:
-            report.header[field[1] if field[1] not in report.header else f"{field[1]} (2)"] = field[2].rstrip()
-        elif place == "sections" and section:
-            said = Section(section[2], section[4], "") if section[3] == "=" else Section(section[2], "", section[4])
-            add_at(report.sections, 1, line, section[1], said)
-        elif place == "program headers" and segment:
-            add_at(report.segments, 0, line, segment[1], segment[2])
-        elif line and line != "ELF header:" and not line.startswith("check: "):
+    """Takes elfinfo's report apart; raises ValueError at a strange line."""
+    head, sections, segments, *_ = re.split(r"^(?:sections|program headers|hash: .*)\n", output + "\n\n", flags=re.M)
+    header: Dict[str, str] = {}
+    for line in (it for it in head.split("\n") if it and it != "ELF header:" and not it.startswith("check: ")):
+        if not (field := FIELD_LINE.match(line)):
             raise ValueError(line)
-    return report
+        header[field[1] if field[1] not in header else f"{field[1]} (2)"] = field[2].rstrip()
+    named = {index: Section(*it) for index, it in rows_of(sections, SECTION_LINE, 1).items()}
+    return Report(header, named, {index: it[0] for index, it in rows_of(segments, SEGMENT_LINE, 0).items()})
 
 
 def same_number(says: str, names: Dict[str, int], number: int) -> bool:
@@ -139,7 +125,8 @@ def same_name(says: Section, name: str) -> bool:
     """Whether both print the same name, or elfinfo refuses it by design. elfinfo takes it by the offset of the string
     table alone, and llvm-readelf prints `<?>` for a name beyond the table's size."""
     refusal = expected_refusal(says, name)
-    return says.refusal == refusal if refusal or says.refusal else name == "<?>" or says.name.rstrip(" ") == name.rstrip(" ")
+    is_same = name == "<?>" or says.text.rstrip(" ") == name.rstrip(" ")
+    return (says.mark, says.text) == ("!", refusal) if refusal else says.mark == "=" and is_same
 
 
 def compare_header(path: str, says: Report, reads: dict, tally: Tally) -> None:
@@ -168,9 +155,9 @@ def compare_lists(path: str, says: Report, reads: dict, tally: Tally) -> None:
         if not same[0]:
             tally.differ(path, f"section {index} type", section.kind, sections[index]["Type"])
         if not same[1]:
-            tally.differ(path, f"section {index} name", section.refusal or section.name, name)
+            tally.differ(path, f"section {index} name", section.text, name)
         tally["sections"] += 1
-        tally["expected errors"] += all(same) and bool(section.refusal)
+        tally["expected errors"] += all(same) and section.mark == "!"
     for index, kind in says.segments.items() if segments else ():
         number = raw(segments[index]["Type"])
         if not same_type(kind, SEGMENTS, number):
@@ -179,10 +166,8 @@ def compare_lists(path: str, says: Report, reads: dict, tally: Tally) -> None:
         tally["expected errors"] += kind in TYPE_REFUSALS
 
 
-def compare_file(path: str, elfinfo: str, tally: Tally) -> None:
+def compare(path: str, elfinfo: str, tally: Tally) -> None:
     """Runs both programs on a file and compares what they print."""
-    if not read_elf(path):
-        return
     tally["files"] += 1
     status, own, errors = run([elfinfo, path])
     reads = llvm(path, "-h", "-S", "-l")
@@ -193,15 +178,10 @@ def compare_file(path: str, elfinfo: str, tally: Tally) -> None:
         else:
             tally.differ(path, "file", f"status {status} ({errors.strip()})", f"{sorted(reads)}")
         return
-    try:
-        says = read_elfinfo(own)
-    except ValueError as strange:
-        tally.differ(path, "output", f"'{strange}'", "no such line")
-        return
+    says = read_elfinfo(own)
     compare_header(path, says, reads["ElfHeader"], tally)
     compare_lists(path, says, reads, tally)
 
 
 if __name__ == "__main__":
-    compared = Tally("elfinfo", "sections", "segments", "expected errors")
-    sys.exit(comparing.compare_all(__doc__, compared, lambda path, elfinfo: compare_file(path, elfinfo, compared)))
+    sys.exit(compare_all(__doc__, Tally("elfinfo", "sections", "segments", "expected errors"), compare))

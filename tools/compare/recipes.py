@@ -3,20 +3,17 @@
 
     tools/compare/recipes.py [--elfrecipes PATH] [FILE..]
 
-The program is `elfrecipes`, which runs each recipe over a file; where none is given it is the one that `rt run` or
-`rt ci` has built in crates/elfrecipes. Without files it takes the programs and libraries of SYSTEM, and what gcc
+The program `elfrecipes` runs each recipe over a file. Without files it takes the programs and libraries of SYSTEM, and what gcc
 makes of a small source here: an object file, a program and a shared object of class 64, and by -m32 of class 32 an
 object file and, by -nostdlib, a shared object. Files that `elfrecipes` doesn't read count as differences.
 """
-import argparse
 import re
 import subprocess
 import sys
 import tempfile
 from pathlib import Path
 
-import comparing
-from comparing import ROOT, SECTION, Tally, llvm, needed, parts, raw
+from comparing import ROOT, SECTION, Tally, ended, llvm, parser_of, parts, raw, run, texts_of
 
 SYSTEM = ["/bin/ls", "/usr/bin/readelf", "/bin/bash", "/lib/x86_64-linux-gnu/libc.so.6", "/lib/x86_64-linux-gnu/libm.so.6"]
 OURS = ["crates/elfnm/data/add.o", "crates/elfsections/data/narrow.so", "crates/elfsections/data/wide.so", "crates/elfsym/data/stripped.so"]
@@ -57,15 +54,6 @@ def make(folder: Path) -> list:
     return made
 
 
-def printed(program: str, path: str):
-    """What the recipes print of a file: for each the lines; None where the program ends with a fault."""
-    done = comparing.run([program, path])
-    if done.status != 0:
-        return None
-    parts_of = re.split(r"^\[([\w ]+)\]\n", done.output, flags=re.M)
-    return dict(zip(parts_of[1::2], (part.splitlines() for part in parts_of[2::2])))
-
-
 def symbols(said: list, is_dynamic: bool) -> list:
     """The value, size and name of each symbol."""
     found = []
@@ -89,7 +77,7 @@ def relocations(path: str, is_wide: bool, sections: list, tables: dict) -> list:
     kinds = (32, 0xFFFFFFFF) if is_wide else (8, 0xFF)
     links, names = {it["Name"]["Value"]: it["Link"] for it in sections}, [it["Name"]["Value"] for it in sections]
     found, here, is_added = [], [], False
-    for line in comparing.run(["readelf", "-rW", path]).output.splitlines():
+    for line in run(["readelf", "-rW", path]).output.splitlines():
         if start := re.match(r"Relocation section '(.*)' at", line):
             link = links.get(start[1])
             here = tables.get(names[link]) if link else None
@@ -105,7 +93,7 @@ def relocations(path: str, is_wide: bool, sections: list, tables: dict) -> list:
 def wanted(path: str) -> dict:
     """What readelf says of a file, in the form in which the recipes print it."""
     said = llvm(path, "-h", "-S", "-l", "--symbols", "--dyn-syms", "-n")
-    header, sections = said["ElfHeader"], parts(said, "Sections", "Section")
+    header, sections, needed = said["ElfHeader"], parts(said, "Sections", "Section"), texts_of(path, "NEEDED")
     is_wide, names = raw(header["Ident"]["Class"]) == 2, [it["Name"]["Value"] for it in sections]
     tables = {".symtab": symbols(parts(said, "Symbols", "Symbol"), False), ".dynsym": symbols(parts(said, "DynamicSymbols", "Symbol"), True)}
     loads = [it for it in parts(said, "ProgramHeaders", "ProgramHeader") if raw(it["Type"]) == LOAD]
@@ -117,8 +105,8 @@ def wanted(path: str) -> dict:
         "sections": [f"{index} {it['Size']} {it['Name']['Value']}" for index, it in enumerate(sections)],
         "symbols": [f"{value:x} {size} {name}" for value, size, name in own],
         "relocations": relocations(path, is_wide, sections, tables),
-        "needed": needed(path) if ".dynamic" in names else [],
-        "needed by segments": needed(path) if loads else [],
+        "needed": needed if ".dynamic" in names else [],
+        "needed by segments": needed if loads else [],
         "build id": ids[:1] if is_wide and ".note.gnu.build-id" in names else [],
         "segment of the entry point": [f"{it['VirtualAddress']:x} {it['MemSize']}" for it in entry[:1]],
         "text": [str(text[0])] if text else [],
@@ -127,11 +115,14 @@ def wanted(path: str) -> dict:
 
 
 def compare(tally: Tally, program: str, path: str) -> None:
-    said, read = printed(program, path), wanted(path)
+    """Compares what the recipes print of a file, each behind a line with its name."""
+    done, read = run([program, path]), wanted(path)
     tally["files"] += 1
-    if said is None:
+    if done.status != 0:
         tally.differ(path, "the run", "a fault", "a file")
         return
+    printed = re.split(r"^\[([\w ]+)\]\n", done.output, flags=re.M)
+    said = dict(zip(printed[1::2], (part.splitlines() for part in printed[2::2])))
     for name, lines in read.items():
         ours = said.get(name, [])
         if ours != lines:
@@ -140,16 +131,14 @@ def compare(tally: Tally, program: str, path: str) -> None:
 
 
 def main() -> int:
-    parser = argparse.ArgumentParser(description=__doc__, formatter_class=argparse.RawDescriptionHelpFormatter)
-    parser.add_argument("--elfrecipes", default=str(ROOT / "crates/elfrecipes/out/elfrecipes"), metavar="PATH")
+    parser, tally = parser_of(__doc__, "elfrecipes"), Tally("elfrecipes")
     parser.add_argument("files", nargs="*", metavar="FILE")
-    arguments, tally = parser.parse_args(), Tally("elfrecipes")
+    arguments = parser.parse_args()
     with tempfile.TemporaryDirectory() as room:
         files = arguments.files or [*(str(ROOT / it) for it in OURS), *make(Path(room)), *(it for it in SYSTEM if Path(it).exists())]
         for path in files:
             compare(tally, arguments.elfrecipes, path)
-    print(tally)
-    return 1 if tally["differences"] or not tally["files"] else 0
+    return ended(tally) or int(not tally["files"])
 
 
 if __name__ == "__main__":

@@ -3,27 +3,21 @@
 
     tools/compare/symbols.py [--elfsections PATH] FILE..
 
-Runs the built elfsections and `llvm-readelf --dyn-syms` on each FILE. The check of the table must be ok. Each name that
-is listed as defined and not local must be found at an index at which it is listed so, whatever its version. Each other
-name must not be found, or at an index at which it is listed: linkers put some undefined symbols of programs into the
-table. PATH is crates/elfsections/out/elfsections under the repository root where it isn't given. A FILE that doesn't
-begin with the ELF magic number, or has no GNU hash table, is passed over silently.
-
-Each difference is a line `FILE: what: elfsections says X, readelf says Y`, and the last line holds the counts. The exit
-status is 0 if there is no difference, 1 if there is one, and 2 if the comparison couldn't be run.
+The check of the table must be ok. Each name that `llvm-readelf --dyn-syms` lists as defined and not local must be found at
+an index at which it is listed so, whatever its version. Each other name must not be found, or at an index at which it is
+listed: linkers put some undefined symbols of programs into the table. A FILE without a GNU hash table is passed over.
 """
 import re
 import sys
 from collections import defaultdict
-from typing import Dict, List, Set
+from typing import Dict, Sequence, Set
 
-import comparing
-from comparing import LOCAL, UNDEFINED, Symbol, Tally, dynamic_symbols, read_elf, run
+from comparing import LOCAL, UNDEFINED, Symbol, Tally, compare_all, dynamic_symbols, sections_of
 
 OWN_LINE = re.compile(r"(\d+) (\d+|-) (.*)$")
 
 
-def compare_line(path: str, line: str, symbols: List[Symbol], exported: Dict[str, Set[int]], tally: Tally) -> None:
+def compare_line(path: str, line: str, symbols: Sequence[Symbol], exported: Dict[str, Set[int]], tally: Tally) -> None:
     """Compares what was found by the name of one symbol."""
     own = OWN_LINE.match(line)
     name_at = lambda index: symbols[index].name if index < len(symbols) else None
@@ -31,9 +25,7 @@ def compare_line(path: str, line: str, symbols: List[Symbol], exported: Dict[str
         tally.differ(path, "symbol", f"'{line}'", f"'{own and name_at(int(own[1]))}'")
         return
     wanted = exported.get(own[3], set())
-    is_exported = int(own[1]) in wanted
-    tally["exported names"] += is_exported
-    tally["other names"] += not is_exported
+    tally["exported names" if int(own[1]) in wanted else "other names"] += 1
     if wanted and not (own[2] != "-" and int(own[2]) in wanted):
         tally.differ(path, own[3], own[2], sorted(wanted))
     elif not wanted and own[2] != "-":
@@ -42,27 +34,10 @@ def compare_line(path: str, line: str, symbols: List[Symbol], exported: Dict[str
             tally.differ(path, own[3], own[2], "another name there")
 
 
-def own_table(output: str) -> List[str]:
-    """The lines that elfsections prints of the GNU hash tables of one file."""
-    lines, inside = [], False
-    for line in output.rstrip("\n").split("\n")[1:]:
-        if line.startswith(("notes ", "relr ", "hash ")):
-            inside = line.startswith("hash ")
-        elif inside:
-            lines.append(line)
-    return lines
-
-
-def compare_file(path: str, elfsections: str, tally: Tally) -> None:
+def compare(path: str, elfsections: str, tally: Tally) -> None:
     """Runs both programs on a file and compares what they print."""
-    if not read_elf(path):
-        return
-    status, own, _ = run([elfsections, path])
-    if status != 0:
-        tally.differ(path, "file", f"status {status}", "a file")
-        return
-    table = own_table(own)
-    if not table:
+    own = tally.output(path, elfsections, path)
+    if not (table := [line for kind, _, lines in sections_of(own) if kind == "hash" for line in lines]):
         return
     tally["files"] += 1
     check, *lines = table
@@ -80,5 +55,4 @@ def compare_file(path: str, elfsections: str, tally: Tally) -> None:
 
 
 if __name__ == "__main__":
-    compared = Tally("elfsections", "exported names", "other names", "of these found")
-    sys.exit(comparing.compare_all(__doc__, compared, lambda path, elfsections: compare_file(path, elfsections, compared)))
+    sys.exit(compare_all(__doc__, Tally("elfsections", "exported names", "other names", "of these found"), compare))

@@ -16,6 +16,7 @@ import listing
 import refusals
 import statuses
 from listing import FILLED, IN, OUT, ROOT, SIZES, SLICE, VALUE
+from pages.writing import differing, parser_of
 
 HEADER = ROOT / "bindings/include/xmas_elf.h"
 RUST = ROOT / "bindings/rust/src"
@@ -24,6 +25,30 @@ FIRST, LAST = "/* The structs and functions, written by tools/exports/declaratio
 WIDTH = 118
 ALL_STATUSES = tuple(name for name, _, _ in statuses.statuses())
 C_NUMBERS = {"u8": "uint8_t", "u16": "uint16_t", "u32": "uint32_t", "u64": "uint64_t", "usize": "size_t"}
+
+
+# How a parameter of each kind stands in C, in a declaration and in a safe call of Rust, in what that hands on, and in the
+# sources.
+C, DECLARED, SAFE, HANDED, SOURCE = range(5)
+SHAPES = {
+    VALUE: ("{c} {name}", "{name}: {rust}", "{name}: {rust}", "{name}", "{name}: {type}"),
+    IN: ("const {c} *{name}", "{name}: *const {rust}", "{name}: &{rust}", "{name}", "{name}: &{type}"),
+    OUT: ("{c} *{name}", "{name}: *mut {rust}", "", "&mut {name}", "{name}: &mut {type}"),
+    SLICE: ("const {c} *{name}, size_t {name}_{count}", "{name}: *const {rust}, {name}_len: usize", "{name}: &[{rust}]",
+        "{name}.as_ptr(), {name}.len()", "{name}: &[{type}]"),
+    FILLED: ("{c} *{name}, size_t {name}_{count}", "{name}: *mut {rust}, {name}_len: usize", "{name}: &mut [{rust}]",
+        "{name}.as_mut_ptr(), {name}.len()", "{name}: &mut [{type}]"),
+}
+RESULTS = {"status": ("uint32_t", " -> u32"), "size": ("size_t", " -> usize"), "none": ("void", "")}
+
+
+def parameters(function, form, listed):
+    """The parameters of a function in one of these forms."""
+    found = []
+    for one in function.parameters:
+        names = {"c": c_type(one.type, listed), "rust": rust_type(one.type, listed), "count": "size" if one.type == "u8" else "count"}
+        found.append(SHAPES[one.kind][form].format(name=one.name, type=one.type, **names))
+    return [part for text in found if text for part in text.split(", ")]
 
 
 def wrapped(text, first, rest):
@@ -64,18 +89,6 @@ def c_struct(struct, listed):
     return lines + [f"}} {struct.c_type};", ""]
 
 
-def c_parameters(parameter, listed):
-    one, name = c_type(parameter.type, listed), parameter.name
-    count = f"size_t {name}_{'size' if parameter.type == 'u8' else 'count'}"
-    return {
-        VALUE: [f"{one} {name}"],
-        IN: [f"const {one} *{name}"],
-        OUT: [f"{one} *{name}"],
-        SLICE: [f"const {one} *{name}", count],
-        FILLED: [f"{one} *{name}", count],
-    }[parameter.kind]
-
-
 def sentence(start, names):
     order = ", in the order of the tests" if len(names) > 1 else ""
     return f"{start}{order}: " + ", ".join(f"`{name}`" for name in names) + "."
@@ -93,10 +106,8 @@ def described(function):
 
 def c_function(function, listed):
     lines = c_comment(described(function))
-    result = {"status": "uint32_t", "size": "size_t", "none": "void"}[function.result]
-    start = f"{'XMAS_ELF_NODISCARD ' if function.statuses else ''}{result} {function.export}("
-    parameters = [text for parameter in function.parameters for text in c_parameters(parameter, listed)]
-    return lines + laid_out(start, parameters, ") XMAS_ELF_NOEXCEPT;", "") + [""]
+    start = f"{'XMAS_ELF_NODISCARD ' if function.statuses else ''}{RESULTS[function.result][0]} {function.export}("
+    return lines + laid_out(start, parameters(function, C, listed), ") XMAS_ELF_NOEXCEPT;", "") + [""]
 
 
 def c_part(listed):
@@ -156,49 +167,19 @@ def records_text(listed):
     return RECORDS_HEAD + "\n".join(line for struct in listed.structs for line in rust_struct(struct, listed)) + "\n"
 
 
-def declared(parameter, listed):
-    one, name = rust_type(parameter.type, listed), parameter.name
-    return {
-        VALUE: f"{name}: {one}",
-        IN: f"{name}: *const {one}",
-        OUT: f"{name}: *mut {one}",
-        SLICE: f"{name}: *const {one}, {name}_len: usize",
-        FILLED: f"{name}: *mut {one}, {name}_len: usize",
-    }[parameter.kind]
-
-
 def declaration(function, listed):
-    parameters = ", ".join(declared(parameter, listed) for parameter in function.parameters).split(", ")
-    result = {"status": " -> u32", "size": " -> usize", "none": ""}[function.result]
-    return laid_out(f"fn {function.export}(", parameters, f"){result.replace(' ', chr(0))};", "    ")
-
-
-def safe_parameter(parameter, listed):
-    one = rust_type(parameter.type, listed)
-    shape = {VALUE: one, IN: f"&{one}", SLICE: f"&[{one}]", FILLED: f"&mut [{one}]"}[parameter.kind]
-    return f"{parameter.name}: {shape}"
-
-
-def handed(parameter):
-    name = parameter.name
-    return {
-        VALUE: name,
-        IN: name,
-        OUT: f"&mut {name}",
-        SLICE: f"{name}.as_ptr(), {name}.len()",
-        FILLED: f"{name}.as_mut_ptr(), {name}.len()",
-    }[parameter.kind]
+    result = RESULTS[function.result][1].replace(" ", "\0")
+    return laid_out(f"fn {function.export}(", parameters(function, DECLARED, listed), f"){result};", "    ")
 
 
 def safe_call(function, listed):
     written = [parameter for parameter in function.parameters if parameter.kind == OUT]
-    taken = [safe_parameter(parameter, listed) for parameter in function.parameters if parameter.kind != OUT]
     value = rust_type(written[0].type, listed) if written else "()"
-    result = {"status": f" -> Result<{value}, Error>", "size": " -> usize", "none": ""}[function.result]
-    head = laid_out(f"pub(crate) fn {function.name}(", taken, f"){result} {{".replace(" ", chr(0)), "")
+    result = f" -> Result<{value}, Error>" if function.result == "status" else RESULTS[function.result][1]
+    head = laid_out(f"pub(crate) fn {function.name}(", parameters(function, SAFE, listed), f"){result} {{".replace(" ", chr(0)), "")
     lines = ["", *rust_comment(described(function)), *head]
     lines += [f"    let mut {one.name} = {rust_type(one.type, listed)}::default();" for one in written]
-    call = f"{function.export}({', '.join(handed(parameter) for parameter in function.parameters)})"
+    call = f"{function.export}({', '.join(parameters(function, HANDED, listed))})"
     lines.append("    // SAFETY: see the head of this file.")
     if function.result == "status":
         lines += wrapped(f"let status = unsafe {{ {call} }};", "    ", "        ")
@@ -260,17 +241,12 @@ def exported(text, listed):
     }
 
 
-def crossing(parameter):
-    shapes = {VALUE: "{}", IN: "&{}", OUT: "&mut {}", SLICE: "&[{}]", FILLED: "&mut [{}]"}
-    return f"{parameter.name}: {shapes[parameter.kind].format(parameter.type)}"
-
-
 def differing_sources(listed):
     """What the sources and the list do not share."""
     text = sources()
     there = {name: [f"{part}: {source_types(kind, listed)}" for part, kind in parts_of(body)] for name, body in STRUCT.findall(text)}
     here = {struct.source: [f"{field.name}: {field.type}" for field in struct.fields] for struct in listed.structs}
-    functions = {one.export: ([crossing(parameter) for parameter in one.parameters], one.result) for one in listed.functions}
+    functions = {one.export: (parameters(one, SOURCE, listed), one.result) for one in listed.functions}
     found = []
     for name, (ours, theirs) in {"structs": (here, there), "functions": (functions, exported(text, listed))}.items():
         for key in sorted(ours.keys() | theirs.keys()):
@@ -282,19 +258,16 @@ def differing_sources(listed):
 
 
 def main():
-    listed = listing.read()
+    is_check, listed = parser_of(__doc__).parse_args().check, listing.read()
     wanted = {HEADER: header_text(listed), RUST / "records.rs": records_text(listed), RUST / "ffi.rs": ffi_text(listed)}
     wanted[RUST / "constants.rs"] = constants_text()
     wanted[RUST / "calls.rs"] = calls.rust_text(listed, lambda name: rust_type(name, listed))
     wanted[ROOT / "bindings/c/calls.h"] = calls.c_text(listed, lambda name: c_type(name, listed))
-    if "--check" not in sys.argv[1:]:
-        for path, text in wanted.items():
-            path.write_text(text, encoding="utf-8")
-        return 0
-    named = {name for one in listed.functions for name in one.statuses + one.item_statuses + one.never}
-    failed = [f"the list names the status {name}, which is none" for name in sorted(named - set(ALL_STATUSES))]
-    failed += [f"{path}: run tools/exports/declarations.py" for path, text in wanted.items() if not path.exists() or path.read_text(encoding="utf-8") != text]
-    failed += differing_sources(listed) + refusals.differing(listed)
+    failed = differing(wanted, is_check)
+    if is_check:
+        named = {name for one in listed.functions for name in one.statuses + one.item_statuses + one.never}
+        failed += [f"the list names the status {name}, which is none" for name in sorted(named - set(ALL_STATUSES))]
+        failed += differing_sources(listed) + refusals.differing(listed)
     print("\n".join(failed + [f"{len(listed.functions)} exports, {len(listed.structs)} structs, {len(failed)} differences"]))
     return 1 if failed else 0
 

@@ -95,17 +95,13 @@ def spread(names: list[str], refusals: dict[str, list[str]]) -> tuple[str, ...]:
 
 
 def struct(row: dict) -> Struct:
-    fields = tuple(
-        Field(field["name"], field["type"], field["comment"], field.get("c", field["name"].rstrip("_")))
-        for field in row["fields"]
-    )
-    return Struct(row["name"], row["rust"], row["source"], row["comment"], row["public"], row.get("private_fields", False), fields)
+    fields = (Field(it["name"], it["type"], it["comment"], it.get("c", it["name"].rstrip("_"))) for it in row["fields"])
+    return Struct(**{"private_fields": False, **row, "fields": tuple(fields)})
 
 
 def function(row: dict, refusals: dict[str, list[str]]) -> Function:
-    of_call, of_items, never = (spread(row.get(key, []), refusals) for key in ("statuses", "item_statuses", "never"))
-    parameters = tuple(parameter(text) for text in row["parameters"])
-    return Function(row["name"], parameters, row["result"], of_call, of_items, never, row["comment"])
+    lists = {key: spread(row.get(key, []), refusals) for key in ("statuses", "item_statuses", "never")}
+    return Function(**{**row, **lists, "parameters": tuple(parameter(text) for text in row["parameters"])})
 
 
 def read(path: pathlib.Path = LIST) -> Listed:

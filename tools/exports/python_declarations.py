@@ -4,12 +4,15 @@ for ctypes and struct, and constants.py.
 
 Records and exports are those of bindings/exports.toml, statuses those of the header for C, constants those of
 bindings/constants.toml. --check: writes nothing, and fails where a file differs."""
+import pathlib
 import re
 import sys
 import textwrap
 
+sys.path.insert(1, str(pathlib.Path(__file__).resolve().parents[1]))
 import listing
 from listing import FILLED, ROOT, SLICE, VALUE
+from pages.writing import differing, parser_of
 
 HEADER = ROOT / "bindings/include/xmas_elf.h"
 PACKAGE = ROOT / "bindings/python/xmas_elf"
@@ -160,11 +163,11 @@ def constants():
 
 
 def main():
-    for path, text in ((PACKAGE / "_declarations.py", declarations()), (PACKAGE / "constants.py", constants())):
-        if "--check" not in sys.argv[1:]:
-            path.write_text(text)
-        elif not path.exists() or path.read_text() != text:
-            sys.exit(f"{path}: run tools/exports/python_declarations.py")
+    wanted = {PACKAGE / "_declarations.py": declarations(), PACKAGE / "constants.py": constants()}
+    faults = differing(wanted, parser_of(__doc__).parse_args().check)
+    print("\n".join(faults), end="\n" if faults else "")
+    return 1 if faults else 0
 
 
-main()
+if __name__ == "__main__":
+    sys.exit(main())

@@ -11,9 +11,10 @@ import pathlib
 import re
 import sys
 
+sys.path.insert(1, str(pathlib.Path(__file__).resolve().parents[1]))
 from listing import constant
+from pages.writing import ROOT, differing, parser_of
 
-ROOT = pathlib.Path(__file__).resolve().parents[2]
 HEADER = ROOT / "bindings/include/xmas_elf.h"
 RUST = ROOT / "bindings/rust/src/error.rs"
 PINNED = ROOT / "bindings/statuses.txt"
@@ -95,14 +96,11 @@ def header_with(part):
 def main():
     rows = statuses()
     check_numbers_kept(rows)
-    wanted = {HEADER: header_with(c_part(rows)), RUST: "\n".join(rust_part(rows)) + "\n"}
-    wanted[PINNED] = "\n".join(numbered(rows)) + "\n"
-    for path, text in wanted.items():
-        if "--check" not in sys.argv[1:]:
-            path.write_text(text)
-        elif not path.exists() or path.read_text() != text:
-            sys.exit(f"{path}: run tools/exports/statuses.py")
+    wanted = {HEADER: header_with(c_part(rows)), RUST: "\n".join(rust_part(rows)) + "\n", PINNED: "\n".join(numbered(rows)) + "\n"}
+    faults = differing(wanted, parser_of(__doc__).parse_args().check)
+    print("\n".join(faults), end="\n" if faults else "")
+    return 1 if faults else 0
 
 
 if __name__ == "__main__":
-    main()
+    sys.exit(main())

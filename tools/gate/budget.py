@@ -14,8 +14,8 @@ Two processors of a machine may be one core, and others may use it: then each ta
 loop is timed now and then, and the page says what it took.
 """
 import collections
+import contextlib
 import datetime
-import itertools
 import os
 import pathlib
 import re
@@ -47,43 +47,34 @@ TOTAL = re.compile(r"^\| \*\*total\*\* \|.*\| ([\d.]+) \|$", re.M)
 KINDS = ("proof", "tests", "must-fail", "batches")
 
 
-def words_of(process: int) -> list:
-    return pathlib.Path(f"/proc/{process}/cmdline").read_bytes().decode(errors="replace").split("\0")
-
-
 def part_of(process: int):
     """The part that a prover works for, as `tests of port_tests`; None of any other process."""
-    words = words_of(process)
+    words = pathlib.Path(f"/proc/{process}/cmdline").read_bytes().decode(errors="replace").split("\0")
     if "--crate-name" not in words:
         return None
-    name = words[words.index("--crate-name") + 1]
     folder = os.readlink(f"/proc/{process}/cwd")
     kind = "must-fail" if "/rt-edit-" in folder else "tests" if "--test" in words else "proof"
-    return f"{kind} of {name}"
+    return f"{kind} of {words[words.index('--crate-name') + 1]}"
 
 
 class Looks:
-    """What the processes below one have taken, by part."""
+    """What the processes below one have taken, by part: that of the nearest prover at or above a process."""
 
     def __init__(self, top: int):
-        self.top, self.seconds, self.parts, self.is_done = top, {}, {}, threading.Event()
+        self.top, self.taken = top, {}
 
     def look(self):
         stats = {}
         for name in filter(str.isdigit, os.listdir("/proc")):
-            try:
+            with contextlib.suppress(OSError, IndexError):
                 fields = pathlib.Path(f"/proc/{name}/stat").read_text(errors="replace").rpartition(")")[2].split()
                 stats[int(name)] = (int(fields[1]), (int(fields[11]) + int(fields[12])) / TICKS, fields[19])
-            except (OSError, IndexError):
-                continue
         for process, (_, seconds, began) in stats.items():
-            part = self.part_above(process, stats)
-            if part:
+            if part := self.part_above(process, stats):
                 # A number is used again, by a process that began at another time.
-                self.seconds[process, began], self.parts[process, began] = seconds, part
+                self.taken[process, began] = part, seconds
 
     def part_above(self, process: int, stats: dict):
-        """The part of the nearest prover at or above a process, below the top."""
         found = None
         while process in stats and process != self.top:
             try:
@@ -93,47 +84,38 @@ class Looks:
             process = stats[process][0]
         return found if process == self.top else None
 
-    def run(self):
-        while not self.is_done.wait(LOOKS):
-            self.look()
-
     def sums(self) -> collections.Counter:
         sums = collections.Counter()
-        for process, seconds in self.seconds.items():
-            sums[self.parts[process]] += seconds
+        for part, seconds in self.taken.values():
+            sums[part] += seconds
         return sums
 
 
-class Speed:
+def loop() -> float:
     """How long a loop takes, in milliseconds of its processor, while something else runs."""
-
-    def __init__(self):
-        self.took, self.is_done = [], threading.Event()
-
-    @staticmethod
-    def loop() -> float:
-        began, number = time.thread_time(), 0
-        for at in range(200_000):
-            number += at
-        return 1000 * (time.thread_time() - began)
-
-    def run(self):
-        while not self.is_done.wait(SAMPLES):
-            self.took.append(self.loop())
+    began, number = time.thread_time(), 0
+    for at in range(200_000):
+        number += at
+    return 1000 * (time.thread_time() - began)
 
 
 def run(words: list) -> int:
     """Runs a command, and says what it took, and of `rt ci` what each of its parts did."""
-    began = time.monotonic()
+    began, is_done, took = time.monotonic(), threading.Event(), []
+
+    def repeat(seconds: float, call):
+        while not is_done.wait(seconds):
+            call()
+
     with subprocess.Popen(words) as started:
-        looks, speed = Looks(started.pid), Speed()
-        watching = [threading.Thread(target=it.run) for it in ([looks, speed] if words[0] == "rt" else [speed])]
+        looks = Looks(started.pid)
+        watching = [threading.Thread(target=repeat, args=(SAMPLES, lambda: took.append(loop())))]
+        watching += [threading.Thread(target=repeat, args=(LOOKS, looks.look))] if words[0] == "rt" else []
         for it in watching:
             it.start()
         _, status, used = os.wait4(started.pid, 0)
         started.returncode = os.waitstatus_to_exitcode(status)
-        looks.is_done.set()
-        speed.is_done.set()
+        is_done.set()
         for it in watching:
             it.join()
     whole, sums = used.ru_utime + used.ru_stime, looks.sums()
@@ -141,8 +123,8 @@ def run(words: list) -> int:
         print(f"--   {part}: {seconds:.0f} processor s")
     if sums:
         print(f"--   rest of rt: {max(whole - sum(sums.values()), 0):.0f} processor s")
-    if speed.took:
-        print(f"--   a loop: {sum(speed.took) / len(speed.took):.1f} ms in {len(speed.took)} times, {min(speed.took):.1f} at best")
+    if took:
+        print(f"--   a loop: {sum(took) / len(took):.1f} ms in {len(took)} times, {min(took):.1f} at best")
     print(f"-- {' '.join(words)}: {time.monotonic() - began:.0f} s, {whole:.0f} processor s", flush=True)
     return started.returncode if started.returncode >= 0 else 1
 
@@ -151,52 +133,54 @@ def minutes(seconds: float) -> str:
     return f"{seconds / 60:.1f}"
 
 
-def table(output: str) -> str:
-    """The page, from the output of a run of the gate."""
-    took = TOOK.findall(output)
+def parts_of(output: str) -> tuple:
+    """The processor seconds of each row by KINDS, and besides; and those of the kinds in all rows of crates."""
     cells = collections.defaultdict(collections.Counter)
-    for kind, name, seconds in PART.findall(output):
-        cells[name][kind] += int(seconds)
     # The self-test of the script tries a crate of its own.
-    for name, seconds in BATCHES.findall(output.rpartition("\n-- tools/gate/wrong_bodies.py --self-test:")[2]):
-        cells[name]["batches"] += int(seconds)
-    # What stands in no row of a crate: the scripts, and of the two watched parts what is left.
-    watched = {"rt ci": sum(cells[name][kind] for name in cells for kind in KINDS[:3])}
-    batches = sum(cells[name]["batches"] for name in cells)
-    parts = {name: [cells[name][kind] for kind in KINDS] for name in cells}
-    for what, _, seconds in took:
-        own = watched.get(what, batches if what.startswith("tools/gate/wrong_bodies.py") and "--self-test" not in what else 0)
-        parts[f"`{what}`" + (", the rest" if own else "")] = [0, 0, 0, 0, max(int(seconds) - own, 0)]
-    large = sorted((it for it in parts if sum(parts[it]) >= SMALL), key=lambda it: -sum(parts[it]))
-    small = [it for it in parts if it not in large]
-    if small:
-        parts[f"{len(small)} others, each below {SMALL // 60}"] = [sum(it) for it in itertools.zip_longest(*(parts[it] for it in small), fillvalue=0)]
-    rows = []
-    for name in [*large, *list(parts)[len(large) + len(small) :]]:
-        of = parts[name]
-        rows.append(f"| {name} | " + " | ".join(minutes(it) if it else "" for it in of[:4]) + f" | {minutes(sum(of))} |")
+    batches = BATCHES.findall(output.rpartition("\n-- tools/gate/wrong_bodies.py --self-test:")[2])
+    for kind, name, seconds in [*PART.findall(output), *(("batches", *it) for it in batches)]:
+        cells[name][kind] += int(seconds)
     sums = [sum(cells[name][kind] for name in cells) for kind in KINDS]
-    whole = sum(int(seconds) for _, _, seconds in took)
-    wall = sum(int(seconds) for _, seconds, _ in took)
-    rows.append("| **total** | " + " | ".join(map(minutes, sums)) + f" | {minutes(whole)} |")
-    machines = MACHINE.findall(output)
+    rows = {name: [*(cells[name][kind] for kind in KINDS), 0] for name in cells}
+    # What stands in no row of a crate: the scripts, and of the two watched parts what is left.
+    for what, _, seconds in TOOK.findall(output):
+        is_batches = what.startswith("tools/gate/wrong_bodies.py") and "--self-test" not in what
+        own = sum(sums[:3]) if what == "rt ci" else sums[3] if is_batches else 0
+        rows[f"`{what}`" + (", the rest" if own else "")] = [0, 0, 0, 0, max(int(seconds) - own, 0)]
+    return rows, sums
+
+
+def table(output: str) -> str:
+    """The rows of the table, the largest first."""
+    parts, sums = parts_of(output)
+    ranked = sorted(parts.items(), key=lambda it: -sum(it[1]))
+    rows, small = ([it for it in ranked if (sum(it[1]) < SMALL) is is_small] for is_small in (False, True))
+    if small:
+        rows.append((f"{len(small)} others, each below {SMALL // 60}", [sum(it) for it in zip(*(of for _, of in small))]))
+    lines = [f"| {name} | " + " | ".join(minutes(it) if it else "" for it in of[:4]) + f" | {minutes(sum(of))} |" for name, of in rows]
+    whole = sum(int(seconds) for _, _, seconds in TOOK.findall(output))
+    return "\n".join([HEAD, *lines, "| **total** | " + " | ".join(map(minutes, sums)) + f" | {minutes(whole)} |"])
+
+
+def measured(output: str) -> str:
+    """The line above the table."""
+    wall = sum(int(seconds) for _, seconds, _ in TOOK.findall(output))
+    machines, done, pages = MACHINE.findall(output), DONE.search(output), PAGES.search(output)
     where = ", then ".join(f"{processors} processors" for processors, _ in machines) or "a machine"
     how = "in one run" if len(machines) < 2 else "in parts, one after the other"
-    done = DONE.search(output)
     share = f" Of the proofs {done[1]} were done in this run; the others had been done on the machine before." if done else ""
     loops = [(float(mean), int(count), float(best)) for mean, count, best in LOOP.findall(output)]
     if loops:
         mean = sum(it[0] * it[1] for it in loops) / sum(it[1] for it in loops)
         share += f" A fixed loop, run beside it to see other load, took {min(it[2] for it in loops):.0f} ms at best, {mean:.0f} ms on average."
-    commit = subprocess.run(["git", "rev-parse", "--short", "HEAD"], cwd=ROOT, capture_output=True, text=True, check=False).stdout.strip()
-    kit = subprocess.run(["rt", "version"], capture_output=True, text=True, check=False).stdout.split(" ")[0]
-    pages = PAGES.search(output)
+    said = lambda *words: subprocess.run(words, cwd=ROOT, capture_output=True, text=True, check=False).stdout.strip()
+    commit, kit = said("git", "rev-parse", "--short", "HEAD"), said("rt", "version").split(" ")[0]
     huge = f", with transparent huge pages `{pages[1]}`" if pages else ""
-    said = f"Measured at {commit} by `.ci/run` on x86-64 with {where}: {minutes(wall)} minutes, {how}{huge}; {kit}, {datetime.date.today()}. The table lists processor minutes by part.{share}"
-    head = "| Part | proof | tests | must-fail | batches | together |\n|---|---:|---:|---:|---:|---:|"
-    return "\n\n".join([HEADING, ABOUT, said, "\n".join([head, *rows])]) + "\n"
+    took = f"{minutes(wall)} minutes, {how}{huge}; {kit}, {datetime.date.today()}."
+    return f"Measured at {commit} by `.ci/run` on x86-64 with {where}: {took} The table lists processor minutes by part.{share}"
 
 
+HEAD = "| Part | proof | tests | must-fail | batches | together |\n|---|---:|---:|---:|---:|---:|"
 ABOUT = f"""`tools/gate/budget.py write OUTPUT` writes this page from the output of `.ci/run`, without the paragraphs that were added by hand. `.ci/run` checks that the total is at most {BUDGET} processor minutes. Measure in a copy where nothing was proved before. If the kit's `rt ci` keeps proofs, use `rt ci --anew`.
 
 As root, `.ci/run` turns on transparent huge pages for the time of its run. It gives each check one job. Two checks of `elf_base` side by side, with one job each, took 178 and 186 processor seconds with huge pages, and 235 each without. One check with two jobs took 252 with huge pages. Measured at 5d99415 by `rt verdict` on x86-64, on two of four processors; rattle-kit-13f."""
@@ -207,7 +191,7 @@ def write(paths) -> int:
     if not TOOK.search(output):
         print(f"{', '.join(paths)}: no part of the gate stands there")
         return 1
-    PAGE.write_text(table(output), encoding="utf-8")
+    PAGE.write_text("\n\n".join([HEADING, ABOUT, measured(output), table(output)]) + "\n", encoding="utf-8")
     return check()
 
 

@@ -27,9 +27,9 @@ def kit():
     return module
 
 
-def newest(folder: pathlib.Path) -> float:
+def newest(folder: str) -> float:
     """When the last of a crate's sources changed."""
-    files = (it for part in ("src", "specs", "proofs") for it in (folder / part).rglob("*") if it.is_file())
+    files = (it for part in ("src", "specs", "proofs") for it in pathlib.Path(folder, part).rglob("*") if it.is_file())
     return max((it.stat().st_mtime for it in files), default=0)
 
 
@@ -37,10 +37,9 @@ def main() -> int:
     os.chdir(ROOT)
     written = []
     try:
-        crates = kit().crates_below(str(ROOT))
-        for crate in crates:
+        for crate in kit().crates_below(str(ROOT)):
             folder, built = pathlib.Path(crate.folder), pathlib.Path(crate.rlib)
-            sources = max(newest(pathlib.Path(it.folder)) for it in [crate, *crate.below()])
+            sources = max(newest(it.folder) for it in [crate, *crate.below()])
             # Files that an earlier run on this machine built and kept are older than the folder that they were put into.
             if (built / "format").is_file() and built.stat().st_mtime > sources and not crate.is_built():
                 (folder / "out" / "rlib" / "stamp").write_text(crate.stamp(), encoding="utf-8")

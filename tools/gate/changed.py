@@ -31,8 +31,8 @@ class Change:
     functions: list = dataclasses.field(default_factory=list)
 
 
-def git(*words: str) -> str:
-    return subprocess.run(["git", *words], cwd=ROOT, capture_output=True, text=True, check=True).stdout
+def git(*words: str, check=True) -> str:
+    return subprocess.run(["git", *words], cwd=ROOT, capture_output=True, text=True, check=check).stdout
 
 
 def base(given=None) -> str:
@@ -53,8 +53,7 @@ def changed_files(commit: str) -> list:
 
 def changed_lines(commit: str, path: str):
     """The lines of a file as it stands that differ from the commit; None where it is new or gone."""
-    known = subprocess.run(["git", "cat-file", "-e", f"{commit}:{path}"], cwd=ROOT, capture_output=True, check=False)
-    if known.returncode or not (ROOT / path).exists():
+    if not git("cat-file", "-t", f"{commit}:{path}", check=False) or not (ROOT / path).exists():
         return None
     said = git("diff", "--unified=0", commit, "--", path)
     spans = [(int(first), 1 if count is None else int(count)) for first, count in (it.groups() for it in HUNK.finditer(said))]
@@ -65,15 +64,12 @@ def changed_lines(commit: str, path: str):
 def read_source(change: Change, crate, commit: str, path: str):
     """Adds what changed in a source file of a crate."""
     file, lines = path.split("/", 2)[2], changed_lines(commit, path)
-    functions = [it for it in crate.functions if it.file == file]
     if lines is None:
         change.kind = "contracts"
-        change.functions += functions
+        change.functions += [it for it in crate.functions if it.file == file]
         return
-    text = crate.texts[file].split("\n")
-    for line in lines:
-        if re.match(r" *(//|$)", text[line - 1] if line <= len(text) else ""):
-            continue
+    text = [*crate.texts[file].split("\n"), ""]
+    for line in (it for it in lines if not re.match(r" *(//|$)", text[min(it, len(text)) - 1])):
         inner = crate.function_at(file, line)
         if inner is None or line <= inner.body:
             change.kind = "contracts"
@@ -151,8 +147,8 @@ def main() -> int:
         print(f"{change.kind} {name}")
         for one in change.functions:
             print(f"function {name} {one.file} {one.path}")
-    above = [name for name in under if name not in found and set(under[name]) & {it for it in found if found[it].kind != "data"}]
-    for name in sorted(above, key=lambda it: len(under[it])):
+    touched = {name for name, change in found.items() if change.kind != "data"}
+    for name in sorted((it for it in under if it not in found and touched & {*under[it]}), key=lambda it: len(under[it])):
         print(f"above {name}")
     return 0
 

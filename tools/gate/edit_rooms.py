@@ -45,13 +45,23 @@ class Checked:
     seconds: float
     is_cut: bool = False
 
+    def reached(self):
+        """The line with which the check of the crate itself ended: libraries below that are stale are built before it, and
+        have such lines of their own. None where the front end rejects the crate, or where the check was ended."""
+        found = [*REACHED.finditer(self.said)]
+        return found[-1] if found and not self.is_cut and not FAULT.search(self.said, found[-1].end()) else None
+
+    def fault(self) -> str:
+        """Why it came to no end."""
+        return next((it for it in self.said.split("\n") if "error" in it), self.said.strip().split("\n")[-1])
+
+
+kit = functools.cache(built.kit)
+
 
 def check(folder: pathlib.Path, *words: str, verb: str = "check", limit=None) -> Checked:
     """Checks the crate in a folder, or does what else `rt` does with a crate."""
     return checked(folder, ["rt", verb, *words], limit)
-
-
-kit = functools.cache(built.kit)
 
 
 def check_once(folder: pathlib.Path, *words: str, limit=None) -> Checked:
@@ -76,13 +86,19 @@ def checked(folder: pathlib.Path, ran: list, limit=None) -> Checked:
         _, status, used = os.wait4(started.pid, 0)
         started.returncode = os.waitstatus_to_exitcode(status)
     seconds = used.ru_utime + used.ru_stime
-    is_cut = bool(limit) and seconds > 0.95 * limit and started.returncode != 0
-    return Checked(said, started.returncode, seconds, is_cut)
+    # A check that comes to its end has the status 0 or 1.
+    return Checked(said, started.returncode, seconds, bool(limit) and seconds > 0.95 * limit and started.returncode not in (0, 1))
 
 
 def copied(source: str, place: str):
     """Copies a file of kept work, by a link where a check replaces such a file and never changes it."""
     return os.link(source, place) if source.endswith(".oantt") else shutil.copy2(source, place)
+
+
+def written(file: pathlib.Path, text: str):
+    """Writes a file into a folder that may not be there yet."""
+    file.parent.mkdir(parents=True, exist_ok=True)
+    file.write_text(text, encoding="utf-8")
 
 
 class Room:
@@ -94,8 +110,8 @@ class Room:
         self.folder, self.kept = place / "crates" / crate.name, kept
         self.words = [] if whole else ["--allow-holes"]
         self.texts = crate.texts if whole else crate.with_stand_ins(set())
-        # what each check took, and whether the last one was ended at its limit
-        self.times, self.is_cut = [], False
+        # what each check took
+        self.times = []
         place.mkdir()
         needed = [*below, crate.name]
         lines = (root / "crates.txt").read_text(encoding="utf-8").splitlines(keepends=True)
@@ -113,29 +129,29 @@ class Room:
     def make_stand_ins(self):
         """Writes the stand-ins, and for each a proof that rests on the one hole."""
         proofs = self.folder / "proofs"
-        proofs.mkdir(exist_ok=True)
-        (proofs / "Unproved.antt").write_text(UNPROVED, encoding="utf-8")
+        written(proofs / "Unproved.antt", UNPROVED)
         with open(proofs / "Lib.antt", "a", encoding="utf-8") as modules:
             modules.write("pub mod Unproved\n")
         for file, text in self.texts.items():
-            (self.folder / file).write_text(text, encoding="utf-8")
+            written(self.folder / file, text)
         for one in filter(self.crate.stands_in, self.crate.functions):
             self.leave_unproved(one)
 
+    def path_of(self, one: Function) -> list:
+        """The path of a function below its crate, which is that of the folder of its proof."""
+        return self.crate.told_path(one).split("::")[1:]
+
     def leave_unproved(self, one: Function):
         """Puts the proof of a stand-in in the place of its function's."""
-        proofs, path = self.folder / "proofs", self.crate.told_path(one).split("::")[1:]
-        for parts in self.crate.proofs_of(one):
+        proofs, path = self.folder / "proofs", self.path_of(one)
+        for parts in [*self.crate.proofs_of(one), path]:
             shutil.rmtree(proofs.joinpath(*parts), ignore_errors=True)
-        text = STAND_IN.format(crate=self.crate.name, path=".".join(path), name=path[-1])
-        shutil.rmtree(proofs.joinpath(*path), ignore_errors=True)
-        proofs.joinpath(*path).mkdir(parents=True)
-        proofs.joinpath(*path, "Proof.antt").write_text(text, encoding="utf-8")
+        written(proofs.joinpath(*path, "Proof.antt"), STAND_IN.format(crate=self.crate.name, path=".".join(path), name=path[-1]))
 
     def give_proof(self, one: Function):
         """Puts the proof of a function, if it has one, in the place of its stand-in's."""
         proofs = self.folder / "proofs"
-        shutil.rmtree(proofs.joinpath(*self.crate.told_path(one).split("::")[1:]))
+        shutil.rmtree(proofs.joinpath(*self.path_of(one)))
         for parts in self.crate.proofs_of(one):
             shutil.copytree(self.crate.folder.joinpath("proofs", *parts), proofs.joinpath(*parts))
 
@@ -156,39 +172,37 @@ class Room:
         if self.keeps():
             shutil.copytree(self.kept, there, copy_function=copied)
 
-    def check(self, edits, tried: Tried, functions) -> str:
+    def check(self, edits, tried: Tried, functions) -> Checked:
         """What a check of these functions says of the crate with these edits made (none: of all); takes them back."""
         self.begin()
         proofs = self.made(tried)
         paths = sorted({self.crate.told_path(one) for one in functions})
         unprinted = [self.unprinted(it) for it in paths]
         ran = self.check_only(paths)
-        self.is_cut = ran.is_cut and not REACHED.search(ran.said)
         for file, text in unprinted:
-            file.write_text(text, encoding="utf-8") if text else file.unlink()
+            written(file, text) if text else file.unlink()
         self.unmade(tried, proofs)
         self.times.append((ran.seconds, edits[0].label() if len(edits) == 1 else f"{self.crate.name}: {len(edits)} edits"))
-        return ran.said
+        return ran
 
     def unprinted(self, path: str):
         """Adds the refused line to the proof of a function; gives the file, and what it was (nothing: it had none)."""
         file = self.folder.joinpath("proofs", *path.split("::")[1:], "Answers.antt")
         text = file.read_text(encoding="utf-8") if file.exists() else ""
-        file.parent.mkdir(parents=True, exist_ok=True)
-        file.write_text(text + UNPRINTED, encoding="utf-8")
+        written(file, text + UNPRINTED)
         return file, text
 
     def made(self, tried: Tried) -> list:
         """Writes the files that edits change, and the proofs of functions beside others; gives the folders of these."""
         for file, text in tried.texts.items():
-            (self.folder / file).write_text(text, encoding="utf-8")
+            written(self.folder / file, text)
         for one in filter(self.crate.stands_in, tried.in_place):
             self.give_proof(one)
         return [it for copy, one in tried.copies.items() for it in self.copy_proofs(one, copy.name())]
 
     def copy_proofs(self, one: Function, name: str) -> list:
         """Copies the proof of a function and those of its closures for one of another name; gives the folders."""
-        *above, old = self.crate.told_path(one).split("::")[1:]
+        *above, old = self.path_of(one)
         proofs, made = self.folder / "proofs", []
 
         def moved(found) -> str:
@@ -199,15 +213,14 @@ class Room:
         for parts in self.crate.proofs_of(one):
             made.append(pathlib.Path(shutil.copytree(self.crate.folder.joinpath("proofs", *parts), proofs.joinpath(*parts[:-1], name))))
             for file in made[-1].rglob("*.antt"):
-                text = file.read_text(encoding="utf-8")
-                file.write_text(re.sub(rf"Rattle\.{self.crate.name}\.proofs(\.[\w+]+)+", moved, text), encoding="utf-8")
+                written(file, re.sub(rf"Rattle\.{self.crate.name}\.proofs(\.[\w+]+)+", moved, file.read_text(encoding="utf-8")))
         # Where there is none, the refused line makes one.
         return made or [proofs.joinpath(*above, name)]
 
     def unmade(self, tried: Tried, proofs):
         """Takes edits and the proofs that were made for them back."""
         for file in tried.texts:
-            (self.folder / file).write_text(self.texts[file], encoding="utf-8")
+            written(self.folder / file, self.texts[file])
         for one in filter(self.crate.stands_in, tried.in_place):
             self.leave_unproved(one)
         for folder in proofs:
@@ -219,14 +232,13 @@ class Room:
         tried = self.crate.tried(edits, self.is_whole)
         proofs = self.made(tried)
         # A check of a function that isn't there ends once the crate is compiled.
-        said = check(self.folder, "--jobs", "1", "--only", "no_such::function").said
+        ran = check(self.folder, "--jobs", "1", "--only", "no_such::function")
         self.unmade(tried, proofs)
-        if NO_FUNCTION.search(said):
+        if NO_FUNCTION.search(ran.said):
             return []
         if len(edits) > 1:
-            return [it for part in self.apart(edits, tried, said) for it in self.uncompiled(part)]
-        why = [it for it in said.split("\n") if "error" in it] or said.strip().split("\n")[-1:]
-        return [(edits[0], why[0])]
+            return [it for part in self.apart(edits, tried, ran) for it in self.uncompiled(part)]
+        return [(edits[0], ran.fault())]
 
     def check_only(self, functions) -> Checked:
         """A check of some functions, by their paths, and of what they call; of none: of the whole crate."""
@@ -240,10 +252,10 @@ class Room:
     def left_open(self, edits) -> list:
         """What is left open of each of these functions beside themselves, in a check of them all."""
         tried = self.crate.tried(edits, self.is_whole)
-        said = self.check(edits, tried, [tried.of[it.label()][0] for it in edits])
-        goals = tried.goals(said)
-        if not REACHED.search(said):
+        ran = self.check(edits, tried, [tried.of[it.label()][0] for it in edits])
+        if not ran.reached():
             return [(edits[0], "the check did not come to an end")]
+        goals = tried.goals(ran.said)
         return [(it, goal) for it in edits for goal in self.own(it, tried, goals)[:1]]
 
     @staticmethod
@@ -253,10 +265,11 @@ class Room:
         is_of_one = edit.clause and edit.inside and edit.beside()
         return [it for it in own if f"-clause-{edit.clause}`" in it] if is_of_one else own
 
-    def apart(self, edits, tried: Tried, said: str) -> list:
+    @staticmethod
+    def apart(edits, tried: Tried, ran: Checked) -> list:
         """Edits that don't compile together, in parts: those of which that is said, and the others; two halves where
         nothing is said, or where the check was ended at its limit."""
-        blamed = set() if self.is_cut else {tried.function_at(it[1], int(it[2])) for it in FAULT.finditer(said)}
+        blamed = set() if ran.is_cut else {tried.function_at(it[1], int(it[2])) for it in FAULT.finditer(ran.said)}
         parts = [[it for it in edits if bool(blamed & {*tried.of[it.label()]}) is is_blamed] for is_blamed in (True, False)]
         return parts if all(parts) else [edits[::2], edits[1::2]]
 
@@ -264,33 +277,29 @@ class Room:
         """Each edit with the goal for which it is refused, or with none and a fault."""
         tried = self.crate.tried(edits, self.is_whole)
         functions = {one for some in tried.of.values() for one in some}
-        said = self.check(edits, tried, [] if self.is_whole else functions - {None})
-        reached = REACHED.search(said)
-        if not self.is_whole and len(edits) == 1 and (None in functions or reached and not tried.goals(said)):
+        ran = self.check(edits, tried, [] if self.is_whole else functions - {None})
+        reached, goals = ran.reached(), tried.goals(ran.said)
+        if not self.is_whole and len(edits) == 1 and (None in functions or reached and not goals):
             # A line that stands in no function, as a constant's, and what a function does for others, may be refused there.
             whole = self.whole()
             judged = whole.judge(edits)
             self.times += whole.times
             return judged
         if not reached and len(edits) > 1:
-            if self.is_cut:
+            if ran.is_cut:
                 print(f"{self.crate.name}: a check of {len(edits)} edits was ended after {LIMIT} processor seconds: two halves", flush=True)
-            return [it for part in self.apart(edits, tried, said) for it in self.judge(part)]
+            return [it for part in self.apart(edits, tried, ran) for it in self.judge(part)]
         if not reached:
-            why = [it for it in said.split("\n") if "error" in it] or said.strip().split("\n")[-1:]
             limit = LIMIT_OF_WHOLE if self.is_whole else LIMIT
-            fault = f"its check was ended after {limit} processor seconds" if self.is_cut else f"it does not compile: {why[0]}"
+            fault = f"its check was ended after {limit} processor seconds" if ran.is_cut else f"it does not compile: {ran.fault()}"
             return [(edits[0], "", fault)]
-        goals = tried.goals(said)
         if len(edits) == 1:
             own = [it for one in tried.of[edits[0].label()] for it in goals.get(one, [])]
-            others = [it for them in goals.values() for it in them]
-            goal = next((it for it in [*own, *others]), "")
+            goal = next(iter([*own, *(it for them in goals.values() for it in them)]), "")
             fault = "the crate is still proved" if reached[1] == "proved" else "no goal is left open, only a name that it took away"
             return [(edits[0], goal, "" if goal else fault)]
-        judged = []
-        hidden = all(it.inside or it.beside() for it in edits)
+        judged, is_hidden = [], all(it.inside or it.beside() for it in edits)
         for edit in edits:
-            own = [it for it in self.own(edit, tried, goals) if hidden or CONTRACT.search(it)]
+            own = [it for it in self.own(edit, tried, goals) if is_hidden or CONTRACT.search(it)]
             judged += [(edit, own[0], "")] if own else self.judge([edit])
         return judged

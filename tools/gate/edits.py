@@ -61,34 +61,25 @@ class EditedCrate(Crate):
 
     def read_edit(self, path: pathlib.Path) -> Edit:
         """The edit of a file, with a fault where it can't be tried."""
-        file, old, changes, functions, clause = "", "", [], set(), ""
+        changes, functions, said = [], set(), {}
         for line in path.read_text(encoding="utf-8").split("\n"):
             word, _, text = line.partition(":")
-            text = text.removeprefix(" ")
-            if word == "file":
-                file = text.strip()
-            elif word == "old":
-                old = text
-            elif word == "new":
-                changes.append((file, old, text))
-            elif word == "clause":
-                clause = text.strip()
-        folder = path.parent.relative_to(self.folder / "wrong-bodies")
-        edit = Edit(self.name, str(folder / path.stem), changes, functions, clause=clause)
+            said[word] = text.removeprefix(" ")
+            if word == "new":
+                changes.append((said["file"].strip(), said["old"], said["new"]))
+        name = "/".join(path.relative_to(self.folder).with_suffix("").parts[1:])
+        edit = Edit(self.name, name, changes, functions, clause=said.get("clause", "").strip())
         try:
-            self.changed([edit])
+            lines = self.lines_of(edit)
         except ValueError as error:
-            edit.fault = str(error)
+            lines, edit.fault = {}, str(error)
         if not changes or all(old == new for _, old, new in changes):
             edit.fault = "it changes nothing"
-        for at, (file, old, _) in enumerate([] if edit.fault else changes):
-            # An edit keeps the number of lines, so a line has its number before and behind the changes above it.
-            text = self.changed([Edit("", "", changes[:at], set())]).get(file, self.texts[file])
-            line = text.count("\n", 0, text.find(old)) + 1
-            if not text.split("\n")[line - 1].startswith(("use ", "ghost use ")):
-                one = self.function_at(file, line)
+        for file, at in lines:
+            if not self.texts[file].split("\n")[at].startswith(("use ", "ghost use ")):
+                one = self.function_at(file, at + 1)
                 functions.add(one)
-                edit.inside &= one is not None and one.body < line
+                edit.inside &= one is not None and one.body <= at
         return edit
 
     def lines_of(self, edit) -> dict:
@@ -148,7 +139,7 @@ class EditedCrate(Crate):
                 for edit, (name, copy) in beside[one]:
                     at = one.last + shift
                     lines[at:at] = copy
-                    of[edit.label()] = [Function(file, at + 1, at + len(copy), now[one].renamed(name), body=at + 1, owner=one.owner)]
+                    of[edit.label()] = [Function(file, at + 1, at + len(copy), one.path.removesuffix(one.name()) + name, body=at + 1, owner=one.owner)]
                     shift += len(copy)
             texts[file] = "\n".join(lines)
         copies = {of[it.label()][0]: it.beside() for it in edits if it.label() in apart}
@@ -215,5 +206,4 @@ def batches_of(crate: EditedCrate, edits) -> list:
     for edit in sorted(edits, key=rank):
         batch = next((it for it in batches if joins(it, edit)), None)
         batch.append(edit) if batch else batches.append([edit])
-    # The longest begin first, so that none is the last to end.
-    return sorted(batches, key=len, reverse=True)
+    return batches

@@ -7,32 +7,25 @@ read failed that it cannot read the file; each with status 1 and without output.
 ends with 1, and what was written before is the front of the output, whether the next write works again or
 all fail. The last run is as if nothing failed. Reads and writes are failed of a run that makes as few as it
 likes, and of one whose reads and writes take a few bytes each.
-A library made by a C compiler stands before the C library's calls. Run it at the top of the repository, once
+A library made by gcc stands before the C library's calls. Run it at the top of the repository, once
 the programs are built: tools/gate/little_memory.py [PROGRAM..]
 """
 import dataclasses
+import itertools
 import os
 import pathlib
-import shutil
 import subprocess
 import sys
 import tempfile
 
-from program_ends import builds_of
+from program_ends import BOUND, CRATES, LINKED, REPORT, STRTAB, SYMBOLS, builds_of
 
-TOP = pathlib.Path(__file__).resolve().parents[2]
-CRATES = TOP / "crates"
 SAMPLE = CRATES / "elfanswers" / "data"
-STRTAB = (CRATES / "elfinfo" / "data" / "strtab.elf").read_bytes()
-LINKED = (CRATES / "elfsym" / "data" / "versions.so").read_bytes()
-FIRST = (CRATES / "elfbind" / "data" / "libfirst.so").read_bytes()
+FIRST = (BOUND / "libfirst.so").read_bytes()
 # What this library alone is bound to, as `readelf -rsW` says of it before its section headers are cut off.
-FIRST_LINES = b"".join(
-    b"a.elf %s@V1 -> a.elf %s\n" % line
-    for line in (
-        (b"per_thread", b"0x4"), (b"per_thread", b"0x4"), (b"shared", b"0x16d4"), (b"own", b"0x4e3"), (b"own", b"0x4e3"), (b"choose", b"0x4f5"),
-    )
-)
+FIRST_LINES = "".join(f"a.elf {line}\n" for line in (
+    "per_thread@V1 -> a.elf 0x4", "per_thread@V1 -> a.elf 0x4", "shared@V1 -> a.elf 0x16d4", "own@V1 -> a.elf 0x4e3", "own@V1 -> a.elf 0x4e3",
+    "choose@V1 -> a.elf 0x4f5"))
 
 
 @dataclasses.dataclass(frozen=True)
@@ -54,11 +47,11 @@ class Program:
 
 FILES = {"a string table": STRTAB, "links": (SAMPLE / "notes-64.elf").read_bytes(),
     "a hash table": (SAMPLE / "dynamic-64.elf").read_bytes(), "three bytes": STRTAB[:3]}
+ASKED = (CRATES / "elfsym" / "args").read_text().split()[1:]
 PROGRAMS = [
-    Program("elfinfo", [], FILES, (CRATES / "elfinfo" / "stdout").read_bytes(), (20, 300)),
-    Program("elfsym", (CRATES / "elfsym" / "args").read_text().split()[1:], {"a hash table": LINKED, "three bytes": LINKED[:3]},
-        (CRATES / "elfsym" / "stdout").read_bytes(), (20, 16)),
-    Program("elfbind", [], {"a library": FIRST, "three bytes": FIRST[:3]}, FIRST_LINES, (40, 4)),
+    Program("elfinfo", [], FILES, REPORT, (20, 300)),
+    Program("elfsym", ASKED, {"a hash table": LINKED, "three bytes": LINKED[:3]}, SYMBOLS, (20, 16)),
+    Program("elfbind", [], {"a library": FIRST, "three bytes": FIRST[:3]}, FIRST_LINES.encode(), (40, 4)),
 ]
 
 # More calls of a kind than the program makes.
@@ -108,16 +101,6 @@ ssize_t write(int file, const void *from, size_t size) {
 }
 """
 
-def library(room):
-    """The path of the library whose calls fail."""
-    compiler = next((it for it in ("cc", "gcc", "clang") if shutil.which(it)), None)
-    if compiler is None:
-        sys.exit("no C compiler: its library is needed to fail calls of the program")
-    pathlib.Path(room, "failing.c").write_text(FAILING)
-    subprocess.run([compiler, "-shared", "-fPIC", "-O1", "-o", "failing.so", "failing.c"], cwd=room, check=True)
-    return f"{room}/failing.so"
-
-
 def run(program, words, room, **failing):
     """How the run ends whose call of this kind and number fails: status, output and error text."""
     failed = {name: str(number) for name, number in failing.items()}
@@ -135,10 +118,10 @@ def is_well(kind, end, whole, texts, before):
     if kind == "FAIL_MEMORY":
         return status == 1 and output == b"" and said in texts[:3]
     if kind == "FAIL_READ":
-        return (status, output, said) == (1, b"", read)
+        return end == (1, b"", read)
     if whole[0] == 0:
-        is_cut = before is None or len(output) == before
-        return status == 1 and said == write and whole[1].startswith(output) and output != whole[1] and is_cut
+        is_front = whole[1].startswith(output) and output != whole[1] and before in (None, len(output))
+        return (status, said) == (1, write) and is_front
     # What can't be said on standard error is passed over.
     return (status, output) == (1, b"") and whole[2].startswith(said) and said != whole[2]
 
@@ -149,22 +132,18 @@ def unlike(built, program, room, name) -> int:
     whole, count = run(built, words, room), 0
     for kind, is_few in WAYS:
         few = dict(zip(("FEW_READ", "FEW_WRITE"), program.few)) if is_few else {}
-        ends, wrong = [], []
-        for number in range(1, MOST):
-            ends.append(run(built, words, room, **{kind: number}, **few))
-            if ends[-1] == whole:
-                break
-            before = (number - 1) * program.few[1] if is_few else None
-            if not is_well(kind, ends[-1], whole, texts, before):
-                wrong.append(ends[-1])
-        last = ends.pop()
+        runs = (run(built, words, room, **{kind: number}, **few) for number in range(1, MOST))
+        ends = list(itertools.takewhile(lambda end: end != whole, runs))
+        before = lambda at: at * program.few[1] if is_few else None
+        wrong = [end for at, end in enumerate(ends) if not is_well(kind, end, whole, texts, before(at))]
+        is_whole = len(ends) < MOST - 1
         said = [texts.index(it[2]) for it in ends if it not in wrong and kind == "FAIL_MEMORY"]
         # A refused file has no output that could fail.
         is_tried = ends or (kind == "FAIL_OUTPUT" and whole[0])
         how = kind[5:].lower() + (", of a few bytes" if is_few else "")
-        if last != whole or wrong or said != sorted(said) or not is_tried:
+        if not is_whole or wrong or said != sorted(said) or not is_tried:
             count += 1
-            print(f"{built.name} NOT AS IT MUST: {name}, {kind}: {wrong[:2]}, and last {last}, not {whole}"[:900])
+            print(f"{built.name} NOT AS IT MUST: {name}, {kind}: {wrong[:2]}, and last {ends[-1:]}, not {whole}"[:900])
         else:
             print(f"{built.name} ends as it must: {name}, each of {len(ends)} calls failed in turn: {how}")
     return count
@@ -175,7 +154,8 @@ def main() -> int:
     count = 0
     with tempfile.TemporaryDirectory() as room:
         os.environ.pop("LD_PRELOAD", None)
-        library(room)
+        # The library whose calls fail.
+        subprocess.run(["gcc", "-shared", "-fPIC", "-O1", "-o", "failing.so", "-x", "c", "-"], cwd=room, input=FAILING.encode(), check=True)
         for program in PROGRAMS:
             for at, (name, held) in enumerate(program.files.items()):
                 pathlib.Path(room, "a.elf").write_bytes(held)

@@ -15,7 +15,7 @@ import subprocess
 import sys
 import tempfile
 
-from program_ends import CRATES, builds_of
+from program_ends import CRATES, builds_of, run
 
 
 @dataclasses.dataclass(frozen=True)
@@ -71,19 +71,14 @@ def replaced(text: bytes, parts: dict) -> bytes:
     return text
 
 
-def shown(case: Case, room: str) -> bytes:
-    """What readelf shows of the changed file."""
-    ran = subprocess.run(["readelf", *case.readelf.split(), "names.elf"], cwd=room, capture_output=True, env={**os.environ, "LC_ALL": "C"})
-    return ran.stdout
-
-
 def unlike(case: Case, built: dict, room: str) -> int:
     """Prints what readelf and each build of the program say, and returns how often that isn't as it must be."""
     held = (CRATES / case.file).read_bytes()
     changed = replaced(held, {old + b"\0": new + b"\0" for old, new in case.names.items()})
     assert len(changed) == len(held), case.file
     pathlib.Path(room, "names.elf").write_bytes(changed)
-    by_readelf, count = shown(case, room), 0
+    command, environment = ["readelf", *case.readelf.split(), "names.elf"], {**os.environ, "LC_ALL": "C"}
+    by_readelf, count = subprocess.run(command, cwd=room, capture_output=True, env=environment, check=False).stdout, 0
     for name in case.names.values():
         wanted = name if case.readelf.startswith("-d") else escaped(name)
         if wanted not in by_readelf:
@@ -92,12 +87,11 @@ def unlike(case: Case, built: dict, room: str) -> int:
     written = {old: new if case.program == "elfnm" else escaped(new) for old, new in case.names.items()}
     wanted = replaced(replaced(case.kept, case.changed), written)
     for program in built[case.program]:
-        ran = subprocess.run([program, *case.words], cwd=room, capture_output=True, timeout=60)
-        if (ran.returncode, ran.stdout, ran.stderr) == (0, wanted, b""):
-            print(f"{program.name} writes names as it must: {case.file}")
-        else:
-            count += 1
-            print(f"{program.name} NOT AS IT MUST: {case.file}: wanted {wanted!r}, but got {ran}"[:1800])
+        ran = run(program, case.words, room)
+        is_well = (ran.returncode, ran.stdout, ran.stderr) == (0, wanted, b"")
+        count += not is_well
+        print(f"{program.name} writes names as it must: {case.file}" if is_well else
+              f"{program.name} NOT AS IT MUST: {case.file}: wanted {wanted!r}, but got {ran}"[:1800])
     return count
 
 

@@ -18,77 +18,60 @@ install() {
 # The Rust that the crate of the bindings asks for.
 rust="$(sed -n 's/^rust-version = "\(.*\)"/\1/p' "$(dirname "$0")/../../bindings/rust/Cargo.toml")"
 
-# Whether the program is here: a C compiler with the headers of the C library, and cargo with a Rust that is new enough.
+# Whether a program is here, or a module of Debian's Python: a C compiler with the headers of the C library, and cargo with a
+# Rust that is new enough.
 is_here() {
-    command -v "$1" > /dev/null || return 1
     case "$1" in
+        Python\'s\ *) /usr/bin/python3 -c "import ${1#* }" 2> /dev/null ;;
         gcc) echo '#include <stdlib.h>' | gcc -fsyntax-only -x c - 2> /dev/null ;;
-        cargo) printf '%s\n' "$rust" "$(rustc --version | cut -d ' ' -f 2)" | sort -C -V ;;
+        cargo) command -v cargo > /dev/null && printf '%s\n' "$rust" "$(rustc --version | cut -d ' ' -f 2)" | sort -C -V ;;
+        *) command -v "$1" > /dev/null ;;
     esac
 }
 
-# Installs the first of these alternatives, `a b|c`, that brings the program.
+# Installs the first of these alternatives, as `a b/c`, that brings the program.
 bring() {
     local program="$1" alternatives packages
-    IFS='|' read -ra alternatives <<< "$2"
+    IFS=/ read -ra alternatives <<< "$2"
     for packages in "${alternatives[@]}"; do
         # shellcheck disable=SC2086
-        if install $packages && is_here "$program"; then
-            echo "$program: installed now, of the Debian package $packages"
-            return
-        fi
+        if install $packages < /dev/null && is_here "$program"; then echo "$program: installed now, of the Debian package $packages"; return; fi
     done
     return 1
 }
 
-# A program, its packages, `needed` or `optional`, and what calls it.
-want() {
-    local program="$1" kind="$3" for="$4" older=""
+# A program, its packages, whether the gate can't do without it (`wished`: it can, and root installs it), and what calls it.
+while IFS='|' read -r program packages kind for; do
+    older=""
     [ "$program" != cargo ] || older=" with Rust $rust or newer"
     if is_here "$program"; then
-        echo "$program: $(command -v "$program")"
-    elif [ "$kind$mode" != optional ] && bring "$program" "$2"; then
+        echo "$program: $(command -v "$program" || echo there)"
+    elif [ "$kind$mode" != optional ] && bring "$program" "$packages"; then
         :
     elif [ "$kind" = needed ]; then
-        echo "$program$older: MISSING, of the Debian package ${2//|/ or }; needed by $for"
+        echo "$program$older: MISSING, of the Debian package ${packages//\// or }; needed by $for"
         missing=$((missing + 1))
     else
-        echo "$program: missing, of the Debian package ${2//|/ or }; without it is left out: $for"
+        echo "$program: missing, of the Debian package ${packages//\// or }; without it is left out: $for"
     fi
-}
-
-# A module of Debian's Python, with the same words behind it.
-want_module() {
-    local module="$1" package="$2" kind="$3" for="$4"
-    local import=(/usr/bin/python3 -c "import $module")
-    if "${import[@]}" 2> /dev/null; then
-        echo "Python's $module: there"
-    elif install "$package" && "${import[@]}" 2> /dev/null; then
-        echo "Python's $module: installed with the package $package"
-    elif [ "$kind" = needed ]; then
-        echo "Python's $module: MISSING, in the Debian package $package; needed by $for"
-        missing=$((missing + 1))
-    else
-        echo "Python's $module: missing, in the Debian package $package; skipped without it: $for"
-    fi
-}
-
-want python3 python3 needed "the scripts of tools"
-want git git needed "tools/gate/changed.py"
-want gcc "gcc libc6-dev" needed "tools/exports/bindings.sh, tools/gate/little_memory.py"
-want cc gcc needed "tools/gate/little_memory.py"
-want g++ g++ needed "tools/exports/bindings.sh, the header as C++"
-want cargo "cargo|cargo-web rustc-web" needed "tools/exports/bindings.sh, the Rust crate"
-want readelf binutils needed "tools/exports/bindings.sh, tools/compare"
-want llvm-readelf llvm needed "tools/compare"
-want setpriv util-linux needed "rt ci, which runs programs as nobody"
-want clang clang optional "C by a second compiler, objects for WebAssembly"
-want valgrind valgrind optional "bench/instructions.py, tools/exports/bindings.sh --valgrind"
-want node nodejs optional "checks of the page outside of a browser"
-want chromedriver "chromium-driver chromium" optional "tools/web/web.sh --test"
-want pkg-config pkg-config optional "tools/exports/try_package.sh, the commands with pkg-config"
-want_module ensurepip python3-venv needed "tools/exports/try_package.sh, the Python wheel"
-want_module pytest python3-pytest optional "tools/exports/python.sh"
-want_module elftools python3-pyelftools optional "tools/exports/python.sh"
-want_module selenium python3-selenium optional "tools/web/web.sh --test"
+done << 'END'
+python3|python3|needed|the scripts of tools
+git|git|needed|tools/gate/changed.py
+gcc|gcc libc6-dev|needed|tools/exports/bindings.sh, tools/gate/little_memory.py
+cc|gcc|needed|tools/web/records.py
+g++|g++|needed|tools/exports/bindings.sh, the header as C++
+cargo|cargo/cargo-web rustc-web|needed|tools/exports/bindings.sh, the Rust crate
+readelf|binutils|needed|tools/exports/bindings.sh, tools/compare
+llvm-readelf|llvm|needed|tools/compare
+setpriv|util-linux|needed|rt ci, which runs programs as nobody
+clang|clang|optional|C by a second compiler, objects for WebAssembly
+valgrind|valgrind|optional|bench/instructions.py, tools/exports/bindings.sh --valgrind
+node|nodejs|optional|checks of the page outside of a browser
+chromedriver|chromium-driver chromium|optional|tools/web/web.sh --test
+pkg-config|pkg-config|optional|tools/exports/try_package.sh, the commands with pkg-config
+Python's ensurepip|python3-venv|needed|tools/exports/try_package.sh, the Python wheel
+Python's pytest|python3-pytest|wished|tools/exports/python.sh
+Python's elftools|python3-pyelftools|wished|tools/exports/python.sh
+Python's selenium|python3-selenium|wished|tools/web/web.sh --test
+END
 exit $((missing > 0))

@@ -1,15 +1,7 @@
 #!/usr/bin/env python3
 """Wants the prover to refuse each wrong body of crates/NAME/wrong-bodies/TOPIC/*.edit.
 
-A function is proved by the contracts of what it calls, and not by their bodies. So many edits are tried together, in
-one check of a copy of the crate, and each is judged by what is said of its own function. Of a free function or an
-inherent method each wrong body stands beside the right one, as a function of another name, with a copy of its proof;
-of its clauses all but that which the edit's line `clause:` names say nothing there. The method of a trait keeps its
-name, so one edit of it is made in its place. Every other function is a stand-in there: `loop {}` for its body, and
-for its proof a hole, since it has been proved. Any goal that is left open there will do while no edit of the batch
-changes a line outside a body in place; else it must be a goal of the contract. An edit of which that isn't said is
-tried alone and in place, among stand-ins and then in the whole crate, where any goal will do, since nothing else was
-changed. An edit fails that doesn't apply or compile, that changes nothing, or with which the crate is still proved.
+How they are tried, many in one check of a copy of their crate, stands in docs/WRONG_BODIES.md.
 
     tools/gate/wrong_bodies.py [--jobs N] [NAME..]    a NAME is that of a crate, a topic or an edit; none: all
     tools/gate/wrong_bodies.py --since COMMIT         those of functions that changed since this commit, or of which a
@@ -23,9 +15,6 @@ changed. An edit fails that doesn't apply or compile, that changes nothing, or w
     tools/gate/wrong_bodies.py --right [NAME..]       whether each right body is proved beside itself, as the wrong ones are tried
     tools/gate/wrong_bodies.py --self-test            whether the script itself tells right from wrong
 
-Since a wrong body is judged by the contract of its function, a change of another function's body doesn't make it
-right. A check of a batch is ended after some minutes (LIMIT), and each half of it is tried then.
-
 Each crate must be proved as it stands, and is checked first, unless `rt ci` has just proved it. At the end stand what
 the checks of each crate took, and the slowest ones. The last line is `N refused, M failed`.
 """
@@ -35,11 +24,11 @@ import concurrent.futures
 import dataclasses
 import pathlib
 import shutil
-import subprocess
 import sys
 import tempfile
 import threading
 
+import changed
 from edit_rooms import Room, check
 from edits import BATCH, Edit, EditedCrate, batches_of
 from pages import sources
@@ -55,23 +44,23 @@ SLOWEST = 12
 
 @dataclasses.dataclass
 class Task:
-    """A crate whose edits are to be tried: the crates below it, its batches, and copies of it that are free."""
+    """A crate whose edits are to be tried: the crates below it, its batches, copies of it that are free, and how many of the
+    batches haven't begun."""
 
     crate: EditedCrate
     below: list
     batches: list
-    state: str
     rooms: list = dataclasses.field(default_factory=list)
+    left: int = 0
 
 
 class Trial:
     """All edits of a repository that are to be tried, by several workers."""
 
     def __init__(self, root: pathlib.Path, names, jobs: int, since=None, proved=False):
-        self.root, self.jobs, self.lock = root, jobs, threading.Lock()
+        self.root, self.jobs, self.proved, self.lock = root, jobs, proved, threading.Lock()
         self.of_crate = collections.Counter()
-        self.refused, self.failed, self.times = [], [], []
-        self.tasks, self.idle, self.made = [], jobs, 0
+        self.refused, self.failed, self.times, self.tasks = [], [], [], []
         self.may_be_empty = since is not None
         used = sources.crates(root)
         for name in used:
@@ -85,7 +74,7 @@ class Trial:
                     self.tell(edit, "", edit.fault)
             batches = batches_of(crate, [it for it in edits if not it.fault])
             if batches:
-                self.tasks.append(Task(crate, sources.below(used, name), batches, "proved" if proved else "unproved"))
+                self.tasks.append(Task(crate, sources.below(used, name), batches))
 
     @staticmethod
     def is_named(edit: Edit, word: str) -> bool:
@@ -97,72 +86,50 @@ class Trial:
             (self.failed if fault else self.refused).append(edit.label())
             print(f"{edit.label()}: " + (f"FAILED: {fault}" if fault else f"refused: {goal}")[:200], flush=True)
 
-    def prove(self, task: Task, jobs: int):
-        """Checks a crate as it stands."""
+    def is_proved(self, task: Task) -> bool:
+        """Checks a crate as it stands, unless that has been done."""
+        if self.proved:
+            return True
         folder = task.crate.folder
-        ran = [check(folder, "--jobs", str(jobs))]
+        ran = [check(folder, "--jobs", str(self.jobs))]
         # The check of a crate above would build it, and so change what is being copied.
         if not ran[0].status and any(task.crate.name in it.below for it in self.tasks):
-            ran.append(check(folder, "--jobs", str(jobs), verb="lib"))
-        is_proved = not any(it.status for it in ran)
-        with self.lock:
-            self.of_crate["the crates as they stand"] += sum(it.seconds for it in ran)
-            task.state = "proved" if is_proved else "not proved"
-            if not is_proved:
-                self.failed.append(task.crate.name)
-                print(f"{task.crate.name}: FAILED: it is not proved as it stands", flush=True)
+            ran.append(check(folder, "--jobs", str(self.jobs), verb="lib"))
+        self.of_crate["the crates as they stand"] += sum(it.seconds for it in ran)
+        if any(it.status for it in ran):
+            self.failed.append(task.crate.name)
+            print(f"{task.crate.name}: FAILED: it is not proved as it stands", flush=True)
+        return not any(it.status for it in ran)
 
-    def work(self, task: Task, batch: list, room, place: pathlib.Path):
+    def work(self, task: Task, batch: list, place: pathlib.Path):
         """Tries a batch in a copy of its crate, which is left for the next one."""
+        with self.lock:
+            task.left -= 1
+            room = task.rooms.pop() if task.rooms else None
         room = room or Room(self.root, task.crate, task.below, place)
         for edit, goal, fault in room.judge(batch):
             self.tell(edit, goal, fault)
         with self.lock:
             self.of_crate[task.crate.name] += sum(it[0] for it in room.times)
             self.times, room.times = self.times + room.times, []
-            is_wanted = len(task.rooms) < len(task.batches)
+            is_wanted = len(task.rooms) < task.left
             if is_wanted:
                 task.rooms.append(room)
         # A copy of a large crate takes a gigabyte.
         if not is_wanted:
             shutil.rmtree(room.folder.parent.parent, ignore_errors=True)
 
-    def startable(self, rooms: str):
-        """What can begin now: a call, and how many workers it takes. A crate comes after those below it."""
-        unproved = [it for it in self.tasks if it.state == "unproved"]
-        names = {it.crate.name for it in self.tasks if it.state in ("unproved", "checked now")}
-        ready = [it for it in unproved if not names & set(it.below)]
-        proved = [it for it in self.tasks if it.state == "proved" and it.batches]
-        checks_one = any(it.state == "checked now" for it in self.tasks)
-        if self.idle and ready and not checks_one:
-            # One at a time, since a check locks the crates below. Others wait for it: one worker is for batches.
-            jobs = min(self.idle, max(1, self.jobs // 2, self.idle - bool(proved)))
-            ready[0].state = "checked now"
-            return (lambda: self.prove(ready[0], jobs)), jobs
-        if self.idle and proved:
-            # The longest batch, so that none is the last to end.
-            task = max(proved, key=lambda it: len(it.batches[0]))
-            batch, room = task.batches.pop(0), task.rooms.pop() if task.rooms else None
-            self.made += 1
-            place = pathlib.Path(rooms, f"{task.crate.name}-{self.made}")
-            return (lambda: self.work(task, batch, room, place)), 1
-        return None, 0
-
     def run(self) -> int:
-        running = {}
+        # Lower crates first, since a check locks the crates below.
+        proved = [it for it in self.tasks if self.is_proved(it)]
+        for task in proved:
+            task.left = len(task.batches)
+        # The longest batch first, so that none is the last to end.
+        batches = sorted(((task, batch) for task in proved for batch in task.batches), key=lambda it: -len(it[1]))
         with tempfile.TemporaryDirectory(prefix="wrong-bodies-") as rooms, concurrent.futures.ThreadPoolExecutor(self.jobs) as pool:
-            while True:
-                with self.lock:
-                    call, workers = self.startable(rooms)
-                if call:
-                    self.idle -= workers
-                    running[pool.submit(call)] = workers
-                    continue
-                if not running:
-                    break
-                for it in concurrent.futures.wait(running, return_when=concurrent.futures.FIRST_COMPLETED).done:
-                    self.idle += running.pop(it)
-                    it.result()
+            places = (pathlib.Path(rooms, str(number)) for number in range(len(batches)))
+            for it in [pool.submit(self.work, task, batch, place) for (task, batch), place in zip(batches, places)]:
+                it.result()
         for name, seconds in self.of_crate.items():
             print(f"{name}: {seconds:.0f} processor seconds")
         if self.times:
@@ -174,32 +141,13 @@ class Trial:
         print(f"{len(self.refused)} refused, {len(self.failed)} failed")
         return 1 if self.failed or not (self.refused or self.may_be_empty) else 0
 
-    def compile(self) -> int:
-        """Says of the edits that don't compile why."""
+    def alone(self, faults, what: str) -> int:
+        """Prints the faults that a function finds in a copy of each crate, one crate after the other."""
         for task in self.tasks:
             with tempfile.TemporaryDirectory(prefix="wrong-bodies-") as rooms:
-                room = Room(self.root, task.crate, task.below, pathlib.Path(rooms, task.crate.name))
-                for batch in task.batches:
-                    for edit, why in room.uncompiled(batch):
-                        self.tell(edit, "", f"it does not compile: {why}")
-            print(f"{task.crate.name}: {sum(map(len, task.batches))} edits compiled", flush=True)
-        print(f"{len(self.failed)} failed")
-        return 1 if self.failed else 0
-
-    def right(self) -> int:
-        """Tries the right body of each function that edits change beside itself: where it isn't proved there, that a
-        wrong one is refused there says nothing."""
-        for task in self.tasks:
-            clauses = {(it.beside(), it.clause if it.inside else "") for batch in task.batches for it in batch if it.beside()}
-            clauses = sorted(clauses, key=lambda it: (it[0].file, it[0].first, it[1]))
-            edits = [Edit(task.crate.name, f"{one.path} {clause}".strip(), [], {one}, clause=clause) for one, clause in clauses]
-            with tempfile.TemporaryDirectory(prefix="wrong-bodies-") as rooms:
-                room = Room(self.root, task.crate, task.below, pathlib.Path(rooms, task.crate.name))
-                for some in (edits[at : at + BATCH] for at in range(0, len(edits), BATCH)):
-                    # One alone would stand in its own place.
-                    for edit, goal in room.left_open(some + edits[:1] * (len(some) == 1)):
-                        self.tell(edit, "", f"its right body is not proved beside it: {goal}")
-            print(f"{task.crate.name}: {len(edits)} right bodies tried", flush=True)
+                for edit, fault in faults(task, Room(self.root, task.crate, task.below, pathlib.Path(rooms, task.crate.name))):
+                    self.tell(edit, "", fault)
+            print(f"{task.crate.name}: {what}", flush=True)
         print(f"{len(self.failed)} failed")
         return 1 if self.failed else 0
 
@@ -215,13 +163,28 @@ class Trial:
         return 1 if self.failed else 0
 
 
+def uncompiled(task: Task, room: Room):
+    """The edits that don't compile, and why."""
+    return [(edit, f"it does not compile: {why}") for batch in task.batches for edit, why in room.uncompiled(batch)]
+
+
+def unproved(task: Task, room: Room):
+    """The functions that edits change, and whose right body isn't proved beside itself: that a wrong one is refused there says
+    nothing."""
+    clauses = {(it.beside(), it.clause if it.inside else "") for batch in task.batches for it in batch if it.beside()}
+    clauses = sorted(clauses, key=lambda it: (it[0].file, it[0].first, it[1]))
+    edits = [Edit(task.crate.name, f"{one.path} {clause}".strip(), [], {one}, clause=clause) for one, clause in clauses]
+    for some in (edits[at : at + BATCH] for at in range(0, len(edits), BATCH)):
+        # One alone would stand in its own place.
+        for edit, goal in room.left_open(some + edits[:1] * (len(some) == 1)):
+            yield edit, f"its right body is not proved beside it: {goal}"
+
+
 class Since:
     """The functions that changed since a commit, those of which a definition changed that their clauses lead to, and
     names of edits that count besides."""
 
     def __init__(self, commit: str, names=()):
-        import changed
-
         base, self.names = changed.base(commit), names
         self.functions = {(name, one.file, one.path) for name, change in changed.changes(base).items() for one in change.functions}
         self.functions |= changed.Reach(base).functions(sources.crates())
@@ -307,20 +270,10 @@ def must_stay() -> list:
     return [it for it in lines if it and not it.startswith("#")]
 
 
-def lost() -> list:
-    """The names of edits that must stay, and that no edit has."""
-    there = {it.stem for folder in ("wrong-bodies/*", "must-fail") for it in ROOT.glob(f"crates/*/{folder}/*.edit")}
-    return [it for it in must_stay() if it not in there]
-
-
-def git(*words: str) -> subprocess.CompletedProcess:
-    return subprocess.run(["git", *words], cwd=ROOT, capture_output=True, text=True, check=False)
-
-
 def of_gate():
     """What the gate tries; None for all, where the commit of the last whole run isn't known here."""
     commit = REFUSED_AT.read_text(encoding="utf-8").strip() if REFUSED_AT.exists() else ""
-    if not commit or git("cat-file", "-e", f"{commit}^{{commit}}").returncode:
+    if not commit or not changed.git("cat-file", "-t", commit, check=False).startswith("commit"):
         print(f"{REFUSED_AT.name}: commit {commit or 'none'} is not here, so that all edits are tried")
         return None
     return Since(commit, set(must_stay()))
@@ -328,37 +281,33 @@ def of_gate():
 
 def store() -> int:
     """Stores the commit at which all edits were refused."""
-    if git("diff", "--quiet", "HEAD", "--", "crates").returncode:
+    if changed.git("diff", "HEAD", "--", "crates"):
         print("crates/ differs from the last commit, so that none is stored")
         return 1
-    REFUSED_AT.write_text(git("rev-parse", "HEAD").stdout, encoding="utf-8")
+    REFUSED_AT.write_text(changed.git("rev-parse", "HEAD"), encoding="utf-8")
     return 0
 
 
 def main() -> int:
     words = argparse.ArgumentParser(description=__doc__, formatter_class=argparse.RawDescriptionHelpFormatter)
     words.add_argument("--jobs", type=int, default=2, help="how many checks run side by side (each takes some 2 GB)")
-    words.add_argument("--self-test", action="store_true", help="try the script on a crate of three functions")
-    words.add_argument("--since", metavar="COMMIT", help="only edits of functions that changed since this commit, and edits that are new")
-    words.add_argument("--gate", action="store_true", help="only those that must stay, and those since the commit of the last whole run")
-    words.add_argument("--all", action="store_true", help="all; store the commit if each is refused")
-    words.add_argument("--proved", action="store_true", help="each crate is proved as it stands, and isn't checked first")
-    words.add_argument("--list", action="store_true", help="print the batches, and try none")
-    words.add_argument("--compile", action="store_true", help="say only which edits don't compile")
-    words.add_argument("--right", action="store_true", help="try right bodies in place of the wrong ones; they must be proved")
+    words.add_argument("--since", metavar="COMMIT")
+    for flag in ("gate", "all", "proved", "list", "compile", "right", "self-test"):
+        words.add_argument(f"--{flag}", action="store_true")
     words.add_argument("names", nargs="*", metavar="NAME", help="a crate, a topic or an edit")
     given = words.parse_args()
     if given.self_test:
         return self_test()
-    if missing := lost():
+    there = {it.stem for folder in ("wrong-bodies/*", "must-fail") for it in ROOT.glob(f"crates/*/{folder}/*.edit")}
+    if missing := [it for it in must_stay() if it not in there]:
         print(f"FAILED: no edit has the name {', '.join(missing)}")
         return 1
     since = of_gate() if given.gate else Since(given.since) if given.since else None
     trial = Trial(ROOT, given.names, max(given.jobs, 1), since, given.proved)
     if given.compile:
-        return trial.compile()
+        return trial.alone(uncompiled, "its edits were compiled")
     if given.right:
-        return trial.right()
+        return trial.alone(unproved, "its right bodies were tried")
     if given.list:
         return trial.list()
     return trial.run() or (store() if given.all and not given.names else 0)

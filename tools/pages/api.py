@@ -22,6 +22,7 @@ sys.path.insert(0, str(pathlib.Path(__file__).resolve().parents[1]))
 from exports import listing
 from pages import errors
 from pages.sources import ITEM, ROOT, impls_of, modules, public_items, read
+from pages.writing import differing, parser_of
 
 PAGES = ROOT / "docs" / "api"
 
@@ -242,15 +243,10 @@ def faults_of_types(sources: dict) -> list:
 
 
 def main() -> int:
-    sources = read()
+    is_check, sources = parser_of(__doc__).parse_args().check, read()
     pages = {crate: CratePage(sources, crate) for crate in LIBRARIES}
     texts = {PAGES / f"{crate}.md": page.text() for crate, page in pages.items()}
-    faults = [fault for page in pages.values() for fault in page.missing()] + faults_of_types(sources)
-    if sys.argv[1:] != ["--check"]:
-        for path, text in texts.items():
-            path.write_text(text, encoding="utf-8")
-    differing = [path for path, text in texts.items() if not path.exists() or path.read_text(encoding="utf-8") != text]
-    faults += [f"{path.relative_to(ROOT)} is not what the sources give" for path in differing]
+    faults = [fault for page in pages.values() for fault in page.missing()] + faults_of_types(sources) + differing(texts, is_check)
     said = [f"{page.count} of {crate}" for crate, page in pages.items()]
     print("\n".join([*faults, f"{', '.join(said)}: public items on {len(texts)} pages, {len(faults)} faults"]))
     return 1 if faults else 0

@@ -7,11 +7,12 @@
 
 A line is a kind and a function, as `one-sided elf_linking::view::loaded::bytes_from`. The kinds are:
 
-    one-sided    the clauses speak of an answer that is Ok or Some, and of no other
-    no-place     a slice is lent from the input, and no clause says where it lies
+    one-sided    the clauses speak of a result that is Ok or Some, and of no other
+    no-place     a slice of the input is returned, and no clause says where it lies
+    no-wrong     a caller has no wrong body
 
-The sources are read as `rt fmt` lays them out, by tools/pages/sources.py. At the end docs/contracts.toml has the
-clauses that refuse no wrong body by themselves; --check fails where no such function or clause is there.
+At the end docs/contracts.toml has the clauses that rule out no wrong body by themselves; --check fails where no such
+function or clause is there.
 """
 import fnmatch
 import pathlib
@@ -20,7 +21,9 @@ import sys
 import tomllib
 
 sys.path.insert(0, str(pathlib.Path(__file__).resolve().parents[1]))
+from gate.edits import EditedCrate
 from pages.sources import ROOT, Crate
+from pages.writing import parser_of
 
 REASONS = ROOT / "docs" / "contracts.toml"
 
@@ -40,35 +43,29 @@ LENT = re.compile(r"&'a \[|-> &\[|Table<'a|Notes<'a")
 PLACE = re.compile(r"Lies|Lie[A-Z]|PartLies|ref_ptr|result ≡|table_bytes|≡ notes\.entry")
 
 
-def clauses_of(head: str) -> str:
-    return "\n".join(re.findall(r"^ *ensures .*(?:\n(?! *(?:ensures|requires) ).*)*", head, re.MULTILINE))
-
-
-def returned(head: str) -> str:
-    found = re.search(r"^ *(?:\)|.*fn .*\)) -> (.*)$", head, re.MULTILINE)
-    return found[1] if found else ""
-
-
-def faults_of(head: str) -> list:
-    """The kinds of lines that a public function of a library has."""
-    if not re.search(r"^ *pub fn ", head, re.MULTILINE):
+def kinds_of(head: str) -> list:
+    """The kinds of lines that a public function has."""
+    if not re.search(r"^ *pub fn ", head, re.M):
         return []
-    clauses = clauses_of(head)
-    found = []
-    if ONE_SIDE.search(clauses) and not OTHER_SIDE.search(clauses):
-        found.append("one-sided")
-    if LENT.search("-> " + returned(head)) and not PLACE.search(clauses):
-        found.append("no-place")
-    return found
+    clauses = "\n".join(re.findall(r"^ *ensures .*(?:\n(?! *(?:ensures|requires) ).*)*", head, re.M))
+    returned = re.search(r"^ *(?:\)|.*fn .*\)) (-> .*)$", head, re.M)
+    is_one_sided = ONE_SIDE.search(clauses) and not OTHER_SIDE.search(clauses)
+    is_nowhere = returned and LENT.search(returned[1]) and not PLACE.search(clauses)
+    return ["one-sided"] * bool(is_one_sided) + ["no-place"] * bool(is_nowhere)
 
 
 def lines() -> list:
     """The whole list, in the order of the crates and of their files."""
     found = []
     for name in LIBRARIES + CALLERS:
-        crate = Crate(ROOT / "crates" / name)
+        crate = EditedCrate(ROOT / "crates" / name)
+        edits = [crate.read_edit(it) for it in sorted(crate.folder.glob("wrong-bodies/*/*.edit")) if name in CALLERS]
+        tried = {one.path for edit in edits for one in edit.functions if one}
         for one in crate.functions:
-            found += [f"{kind} {one.path}" for kind in faults_of(crate.head(one))]
+            head = crate.head(one)
+            found += [f"{kind} {one.path}" for kind in kinds_of(head)]
+            if name in CALLERS and re.search(r"^pub fn ", head, re.M) and "ensures" in head and one.path not in tried:
+                found.append(f"no-wrong {one.path}")
     return found
 
 
@@ -87,8 +84,8 @@ def lost(group: dict, functions: dict) -> list:
 
 
 def main() -> int:
-    found = lines()
-    if sys.argv[1:] != ["--check"]:
+    is_check, found = parser_of(__doc__).parse_args().check, lines()
+    if not is_check:
         print("\n".join(found))
         return 0
     reasons = tomllib.loads(REASONS.read_text(encoding="utf-8"))

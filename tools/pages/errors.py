@@ -42,48 +42,37 @@ def calls_in(source) -> dict[str, str]:
 
 def meant(name: str, caller: str, docs: dict[str, str]) -> str:
     """The call that a doc names: by its whole name, or as one of the same owner, or of any one owner."""
-    if name in docs:
-        return name
-    sibling = f"{caller.split('::')[0]}::{name}"
-    if sibling in docs:
-        return sibling
+    for it in (name, f"{caller.split('::')[0]}::{name}"):
+        if it in docs:
+            return it
     ends = [call for call in docs if call.endswith(f"::{name}")]
     if len(ends) != 1:
         sys.exit(f"{caller}: its doc names `{name}`, which is one of {ends}")
     return ends[0]
 
 
-def answers(call: str, docs: dict[str, str], known: set[str], seen: frozenset[str] = frozenset()) -> set[str]:
-    """The errors that a call answers by its doc, and by the docs of those whose refusals it hands on."""
-    doc = docs[call]
-    found = known & set(NAME.findall(doc))
-    for name in HANDED_ON.findall(doc):
-        other = meant(name, call, docs)
-        if other not in seen:
-            found |= answers(other, docs, known, seen | {call})
-    return found
+def returned(call: str, docs: dict[str, str], seen: frozenset[str] = frozenset()) -> set[str]:
+    """What the doc of a call names, and those of the calls whose errors it passes on."""
+    others = {meant(name, call, docs) for name in HANDED_ON.findall(docs[call])} - seen
+    return set(NAME.findall(docs[call])).union(*(returned(it, docs, seen | {call}) for it in others))
 
 
 def calls_by_error() -> dict[str, list[str]]:
-    """The calls that answer each error, in the order of the enum and of the sources."""
-    docs = {}
+    """The calls that return each error, in the order of the enum and of the sources."""
+    docs: dict[str, str] = {}
     for source in read().values():
         if source.crate in CRATES and source.module.split("::")[0] != "tests":
             for call, doc in calls_in(source).items():
                 docs[call] = docs.get(call) or doc
-    names = texts()
-    said = {name: [] for name in names}
-    for call in docs:
-        for name in answers(call, docs, set(names)):
-            said[name].append(call)
-    return said
+    named = {call: returned(call, docs) for call in docs}
+    return {name: [call for call in docs if name in named[call]] for name in texts()}
 
 
 def main() -> int:
     said = calls_by_error()
     failed = [name for name, calls in said.items() if bool(calls) == (name in UNUSED)]
     for name in failed:
-        print(f"{name}: {'answered by ' + ', '.join(said[name]) if said[name] else 'no call answers it'}")
+        print(f"{name}: {'returned by ' + ', '.join(said[name]) if said[name] else 'no call returns it'}")
     print(f"{len(said)} errors, {len(failed)} of which the docs of the calls don't say what they should")
     return 1 if failed else 0
 

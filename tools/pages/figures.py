@@ -17,39 +17,37 @@ import subprocess
 import sys
 
 sys.path.insert(0, str(pathlib.Path(__file__).resolve().parents[1]))
-from pages.sources import ROOT
+from pages.sources import ROOT, below, crates
 
 PAGES = ("README.md", "CONTRIBUTING.md", "CALLING.md", "docs", "bindings", "bench")
 
-LIBRARIES = ("crates/elf_base/src", "crates/elf_records/src", "crates/xmas_elf/src")
-LINKING = (*LIBRARIES, "crates/elf_linking/src")
-PROVED = ("crates/elf_base", "crates/elf_records", "crates/xmas_elf")
+# The crate of the program that a comparison runs, by the name of its script.
+PROGRAMS = {"readelf": "elfinfo", "notes": "elfsections", "symbols": "elfsections", "recipes": "elfrecipes", "elfsym": "elfsym", "bindings": "elfbind",
+    "rust": "elfanswers", "fuzz": "elfanswers", "versions": "elf_c", "dlsym": "elf_c", "fuzz_bindings": "elfbind"}
 
-# What each command measures.
+
+def of(crate: str, *others: str) -> tuple:
+    """The sources of a crate and of those below it, and other files."""
+    return (*(f"crates/{it}/src" for it in [*below(crates(), crate), crate]), f"crates/{crate}/data", *others)
+
+
+# What each command measures, besides a script itself.
 PATHS = {
-    "bench/run.sh": (*LINKING, "crates/elf_c/src", "bench", "bindings/c/speed.c"),
-    "bench/growth.sh": (*LINKING, "bench/here", "bench/growth.sh", "bench/files.sh", "bench/hostile.py"),
-    "elfinfo": (*LIBRARIES, "crates/elfinfo/src", "crates/program_ends/src", "bench/hostile.py"),
-    r"\time": PROVED,
-    "rt": PROVED,
-    "tools/compare/rust.py": (*LIBRARIES, "crates/elfanswers/src", "oracle", "tools/compare/rust.py"),
-    "tools/compare/fuzz.py": (*LIBRARIES, "crates/elfanswers/src", "crates/elfinfo/src", "tools/compare/fuzz.py", "tools/compare/damage.py"),
-    "tools/compare/fuzz_bindings.py": (*LINKING, "crates/elfbind/src", "crates/elfsym/src", "crates/elfbind/data", "crates/elfsym/data", "tools/compare/fuzz_bindings.py"),
-    "tools/compare/readelf.py": (*LIBRARIES, "crates/elfinfo/src", "tools/compare/readelf.py"),
-    "tools/compare/notes.py": (*LINKING, "crates/elfsections/src", "tools/compare/notes.py"),
-    "tools/compare/symbols.py": (*LINKING, "crates/elfsections/src", "tools/compare/symbols.py"),
-    "tools/compare/recipes.py": (*LIBRARIES, "crates/elf_callers/src", "crates/elfrecipes/src", "tools/compare/recipes.py"),
-    "tools/compare/versions.py": (*LINKING, "crates/elf_c/src", "bindings/rust/src", "bindings/rust/examples/versions.rs", "tools/compare/versions.py"),
-    "tools/compare/dlsym.py": (*LINKING, "crates/elf_c/src", "tools/compare/dlsym.py"),
-    "tools/compare/elfsym.py": (*LINKING, "crates/elfsym/src", "tools/compare/elfsym.py"),
-    "tools/compare/bindings.py": (*LINKING, "crates/elfbind/src", "tools/compare/bindings.py"),
-    "tools/exports/bindings.sh": (*LINKING, "crates/elf_c/src", "bindings/rust/src", "bindings/compare/src"),
-    "tools/exports/python.sh": (*LINKING, "crates/elf_c/src", "bindings/python/xmas_elf", "bindings/python/speed.py"),
-    "tools/web/page.py": (*LINKING, "crates/elf_c/src", "bindings/web", "tools/web/page.py"),
-    "tools/web/web.sh": (*LINKING, "crates/elf_c/src", "bindings/web/*.js", "tools/web"),
-    "tools/gate/wrong_bodies.py": ("crates", "tools/gate/wrong_bodies.py", "tools/gate/edit*.py"),
+    "bench/run.sh": of("elf_c", "bench", "bindings/c/speed.c"),
+    "bench/growth.sh": of("elf_linking", "bench/here", "bench/files.sh", "bench/hostile.py"),
+    "elfinfo": of("elfinfo", "bench/hostile.py"),
+    **dict.fromkeys((r"\time", "rt"), ("crates/elf_base", "crates/elf_records", "crates/xmas_elf")),
+    **{f"tools/compare/{name}.py": of(crate) for name, crate in PROGRAMS.items()},
+    "tools/compare/rust.py": of("elfanswers", "oracle"),
+    "tools/compare/fuzz.py": of("elfanswers", "crates/elfinfo/src", "tools/compare/damage.py"),
+    "tools/compare/fuzz_bindings.py": of("elfbind", "crates/elfsym/src"),
+    "tools/exports/bindings.sh": of("elf_c", "bindings/rust/src", "bindings/compare/src"),
+    "tools/exports/python.sh": of("elf_c", "bindings/python/xmas_elf", "bindings/python/speed.py"),
+    "tools/web/page.py": of("elf_c", "bindings/web"),
+    "tools/web/web.sh": of("elf_c", "bindings/web/*.js", "tools/web"),
+    "tools/gate/wrong_bodies.py": ("crates", "tools/gate/edit*.py"),
     "tools/gate/quick.sh": ("crates", "tools"),
-    ".ci/run": ("crates", "tools", ".ci"),
+    ".ci/run": ("crates", "tools"),
 }
 
 FIGURE = re.compile(r"Measured at ([0-9a-f]{7,40}) by `([^`]+)` on (.+?)(?=[.:;](?:\s|$)| \(|$)")
@@ -66,20 +64,18 @@ def lines_of_pages():
                     yield f"{page.relative_to(ROOT)}:{number}", line
 
 
-def git(*arguments: str):
-    """What git prints; None where it fails."""
-    done = subprocess.run(["git", *arguments], cwd=ROOT, capture_output=True, text=True)
-    return done.stdout.strip() if done.returncode == 0 else None
+def git(*arguments: str) -> subprocess.CompletedProcess:
+    return subprocess.run(["git", *arguments], cwd=ROOT, capture_output=True, text=True, check=False)
 
 
 def age(commit: str, command: str) -> str:
     """What has changed since a figure was measured, as a warning; nothing where nothing has."""
-    paths = PATHS.get(command.split()[0])
-    if paths is None:
+    script = command.split()[0]
+    if script not in PATHS:
         return f"tools/pages/figures.py doesn't know what `{command}` measures"
-    if git("merge-base", "--is-ancestor", commit, "HEAD") is None:
+    if git("merge-base", "--is-ancestor", commit, "HEAD").returncode:
         return f"{commit} is not in this history"
-    count = int(git("rev-list", "--count", f"{commit}..HEAD", "--", *paths))
+    count = int(git("rev-list", "--count", f"{commit}..HEAD", "--", script, *PATHS[script]).stdout)
     return f"{count} commit{'' if count == 1 else 's'} since touched what it measures" if count else ""
 
 

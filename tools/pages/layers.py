@@ -13,63 +13,47 @@ import pathlib
 import re
 import sys
 
-ROOT = pathlib.Path(__file__).resolve().parents[2]
-PAGE = ROOT / "CONTRIBUTING.md"
-CRATES = ROOT / "crates.txt"
-FIRST, LAST = "<!-- layers -->", "<!-- /layers -->"
+sys.path.insert(0, str(pathlib.Path(__file__).resolve().parents[1]))
+from pages.writing import ROOT, differing, parser_of
 
+PAGE = ROOT / "CONTRIBUTING.md"
+PLACE = re.compile(r"(?<=<!-- layers -->\n).*(?=\n<!-- /layers -->)", re.S)
 # A crate's line: its name, `staticlib` for an archive, and what it uses.
 CRATE = re.compile(r"(\w+)( staticlib)?:(.*)")
-
-# The folders of bindings/ that call the archive, by what their users write. Those in the order of the picture.
+# The folders of bindings/ that call the archive, by what their users write.
 LANGUAGES = {"c": "C", "cpp": "C++", "rust": "Rust", "python": "Python", "web": "a page in the browser"}
-
 LEFT_OUT = "Tests"
-
 # What is said above the picture.
 SAID = """An arrow leads from a crate to each that it uses. The kit's crates and those of tests are left out. `tools/pages/layers.py` draws this from `crates.txt`."""
 
 
-def crates() -> tuple:
-    """The groups of crates.txt, each with its crates, what each crate uses of the repository, and the archives."""
+def picture() -> str:
     groups, uses, archives, group = {}, {}, [], "Crates"
-    for line in CRATES.read_text(encoding="utf-8").splitlines():
-        match = CRATE.match(line)
+    for line in (ROOT / "crates.txt").read_text(encoding="utf-8").splitlines():
         if line.startswith("#"):
             group = re.split(r"[,.:]", line.lstrip("# "))[0]
-        elif match and group != LEFT_OUT:
-            name, is_archive, used = match.groups()
-            groups.setdefault(group, []).append(name)
-            uses[name] = used.split()
-            archives += [name] if is_archive else []
-    return groups, {name: [it for it in used if it in uses] for name, used in uses.items()}, archives
-
-
-def picture() -> str:
-    groups, uses, archives = crates()
+        elif (match := CRATE.match(line)) and group != LEFT_OUT:
+            groups.setdefault(group, []).append(match[1])
+            uses[match[1]] = match[3].split()
+            archives += [match[1]] if match[2] else []
     lines = ["```mermaid", "flowchart TB"]
     for group, names in groups.items():
         if len(names) > 1:
             lines += [f"  subgraph {group}", f"    {' & '.join(names)}", "  end"]
     languages = ", ".join(said for folder, said in LANGUAGES.items() if (ROOT / "bindings" / folder).is_dir())
     lines += [f'  languages(["{languages}"]) -.-> {" & ".join(archives)}']
-    lines += [f"  {name} --> {' & '.join(used)}" for name, used in uses.items() if used]
+    used = {name: [it for it in all_used if it in uses] for name, all_used in uses.items()}
+    lines += [f"  {name} --> {' & '.join(own)}" for name, own in used.items() if own]
     return "\n".join([SAID, "", *lines, "```"])
 
 
 def main() -> int:
     text = PAGE.read_text(encoding="utf-8")
-    if text.count(FIRST) != 1 or text.count(LAST) != 1:
-        print(f"CONTRIBUTING.md: no room between {FIRST} and {LAST}")
-        return 1
-    before, rest = text.split(FIRST)
-    wanted = f"{before}{FIRST}\n{picture()}\n{LAST}{rest.split(LAST)[1]}"
-    is_same = wanted == text
-    if sys.argv[1:] != ["--check"]:
-        PAGE.write_text(wanted, encoding="utf-8")
-        is_same = True
-    print(f"CONTRIBUTING.md: the picture of the layers {'is' if is_same else 'IS NOT'} what crates.txt gives")
-    return 0 if is_same else 1
+    if len(PLACE.findall(text)) != 1:
+        sys.exit("CONTRIBUTING.md: no room between <!-- layers --> and <!-- /layers -->")
+    faults = differing({PAGE: PLACE.sub(lambda _: picture(), text)}, parser_of(__doc__).parse_args().check)
+    print("\n".join(faults or ["CONTRIBUTING.md: the picture of the layers is what crates.txt gives"]))
+    return 1 if faults else 0
 
 
 if __name__ == "__main__":

@@ -47,68 +47,45 @@ def stands_in(part: str, text: str) -> bool:
     return part in text or not IMPORT.sub("", part).strip() and imports(part) <= imports(text)
 
 
-def anchors(text: str) -> set:
-    """What a link within a page can name: its headings, in small letters, with dashes for blanks."""
-    return {re.sub(r"[^\w\- ]", "", it.lower()).replace(" ", "-") for it in HEADING.findall(text)}
-
-
-def leads(page: pathlib.Path, link: str, headings: dict) -> bool:
-    """Whether a link of a page leads to a file, and there to a heading or a line."""
+def leads(page: pathlib.Path, link: str) -> bool:
+    """Whether a link of a page leads to a file, and there to a heading, in small letters with dashes for blanks, or a line."""
     path, _, inside = link.partition("#")
     target = (page.parent / path).resolve() if path else page
     if not target.exists() or not inside:
         return target.exists()
+    text = target.read_text(encoding="utf-8")
     if line := re.fullmatch(r"L(\d+)", inside):
-        return int(line[1]) <= target.read_text(encoding="utf-8").count("\n")
-    if target not in headings:
-        headings[target] = anchors(target.read_text(encoding="utf-8"))
-    return inside in headings[target]
-
-
-def broken_links(page: pathlib.Path, text: str, headings: dict) -> list:
-    """The links of a page to files, headings and lines that aren't there."""
-    return [it for it in LINK.findall(text) if "://" not in it and not leads(page, it, headings)]
+        return int(line[1]) <= text.count("\n")
+    return inside in {re.sub(r"[^\w\- ]", "", it.lower()).replace(" ", "-") for it in HEADING.findall(text)}
 
 
 def callers() -> tuple:
     """The paths of the modules and items of the crates of callers, and the items without a doc of their own."""
-    found = [it for it in read().values() if it.crate in CALLERS]
-    known = {it.path_of for it in found} | {f"{it.path_of}::{name}" for it in found for name in it.items}
-    faults = []
-    for source in found:
+    known, faults = set(), []
+    for source in (it for it in read().values() if it.crate in CALLERS):
+        known |= {source.path_of, *(f"{source.path_of}::{name}" for name in source.items)}
         docs = [it.doc for it in source.items.values()]
         faults += [f"{source.path_of}: {it.name} has no doc of its own" for it in source.items.values() if not it.doc or docs.count(it.doc) > 1]
     return known, faults
-
-
-def lost(said: str, known: set) -> list:
-    """The paths to callers that a page names, and that lead to none."""
-    return [it for it in sorted(set(CALLER.findall(said))) if not {it, f"elf_callers::{it}"} & known]
 
 
 def main() -> int:
     files = [it for it in ROOT.glob("crates/*/*/**/*") if it.suffix in ENDS.values() and "out" not in it.parts]
     texts = {it: one_line(it.read_text(encoding="utf-8")) for it in files}
     pages = [ROOT / "README.md", ROOT / "CONTRIBUTING.md", ROOT / "CALLING.md", *sorted((ROOT / "docs").rglob("*.md"))]
-    known, faults = callers()
-    print("\n".join(faults), end="\n" if faults else "")
-    failed, count, headings = len(faults), 0, {}
+    (known, faults), count = callers(), 0
     for page in pages:
-        said = page.read_text(encoding="utf-8")
-        for link in broken_links(page, said, headings):
-            failed += 1
-            print(f"{page.relative_to(ROOT)}: the link {link} leads nowhere")
-        for path in lost(said, known):
-            failed += 1
-            print(f"{page.relative_to(ROOT)}: {path} is nowhere")
+        said, name = page.read_text(encoding="utf-8"), page.relative_to(ROOT)
+        links = (it for it in LINK.findall(said) if "://" not in it)
+        faults += [f"{name}: the link {it} leads nowhere" for it in links if not leads(page, it)]
+        faults += [f"{name}: {it} is nowhere" for it in sorted(set(CALLER.findall(said))) if not {it, f"elf_callers::{it}"} & known]
         for language, block in BLOCK.findall(said if page.parent.name != "api" else ""):
             count += 1
             parts = paragraphs(block)
             if not any(it.suffix == ENDS[language] and all(stands_in(part, text) for part in parts) for it, text in texts.items()):
-                failed += 1
-                print(f"{page.relative_to(ROOT)}: NOT QUOTED from one file: {parts[0][:90]}")
-    print(f"{count} code blocks, {failed} faults")
-    return 1 if failed else 0
+                faults.append(f"{name}: NOT QUOTED from one file: {parts[0][:90]}")
+    print("\n".join([*faults, f"{count} code blocks, {len(faults)} faults"]))
+    return 1 if faults else 0
 
 
 if __name__ == "__main__":

@@ -17,7 +17,7 @@ import sys
 
 sys.path.insert(0, str(pathlib.Path(__file__).resolve().parents[1]))
 from pages.definitions import Reader
-from pages.sources import ROOT
+from pages.writing import ROOT, differing, parser_of
 
 PAGE = ROOT / "docs" / "READING.md"
 
@@ -99,16 +99,16 @@ def closures() -> int:
 
 
 def main() -> int:
-    if sys.argv[1:] == ["--closures"]:
+    parser = parser_of(__doc__)
+    parser.add_argument("--closures", action="store_true", help="print the numbers of definitions, and write nothing")
+    given = parser.parse_args()
+    if given.closures:
         return min(closures(), 1)
     lists, text = Lists(), PAGE.read_text(encoding="utf-8")
     wanted = ROOM.sub(lambda room: room[1] + (lists.read(room[3]) if room[2] == "read" else bytes_of(room[3])) + room[4], text)
-    is_same = wanted == text
-    if sys.argv[1:] != ["--check"]:
-        PAGE.write_text(wanted, encoding="utf-8")
-        is_same = True
-    print(f"docs/READING.md {'is' if is_same else 'IS NOT'} what the sources give: {len(ROOM.findall(text))} rooms, {len(lists.above)} definitions")
-    return 1 if closures() or not is_same else 0
+    faults = differing({PAGE: wanted}, given.check)
+    print("\n".join([*faults, f"docs/READING.md: {len(ROOM.findall(text))} rooms, {len(lists.above)} definitions, {len(faults)} faults"]))
+    return 1 if closures() or faults else 0
 
 
 if __name__ == "__main__":

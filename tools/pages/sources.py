@@ -77,23 +77,18 @@ class Function:
         """The function so many lines further down."""
         return dataclasses.replace(self, first=self.first + lines, last=self.last + lines, body=self.body + lines)
 
-    def renamed(self, name: str) -> str:
-        """Its path under another name."""
-        return self.path.rpartition("::")[0] + "::" + name
-
 
 def label_of(found: re.Match) -> tuple:
     """The name of a block in the path of a function, and the type of an impl of no trait."""
     # The arguments of a type stand in its name where they are types, and not parameters of the impl.
-    own = re.findall(r"\w+", re.sub(r":[^,]*", "", found[2] or ""))
-    arguments, given = ([it.strip() for it in (found[at] or "").split(",")] for at in (6, 4))
-    arguments, given = ([it for it in some if re.fullmatch(r"\w+", it) and it not in own and it != "_"] for some in (arguments, given))
-    trait = (found[3] or "").split("::")[-1]
-    if not trait:
+    own = {*re.findall(r"\w+", re.sub(r":[^,]*", "", found[2] or "")), "_"}
+    words = ([it.strip() for it in (found[at] or "").split(",")] for at in (6, 4))
+    arguments, given = ([it for it in some if re.fullmatch(r"\w+", it) and it not in own] for some in words)
+    if not found[3]:
         # With arguments it is told by the module of the impl, as an impl of a trait is.
         return found[5] + "".join("+" + it for it in arguments), found[5] if found[1] == "impl" and not arguments else ""
     of = "Any" if found[5] in own else found[5]
-    return "".join(it[0].upper() + it[1:] for it in [of, *arguments, trait, *given]), ""
+    return "".join(it[0].upper() + it[1:] for it in [of, *arguments, found[3].split("::")[-1], *given]), ""
 
 
 class Source:
@@ -167,8 +162,7 @@ class Source:
     def body_of(self, first: int, last: int, indent: str) -> tuple:
         """The line that opens the body of a function, which is the end of its head, or stands behind a contract; and
         the last line, which is the same of a function that is only declared."""
-        for at in range(first, last + 1):
-            line = self.lines[at - 1]
+        for at, line in enumerate(self.lines[first - 1 : last], first):
             if line.endswith(";"):
                 return at, at
             if line == indent + "{" or line.endswith(" {") and (at == first or line.startswith(indent + ")")):
@@ -179,11 +173,10 @@ class Source:
         """The functions, as the layout shows where each begins and ends."""
         first = None
         for at, line in enumerate(self.lines, 1):
-            begins = FUNCTION.match(line)
             if re.match(r" {0,4}(#\[|///? )", line):
                 first = first or at
                 continue
-            if begins:
+            if begins := FUNCTION.match(line):
                 block = self.block_at(at - 1) if begins[1] else None
                 path = "::".join(it for it in (self.path_of, block and block.label, begins[2]) if it)
                 end = next((k for k in range(at, len(self.lines) + 1) if self.lines[k - 1] == begins[1] + "}"), at)
@@ -210,11 +203,13 @@ def spread(path: str) -> list:
     return [start + one for part in parts if part for one in spread(part)]
 
 
+def read_folder(folder: pathlib.Path) -> list:
+    return [Source(folder, it) for it in sorted((folder / "src").rglob("*.rt"))]
+
+
 def read() -> dict:
     """The sources, by crate and module."""
-    folders = sorted(it for it in (ROOT / "crates").iterdir() if (it / "src").is_dir())
-    found = [Source(folder, path) for folder in folders for path in sorted((folder / "src").rglob("*.rt"))]
-    return {(it.crate, it.module): it for it in found}
+    return {(it.crate, it.module): it for folder in sorted((ROOT / "crates").iterdir()) for it in read_folder(folder)}
 
 
 def meant(sources: dict, source: Source, name: str):
@@ -239,16 +234,12 @@ def modules(sources: dict, crate: str, module: str = ""):
             yield from modules(sources, crate, "::".join(it for it in (module, found[1]) if it))
 
 
-def public_names(source: Source) -> list:
-    """The names that a module makes public: of its own items, and by `pub use`."""
-    return list(dict.fromkeys([*source.items, *(here for public, _, _, here in source.uses if public)]))
-
-
 def public_items(sources: dict, crate: str):
     """Each public item of a crate that this repository declares, with its path."""
     for module in modules(sources, crate):
-        for name in public_names(sources[crate, module]):
-            if item := meant(sources, sources[crate, module], name):
+        source = sources[crate, module]
+        for name in dict.fromkeys([*source.items, *(here for public, _, _, here in source.uses if public)]):
+            if item := meant(sources, source, name):
                 yield "::".join(it for it in (crate, module, name) if it), item
 
 
@@ -280,13 +271,12 @@ class Crate:
 
     def __init__(self, folder: pathlib.Path):
         self.folder, self.name = folder, folder.name
-        found = [Source(folder, it) for it in sorted((folder / "src").rglob("*.rt"))]
-        self.sources = {it.file: it for it in found}
-        self.texts = {it.file: it.text for it in found}
-        self.functions = [one for it in found for one in it.functions]
+        self.sources = {it.file: it for it in read_folder(folder)}
+        self.texts = {it.file: it.text for it in self.sources.values()}
+        self.functions = [one for it in self.sources.values() for one in it.functions]
         # the modules that declare a type of a name
         self.modules = collections.defaultdict(list)
-        for source in found:
+        for source in self.sources.values():
             for it in re.findall(r"^(?:pub(?:\(\w+\))? )?(?:struct|enum) (\w+)", source.text, re.M):
                 self.modules[it].append(source.path_of)
 

@@ -8,16 +8,15 @@ The words are those of WORDS. A page says instead that a call returns a value or
 body, or that code follows a chain. Code blocks, text in backquotes, link targets, comments and the generated parts of
 pages are not counted, since a word may be a name there.
 
-The comments that pages and headers print count too, together as SAID: those above the definitions and the public items
-of the libraries, which are the crates of docs/api, and those of the exports.
+The comments of each crate count too, those above definitions and items, and those of the exports, which the header has.
 """
+import argparse
 import pathlib
 import re
 import sys
 
 ROOT = pathlib.Path(__file__).resolve().parents[2]
 PAGES = ("*.md", "docs/*.md", "bindings/**/*.md", "bench/*.md", "oracle/*.md", "tools/*.md")
-SAID = "comments"
 
 # Folders that package managers and compilers fill.
 OTHERS = {"node_modules", "target", "out"}
@@ -26,7 +25,7 @@ WORDS = re.compile(
     r"\b(answer(s|ed)?|refus(e|es|ed|als?)|lend(s|ing)?|lent|bears?|stands?|judge|headlines?|walk(s|ed|ing)?|behind|roads?|houses?)\b",
     re.IGNORECASE)
 
-# A line of a comment that is printed on a page or in a header.
+# A line of a comment that pages or headers may print.
 COMMENT = re.compile(r'^ *(?:--|///|//!)(.*)$|.*\bcomment = "(.*)"')
 
 # What isn't prose. A table or a list inside a list may be indented as far as a code block.
@@ -39,34 +38,29 @@ PARTS = (
     re.compile(r"\]\([^)\s]+\)"),
 )
 
-# The greatest count of each page; a page that isn't here may have none.
+# The greatest count of each page, and of the comments of each crate; what isn't here may have none.
 MOST = {
 }
 
 
-def words_of(page: pathlib.Path) -> list:
-    """The words in the prose of a page, each with its place."""
+def prose_of(page: pathlib.Path) -> str:
+    """A page with blanks in the place of all that isn't prose."""
     text = page.read_text(encoding="utf-8")
     for part in PARTS:
         text = part.sub(lambda found: re.sub(r"[^\n]", " ", found[0]), text)
-    return words_in(page.relative_to(ROOT), text)
+    return text
 
 
-def words_in(name, text: str) -> list:
+def comments_of(path: pathlib.Path) -> str:
+    """The comments of a file on their lines, but for names in backquotes."""
+    lines = [COMMENT.match(line) for line in path.read_text(encoding="utf-8").splitlines()]
+    return "\n".join(re.sub(r"`[^`]*`", "", line[1] or line[2] or "") if line else "" for line in lines)
+
+
+def words_in(path: pathlib.Path, text: str) -> list:
     """The words in a text, each with its file and line."""
+    name = path.relative_to(ROOT)
     return [(f"{name}:{number}", word[0]) for number, line in enumerate(text.splitlines(), 1) for word in WORDS.finditer(line)]
-
-
-def words_of_comments() -> list:
-    """The words in comments, but for names in backquotes."""
-    libraries = [ROOT / "crates" / it.stem for it in sorted((ROOT / "docs" / "api").glob("*.md"))]
-    sources = [it for one in libraries for it in sorted([*one.glob("specs/**/*.antt"), *one.glob("src/**/*.rt")])]
-    found = []
-    for path in [*sources, ROOT / "bindings" / "exports.toml"]:
-        lines = [COMMENT.match(line) for line in path.read_text(encoding="utf-8").splitlines()]
-        said = [re.sub(r"`[^`]*`", "", line[1] or line[2] or "") if line else "" for line in lines]
-        found += words_in(path.relative_to(ROOT), "\n".join(said))
-    return found
 
 
 def write(found: dict):
@@ -77,20 +71,25 @@ def write(found: dict):
     script.write_text(text, encoding="utf-8")
 
 
-def main(arguments: list) -> int:
+def main() -> int:
+    parser = argparse.ArgumentParser(description=__doc__, formatter_class=argparse.RawDescriptionHelpFormatter)
+    parser.add_argument("--write", action="store_true")
+    is_write = parser.parse_args().write
     pages = [it for names in PAGES for it in sorted(ROOT.glob(names)) if not OTHERS & set(it.relative_to(ROOT).parts)]
-    found = {it.relative_to(ROOT).as_posix(): words_of(it) for it in pages}
-    found[SAID] = words_of_comments()
-    if arguments == ["--write"]:
+    found = {it.relative_to(ROOT).as_posix(): words_in(it, prose_of(it)) for it in pages}
+    for path in sorted([*ROOT.glob("crates/*/specs/**/*.antt"), *ROOT.glob("crates/*/src/**/*.rt"), ROOT / "bindings/exports.toml"]):
+        name = "/".join(path.relative_to(ROOT).parts[:2])
+        found[name] = found.get(name, []) + words_in(path, comments_of(path))
+    if is_write:
         write(found)
         MOST.update({name: len(words) for name, words in found.items()})
     failed = [name for name, words in found.items() if len(words) > MOST.get(name, 0)]
     for name in failed:
         print(f"{name}: {len(found[name])} words, and at most {MOST.get(name, 0)} are allowed")
         print("\n".join(f"{place}: {word}" for place, word in found[name]))
-    print(f"{sum(map(len, found.values()))} of the words on {len(found) - 1} pages and in comments, {len(failed)} with too many")
+    print(f"{sum(map(len, found.values()))} of the words on {len(pages)} pages and in comments, {len(failed)} with too many")
     return 1 if failed else 0
 
 
 if __name__ == "__main__":
-    sys.exit(main(sys.argv[1:]))
+    sys.exit(main())

@@ -3,17 +3,17 @@
     with Chromium("http://127.0.0.1:8042/", 1440, 900) as page:
         page.run("document.title")
 """
+import contextlib
+import re
 import time
 
 from selenium import webdriver
 from selenium.common.exceptions import WebDriverException
 from selenium.webdriver.chrome.service import Service
 from selenium.webdriver.common.action_chains import ActionChains
+from selenium.webdriver.common.by import By
 from selenium.webdriver.common.keys import Keys
 
-KEYS = {
-    "Tab": Keys.TAB, "Enter": Keys.ENTER, "Home": Keys.HOME, "End": Keys.END, "PageDown": Keys.PAGE_DOWN, "ArrowUp": Keys.ARROW_UP,
-    "ArrowDown": Keys.ARROW_DOWN, "ArrowRight": Keys.ARROW_RIGHT}
 OPTIONS = ("--headless=new", "--no-sandbox", "--disable-gpu", "--no-first-run", "--disable-extensions", "--disable-background-networking")
 
 
@@ -21,7 +21,11 @@ class Failed(Exception):
     """A command failed, a script threw, or a condition never came true."""
 
 
-class Chromium:
+class Left(Failed):
+    """Another page is being opened."""
+
+
+class Chromium(webdriver.Chrome):
     """One page of a browser with a profile of its own."""
 
     def __init__(self, address, width, height):
@@ -29,22 +33,17 @@ class Chromium:
         for it in OPTIONS:
             options.add_argument(it)
         options.set_capability("goog:loggingPrefs", {"browser": "ALL"})
-        self.driver = webdriver.Chrome(service=Service("/usr/bin/chromedriver"), options=options)
+        super().__init__(service=Service("/usr/bin/chromedriver"), options=options)
         self.resize(width, height)
-        self.driver.get(address)
-
-    def __enter__(self):
-        return self
-
-    def __exit__(self, *_):
-        self.driver.quit()
+        self.get(address)
 
     def send(self, method, **params):
         """The answer to a command of the DevTools protocol."""
         try:
-            return self.driver.execute_cdp_cmd(method, params)
+            return self.execute_cdp_cmd(method, params)
         except WebDriverException as failure:
-            raise Failed(f"{method}: {failure.msg}") from failure
+            kind = Left if "navigated" in failure.msg or "context" in failure.msg else Failed
+            raise kind(f"{method}: {failure.msg}") from failure
 
     def resize(self, width, height):
         self.send("Emulation.setDeviceMetricsOverride", width=width, height=height, deviceScaleFactor=1, mobile=False)
@@ -57,27 +56,18 @@ class Chromium:
             raise Failed(detail.get("exception", {}).get("description", detail["text"]))
         return said["result"].get("value")
 
-    def holds(self, condition):
-        """Whether an expression is true. While another page is being opened, none is."""
-        try:
-            return self.run(condition)
-        except Failed as failure:
-            if "navigated" in str(failure) or "context" in str(failure):
-                return False
-            raise
-
     def wait(self, condition, seconds=30):
-        """Waits until an expression is true."""
+        """Waits until an expression is true. While another page is being opened, none is."""
         until = time.monotonic() + seconds
-        while not self.holds(condition):
-            if time.monotonic() > until:
-                raise Failed(f"never true: {condition}")
+        while time.monotonic() < until:
+            with contextlib.suppress(Left):
+                if self.run(condition):
+                    return
             time.sleep(0.02)
+        raise Failed(f"never true: {condition}")
 
     def choose_files(self, selector, paths):
-        root = self.send("DOM.getDocument")["root"]["nodeId"]
-        node = self.send("DOM.querySelector", nodeId=root, selector=selector)["nodeId"]
-        self.send("DOM.setFileInputFiles", nodeId=node, files=[str(it) for it in paths])
+        self.find_element(By.CSS_SELECTOR, selector).send_keys("\n".join(map(str, paths)))
 
     def drop(self, paths, x=600, y=400):
         """Drops files on the page, as the mouse does."""
@@ -87,7 +77,7 @@ class Chromium:
 
     def key(self, name):
         """Presses a key, as `Enter` or `PageDown`."""
-        ActionChains(self.driver).send_keys(KEYS[name]).perform()
+        ActionChains(self).send_keys(getattr(Keys, re.sub("(?<=[a-z])(?=[A-Z])", "_", name).upper())).perform()
 
     def look(self, scheme):
         """Light or dark, with no transition between them."""
@@ -96,4 +86,4 @@ class Chromium:
 
     def faults(self):
         """What the page's console says of errors and refused policies."""
-        return [it["message"] for it in self.driver.get_log("browser") if it["level"] == "SEVERE"]
+        return [it["message"] for it in self.get_log("browser") if it["level"] == "SEVERE"]

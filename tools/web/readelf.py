@@ -2,38 +2,37 @@
 import re
 import subprocess
 
-SECTION = re.compile(r"\s*\[ *(\d+)\] (.*?) *(\S+) +([0-9a-f]{8,16}) ([0-9a-f]{6,}) ([0-9a-f]{6,}) ([0-9a-f]{2,}) +([A-Za-z]*) +(\d+) +(\d+) +(\d+)$")
-SEGMENT = re.compile(r"  (\S+) +(0x[0-9a-f]+) (0x[0-9a-f]+) (0x[0-9a-f]+) (0x[0-9a-f]+) (0x[0-9a-f]+) ([RWE ]{3}) (\S+)$")
-HELD = re.compile(r"   (\d\d+) +(.*)$")
+SECTION = re.compile(
+    r"^ *\[ *(\d+)\] (.*?) *(\S+) +([0-9a-f]{8,16}) ([0-9a-f]{6,}) ([0-9a-f]{6,}) ([0-9a-f]{2,}) +([A-Za-z]*) +(\d+) +(\d+) +(\d+)$", re.M)
+SEGMENT = re.compile(r"^  (\S+) +(0x[0-9a-f]+) (0x[0-9a-f]+) (0x[0-9a-f]+) (0x[0-9a-f]+) (0x[0-9a-f]+) ([RWE ]{3}) (\S+)$", re.M)
+HELD = re.compile(r"^   (\d\d+) +(.*)$", re.M)
 SYMBOL = re.compile(r" *(\d+): ([0-9a-f]+) +(0x[0-9a-f]+|\d+) (\S+) +(\S+) +(\S+)(?: +\[.*?\])? +(\S+) ?(.*)$")
 RELOCATION = re.compile(r"([0-9a-f]{8,16}) +([0-9a-f]{8,16}) (\S+) *(.*)$")
 PACKED = re.compile(r"([0-9a-f]{8,16})$")
-DYNAMIC = re.compile(r" (0x[0-9a-f]+) \((\w+)\) +(.*)$")
-NOTE = re.compile(r"  (\S.*?) +(0x[0-9a-f]{8})\t(.*)$")
+DYNAMIC = re.compile(r"^ (0x[0-9a-f]+) \((\w+)\) +(.*)$", re.M)
+NOTE = re.compile(r"^  (\S.*?) +(0x[0-9a-f]{8})\t.*$", re.M)
 
 
-def lines(path, *options):
-    said = subprocess.run(["readelf", "--wide", *options, str(path)], capture_output=True, env={"LC_ALL": "C.UTF-8"})
-    return said.stdout.decode("utf-8", "surrogateescape").splitlines()
+def said(path, *options):
+    done = subprocess.run(["readelf", "--wide", *options, str(path)], capture_output=True, env={"LC_ALL": "C.UTF-8"})
+    return done.stdout.decode("utf-8", "surrogateescape")
 
 
 def header(path):
     """The numbers of the header, by the names that readelf has for them."""
-    found = dict(re.findall(r"^  ([\w' /]+?): +(.*)$", "\n".join(lines(path, "--file-header")), re.M))
-    return {name: re.sub(r" \(.*", "", text) for name, text in found.items()}
+    found = re.findall(r"^  ([\w' /]+?): +(.*)$", said(path, "--file-header"), re.M)
+    return {name: re.sub(r" \(.*", "", text) for name, text in found}
 
 
 def sections(path):
-    found = filter(None, (SECTION.match(it) for it in lines(path, "--section-headers")))
-    return [list(it.groups()) for it in found]
+    return [list(it) for it in SECTION.findall(said(path, "--section-headers"))]
 
 
 def segments(path):
     """Each segment, and the names of the sections in it."""
-    said = lines(path, "--program-headers")
-    rows = [[it.strip() for it in found.groups()] for found in map(SEGMENT.match, said) if found]
-    held = {int(found[1]): found[2].strip() for found in map(HELD.match, said) if found}
-    return [[*row, held.get(index, "")] for index, row in enumerate(rows)]
+    printed = said(path, "--program-headers")
+    held = {int(index): names.strip() for index, names in HELD.findall(printed)}
+    return [[*(it.strip() for it in row), held.get(index, "")] for index, row in enumerate(SEGMENT.findall(printed))]
 
 
 def plain(name):
@@ -47,12 +46,10 @@ def symbols(path):
     Of a file without section headers these are the symbols of the dynamic segment.
     """
     tables, rows = {}, []
-    for line in lines(path, "--syms", *([] if sections(path) else ["--use-dynamic"])):
-        begun = re.match(r"Symbol table (?:'(.*)'|for image) contains", line)
-        if begun:
+    for line in said(path, "--syms", *([] if sections(path) else ["--use-dynamic"])).split("\n"):
+        if begun := re.match(r"Symbol table (?:'(.*)'|for image) contains", line):
             rows = tables.setdefault(begun[1] or "the dynamic segment", [])
-        found = SYMBOL.match(line)
-        if found:
+        if found := SYMBOL.match(line):
             number, value, size, kind, binding, visibility, _, name = found.groups()
             rows.append([number, value, str(int(size, 0)), kind, binding, visibility, plain(name)])
     return tables
@@ -61,12 +58,10 @@ def symbols(path):
 def relocations(path, wide):
     """For each section of relocations, by its name: offset, number and name of the type, addend and index of the symbol."""
     tables, rows, shift = {}, [], 32 if wide else 8
-    for line in lines(path, "--relocs"):
-        begun = re.match(r"Relocation section '(.*)' at offset", line)
-        if begun:
+    for line in said(path, "--relocs").split("\n"):
+        if begun := re.match(r"Relocation section '(.*)' at offset", line):
             rows = tables.setdefault(begun[1], [])
-        found = RELOCATION.match(line)
-        if found:
+        if found := RELOCATION.match(line):
             info, rest = int(found[2], 16), found[4]
             kind = (hex(info % (1 << shift)), found[3])
             rows.append([found[1], kind, addend(rest), str(info >> shift)])
@@ -84,20 +79,17 @@ def addend(rest):
 
 def dynamic(path):
     """Number and name of each tag, and the text that the value is."""
-    rows = []
-    for found in filter(None, map(DYNAMIC.match, lines(path, "--dynamic"))):
-        text = re.search(r"\[(.*)\]$", found[3])
-        rows.append([found[1], found[2], text[1] if text else None])
-    return rows
+    rows = ([tag, name, re.search(r"\[(.*)\]$", value)] for tag, name, value in DYNAMIC.findall(said(path, "--dynamic")))
+    return [[tag, name, text[1] if text else None] for tag, name, text in rows]
 
 
 def notes(path):
-    return [[found[1], str(int(found[2], 16))] for found in map(NOTE.match, lines(path, "--notes")) if found]
+    return [[owner, str(int(size, 16))] for owner, size in NOTE.findall(said(path, "--notes"))]
 
 
 def needed(path):
-    return re.findall(r"\(NEEDED\) +Shared library: \[(.*)\]", "\n".join(lines(path, "--dynamic")))
+    return [text for _, name, text in dynamic(path) if name == "NEEDED"]
 
 
 def build_id(path):
-    return next(iter(re.findall(r"Build ID: ([0-9a-f]+)", "\n".join(lines(path, "--notes")))), None)
+    return next(iter(re.findall(r"Build ID: ([0-9a-f]+)", said(path, "--notes"))), None)

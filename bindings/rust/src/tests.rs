@@ -346,12 +346,16 @@ fn empty_slices() {
 
 #[test]
 fn each_call_answers_what_is_listed() {
+    // tools/exports/bindings.sh puts the files of tools/compare/damage.py there.
+    let folder = std::env::var_os("XMAS_ELF_DAMAGED").into_iter().flat_map(|folder| std::fs::read_dir(folder).expect("a folder"));
+    let damaged: Vec<_> = folder.map(|file| std::fs::read(file.expect("a file").path()).expect("its bytes")).collect();
     let whole = whole();
     let header = ffi::open(&whole).expect("an ELF file");
     let table = ffi::symbols_open(&whole, &header, section_of_type(&whole, &header, SHT_DYNSYM).0).expect("symbols");
     let hash = ffi::gnu_open(&whole, &header, section_of_type(&whole, &header, SHT_GNU_HASH).0).expect("a hash table");
     let (mut calls, mut read) = (0, 0);
-    for (input, name) in [(&*whole, &b"main"[..]), (&[], &[])] {
+    for (input, name) in [(&*whole, &b"main"[..]), (&[], &[])].into_iter().chain(damaged.iter().map(|file| (&**file, &b".text"[..]))) {
+        let header = ffi::open(input).unwrap_or(header);
         for (section, index) in (0..40).flat_map(|section| [0, 1, 7, 1 << 40, u64::MAX].map(|index| (section, index))) {
             let asked = Asked { input, header, part: Range { offset: index, size: 64 }, table, hash, name, section, index };
             every(&asked, |call, answer, listed| {

@@ -76,7 +76,11 @@ fn compare(path: &Path) -> usize {
         if file.segment_count() == 0 {
             continue;
         }
-        assert_eq!(by_crate(&file).as_ref(), Ok(&theirs), "{}", path.display());
+        let symbols = by_crate(&file);
+        // GNU's hash table alone doesn't count the symbols of a file that exports none.
+        if symbols != Ok(BTreeMap::new()) || theirs.keys().any(|(value, _)| *value != 0) {
+            assert_eq!(symbols.as_ref(), Ok(&theirs), "{}", path.display());
+        }
         let ours = file.build_id().expect("notes").map(|id| id.iter().map(|byte| format!("{byte:02x}")).collect::<String>());
         assert_eq!(ours, id, "{}", path.display());
         assert_eq!(file.dynamic().expect("entries").count(), tags, "{}", path.display());

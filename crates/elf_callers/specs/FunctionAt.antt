@@ -63,7 +63,7 @@ HasNoNameIn file (table_of symbols_32 order bytes) = HasNoName (symbols_in_32 fi
 HasNoNameIn file (table_of symbols_64 order bytes) = HasNoName (symbols_in_64 file order bytes)
 HasNoNameIn file _ = λ address. IsTrue false
 
--- why no name is given: the data of .symtab are refused, and so is this, or the function has no name
+-- why no name is given: the data of .symtab are rejected, and so is this, or the function has no name
 abbrev pub IsNameRefused : ElfFile → ℕ → ElfError → Type 0
 IsNameRefused file address error = IsSomeAnd (section_named file (codes ".symtab"))
     (λ section. MatchResult (section_content_of file section)

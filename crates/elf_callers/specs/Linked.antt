@@ -31,16 +31,16 @@ pub record AreLinked (file : ElfFile) (table : HashTable) (order : Order) (bytes
 abbrev pub NotLinked : ElfFile → Type 0
 NotLinked file = (table : HashTable) (order : Order) (bytes : List ℕ) → ¬ AreLinked file table order bytes
 
--- the symbol found has this value: one of them bears the name and has it, which isn't that at index 0
--- (STN_UNDEF), or else none that isn't local bears the name
+-- the symbol found has this value: one of them has the name and this value, which isn't that at index 0
+-- (STN_UNDEF), or else none that isn't local has the name
 abbrev pub IsValueOf : Symbols DynEntry64 → List ℕ → Option ℕ → Type 0
 IsValueOf symbols name found = MatchOption found
     ((i : ℕ) (e : DynEntry64) → ¬ IsGlobal symbols i e name)
     (λ value. (i : ℕ) × (e : DynEntry64) × (0 < i) × (slice_get symbols.items i ≡ Some e)
     × (symbols.text e ≡ Some name) × (value ≡ (symbols.fields e).value))
 
--- the same of the symbols of a file that its hash table is linked to, which look-ups can rely on: an
--- answer that comes before the check has passed doesn't have this
+-- the same of the symbols of a file that its hash table is linked to, which look-ups can rely on: a
+-- result that comes before the check has passed doesn't have this
 pub record IsFileValueOf (file : ElfFile) (name : List ℕ) (found : Option ℕ) : Type 0 where
   pub table : HashTable
   pub order : Order

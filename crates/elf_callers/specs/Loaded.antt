@@ -1,5 +1,5 @@
 -- What a loader takes from a file, and which files it takes (gABI, "Program Header": PT_LOAD; which
--- refusal a loader gives is this project's own).
+-- error a loader gives is this project's own).
 use Rattle.std.specs.Prelude.{◌≡◌, ℕ, ◌≤◌, Bool, List, IsTrue, All, drop, filter, length, map, take}
 use Rattle.elf_callers.specs.declared.callers.loader.LoadError.{LoadError}
 use Rattle.elf_callers.specs.declared.callers.loader.LoadError.TheVariants.{Header, OutOfMemory, Range, Size}
@@ -37,7 +37,7 @@ pub record IsLoadable (file : ElfFile) : Type 0 where
   pub fit_memory : FitMemory file
   pub lie_in_file : LieInFile file
 
--- why a file is refused: the first that holds; memory for the list is asked for last
+-- why a file is rejected: the first that holds; memory for the list is asked for last
 abbrev pub IsRefused : ElfFile → LoadError → Type 0
 IsRefused file Header = ¬ AreRead file
 IsRefused file Size = AreRead file × (¬ FitMemory file)

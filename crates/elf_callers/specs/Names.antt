@@ -28,10 +28,10 @@ first_name_of input order symbols = and_then (header_of input.now) (λ header. a
     ∷ []) (entry_64 order (take 24 symbols)))
     (λ symbol. string_of (record { input = input; header = header }) (entry_64_fields symbol).name))
 
--- a symbol bears a text
+-- a symbol has a text
 abbrev pub HasText : {E : Type 0} → Symbols E → E → Type 0
 HasText symbols symbol = IsSome (symbols.text symbol)
 
--- all symbols bear one, and these have so many bytes
+-- all symbols have one, and these have so many bytes
 abbrev pub IsNameTotal : {E : Type 0} → Symbols E → ℕ → Type 0
 IsNameTotal symbols = IsTotal (HasText symbols) (λ symbol. text_length (symbols.text symbol)) symbols.items

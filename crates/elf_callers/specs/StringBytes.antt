@@ -23,7 +23,7 @@ string_size section = if is_string_table section then (section_fields section).s
 abbrev pub IsStringTotal : ElfFile → ℕ → Type 0
 IsStringTotal file = IsTotal (LiesThere file) string_size (section_list file)
 
--- the first one that isn't is refused for this
+-- the first one that isn't is rejected for this
 abbrev pub IsStringRefused : ElfFile → ElfError → Type 0
 IsStringRefused file error = (section : SectionHeader)
     × IsFirstWithout (LiesThere file) (section_list file) section × (section_data_of file section ≡ Err error)

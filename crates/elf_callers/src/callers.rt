@@ -1,5 +1,5 @@
 //! Callers of `xmas_elf` in another crate, proved by its public contracts, and where their `using`
-//! or their answers name one by a lemma of `xmas_elf/proofs/lemmas`.
+//! or their results name one by a lemma of `xmas_elf/proofs/lemmas`.
 
 ghost use Rattle.std.specs.Prelude.{◌≡◌, ◌≢◌, ◌+◌, ◌↔◌, ◌≤◌, ◌<◌, ◌==◌};
 ghost use Rattle.std.specs.Prelude.{Err, IfErr, IfOk, IsOk, IsOkAnd, IsTrue, List, MatchOption};
@@ -59,7 +59,7 @@ pub fn class_byte(input: &[u8]) -> Result<u8, ElfError>
     Ok(file.header.pt1.class.raw())
 }
 
-/// The size of a section of class 64: the number of eight bytes that stands 32 behind its place; or
+/// The size of a section of class 64: the number of eight bytes that is 32 after its place; or
 /// why its header can't be read.
 pub fn size_64(file: &ElfFile<'_>, index: u16) -> Result<u64, ElfError>
     requires { file_class file.now.header ≡ 2 }
@@ -174,7 +174,7 @@ pub fn segment_data_len(file: &ElfFile<'_>, index: u16) -> Result<usize, ElfErro
 }
 
 /// How many sections a file has, where its header makes sense and its entries are at least as large
-/// as the record: their count. Refused as the check is.
+/// as the record: their count. Returns an error as the check does.
 pub fn checked_section_count(file: &ElfFile<'_>) -> Result<usize, ElfError>
     ensures readable { IfOk result (λ count. count ≡ length (section_list file.now)) }
     ensures checked { MatchResult result (λ _. IsOk (header_check file.now))
@@ -189,7 +189,7 @@ pub fn checked_section_count(file: &ElfFile<'_>) -> Result<usize, ElfError>
 }
 
 /// The first section with this name: some section header below the count,
-/// before which none bears it.
+/// before which none has it.
 pub fn named_section(file: &ElfFile<'_>, name: &str) -> Option<SectionHeader>
     ensures { MatchOption result
         ((i : ℕ) (section : SectionHeader) → i < length (section_list file.now)
@@ -199,7 +199,7 @@ pub fn named_section(file: &ElfFile<'_>, name: &str) -> Option<SectionHeader>
     file.find_section_by_name(name)
 }
 
-/// The name of a section, which stands at its index in the name table, or the very refusal.
+/// The name of a section, which is at its index in the name table, or the same error.
 pub fn name_of<'a>(file: &ElfFile<'a>, section: SectionHeader) -> Result<&'a str, ElfError>
     ensures name { IfOk result (λ name. (table : List ℕ)
         × IsNameTable file.now table × IsText table (section_fields section).name name.now) }
@@ -208,7 +208,7 @@ pub fn name_of<'a>(file: &ElfFile<'a>, section: SectionHeader) -> Result<&'a str
     section.get_name(file)
 }
 
-/// A name, which outlives the `ElfFile` that it was read by; or the very refusal,
+/// A name, which outlives the `ElfFile` that it was read by; or the same error,
 /// of the bytes or of the name.
 pub fn name_in<'a>(input: &'a [u8], index: u32) -> Result<&'a str, ElfError>
     ensures name { IfOk result (λ name. IsOkAnd (header_of input.now) (λ header.
@@ -223,7 +223,8 @@ pub fn name_in<'a>(input: &'a [u8], index: u32) -> Result<&'a str, ElfError>
 }
 
 /// How many bytes the string tables of a file have together, or the greatest number if that is
-/// less. Refused as the bytes are, and as the data of the first string table that isn't all there.
+/// less. Returns the error of the bytes, or that of the data of the first string table that isn't
+/// all there.
 pub fn string_bytes(input: &[u8]) -> Result<u64, ElfError>
     ensures sum { IfOk result (λ total. IsOkAnd (header_of input.now) (λ header.
         let file : ElfFile = record { input = input.entry; header = header } in

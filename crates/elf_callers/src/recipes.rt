@@ -1,5 +1,5 @@
 //! Recipes: what the page for new users quotes. Each is proved not to panic. Those for the
-//! segment of an address and for the instructions say in a contract what they answer; the
+//! segment of an address and for the instructions say in a contract what they return; the
 //! others carry no claim. All read files of both classes but `print_build_id` and `first_symbols`,
 //! which read those of class 64. `tools/compare/recipes.py` compares what they print with `readelf`.
 
@@ -300,7 +300,7 @@ pub fn print_needed_by_segments<W: Write>(file: &ElfFile<'_>, out: &mut W) -> io
     Ok(())
 }
 
-/// A symbol table, and the section that it stands in.
+/// A symbol table, and the section that it is in.
 #[derive(Drop)]
 pub struct Symbols<'a> {
     /// The header of the section.

@@ -1,4 +1,4 @@
-//! All answers over one file.
+//! All results over one file.
 
 use crate::header::write_header;
 use crate::sections::write_section;

@@ -1,4 +1,4 @@
-//! What calls answer that are asked one by one: those with arguments, and those that the Rust crate
+//! What calls return that are asked one by one: those with arguments, and those that the Rust crate
 //! lacks.
 
 use crate::printed::{Answer, Found, Pair, Quoted};
@@ -10,7 +10,7 @@ use xmas_elf::hash::hash;
 use xmas_elf::report::report;
 use xmas_elf::sections::parse_section_header;
 
-/// Writes what a call answers, and nothing where there is no such call here.
+/// Writes what a call returns, and nothing where there is no such call here.
 pub fn write_call<W: Write>(
     alloc: Global,
     file: &ElfFile<'_>,

@@ -81,7 +81,7 @@ impl Case {
         Ok(())
     }
 
-    /// What a call answers over the first bytes of the file, as a line of answers has it; empty
+    /// What a call returns over the first bytes of the file, as a line of results has it; empty
     /// where there is no such call.
     pub fn answer(&self, alloc: Global, call: &str, len: usize) -> io::Result<Vec<u8>> {
         let mut out = Vec::new(alloc);

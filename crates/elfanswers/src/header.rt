@@ -1,4 +1,4 @@
-//! The answers of the ELF header, and how many items both iterators have.
+//! The results of the ELF header, and how many items both iterators have.
 
 use crate::printed::{Answer, Nothing, tell, tell_numbers};
 use std::io;

@@ -1,4 +1,4 @@
-//! The answers of hash tables that stand in no file, with symbols of class 32.
+//! The results of hash tables that are in no file, with symbols of class 32.
 
 use crate::printed::{Answer, Found, Nothing, Pair};
 use std::cell::Cell;
@@ -41,7 +41,7 @@ impl<'b, 'a> Linked<'b, 'a> {
         })
     }
 
-    /// Writes what a call answers, and nothing where there is no such call here.
+    /// Writes what a call returns, and nothing where there is no such call here.
     pub fn write_call<W: Write>(&self, call: &str, out: &mut W) -> io::Result<()> {
         let (call, argument) = call.split_once(' ').unwrap_or((call, ""));
         match call {

@@ -1,4 +1,4 @@
-//! The answers of headers and tables that stand in no file.
+//! The results of headers and tables that are in no file.
 
 use crate::printed::Place;
 use crate::symbols::write_symbols;
@@ -12,7 +12,7 @@ use xmas_elf::sections::{SectionHeader, SectionHeader_};
 use xmas_elf::symbol_table::{DynEntry32, DynEntry64, Entry, Entry32, Entry64};
 use xmas_elf::{ElfFile, P32, P64};
 
-/// Writes the answers of a header or a table of this kind over a file, in the order of that.
+/// Writes the results of a header or a table of this kind over a file, in the order of that.
 pub fn write_made<W: Write>(
     file: &ElfFile<'_>,
     kind: &str,

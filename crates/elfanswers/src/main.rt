@@ -1,8 +1,8 @@
-//! Prints each answer of the library over files: `elfanswers PATH..`, a line for each call.
+//! Prints each result of the library over files: `elfanswers PATH..`, a line for each call.
 //!
 //! `oracle/answers` prints the same lines of the Rust crate,
 //! and `tools/compare/rust.py` compares them. Of a path that ends in `.rows` it prints how many
-//! answers its rows want (`rows`), and on standard error each that is another.
+//! results its rows want (`rows`), and on standard error each that is another.
 #![tactic(auto)]
 
 mod answers;

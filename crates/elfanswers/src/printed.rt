@@ -1,4 +1,4 @@
-//! The printed forms of answers.
+//! The printed forms of results.
 
 use std::fmt::{Debug, Display};
 use std::io::Write;
@@ -8,7 +8,7 @@ use xmas_elf::ElfError;
 // So many bytes at the front and at the end of a slice are told apart.
 const TOLD: usize = 4096;
 
-/// `ok` with the value, or `err` with the text of the refusal.
+/// `ok` with the value, or `err` with the text of the error.
 #[derive(Drop)]
 pub struct Answer<T>(pub Result<T, ElfError>);
 
@@ -44,7 +44,7 @@ impl<T: Debug> Display for Shown<T> {
     }
 }
 
-/// Nothing, as a check answers.
+/// Nothing, as a check returns.
 #[derive(Clone, Copy)]
 pub struct Nothing;
 
@@ -141,7 +141,7 @@ impl Display for Place {
     }
 }
 
-/// Writes the line of a call with what it answers.
+/// Writes the line of a call with what it returns.
 pub fn tell<A: Display, W: Write>(call: &str, answer: &A, out: &mut W) -> io::Result<()> {
     writeln!(out, "{call} = {answer}")
 }

@@ -1,4 +1,4 @@
-//! The answers of the records of a table.
+//! The results of the records of a table.
 
 use crate::printed::{Answer, Place, Shown, tell_of};
 use std::io;
@@ -16,16 +16,16 @@ pub fn is_asked(index: usize, count: usize) -> bool {
     index < RECORDS || index >= count.saturating_sub(1)
 }
 
-/// A record whose answers are lines.
+/// A record whose results are lines.
 pub trait Answered: Record {
     /// What it is called in a line.
     const KIND: &'static str;
 
-    /// Writes the answers of the record that is at this place.
+    /// Writes the results of the record that is at this place.
     fn write_answers<W: Write>(&self, place: Place, out: &mut W) -> io::Result<()>;
 }
 
-/// Writes the kind of the table and how many records it has, and then their answers.
+/// Writes the kind of the table and how many records it has, and then their results.
 pub fn write_table<T: Answered, W: Write>(
     place: Place,
     kind: &'static str,
@@ -36,7 +36,7 @@ pub fn write_table<T: Answered, W: Write>(
     write_records(place, table, out)
 }
 
-/// Writes the answers of the records.
+/// Writes the results of the records.
 pub fn write_records<T: Answered, W: Write>(
     place: Place,
     table: Table<'_, T>,

@@ -1,4 +1,4 @@
-//! Rows: files, and the answers that are wanted of them.
+//! Rows: files, and the results that are wanted of them.
 //!
 //! Each line of their text is one of these:
 //!
@@ -8,10 +8,10 @@
 //! - `len FIRST LAST`: cut to each length from one to another;
 //! - `under PATH`: read by the header of another file;
 //! - `class NUMBER`: read as of another class;
-//! - `record KIND BYTES`: with a header or a table that isn't the file's, of which the answers are
+//! - `record KIND BYTES`: with a header or a table that isn't the file's, of which the results are
 //!   those of `made 0`;
 //! - `symbols BYTES`: with the symbols of a hash table, which is the record;
-//! - `is CALL = ANSWER`: the answer that is wanted of a call.
+//! - `is CALL = ANSWER`: the result that is wanted of a call.
 
 use crate::case::{Case, unreadable};
 use std::{fs, io, str};
@@ -30,7 +30,7 @@ struct Rows {
     others: u64,
 }
 
-/// How many answers the rows of a text want; an error if one is another.
+/// How many results the rows of a text want; an error if one is another.
 pub fn check_rows(rt: &HostRuntime, path: &str) -> io::Result<u64> {
     let text = fs::read_to_string(rt, path)?;
     let (folder, _) = path.rsplit_once('/').unwrap_or((".", path));

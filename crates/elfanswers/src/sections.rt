@@ -1,4 +1,4 @@
-//! The answers of a section: its numbers, name and data.
+//! The results of a section: its numbers, name and data.
 
 use crate::printed::{Answer, Nothing, Place, Quoted, Told, tell_numbers, tell_of};
 use crate::records::{write_records, write_table};
@@ -181,7 +181,7 @@ fn write_string<W: Write>(
     }
 }
 
-/// Writes the kind of the data and the answers of a note.
+/// Writes the kind of the data and the results of a note.
 pub fn write_note<W: Write>(
     place: Place,
     header: &NoteHeader,

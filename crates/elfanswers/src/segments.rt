@@ -1,4 +1,4 @@
-//! The answers of a segment: its numbers and data.
+//! The results of a segment: its numbers and data.
 
 use crate::printed::{Answer, Nothing, Pair, Place, Told, tell_numbers, tell_of};
 use crate::records::write_table;

@@ -1,4 +1,4 @@
-//! The answers of symbols.
+//! The results of symbols.
 
 use crate::printed::{Answer, Pair, Place, Quoted, tell_numbers, tell_of};
 use crate::records::is_asked;
@@ -9,7 +9,7 @@ use xmas_elf::ElfFile;
 use xmas_elf::bytes::{Record, Table};
 use xmas_elf::symbol_table::Entry;
 
-/// Writes the kind of the table and how many symbols it has, and then their answers.
+/// Writes the kind of the table and how many symbols it has, and then their results.
 pub fn write_symbols<E: Record + Entry + Display, W: Write>(
     file: &ElfFile<'_>,
     place: Place,

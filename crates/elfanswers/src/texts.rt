@@ -1,4 +1,4 @@
-//! The answers of the calls that look for texts, names and links to debug information.
+//! The results of the calls that look for texts, names and links to debug information.
 
 use crate::printed::{Answer, Found, Pair, Quoted, Told, tell};
 use std::io;
@@ -48,7 +48,7 @@ fn write_named<W: Write>(file: &ElfFile<'_>, name: &str, out: &mut W) -> io::Res
     writeln!(out, "hash {name} = {}", hash(name))
 }
 
-/// Writes the answers of the calls that look for links to debug information.
+/// Writes the results of the calls that look for links to debug information.
 pub fn write_links<W: Write>(file: &ElfFile<'_>, out: &mut W) -> io::Result<()> {
     let id = Found(file.get_gnu_buildid().map(|id| Told(id)));
     tell("extensions get_gnu_buildid", &id, out)?;

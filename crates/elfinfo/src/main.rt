@@ -38,7 +38,7 @@ enum Fault<'a> {
 }
 
 /// Writes the report of the file to `out`, or says on `err` why it can't,
-/// and answers the exit status.
+/// and returns the exit status.
 ///
 /// `file` is `None` where there is a path that does not open. The status is 0 once the whole report
 /// is written and flushed, and 1 otherwise. The contract says that the status is 0 only for a file

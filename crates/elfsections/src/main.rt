@@ -2,11 +2,11 @@
 //! packed relative relocations and GNU hash tables.
 //!
 //! For each file there is a line with its path; for each such section a line with what it holds and
-//! its name; and behind that a line for each note or address, or for a hash table a line with what
+//! its name; and after that a line for each note or address, or for a hash table a line with what
 //! its check says and one for each symbol that has a name: its index, the index that a look-up of
 //! the name finds, or `-`, and the name. A name that isn't UTF-8 can't be looked up, so it has `-`
-//! too. Names are written as bytes, with control characters as `readelf` writes them. What is
-//! refused is a line `! ` with the reason.
+//! too. Names are written as bytes, with control characters as `readelf` writes them. What
+//! can't be read is a line `! ` with the reason.
 #![tactic(auto)]
 
 use elf_base::bytes::{Record, Table, bytes_up_to_zero};

@@ -14,7 +14,7 @@ use Rattle.xmas_elf.specs.Prelude.{Dynamic}
 use Rattle.xmas_elf.specs.Symbol.{SymbolFields, Symbols, dyn_entry_32, dyn_entry_32_fields, dyn_entry_64, dyn_entry_64_fields}
 use Rattle.xmas_elf.specs.Types.{ElfError, ElfFile}
 
--- the answer among some symbols: the name of the first that is a function with the address, nothing if there is none, or
+-- the result among some symbols: the name of the first that is a function with the address, nothing if there is none, or
 -- the error of its name in the string table
 pub data IsNameAmong {E : Type 0} (symbols : Symbols E) (strings : List ℕ) (address : ℕ) : Result (Option (Bor (List ℕ))) LinkError → Type 0 where
   found : (name : Option (Bor (List ℕ))) → IsFunctionName symbols address name → IsNameAmong symbols strings address (Ok name)
@@ -22,7 +22,7 @@ pub data IsNameAmong {E : Type 0} (symbols : Symbols E) (strings : List ℕ) (ad
       → IsFunctionAt symbols.fields symbols.items address index symbol
       → text_of strings (symbols.fields symbol).name ≡ Err error → IsNameAmong symbols strings address (Err (Elf error))
 
--- the answer among the symbols of the dynamic segment, which have this size each, with their names in the string table;
+-- the result among the symbols of the dynamic segment, which have this size each, with their names in the string table;
 -- or why they are not read
 pub data IsNameBy {E : Type 0} (size : ℕ) (entry : Order → List ℕ → E) (fields : E → SymbolFields) (file : ElfFile) (entries : List (Dynamic ℕ)) (table : Result (List ℕ) LinkError) (address : ℕ) : Result (Option (Bor (List ℕ))) LinkError → Type 0 where
   among : (bytes strings : List ℕ) (answer : Result (Option (Bor (List ℕ))) LinkError)
@@ -32,7 +32,7 @@ pub data IsNameBy {E : Type 0} (size : ℕ) (entry : Order → List ℕ → E) (
   unread : (error : LinkError) → AreSymbolsRefused file entries table size error
       → IsNameBy size entry fields file entries table address (Err error)
 
--- the answer for a file: the entries of its dynamic segment, and then the symbols and the string table to which they
+-- the result for a file: the entries of its dynamic segment, and then the symbols and the string table to which they
 -- lead, by its class
 pub data IsLinkedFunction (file : ElfFile) (address : ℕ) : Result (Option (Bor (List ℕ))) LinkError → Type 0 where
   no_view : (error : LinkError) → dynamic_entries_of file ≡ Err error → IsLinkedFunction file address (Err error)

@@ -11,14 +11,14 @@ use Rattle.elf_linking.specs.declared.versions.symbol.SymbolVersion.{SymbolVersi
 use Rattle.xmas_elf.specs.Symbol.{dyn_entry_64, dyn_entry_64_fields}
 use Rattle.xmas_elf.specs.Types.{DynEntry64, ElfFile}
 
--- the answer is that for the symbol at an index of the dynamic symbols of the file, or why they are not read
+-- the result is that for the symbol at an index of the dynamic symbols of the file, or why they are not read
 pub data IsLinkedName (file : ElfFile) (index : ℕ) : Result (Bor (List ℕ)) LinkError → Type 0 where
   unread : (error : LinkError) → IsObjectRefused 2 24 file error → IsLinkedName file index (Err error)
   named : (all : DynamicSymbols DynEntry64) (answer : Result (Bor (List ℕ)) LinkError)
       → AreDynamicSymbols 2 24 dyn_entry_64 dyn_entry_64_fields file all
       → IsNameAt all.symbols.text (slice_get all.symbols.items index) answer → IsLinkedName file index answer
 
--- a name with the version of the symbol at an index, or the first refusal
+-- a name with the version of the symbol at an index, or the first error
 abbrev pub with_version : Result (List ℕ) LinkError → VersionTables → ℕ → Result (List ℕ × Option VersionParts) LinkError
 with_version name tables index =
     and_then name (λ name. and_then (version_at tables index) (λ version. Ok (name, version)))

@@ -61,7 +61,7 @@ abbrev pub is_of_second : {E : Type 0} → Option (Bound E) → Bool
 is_of_second None = false
 is_of_second (Some bound) = bound.object == 1
 
--- the answer for the reference that was found in the program: whether the symbol that it gets, by the lists of
+-- the result for the reference that was found in the program: whether the symbol that it gets, by the lists of
 -- symbols of all objects, is one of the second
 abbrev pub IsAnswerTo : {E : Type 0} → {r : _} → (E → SymbolFields) → List (DynamicObject E r) → Result (Option Reference) LinkError → Result Bool LinkError → Type 0
 IsAnswerTo fields objects (Err error) answer = answer ≡ Err error
@@ -69,12 +69,12 @@ IsAnswerTo fields objects (Ok None) answer = answer ≡ Ok false
 IsAnswerTo {E} fields objects (Ok (Some reference)) answer = (bound : Option (Bound E))
     × BindsReference fields objects 0 reference (Ok bound) × (answer ≡ Ok (is_of_second bound))
 
--- the answer for the program among its objects, and a name
+-- the result for the program among its objects, and a name
 abbrev pub IsSecond : {E : Type 0} → {r : _} → (E → SymbolFields) → List (DynamicObject E r) → DynamicObject E r → List ℕ → Result Bool LinkError → Type 0
 IsSecond fields objects program name answer = (found : Result (Option Reference) LinkError)
     × FindsReference fields program name found × IsAnswerTo fields objects found answer
 
--- the answer for three files, or the first error
+-- the result for three files, or the first error
 abbrev pub IsSecondOf : {E : Type 0} → {r : _} → (E → SymbolFields) → Result (DynamicObject E r) LinkError → Result (DynamicObject E r) LinkError → Result (DynamicObject E r) LinkError → List ℕ → Result Bool LinkError → Type 0
 IsSecondOf fields (Err error) second third name answer = answer ≡ Err error
 IsSecondOf fields (Ok program) (Err error) third name answer = answer ≡ Err error

@@ -32,7 +32,7 @@ abbrev pub library_by : Result (List ℕ) LinkError → Result (Option (List ℕ
 library_by (Ok name) = Ok (Some name)
 library_by (Err error) = Err error
 
--- the library that a version is needed of, by what bears the version; none if a definition does, or nothing
+-- the library that a version is needed of, by what has the version; none if a definition does, or nothing
 abbrev pub library_named : Option NamedParts → Result (Option (List ℕ)) LinkError
 library_named (Some (Needed need)) = library_by need.file
 library_named _ = Ok None
@@ -42,6 +42,6 @@ abbrev pub library_at : Option VersionParts → Result (Option (List ℕ)) LinkE
 library_at (Some version) = library_named version.named
 library_at None = Ok None
 
--- the same, where the version may be refused
+-- the same, where the version may be rejected
 abbrev pub library_in : Result (Option VersionParts) LinkError → Result (Option (List ℕ)) LinkError
 library_in answer = and_then answer library_at

@@ -44,8 +44,8 @@ pub fn finds_all<E: Entry + Record>(
 }
 
 /// The symbol with this name that passes a test, by a table that passes the check. The look-up is
-/// never refused, what it finds is at the table's first symbol or later, bears the name and passes,
-/// and where it finds none, no defined symbol from the first on that isn't local bears the name and
+/// never rejected, what it finds is at the table's first symbol or later, has the name and passes,
+/// and where it finds none, no defined symbol from the first on that isn't local has the name and
 /// passes.
 pub fn symbol_that<E: Entry + Record, F: Fn(&E) -> bool>(
     table: &GnuHashTable<'_>,
@@ -70,7 +70,7 @@ pub fn symbol_that<E: Entry + Record, F: Fn(&E) -> bool>(
     }
 }
 
-/// The symbol with this name, by a table that passes the check: a symbol that bears it, or none
+/// The symbol with this name, by a table that passes the check: a symbol that has it, or none
 /// where the table is to hold none that does.
 pub fn symbol_with_name<E: Entry + Record>(
     table: &GnuHashTable<'_>,
@@ -154,7 +154,7 @@ pub fn named_symbol<E: Entry + Record>(
     }
 }
 
-/// The number that `lookup_counted` answers: that of the chain words which the
+/// The number that `lookup_counted` returns: that of the chain words which the
 /// definition of a look-up passes, and never more than there are symbols. It says
 /// nothing of the work that was done.
 pub fn words_looked_at<E: Entry + Record, F: Fn(&E) -> bool>(

@@ -1,4 +1,4 @@
-//! Tests of `elf_linking`: worked tables and files with their answers, and small shared objects that
+//! Tests of `elf_linking`: worked tables and files with their results, and small shared objects that
 //! a linker made.
 #![tactic(auto)]
 

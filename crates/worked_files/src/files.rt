@@ -131,7 +131,7 @@ pub fn segment_file() -> [u8; 84] {
     file
 }
 
-/// Class 32, with 70,000 sections, whose number stands in section header 0: section 1 holds the
+/// Class 32, with 70,000 sections, whose number is in section header 0: section 1 holds the
 /// names, section 2 is `.symtab_shndx`, and the last is of type ProgBits and has an empty name.
 pub fn many_sections_file(alloc: Global) -> Result<Vec<u8>, AllocError> {
     let mut bytes = Vec::new(alloc);

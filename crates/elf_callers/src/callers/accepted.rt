@@ -14,7 +14,7 @@ pub fn is_file(input: &[u8]) -> bool
     ElfFile::new(input).is_ok()
 }
 
-/// Why bytes aren't a file, if they aren't: the first refusal.
+/// Why bytes aren't a file, if they aren't: the first error.
 pub fn refusal(input: &[u8]) -> Option<ElfError>
     ensures accepted { IsNone result ↔ IsAccepted input.now }
     ensures first { IfSome result (λ error. header_of input.now ≡ Err error) }
@@ -22,7 +22,7 @@ pub fn refusal(input: &[u8]) -> Option<ElfError>
     ElfFile::new(input).err()
 }
 
-/// Whether a section header is refused since the input ends before it does, which is exactly where
+/// Whether a section header is rejected since the input ends before it does, which is exactly where
 /// its entry passes the end.
 #[tactic(auto, unfolding(xmas_elf::specs::SectionHeader::section_by_u16, xmas_elf::specs::SectionHeader::section_entry))]
 pub fn is_cut(file: &ElfFile<'_>, index: u16) -> bool

@@ -54,7 +54,7 @@ pub fn function_at<E: Entry + Record>(symbols: &Table<'_, E>, address: u64) -> O
     }
 }
 
-/// The name of that function, or none where the address lies in none; refused as
+/// The name of that function, or none where the address lies in none; rejected as
 /// `SymbolTable::name_of` is, where the function has no name.
 pub fn function_name_at<'a, E: Entry + Record>(
     symbols: &SymbolTable<'a, E>,
@@ -73,7 +73,7 @@ pub fn function_name_at<'a, E: Entry + Record>(
 
 /// The name of the function that the address lies in, by the symbols of the file, in either class.
 ///
-/// Refused as `SectionHeader::get_data` is for `.symtab`, and as `function_name_at` is.
+/// Returns an error as `SectionHeader::get_data` does for `.symtab`, and as `function_name_at` does.
 pub fn function_name<'a>(file: &ElfFile<'a>, address: u64) -> Result<Option<&'a str>, ElfError>
     ensures name { IfOk result (IsFunctionNameOf file.now address) }
     ensures refused { IfErr result (IsNameRefused file.now address) }

@@ -32,7 +32,7 @@ pub fn symbol_count(file: &ElfFile<'_>, section: SectionHeader) -> Option<usize>
 }
 
 /// The place that the second relocation with an addend of class 64 changes: the number of
-/// eight bytes that stands 24 behind the section's offset. None where it holds none of
+/// eight bytes that is 24 after the section's offset. None where it holds none of
 /// these, or fewer than two.
 pub fn second_relocation(file: &ElfFile<'_>, section: SectionHeader) -> Option<u64>
     ensures { let found = rela_64_in (section_content_of file.now section) in MatchOption result
@@ -48,7 +48,7 @@ pub fn second_relocation(file: &ElfFile<'_>, section: SectionHeader) -> Option<u
     }
 }
 
-/// The number of buckets of a hash table, which stands at the front of its section. None where it
+/// The number of buckets of a hash table, which is at the front of its section. None where it
 /// holds no such table.
 pub fn bucket_count(file: &ElfFile<'_>, section: SectionHeader) -> Option<u32>
     ensures { let found = hash_table_in (section_content_of file.now section) in MatchOption result
@@ -86,7 +86,7 @@ pub fn note_32(file: &ElfFile<'_>, program: ProgramHeader) -> Option<ElfError>
 }
 
 /// How many bytes the dynamic section has: as many as its segment. None where the segment is of
-/// another type, or its data is refused.
+/// another type, or its data is rejected.
 pub fn dynamic_bytes(file: &ElfFile<'_>, program: ProgramHeader) -> Option<usize>
     ensures { let found = dynamic_in (segment_content_of file.now (program_fields program)) in
         MatchOption result

@@ -34,7 +34,7 @@ pub fn finds_all<E: Entry + Record>(
     table.check(symbols, file).is_ok()
 }
 
-/// The symbol with this name, by a table that passes the check: a symbol that bears it, which isn't
+/// The symbol with this name, by a table that passes the check: a symbol that has it, which isn't
 /// the one at index 0, or none where no symbol does but local ones.
 pub fn symbol_with_name<E: Entry + Record>(
     table: &HashTable<'_>,
@@ -62,7 +62,7 @@ pub fn symbol_with_name<E: Entry + Record>(
     }
 }
 
-/// The number that `lookup_counted` answers: that of the entries which the definition of
+/// The number that `lookup_counted` returns: that of the entries which the definition of
 /// a look-up passes, and never more than there are chains or symbols. It says nothing of
 /// the work that was done.
 pub fn comparisons<E: Entry + Record, F: Fn(&E) -> bool>(
@@ -120,7 +120,7 @@ pub fn linked_tables<'a>(file: &ElfFile<'a>) -> Option<(HashTable<'a>, Table<'a,
 
 /// The value of the symbol with this name in some file, as a dynamic linker finds it: by the hash
 /// table and the symbols that it is linked to, after the check. None where there is no such symbol,
-/// and a refusal where the file has no such tables or they fail the check.
+/// and an error where the file has no such tables or they fail the check.
 pub fn value_of_name(file: &ElfFile<'_>, name: &str) -> Result<Option<u64>, ElfError>
     ensures value { IfOk result (IsFileValueOf file.now name.now) }
     ensures refused { IfErr result (IsLinkRefused file.now) }

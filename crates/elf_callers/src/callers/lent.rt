@@ -1,4 +1,4 @@
-//! Callers that go by where a lent slice lies.
+//! Callers that go by where a returned slice lies.
 
 ghost use Rattle.std.specs.Prelude.{◌≡◌, ◌≢◌, ◌≤◌, ◌-◌, ◌%◌, Err, IfErr, IfOk, IsOkAnd};
 ghost use Rattle.std.specs.Prelude.{MatchOption, MatchResult, None, Ok, Some, length};
@@ -25,12 +25,12 @@ pub struct Overlay<'a> {
     pub outer: &'a [u8],
     /// The section's.
     pub inner: &'a [u8],
-    /// How many bytes behind the first of the segment's the section's begin.
+    /// How many bytes after the first of the segment's the section's begin.
     pub place: u64,
 }
 
 /// The data of a section that begins in a segment, and its place there: both parts are the memory
-/// of the input, so what stands behind the place in the one is the other.
+/// of the input, so what follows the place in the one is the other.
 #[tactic(auto, using(xmas_elf::proofs::lemmas::Lent::lies_between))]
 pub fn section_in_segment<'a>(
     file: &ElfFile<'a>,

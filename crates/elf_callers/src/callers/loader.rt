@@ -9,7 +9,7 @@ use std::alloc::Global;
 use xmas_elf::ElfFile;
 use xmas_elf::program::{ProgramHeader, Type};
 
-/// Bytes of a file that are to be at an address of memory, with zeros behind them up to a size.
+/// Bytes of a file that are to be at an address of memory, with zeros after them up to a size.
 #[derive(Clone, Copy, Debug)]
 pub struct Piece<'a> {
     /// The bytes, which live as long as the file's.

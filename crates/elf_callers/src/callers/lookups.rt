@@ -41,7 +41,7 @@ pub fn find_checked<E: Entry + Record, F: Fn(&E) -> bool>(
     }
 }
 
-/// The same with the number that `lookup_counted` answers, which is never above that of the chains,
+/// The same with the number that `lookup_counted` returns, which is never above that of the chains,
 /// nor that of the symbols.
 pub fn find_counted<E: Entry + Record, F: Fn(&E) -> bool>(
     table: &HashTable<'_>,
@@ -65,7 +65,7 @@ pub fn find_counted<E: Entry + Record, F: Fn(&E) -> bool>(
 }
 
 /// A symbol with this name that some section defines, by a table that passed the check; none where
-/// no symbol that isn't local and bears the name is defined.
+/// no symbol that isn't local and has the name is defined.
 pub fn defined_symbol<E: Entry + Record>(
     table: &HashTable<'_>,
     name: &str,
@@ -164,7 +164,7 @@ pub fn number_with_name(
 }
 
 /// A look-up by a table that nobody checked before: it is Ok exactly for a table that look-ups can
-/// rely on, and else refused as the check is.
+/// rely on, and else returns an error as the check does.
 pub fn checked_lookup<E: Entry + Record, F: Fn(&E) -> bool>(
     table: &HashTable<'_>,
     name: &str,
@@ -187,7 +187,7 @@ pub fn checked_lookup<E: Entry + Record, F: Fn(&E) -> bool>(
     }
 }
 
-/// The answer of a look-up in any table: that of the first stop which its walk reaches, and
+/// The result of a look-up in any table: that of the first stop which it reaches, and
 /// `HashCycle` exactly where it reaches none.
 pub fn lookup_anywhere<E: Entry + Record, F: Fn(&E) -> bool>(
     table: &HashTable<'_>,
@@ -207,7 +207,7 @@ pub fn lookup_anywhere<E: Entry + Record, F: Fn(&E) -> bool>(
     table.lookup(name, symbols, file, f)
 }
 
-/// Two look-ups by one test answer the same, with the number or without.
+/// Two look-ups by one test return the same, with the number or without.
 pub fn same_answers<E: Entry + Record, F: Fn(&E) -> bool + Copy>(
     table: &HashTable<'_>,
     name: &str,
@@ -229,7 +229,7 @@ pub fn same_answers<E: Entry + Record, F: Fn(&E) -> bool + Copy>(
     (one, other.0)
 }
 
-/// Both checks of a table have one result, whatever words the second is lent.
+/// Both checks of a table have one result, whatever words the second is given.
 pub fn same_checks<E: Entry + Record>(
     table: &HashTable<'_>,
     symbols: &Table<'_, E>,

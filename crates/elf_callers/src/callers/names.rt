@@ -20,8 +20,8 @@ pub fn compared_bytes(file: &ElfFile<'_>, index: u32, name: &str) -> usize
     file.shstr_is(index, name).1
 }
 
-/// The name of a section by its bytes, where these are UTF-8: what `get_name` answers, with the
-/// same refusals.
+/// The name of a section by its bytes, where these are UTF-8: what `get_name` returns, with the
+/// same errors.
 pub fn name_by_bytes<'a>(file: &ElfFile<'a>, section: &SectionHeader) -> Result<&'a str, ElfError>
     ensures name { Lends (HasName file.now section.now) result }
     ensures exact { Answers (name_of file.now section.now) result }

@@ -76,7 +76,7 @@ pub fn build_id_len(file: &ElfFile<'_>) -> Option<usize>
 }
 
 /// A build id, which outlives the `ElfFile` that it was read by.
-/// None where the bytes are refused, or have none.
+/// None where the bytes are rejected, or have none.
 pub fn build_id_in<'a>(input: &'a [u8]) -> Option<&'a [u8]>
     ensures found { IfSome result (λ id. IsOkAnd (header_of input.now) (λ header.
         let file : ElfFile = record { input = input.entry; header = header } in
@@ -90,7 +90,7 @@ pub fn build_id_in<'a>(input: &'a [u8]) -> Option<&'a [u8]>
 }
 
 /// The checksum of a link: the number of four bytes in the data of its section, from the first
-/// multiple of four behind the text. None where there is no link.
+/// multiple of four after the text. None where there is no link.
 pub fn link_checksum(file: &ElfFile<'_>) -> Option<u32>
     ensures found { IfSome result (λ checksum. (bytes text : List ℕ)
         × IsDataNamed file.now (codes ".gnu_debuglink") bytes × IsText bytes 0 text
@@ -105,7 +105,7 @@ pub fn link_checksum(file: &ElfFile<'_>) -> Option<u32>
 }
 
 /// The name of the file with the debug information, which outlives the `ElfFile`. None where the
-/// bytes are refused, or have no link.
+/// bytes are rejected, or have no link.
 pub fn debug_file_in<'a>(input: &'a [u8]) -> Option<&'a str>
     ensures found { IfSome result (λ name. IsOkAnd (header_of input.now) (λ header.
         let file : ElfFile = record { input = input.entry; header = header } in

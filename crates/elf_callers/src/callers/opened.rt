@@ -4,7 +4,7 @@ ghost use Rattle.std.specs.Prelude.{◌↔◌, ◌<◌, IsTrue, length};
 
 use xmas_elf::{ElfError, ElfFile};
 
-/// Whether bytes are refused since they end within the first part of the ELF header, which is
+/// Whether bytes are rejected since they end within the first part of the ELF header, which is
 /// exactly where there are fewer than its 16.
 #[tactic(auto, unfolding(elf_base::specs::FileHeader::header_of))]
 pub fn is_short(input: &[u8]) -> bool

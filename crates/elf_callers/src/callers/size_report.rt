@@ -100,7 +100,7 @@ pub fn section_kind(section: &SectionHeader) -> SizeKind
 }
 
 /// How many bytes of each kind the sections have that `section_iter` gives: those before the first
-/// header that is refused.
+/// header that is rejected.
 #[tactic(auto, using(crate::proofs::Sizes::is_counted_one))]
 pub fn size_report(file: &ElfFile<'_>) -> SizeReport
     ensures sums { IsSizeReport file.now result }
@@ -115,7 +115,7 @@ pub fn size_report(file: &ElfFile<'_>) -> SizeReport
 }
 
 /// The same of a file whose sections can all be read, as many as `section_count` says. Else the
-/// answer is why the first of the others can't be.
+/// result is why the first of the others can't be.
 pub fn whole_size_report(file: &ElfFile<'_>) -> Result<SizeReport, ElfError>
     ensures whole { IsOk result ↔ ((index : ℕ) → index < section_count_of file.now
         → IsOk (section_of file.now index)) }

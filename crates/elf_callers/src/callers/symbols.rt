@@ -26,7 +26,7 @@ use xmas_elf::sections::SectionHeader;
 use xmas_elf::symbol_table::{DynEntry32, Entry, Entry64, SymbolTable};
 use xmas_elf::{ElfError, ElfFile};
 
-/// The name of a symbol of class 64, or the very refusal.
+/// The name of a symbol of class 64, or the same error.
 pub fn name_or_refusal<'a>(symbol: &Entry64, file: &ElfFile<'a>) -> Result<&'a str, ElfError>
     ensures name { Lends (IsString file.now (entry_64_fields symbol.now).name) result }
     ensures exact { Answers (string_of file.now (entry_64_fields symbol.now).name) result }
@@ -34,7 +34,7 @@ pub fn name_or_refusal<'a>(symbol: &Entry64, file: &ElfFile<'a>) -> Result<&'a s
     symbol.get_name(file)
 }
 
-/// The name of a symbol of the dynamic linker, or the very refusal, by the path of the trait.
+/// The name of a symbol of the dynamic linker, or the same error, by the path of the trait.
 pub fn dyn_name_or_refusal<'a>(symbol: &DynEntry32, file: &ElfFile<'a>) -> Result<&'a str, ElfError>
     ensures name { Lends (IsDynString file.now (dyn_entry_32_fields symbol.now).name) result }
     ensures exact { Answers (dyn_string_of file.now (dyn_entry_32_fields symbol.now).name) result }
@@ -51,7 +51,7 @@ pub fn without_strtab(symbol: &Entry64, file: &ElfFile<'_>) -> Option<ElfError>
     symbol.get_name(file).err()
 }
 
-/// Any symbol: whether it bears this name.
+/// Any symbol: whether it has this name.
 pub fn is_named<E: Entry>(symbol: &E, name: &str, file: &ElfFile<'_>) -> bool
     ensures { IsTrue result ↔ (E.text_in symbol.now file.now ≡ Some name.now) }
 {
@@ -61,7 +61,7 @@ pub fn is_named<E: Entry>(symbol: &E, name: &str, file: &ElfFile<'_>) -> bool
     }
 }
 
-/// Any symbol: its section is that at the index that it has, or the very refusal.
+/// Any symbol: its section is that at the index that it has, or the same error.
 pub fn section_of_any<E: Entry>(
     symbol: &E,
     file: &ElfFile<'_>,
@@ -77,7 +77,7 @@ pub fn section_of_any<E: Entry>(
     symbol.get_section_header(file, place)
 }
 
-/// The value of a symbol of class 64: the number of eight bytes that stands 8 behind its place.
+/// The value of a symbol of class 64: the number of eight bytes that is 8 after its place.
 /// None where that is at the end of the table or past it.
 #[tactic(auto, unfolding(xmas_elf::specs::Symbol::entry_64_fields))]
 pub fn value_at(table: &Table<'_, Entry64>, index: usize) -> Option<u64>
@@ -90,7 +90,7 @@ pub fn value_at(table: &Table<'_, Entry64>, index: usize) -> Option<u64>
 }
 
 /// The name of a symbol by the bytes of a string table: in each file that has it,
-/// what `get_name` answers.
+/// what `get_name` returns.
 #[tactic(auto, unfolding(xmas_elf::specs::StringTables::string_of))]
 pub fn name_in<'a>(strings: &'a [u8], symbol: &Entry64) -> Result<&'a str, ElfError>
     ensures exact { Answers (text_of strings.now (entry_64_fields symbol.now).name) result }
@@ -113,7 +113,7 @@ pub fn name_at<'a>(
     SymbolTable::with_strings(symbols, strings).name(index)
 }
 
-/// The name of a symbol by the string table that is taken once for many: what `get_name` answers.
+/// The name of a symbol by the string table that is taken once for many: what `get_name` returns.
 #[tactic(auto, unfolding(xmas_elf::specs::StringTables::string_of))]
 pub fn name_by_table<'a>(file: &ElfFile<'a>, symbol: &Entry64) -> Result<&'a str, ElfError>
     ensures { Answers (string_of file.now (entry_64_fields symbol.now).name) result }
@@ -122,7 +122,7 @@ pub fn name_by_table<'a>(file: &ElfFile<'a>, symbol: &Entry64) -> Result<&'a str
     symbol.name_in(strings, file)
 }
 
-/// The same of any symbol: the text that it bears, or a refusal where it bears none.
+/// The same of any symbol: the text that it has, or an error where it has none.
 pub fn name_of_any<'a, E: Entry>(symbol: &E, file: &ElfFile<'a>) -> Result<&'a str, ElfError>
     ensures { MatchResult result
         (λ text. E.text_in symbol.now file.now ≡ Some text.now)
@@ -133,7 +133,7 @@ pub fn name_of_any<'a, E: Entry>(symbol: &E, file: &ElfFile<'a>) -> Result<&'a s
 }
 
 /// How many bytes the names of all symbols have together, or the greatest number if that is less.
-/// Refused as the name of the first symbol that bears none.
+/// Rejected as the name of the first symbol that has none.
 pub fn name_bytes<E: Entry + Record>(
     file: &ElfFile<'_>,
     symbols: Table<'_, E>,
@@ -150,7 +150,7 @@ pub fn name_bytes<E: Entry + Record>(
     Ok(total)
 }
 
-/// The name of the first symbol in some bytes, which outlives the symbol and the `ElfFile`. Refused
+/// The name of the first symbol in some bytes, which outlives the symbol and the `ElfFile`. Rejected
 /// as the bytes of the file are, with `NotMultiple` where those of the symbols are no whole number
 /// of them, with `SymbolIndex` where there are none, and as the name is.
 pub fn first_name<'a>(input: &'a [u8], symbols: &[u8], order: Order) -> Result<&'a str, ElfError>

@@ -1,5 +1,5 @@
 //! Clones are their originals, and the numbers of a default are 0. `Clone` and `Default` are
-//! derived alike for all types of one form, so that one type of each form stands for the others.
+//! derived alike for all types of one form, so that one type of each form is enough.
 
 ghost use Rattle.std.specs.Prelude.{◌≡◌, IsOkAnd};
 ghost use Rattle.xmas_elf.specs.ProgramNumbers.{ph_type_number};
@@ -65,7 +65,7 @@ pub fn clone_fault(fault: &ReportFault) -> Result<ReportFault, AllocError>
     fault.clone()
 }
 
-/// A clone of a table is its original, and lends what that lends.
+/// A clone of a table is its original, and borrows what that borrows.
 pub fn clone_table<'a>(table: &Table<'a, Entry64>) -> Result<Table<'a, Entry64>, AllocError>
     ensures { IsOkAnd result (λ copy. copy ≡ table.now) }
 {

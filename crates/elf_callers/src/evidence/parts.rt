@@ -1,12 +1,12 @@
-//! What a value of `SectionData` lends outlives the value.
+//! What a value of `SectionData` borrows outlives the value.
 
 ghost use Rattle.std.specs.Prelude.{◌≡◌};
 ghost use Rattle.elf_callers.specs.Parts.{lent_by_section};
 
 use xmas_elf::sections::SectionData;
 
-/// The bytes that the data of a section lends, whatever it is; none of a hash table,
-/// which lends no bytes.
+/// The bytes that the data of a section borrows, whatever it is; none of a hash table,
+/// which borrows no bytes.
 pub fn section_bytes<'a>(part: &SectionData<'a>) -> Option<&'a [u8]>
     ensures { result ≡ lent_by_section part.now }
 {

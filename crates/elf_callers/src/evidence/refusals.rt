@@ -1,4 +1,4 @@
-//! Which refusal a text gets, from the reason for it.
+//! Which error a text gets, from the reason for it.
 
 ghost use Rattle.std.specs.Prelude.{◌≡◌, ◌↔◌, ◌<◌, ◌≤◌, IsTrue, List, MatchOption, Some, ℕ};
 ghost use Rattle.std.specs.Prelude.{length};
@@ -8,7 +8,7 @@ ghost use Rattle.xmas_elf.specs.Text.{EndsInZero, IsText, NoZeroFrom, TextRefuse
 use xmas_elf::ElfError;
 use xmas_elf::bytes::text_at;
 
-/// Whether a text is refused for its start, which is exactly where that is past the end.
+/// Whether a text is rejected for its start, which is exactly where that is past the end.
 #[tactic(auto, using(crate::proofs::TextErrors::text_past))]
 pub fn starts_past_the_end(bytes: &[u8], start: usize) -> bool
     ensures { IsTrue result ↔ (length bytes.now < start) }
@@ -27,7 +27,7 @@ pub fn refused_without_end(bytes: &[u8], start: usize) -> Option<ElfError>
 }
 
 /// Why there is no text at a place, if there is none: bytes before the first zero byte that aren't
-/// UTF-8 are refused for that.
+/// UTF-8 are rejected for that.
 pub fn refused_as_no_text(bytes: &[u8], start: usize) -> Option<ElfError>
     ensures exact { MatchOption result ((text : List ℕ) × IsText bytes.now start text)
         (TextRefused bytes.now start) }

@@ -9,8 +9,8 @@ use std::alloc::Global;
 use xmas_elf::ElfFile;
 use xmas_elf::report::{ReportFault, report};
 
-/// The report in memory: that of the input, whole. Refused exactly as the input is,
-/// or for want of memory.
+/// The report in memory: that of the input, whole. Returns exactly the error of the
+/// input, or that memory is short.
 pub fn report_of(alloc: Global, input: &[u8]) -> Result<Vec<u8>, ReportFault>
     ensures written { IfOk result (λ text. IsReport input.entry text.items) }
     ensures refused { (error : ElfError) → (result ≡ Err (ReportFault.Elf error))

@@ -1,5 +1,5 @@
 //! `==` is equality, and numbers go there and back. `PartialEq` is derived alike for all types of
-//! one form, so that one type of each form stands for the others.
+//! one form, so that one type of each form is enough.
 
 ghost use Rattle.std.specs.Prelude.{◌≡◌, ◌↔◌, IsTrue};
 

@@ -33,8 +33,8 @@ fn name_by<'a, E: LinkedSymbol>(
 /// The name of the function that an address lies in, by the dynamic segment alone, which names
 /// exported functions and no others; none where the address lies in none of these.
 ///
-/// Refused as `DynamicView::read` and `DynamicView::symbols` are, and as the name of the function
-/// is, if it has none.
+/// Returns an error as `DynamicView::read` and `DynamicView::symbols` do, and that of the name of
+/// the function, if it has none.
 pub fn function_name<'a>(file: &ElfFile<'a>, address: u64) -> Result<Option<&'a str>, LinkError>
     ensures { IsLinkedFunction file.now address result }
 {

@@ -6,7 +6,7 @@ use elf_linking::LinkError;
 use elf_linking::find::Use;
 use elf_linking::references::Reference;
 
-/// Equal refusals are the same.
+/// Equal errors are the same.
 pub fn same_link_error(one: LinkError, other: LinkError) -> bool
     ensures { IsTrue result ↔ (one ≡ other) }
 {

@@ -35,7 +35,7 @@ pub fn default_value<E: LinkedSymbol>(object: &DynamicObject<'_, E>, name: &str)
 }
 
 /// The value of the symbol with this name that `dlsym` finds: that of the symbol which is right in the
-/// list of symbols, if it serves other files. Refused as the check of the hash table is.
+/// list of symbols, if it serves other files. Returns an error as the check of the hash table does.
 pub fn served_value<E: LinkedSymbol>(
     object: &DynamicObject<'_, E>,
     name: &str,

@@ -15,7 +15,7 @@ use elf_linking::gnu_hash::GnuHashTable;
 use xmas_elf::ElfFile;
 use xmas_elf::symbol_table::Entry;
 
-/// A look-up by a table that passed the check, with the number that `lookup_counted` answers, which
+/// A look-up by a table that passed the check, with the number that `lookup_counted` returns, which
 /// is never above that of the symbols.
 pub fn find_counted<E: Entry + Record, F: Fn(&E) -> bool>(
     table: &GnuHashTable<'_>,
@@ -38,7 +38,7 @@ pub fn find_counted<E: Entry + Record, F: Fn(&E) -> bool>(
 }
 
 /// A look-up by a table that nobody checked before: it is Ok exactly for a table that look-ups can
-/// rely on, and else refused as the check is.
+/// rely on, and else returns an error as the check does.
 pub fn checked_lookup<E: Entry + Record, F: Fn(&E) -> bool>(
     table: &GnuHashTable<'_>,
     name: &str,
@@ -61,7 +61,7 @@ pub fn checked_lookup<E: Entry + Record, F: Fn(&E) -> bool>(
     }
 }
 
-/// The answer of a look-up in any table: that of the first stop which its walk reaches, and
+/// The result of a look-up in any table: that of the first stop which it reaches, and
 /// `ChainIndex` exactly where the run of the name begins before the table's first symbol.
 pub fn lookup_anywhere<E: Entry + Record, F: Fn(&E) -> bool>(
     table: &GnuHashTable<'_>,
@@ -80,7 +80,7 @@ pub fn lookup_anywhere<E: Entry + Record, F: Fn(&E) -> bool>(
     table.lookup(name, symbols, file, passes)
 }
 
-/// Two look-ups by one test answer the same, with the number or without.
+/// Two look-ups by one test return the same, with the number or without.
 pub fn same_answers<E: Entry + Record, F: Fn(&E) -> bool + Copy>(
     table: &GnuHashTable<'_>,
     name: &str,

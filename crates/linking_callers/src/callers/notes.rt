@@ -22,7 +22,7 @@ use elf_linking::notes::{Note, Notes, section_notes};
 use xmas_elf::ElfFile;
 use xmas_elf::sections::{NoteHeader, SectionData, SectionHeader};
 
-/// How many notes a section has, where what is cut off counts as one. Refused as the section's data
+/// How many notes a section has, where what is cut off counts as one. Rejected as the section's data
 /// is.
 pub fn note_count(file: &ElfFile<'_>, section: &SectionHeader) -> Result<usize, LinkError>
     ensures { MatchResult result
@@ -52,7 +52,7 @@ pub fn first_note<'a>(notes: Notes<'a>) -> Option<Note<'a>>
 }
 
 /// The build id of a file, by its section headers, and if it has none there, by its program
-/// headers. What is lent is the description of the note, in the input.
+/// headers. What is returned is the description of the note, in the input.
 pub fn build_id<'a>(file: &ElfFile<'a>) -> Result<Option<&'a [u8]>, LinkError>
     ensures { result ≡ or_next (id_by_sections file.now) (id_by_segments file.now) }
 {

@@ -1,4 +1,4 @@
-//! Callers that read the dynamic symbols of a file once, and answer all about them by what was
+//! Callers that read the dynamic symbols of a file once, and say all about them by what was
 //! read.
 
 ghost use Rattle.std.specs.Prelude.{◌≡◌, ℕ, Err, MatchOption, MatchResult};
@@ -16,7 +16,7 @@ use xmas_elf::ElfFile;
 use xmas_elf::symbol_table::{DynEntry32, DynEntry64};
 
 /// The value of the symbol that is defined and has this name; `None` if each symbol with the name
-/// that look-ups must find is undefined. Refused as the check of the hash table is.
+/// that look-ups must find is undefined. Returns an error as the check of the hash table does.
 pub fn defined_value<E: LinkedSymbol>(
     object: &DynamicObject<'_, E>,
     name: &str,
@@ -33,8 +33,8 @@ pub fn defined_value<E: LinkedSymbol>(
     }
 }
 
-/// The name of the symbol at an index, with its version. Refused as `name` is, and then as `version`
-/// is.
+/// The name of the symbol at an index, with its version. Returns an error as `name` does, and then
+/// as `version` does.
 pub fn name_and_version<'a, E: LinkedSymbol>(
     object: &DynamicObject<'a, E>,
     index: u32,
@@ -47,8 +47,8 @@ pub fn name_and_version<'a, E: LinkedSymbol>(
     Ok((name, version))
 }
 
-/// The name of the symbol at an index in a file of class 64. Refused as `DynamicObject::read` is,
-/// and then as `name` is.
+/// The name of the symbol at an index in a file of class 64. Returns an error as
+/// `DynamicObject::read` does, and then as `name` does.
 pub fn symbol_name<'a>(file: &ElfFile<'a>, index: u32) -> Result<&'a str, LinkError>
     ensures { IsLinkedName file.now index result }
 {
@@ -59,7 +59,7 @@ pub fn symbol_name<'a>(file: &ElfFile<'a>, index: u32) -> Result<&'a str, LinkEr
 }
 
 /// Why the dynamic symbols of a file can't be read as those of class 32; `None` if nothing is
-/// refused.
+/// rejected.
 pub fn narrow_refusal(file: &ElfFile<'_>) -> Option<LinkError>
     ensures { MatchOption result
         ((error : LinkError) → IsObjectRefused 1 16 file.now error → ⊥)

@@ -29,7 +29,7 @@ pub fn relocation_count(bytes: &[u8], class: Class, order: Order) -> Result<usiz
     Ok(relr.count())
 }
 
-/// Whether an address is relocated: whether it stands among those that are left.
+/// Whether an address is relocated: whether it is among those that are left.
 pub fn is_relocated(relr: Relr<'_>, address: u64) -> bool
     ensures { IsTrue result ↔ Contains (relr_rest relr.entry) address }
 {

@@ -79,7 +79,7 @@ fn first_to<E: LinkedSymbol>(
     left.find(|reference| has_name(object, reference.symbol, name))
 }
 
-/// The first reference of an object that is to a symbol with this name, if there is one. Refused as
+/// The first reference of an object that is to a symbol with this name, if there is one. Rejected as
 /// `references` is.
 #[tactic(auto, using(crate::proofs::SecondFiles::reference_found))]
 pub fn first_reference<E: LinkedSymbol>(
@@ -119,7 +119,7 @@ fn is_of_second<E: LinkedSymbol>(bound: &Option<Bound<E>>) -> bool
 
 /// Whether a program's reference to this name is bound to a symbol of the second object, its first
 /// library: the first reference of the program, which is the first object of the scope, to a symbol
-/// with the name. If the program has no such reference, the answer is false. Refused as `references`
+/// with the name. If the program has no such reference, the result is false. Rejected as `references`
 /// is.
 #[tactic(auto, using(crate::proofs::SecondFiles::named, crate::proofs::SecondFiles::second_bound, crate::proofs::SecondFiles::second_none, crate::proofs::SecondFiles::second_error))]
 pub fn is_second<E: LinkedSymbol>(

@@ -102,7 +102,7 @@ fn search_needs<'a>(versions: &Versions<'a>, library: &str) -> Result<Option<Nee
     Ok(None)
 }
 
-/// The library that a symbol's version is needed of, if it is needed of one. Refused as
+/// The library that a symbol's version is needed of, if it is needed of one. Rejected as
 /// `version_of` and `Need::file` are.
 pub fn library_of<'a>(versions: &Versions<'a>, index: u32) -> Result<Option<&'a str>, LinkError>
     ensures { result_map (option_map (λ name. name.now)) result
@@ -129,7 +129,7 @@ pub fn definition_count(versions: &Versions<'_>) -> usize
     versions.definitions().count()
 }
 
-/// How many versions a file needs of libraries, where a refusal at the end counts as one.
+/// How many versions a file needs of libraries, where an error at the end counts as one.
 pub fn need_count(versions: &Versions<'_>) -> usize
     ensures { result ≡ length (needs_in (version_tables versions.now).needs) }
 {

@@ -22,7 +22,7 @@ use elf_linking::gnu_hash::GnuHashTable;
 use elf_linking::view::{DynamicView, bytes_at, bytes_from, segment_at, strings};
 use xmas_elf::ElfFile;
 
-/// The word of four bytes at an address of the loaded file, as a debugger shows it. Refused as
+/// The word of four bytes at an address of the loaded file, as a debugger shows it. Rejected as
 /// `bytes_at` is.
 pub fn word_at(file: &ElfFile<'_>, address: u64) -> Result<u32, LinkError>
     ensures found { IfOk result (λ word. (bytes : List ℕ) × IsAt file.now address 4 bytes
@@ -48,7 +48,7 @@ pub fn dynamic_number(file: &ElfFile<'_>, tag: u64) -> Result<Option<u64>, LinkE
     Ok(view.entry(tag))
 }
 
-/// The bytes from an address on, as `bytes_from` lends them, and how many they are.
+/// The bytes from an address on, as `bytes_from` returns them, and how many they are.
 pub fn tail_at<'a>(file: &ElfFile<'a>, address: u64) -> Result<(&'a [u8], usize), LinkError>
     ensures bytes { MatchResult result
         (λ tail. (bytes_from_of file.now address ≡ Ok tail.0.now) × (tail.1 ≡ length tail.0.now))

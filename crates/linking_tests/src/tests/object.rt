@@ -1,5 +1,5 @@
 //! The dynamic symbols of a file in one value: what `readelf -W -D -s` and `readelf -d` show of
-//! small shared objects, and the refusals of damaged ones in their order.
+//! small shared objects, and the errors of damaged ones in their order.
 
 use crate::tests::shared_object;
 use crate::tests::version_parts::parts;

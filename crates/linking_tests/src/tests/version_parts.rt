@@ -3,7 +3,7 @@
 use elf_linking::LinkError;
 use elf_linking::versions::SymbolVersion;
 
-/// The number of a version of a symbol, whether it is hidden, and the name of what bears it; None
+/// The number of a version of a symbol, whether it is hidden, and the name of what has it; None
 /// where the file has no numbers of symbols, and the error where the version or its name can't be
 /// read.
 pub fn parts(

@@ -1,4 +1,4 @@
-//! The counts of hash tables, and the texts of string tables, that stand in no file.
+//! The counts of hash tables, and the texts of string tables, that are in no file.
 //!
 //! The data of sections and segments by their types is in the rows of `elfanswers`, `data.rows`.
 

@@ -1,4 +1,4 @@
-//! Which bytes of a file are to be loaded where, and which files are refused.
+//! Which bytes of a file are to be loaded where, and which files are rejected.
 
 use crate::tests::want::{open, want, want_at};
 use elf_callers::callers::loader::{LoadError, check, pieces};

@@ -1,4 +1,4 @@
-//! The records of segments, which stand in no file, and printed forms.
+//! The records of segments, which are in no file, and printed forms.
 //!
 //! Segments of files are in the rows of `elfanswers`, `segments.rows`.
 

@@ -1,7 +1,7 @@
 //! The bytes of five files by kind, compared with what `size` of GNU binutils 2.40 says of them.
 //!
 //! They were made by gcc 12.2 for x86-64, with `-Os -fno-asynchronous-unwind-tables -fno-ident` and
-//! the options that stand at each. What takes no memory `size` leaves out: that number adds up the
+//! the options that are given at each. What takes no memory `size` leaves out: that number adds up the
 //! sizes in the lines of `readelf -SW` that have no flag A.
 
 use crate::tests::want::{open, want};

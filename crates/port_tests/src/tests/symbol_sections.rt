@@ -1,6 +1,6 @@
 //! The section that a symbol belongs to, by an entry of either class.
 //!
-//! Each refusal is in the rows of `elfanswers`, `symbols.rows`.
+//! Each error is in the rows of `elfanswers`, `symbols.rows`.
 
 use crate::tests::symbols::symbol;
 use crate::tests::want::{open, want_at};

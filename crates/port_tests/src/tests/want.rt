@@ -4,12 +4,12 @@ use std::fmt::Debug;
 use std::process::Abort;
 use xmas_elf::ElfFile;
 
-/// Wants this answer.
+/// Wants this result.
 pub fn want<T: PartialEq + Debug + Drop>(rt: &impl Abort, found: T, wanted: T) {
     assert_eq!(rt; found, wanted);
 }
 
-/// Wants this answer in a row of a table, which a failure names.
+/// Wants this result in a row of a table, which a failure names.
 pub fn want_at<K: Debug + Drop, T: PartialEq + Debug + Drop>(
     rt: &impl Abort,
     row: K,

@@ -1,4 +1,4 @@
-//! A file of more sections than 16 bits count: their number stands in section header 0.
+//! A file of more sections than 16 bits count: their number is in section header 0.
 //!
 //! Smaller files with such counts are in the rows of `elfanswers`, `counts.rows`.
 

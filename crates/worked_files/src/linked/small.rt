@@ -17,7 +17,7 @@
 //! -Wl,-z,max-page-size=16,-z,common-page-size=16 -Wl,-soname=libsmall.so,-rpath=/opt/lib
 //! ```
 //!
-//! What lies behind the segments is cut off, and e_shoff, e_shnum and e_shstrndx are 0.
+//! What follows the segments is cut off, and e_shoff, e_shnum and e_shstrndx are 0.
 
 /// Of class 64.
 pub const SMALL: &[u8; 912] = b"\

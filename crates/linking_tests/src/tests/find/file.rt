@@ -1,4 +1,4 @@
-//! A file in which up to three symbols bear the name `ab`, with a hash table of either kind and the
+//! A file in which up to three symbols have the name `ab`, with a hash table of either kind and the
 //! versions that `versions::file` has.
 
 use crate::tests::versions::file::{
@@ -168,7 +168,7 @@ pub fn drop_numbers(file: &mut [u8], kind: Kind) {
     set_entry_at(file, kind, 8, (0, 0));
 }
 
-/// Adds a dynamic entry behind that of the numbers of symbols.
+/// Adds a dynamic entry after that of the numbers of symbols.
 pub fn add_entry(file: &mut [u8], kind: Kind, entry: (u64, u64)) {
     set_entry_at(file, kind, 9, entry);
 }

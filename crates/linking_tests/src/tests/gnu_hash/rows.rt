@@ -1,4 +1,4 @@
-//! What look-ups and the check answer over small tables, row by row.
+//! What look-ups and the check return over small tables, row by row.
 
 use super::{AB, LITTLE, NARROW, ONE as TABLE, WIDE, Words, table_bytes};
 use crate::tests::want::{open, want_at};

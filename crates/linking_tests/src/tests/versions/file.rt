@@ -168,7 +168,7 @@ pub fn set_entry(file: &mut [u8], start: usize, width: usize, entry: (u64, u64),
     set(file, start, Place(width, width), entry.1, order);
 }
 
-/// The file with these dynamic entries behind those of the strings.
+/// The file with these dynamic entries after those of the strings.
 pub fn version_file(class: u8, order: Order, entries: &[(u64, u64)]) -> [u8; SIZE] {
     let mut file = [0; SIZE];
     let (program, width) = sizes(class);
