@@ -45,6 +45,40 @@ def cut_file(room, path, size):
     return cut
 
 
+def without_sections(room, path):
+    """A file without its section headers."""
+    data, header = bytearray(path.read_bytes()), damage.Layout(True, "little").header
+    for name in ("shoff", "shnum", "shstrndx"):
+        damage.Layout(True, "little").put(data, 0, header[name], 0)
+    bare = room / f"bare-{path.name}"
+    bare.write_bytes(data)
+    return bare
+
+
+def refused_symbols(room, path):
+    """A file whose dynamic symbols are no section's: their section goes past the end of the file."""
+    layout, data = damage.Layout(True, "little"), bytearray(path.read_bytes())
+    sections, count = (layout.get(data, 0, layout.header[name]) for name in ("shoff", "shnum"))
+    for header in range(sections, sections + count * layout.section_size, layout.section_size):
+        if layout.get(data, header, layout.section["type"]) == 11:
+            layout.put(data, header, layout.section["offset"], 1 << 40)
+    refused = room / f"refused-{path.name}"
+    refused.write_bytes(data)
+    return refused
+
+
+def wide_numbers(room, path):
+    """An example whose section 14 and segment 6 have the greatest numbers in all their fields but the type."""
+    layout, data = damage.Layout(True, "little"), bytearray(path.read_bytes())
+    sections = layout.get(data, 0, layout.header["shoff"])
+    for base, fields in ((sections + 14 * layout.section_size, layout.section), (64 + 6 * layout.segment_size, layout.segment)):
+        for name in set(fields) - {"type", "name"}:
+            layout.put(data, base, fields[name], 2**64 - 1)
+    wide = room / "wide-numbers.elf"
+    wide.write_bytes(data)
+    return wide
+
+
 def checked(room):
     """A whole file, and one with faults in the header, in sections 3 and 4 and in segments 0 and 1."""
     layout, whole = damage.Layout(True, "little"), damage.worked(True, "little", only=(".strtab", ".symtab", ".text", ".comment"))

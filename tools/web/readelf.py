@@ -9,6 +9,10 @@ SYMBOL = re.compile(r" *(\d+): ([0-9a-f]+) +(0x[0-9a-f]+|\d+) (\S+) +(\S+) +(\S+
 RELOCATION = re.compile(r"([0-9a-f]{8,16}) +([0-9a-f]{8,16}) (\S+) *(.*)$")
 PACKED = re.compile(r"([0-9a-f]{8,16})$")
 DYNAMIC = re.compile(r" (0x[0-9a-f]+) \((\w+)\) +(.*)$")
+DEFINED = re.compile(r"  0x[0-9a-f]+: Rev: \d+  Flags: (.*?) +Index: (\d+)  Cnt: \d+  Name: (.*)$")
+NEEDED = re.compile(r"  0x[0-9a-f]+:   Name: (.*?)  Flags: (.*?)  Version: (\d+)$")
+# The tables of the dynamic segment, by readelf's names for them.
+USED = {"RELA": "DT_RELA", "REL": "DT_REL", "PLT": "DT_JMPREL", "RELR": "DT_RELR"}
 NOTE = re.compile(r"  (\S.*?) +(0x[0-9a-f]{8})\t(.*)$")
 
 
@@ -42,7 +46,8 @@ def plain(name):
 
 
 def symbols(path):
-    """For each table of symbols, by its name: number, value, size, type, binding, visibility and name.
+    """For each table of symbols, by its name: number, value, size, type, binding, visibility and name, and the version of a
+    dynamic symbol.
 
     Of a file without section headers these are the symbols of the dynamic segment.
     """
@@ -50,21 +55,25 @@ def symbols(path):
     for line in lines(path, "--syms", *([] if sections(path) else ["--use-dynamic"])):
         begun = re.match(r"Symbol table (?:'(.*)'|for image) contains", line)
         if begun:
-            rows = tables.setdefault(begun[1] or "the dynamic segment", [])
+            rows, dynamic = tables.setdefault(begun[1] or "the dynamic segment", []), begun[1] in (None, ".dynsym")
         found = SYMBOL.match(line)
         if found:
             number, value, size, kind, binding, visibility, _, name = found.groups()
-            rows.append([number, value, str(int(size, 0)), kind, binding, visibility, plain(name)])
+            version = [re.sub(r"^[^@]*| \(\d+\)$", "", name)] if dynamic else []
+            rows.append([number, value, str(int(size, 0)), kind, binding, visibility, plain(name), *version])
     return tables
 
 
 def relocations(path, wide):
-    """For each section of relocations, by its name: offset, number and name of the type, addend and index of the symbol."""
+    """For each section of relocations, by its name: offset, number and name of the type, addend and index of the symbol.
+
+    Of a file without section headers these are the tables of the dynamic segment.
+    """
     tables, rows, shift = {}, [], 32 if wide else 8
-    for line in lines(path, "--relocs"):
-        begun = re.match(r"Relocation section '(.*)' at offset", line)
+    for line in lines(path, "--relocs", *([] if sections(path) else ["--use-dynamic"])):
+        begun = re.match(r"Relocation section '(.*)' at offset|'(\w+)' relocation section at offset", line)
         if begun:
-            rows = tables.setdefault(begun[1], [])
+            rows = tables.setdefault(begun[1] or USED[begun[2]], [])
         found = RELOCATION.match(line)
         if found:
             info, rest = int(found[2], 16), found[4]
@@ -88,6 +97,20 @@ def dynamic(path):
     for found in filter(None, map(DYNAMIC.match, lines(path, "--dynamic"))):
         text = re.search(r"\[(.*)\]$", found[3])
         rows.append([found[1], found[2], text[1] if text else None])
+    return rows
+
+
+def versions(path):
+    """Number, kind, name, library and flags of each version that the file defines or needs."""
+    rows, library = [], ""
+    for line in lines(path, "--version-info"):
+        library = (re.search(r"  File: (.*)  Cnt: ", line) or ["", library])[1]
+        defined, needed = DEFINED.match(line), NEEDED.match(line)
+        if defined:
+            of = "this file itself" if "BASE" in defined[1] else ""
+            rows.append([defined[2], "defined", defined[3], of, defined[1].replace("none", "")])
+        if needed:
+            rows.append([needed[3], "needed", needed[1], library, needed[2].replace("none", "")])
     return rows
 
 
