@@ -35,15 +35,15 @@ function versionOf({ version }) {
 function columns(file) {
   const fileClass = file.header.file_class;
   return [
-    { label: "Nr", width: "4rem", number: true, by: "index", cell: ({ index }) => `${index}` },
+    { label: "Nr", width: "3rem", number: true, by: "index", cell: ({ index }) => `${index}` },
     { label: "Value", width: fileClass === 1 ? "5rem" : "8rem", number: true, by: "value", cell: ({ value }) => address(value, fileClass) },
-    { label: "Size", width: "5rem", number: true, by: "size", cell: ({ size }) => `${size}` },
-    { label: "Type", width: "5.5rem", cell: ({ info }) => names.nameOf(names.SYMBOL_TYPES, info % 16) },
-    { label: "Binding", width: "5.5rem", cell: ({ info }) => names.nameOf(names.SYMBOL_BINDINGS, Math.floor(info / 16)) },
-    { label: "Visibility", width: "6.5rem", cell: ({ other }) => names.VISIBILITIES[other % 4] },
-    { label: "Section", width: "8rem", cell: (it) => sectionOf(file, it) },
-    { label: "Name", width: "minmax(15rem, 1fr)", by: "text", cell: (it) => symbolName(file, it) },
-    ...(file.versions.ofSymbols ? [{ label: "Version", width: "12rem", cell: versionOf }] : []),
+    { label: "Size", width: "3.5rem", number: true, by: "size", cell: ({ size }) => `${size}` },
+    { label: "Type", width: "4.5rem", cell: ({ info }) => names.nameOf(names.SYMBOL_TYPES, info % 16) },
+    { label: "Binding", width: "4.5rem", cell: ({ info }) => names.nameOf(names.SYMBOL_BINDINGS, Math.floor(info / 16)) },
+    { label: "Visibility", width: "6rem", cell: ({ other }) => names.VISIBILITIES[other % 4] },
+    { label: "Section", width: "6.5rem", cell: (it) => sectionOf(file, it) },
+    { label: "Name", width: "minmax(12rem, 1fr)", by: "text", cell: (it) => symbolName(file, it) },
+    ...(file.versions.ofSymbols ? [{ label: "Version", width: "10rem", cell: versionOf }] : []),
   ];
 }
 

@@ -47,9 +47,10 @@ def cut_file(room, path, size):
 
 def without_sections(room, path):
     """A file without its section headers."""
-    data, header = bytearray(path.read_bytes()), damage.Layout(True, "little").header
+    data = bytearray(path.read_bytes())
+    layout = damage.Layout(data[4] == 2, "big" if data[5] == 2 else "little")
     for name in ("shoff", "shnum", "shstrndx"):
-        damage.Layout(True, "little").put(data, 0, header[name], 0)
+        layout.put(data, 0, layout.header[name], 0)
     bare = room / f"bare-{path.name}"
     bare.write_bytes(data)
     return bare

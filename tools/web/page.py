@@ -187,9 +187,11 @@ def is_elf(path):
 
 def try_comparison(test, options, room):
     """Files of the system and of other machines, of both classes and byte orders, compared with readelf."""
-    bare = [files.without_sections(room, LIBRARIES / it) for it in ("libc.so.6", "libm.so.6")]
+    others = files.of_other_machines(room)
+    libraries = [LIBRARIES / "libc.so.6", LIBRARIES / "libm.so.6", *(it for it in others if it.suffix == ".so")]
+    bare = [files.without_sections(room, it) for it in libraries]
     stored = [TOP / "crates/elfsym/data" / it for it in ("versions.so", "needs.so")]
-    paths = [options.site / "example.elf", *stored, *bare, *system_files(options.files), *files.of_other_machines(room)]
+    paths = [options.site / "example.elf", *stored, *bare, *system_files(options.files), *others]
     for index, path in enumerate(paths):
         compare_file(test, path, drops=index % 10 == 0)
     headers = [readelf.header(path) for path in paths]
