@@ -51,7 +51,7 @@ export class HexView {
     this.part = part;
     this.record = null;
     const range = `${hex(part.start)} to ${hex(part.end)}, ${sizeText(part.end - part.start)}`;
-    this.title.replaceChildren(element("strong", {}, escaped(part.label)), element("span", {}, range));
+    this.title.replaceChildren(element("strong", {}, escaped(part.label)), " ", element("span", {}, range));
     const row = Math.floor(offset / this.inRow);
     if (row < this.rows.exact || row >= this.rows.exact + this.rows.visible - 2) this.rows.goTo(row - 1);
     this.moveTo(offset);

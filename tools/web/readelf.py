@@ -9,7 +9,7 @@ SYMBOL = re.compile(r" *(\d+): ([0-9a-f]+) +(0x[0-9a-f]+|\d+) (\S+) +(\S+) +(\S+
 RELOCATION = re.compile(r"([0-9a-f]{8,16}) +([0-9a-f]{8,16}) (\S+) *(.*)$")
 PACKED = re.compile(r"([0-9a-f]{8,16})$")
 DYNAMIC = re.compile(r" (0x[0-9a-f]+) \((\w+)\) +(.*)$")
-DEFINED = re.compile(r"  0x[0-9a-f]+: Rev: \d+  Flags: (.*?) +Index: (\d+)  Cnt: \d+  Name: (.*)$")
+DEFINED = re.compile(r"  (?:0x)?[0-9a-f]+: Rev: \d+  Flags: (.*?) +Index: (\d+)  Cnt: \d+  Name: (.*)$")
 NEEDED = re.compile(r"  0x[0-9a-f]+:   Name: (.*?)  Flags: (.*?)  Version: (\d+)$")
 # The tables of the dynamic segment, by readelf's names for them.
 USED = {"RELA": "DT_RELA", "REL": "DT_REL", "PLT": "DT_JMPREL", "RELR": "DT_RELR"}
