@@ -361,15 +361,21 @@ CUT = """
 """
 
 
+# Whether the build id, the last of what people look for, is in view.
+FIRST = """document.querySelector(".id").getBoundingClientRect().bottom < document.getElementById("panels").getBoundingClientRect().bottom"""
+
+
 def try_narrow(test, options, room):
     """In 400 pixels all views fit, and in any width no number is cut off."""
-    for width in (400, SIZE[0]):
+    for width in (400, 1280):
         test.page.resize(width, 800)
         for path in (files.wide_numbers(room, options.site / "example.elf"), LIBRARIES / "libc.so.6"):
             test.open(path)
             for tab in TABS:
                 test.tab(tab)
                 time.sleep(0.2)
+                if tab == "Overview":
+                    test.same(f"{path}: what people look for is in the first view, {width} pixels wide", test.page.run(FIRST), True)
                 test.same(f"{path}: cut off in {tab}, {width} pixels wide", test.page.run(CUT), [])
     test.page.resize(*SIZE)
 
