@@ -90,13 +90,14 @@ def example():
 
 def with_faults(whole):
     """The same with another size of its header, a bucket past its hash table, section 15 of a type that nothing has, section 11
-    past the end of the file, and segment 7 at an address that its alignment doesn't allow."""
+    and segment 5 past the end of the file, and segment 7 at an address that its alignment doesn't allow."""
     data = bytearray(whole)
     sections = LAYOUT.get(data, 0, LAYOUT.header["shoff"])
     header = lambda index: sections + index * LAYOUT.section_size
+    segment = lambda index: LAYOUT.header_size + index * LAYOUT.segment_size
     faults = [(0, LAYOUT.header["ehsize"], 52), (LAYOUT.get(data, header(3), LAYOUT.section["offset"]), (8, "I"), 99),
               (header(15), LAYOUT.section["type"], 12), (header(11), LAYOUT.section["offset"], 1 << 40),
-              (64 + 7 * LAYOUT.segment_size, LAYOUT.segment["vaddr"], 4)]
+              (segment(5), LAYOUT.segment["offset"], 1 << 40), (segment(7), LAYOUT.segment["vaddr"], 4)]
     for fault in faults:
         LAYOUT.put(data, *fault)
     return bytes(data)

@@ -80,22 +80,6 @@ def wide_numbers(room, path):
     return wide
 
 
-def checked(room):
-    """A whole file, and one with faults in the header, in sections 3 and 4 and in segments 0 and 1."""
-    layout, whole = damage.Layout(True, "little"), damage.worked(True, "little", only=(".strtab", ".symtab", ".text", ".comment"))
-    sections, segments = layout.get(whole, 0, layout.header["shoff"]), layout.header_size
-    faults = [(0, layout.header["ehsize"], 0), (sections + 3 * layout.section_size, layout.section["type"], 12),
-              (sections + 4 * layout.section_size, layout.section["offset"], 1 << 40), (segments, layout.segment["vaddr"], 4),
-              (segments + layout.segment_size, layout.segment["offset"], 1 << 40)]
-    damaged = bytearray(whole)
-    for fault in faults:
-        layout.put(damaged, *fault)
-    paths = room / "whole.elf", room / "faults.elf"
-    for path, data in zip(paths, (whole, damaged)):
-        path.write_bytes(data)
-    return paths
-
-
 def slow_table(room):
     """A file whose hash table has 60,000 buckets that all lead to a chain of 60,000 symbols."""
     layout, count = damage.Layout(True, "little"), 60000

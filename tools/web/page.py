@@ -250,23 +250,6 @@ def said_of(test, tab, label):
     return {index: row[labels.index(label)] for index, row in rows.items()} if label in labels else {}
 
 
-def try_checks(test, options, room):
-    """What the checks of the header, of each section and of each segment say of a whole file, and of one with faults."""
-    size, kind, end = "header_size does not match size of header", "Invalid sh type", "entry point out of range"
-    align, none, outside = "Invalid combination of virtual_addr, offset, and align", "Attempt to get data of a null header", "Data is out of range"
-    rows = lambda text: lambda count, faults: {**dict.fromkeys(range(count), text), **faults}
-    passing, silent = rows("passes"), rows("")
-    wanted = [(["Header: passes", "Sections: passes", "Segments: passes"], passing(6, {}), {}, passing(7, {}), silent(7, {4: none})),
-              ([f"Header: {size}", f"Sections: {kind} at section 3", f"Segments: {align} at segment 0, and 1 more"],
-               passing(6, {3: kind}), silent(6, {3: kind, 4: outside}), passing(7, {0: align, 1: end}), silent(7, {1: outside, 4: none}))]
-    for path, (checks, *columns) in zip(files.checked(room), wanted):
-        test.open(path)
-        test.tab("Overview")
-        test.same(f"{path}: checks", test.page.run(CHECKS), checks)
-        shown = [said_of(test, tab, label) for tab in ("Sections", "Segments") for label in ("Check", "Data")]
-        test.same(f"{path}: checks and data of sections and segments", shown, columns)
-
-
 def try_hardening(test, options, room):
     """What the overview says of how a file is hardened, for programs linked in several ways and shared objects."""
     import hardening
@@ -281,20 +264,6 @@ def try_hardening(test, options, room):
         test.same(f"{path}: hardening", test.page.run(shown), hardening.said_of(path))
 
 
-def try_packed_relocations(test, options, room):
-    """A section of type RELR passes its check, and nothing of it is an error."""
-    path = room / "packed.elf"
-    (room / "packed.c").write_text("int a; int *p[200] = {&a, 0, &a, [9] = &a, [150] = &a}; int main(void) { return 0; }\n")
-    subprocess.run(["gcc", room / "packed.c", "-o", path, "-Wl,-z,pack-relative-relocs"], check=True)
-    test.open(path)
-    test.tab("Overview")
-    test.same(f"{path}: sections", "Sections: passes" in test.page.run(CHECKS), True)
-    test.same(f"{path}: data", "Data of" in test.page.run("document.querySelector('.overview').textContent"), False)
-    test.tab("Sections")
-    labels, (_, rows) = test.page.run(LABELS), test.rows()
-    test.same(f"{path}: type", any("RELR" in row for row in rows.values()) and "Type" in labels, True)
-
-
 def try_refused_symbols(test, options, room):
     """Where a section of dynamic symbols is refused, those of the dynamic segment are shown."""
     whole = LIBRARIES / "libm.so.6"
@@ -304,15 +273,27 @@ def try_refused_symbols(test, options, room):
 
 
 def try_examples(test, options):
-    """The example without faults has none, by the page and by readelf, and the other has some."""
-    for name, is_whole in (("example.elf", True), ("example-with-faults.elf", False)):
-        test.page.run("document.querySelector('.brand').click(); document.body.dataset.state = 'waiting'")
+    """The example without faults has none, by the page and by readelf. Of the other the page says what is wrong with the header,
+    with each section and each segment, and with the hash table."""
+    size, kind, end = "header_size does not match size of header", "Invalid sh type", "entry point out of range"
+    align, outside = "Invalid combination of virtual_addr, offset, and align", "Data is out of range"
+    rows = lambda count, faults: {**dict.fromkeys(range(count), "passes"), **faults}
+    silent = lambda count, faults: {**dict.fromkeys(range(count), ""), **faults}
+    wanted = {"example.elf": [["Header: passes", "Sections: passes", "Segments: passes", "Hash table .hash: passes its check"],
+                              rows(19, {}), {}, rows(8, {}), {}],
+              "example-with-faults.elf": [[f"Header: {size}", f"Sections: {kind} at section 15", f"Segments: {end} at segment 5, and 1 more",
+                                           "Hash table .hash: Chain index is out of range"],
+                                          rows(19, {15: kind}), silent(19, {11: outside, 15: kind}), rows(8, {5: end, 7: align}), silent(8, {5: outside})]}
+    for name, said in wanted.items():
+        test.page.run("document.querySelector('.brand')?.click(); document.body.dataset.state = 'waiting'")
         test.page.run(f"document.querySelector('[data-example=\"{name}\"]').click()")
         test.page.wait("document.body.dataset.state === 'ready' && !document.querySelector('.overview .pending')")
         test.tab("Overview")
-        test.same(f"{name}: without faults", test.page.run("!document.querySelector('.overview .refusal')"), is_whole)
-        said = subprocess.run(["readelf", "--all", "--wide", options.site / name], capture_output=True).stderr
-        test.same(f"{name}: without faults by readelf", not said, is_whole)
+        test.same(f"{name}: errors in the overview", test.page.run("document.querySelector('.overview .refusal') !== null"), name != "example.elf")
+        columns = [said_of(test, tab, label) for tab in ("Sections", "Segments") for label in ("Check", "Data")]
+        test.same(f"{name}: checks, and those of sections and segments with their data", [test.page.run(CHECKS), *columns], said)
+        printed = subprocess.run(["readelf", "--all", "--wide", options.site / name], capture_output=True).stderr
+        test.same(f"{name}: errors by readelf", bool(printed), name != "example.elf")
 
 
 def try_back(test, options):
