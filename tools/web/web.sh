@@ -33,7 +33,7 @@ trap ended EXIT
 for signal in HUP INT TERM; do trap 'exit 1' "$signal"; done
 
 # crates.txt builds `elf_c` for x86-64. The module is built of a copy of the sources, whose line says wasm64. What was
-# proved here is copied too, by `rt` compared with the sources, and not proved again.
+# proved here is copied too: `rt` proves again only what differs from the sources.
 module() {
     local sum crate part
     sum="$(sources)"
@@ -60,6 +60,8 @@ module() {
     running=""
     cp "$room/crates/elf_c/out/elf_c.wasm" "$web/out/elf_c.wasm"
     echo "$sum" > "$web/out/sum"
+    rm -rf "$room"
+    room=""
 }
 
 if [ "$does" = test ]; then
