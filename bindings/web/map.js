@@ -127,7 +127,7 @@ export class LayoutMap {
     const text = (x, words) => svg("text", { class: "maphead", x, y: this.node.scrollTop + 18 }, words);
     const segment = this.file.segmentParts[0];
     const back = svg("rect", { class: "mapheadback", x: 0, y: this.node.scrollTop, width: "100%", height: 28 });
-    const words = [text(RULER - 16, "Offset"), text(RULER, this.width < NARROW ? "Parts" : "Headers and sections")];
+    const words = [text(RULER - 16, "Offset"), text(RULER, this.width < NARROW ? "Parts" : this.file.sections.length ? "Headers and sections" : "Headers and tables")];
     words[0].classList.add("atend");
     if (segment) words.push(text(this.boxOf(segment, 0).left, "Segments"));
     return [back, ...words];
