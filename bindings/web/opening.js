@@ -64,15 +64,15 @@ async function findTables(client, file) {
     ({ section, gnu: section.header.type === names.GNU_HASH, said: null, running: false, listeners: [] }));
 }
 
-// The segment of dynamic entries. In a file of debugging data alone a section without bytes has its address.
-function dynamicSegment({ sections, segments }) {
+// The segment of a type, if it has bytes: in a file of debugging data alone a section without bytes has its address.
+function segmentOf({ sections, segments }, type) {
   const isEmpty = ({ header }) => sections.some((it) => it.header.type === names.NOBITS && it.header.address === header.virtual_addr);
-  const found = segments.find(({ header }) => header.type === names.PT_DYNAMIC);
+  const found = segments.find(({ header }) => header.type === type);
   return found && !isEmpty(found) ? found : null;
 }
 
 function hasDynamic(file) {
-  return dynamicSegment(file) !== null;
+  return segmentOf(file, names.PT_DYNAMIC) !== null;
 }
 
 // Adds what the dynamic segment names of each kind that no section has.
@@ -81,7 +81,7 @@ async function addSegmentTables(client, file, tables, add) {
   if (!has("symbol", names.DYNSYM)) await addSegmentSymbols(client, tables.symbol);
   const isMissing = { dynamic: !has("dynamic"), relocation: !has("relocation") };
   if (!isMissing.dynamic && !isMissing.relocation) return;
-  const { header, data, dataRefused } = dynamicSegment(file);
+  const { header, data, dataRefused } = segmentOf(file, names.PT_DYNAMIC);
   const given = { range: data, address: header.virtual_addr, fileClass: file.header.file_class };
   const { sections, missing, refused } = data ? await client.ask("segmentTables", given) : { sections: [], missing: [], refused: dataRefused };
   file.added = sections;
@@ -153,7 +153,7 @@ async function buildIdIn(client, all) {
 
 // The interpreter, and what the dynamic entries name.
 async function findFacts(client, file) {
-  const segment = file.segments.find(({ header }) => header.type === names.PT_INTERP);
+  const segment = segmentOf(file, names.PT_INTERP);
   const part = segment && { offset: segment.header.offset, size: segment.header.file_size };
   file.interpreter = part ? await client.ask("text", { part, index: 0 }) : null;
   Object.assign(file, { named: [], namedRefused: null, dynamicValues: null });

@@ -58,13 +58,13 @@ export function segmentTables(reader, { range, address, fileClass }) {
   const entries = sectionFor({ name: "PT_DYNAMIC", type: names.DYNAMIC, address }, range, fileClass);
   added(reader, [entries], layout);
   const { status, records } = reader.many("dynamics", { section: -1, first: 0 });
-  if (status !== STATUS.OK) return { sections: [], missing: [], refused: refusal(reader, status) };
+  if (status !== STATUS.OK) return { sections: [], missing: [], refused: status === STATUS.NO_RECORD ? null : refusal(reader, status) };
   const sections = [entries];
   const missing = [];
   for (const table of named(reader, valuesOf(records), fileClass)) {
-    const { status: whether, record } = reader.one("bytes_at", { address: table.address, count: table.size });
-    if (record) sections.push(sectionFor(table, record, fileClass));
-    else missing.push({ ...table, refused: refusal(reader, whether) });
+    const bytes = reader.one("bytes_at", { address: table.address, count: table.size });
+    if (bytes.record) sections.push(sectionFor(table, bytes.record, fileClass));
+    else missing.push({ ...table, refused: refusal(reader, bytes.status) });
   }
   return { sections: added(reader, sections, layout), missing, refused: null };
 }
