@@ -10,6 +10,7 @@ import hashlib
 import os
 import pathlib
 import platform
+import re
 import subprocess
 import sys
 import tomllib
@@ -19,7 +20,8 @@ HERE = pathlib.Path(__file__).resolve().parent
 ROOT = HERE.parent.parent
 PACKAGE = HERE / "xmas_elf"
 LIBRARY = PACKAGE / "libxmas_elf.so"
-TAG = "py3-none-linux_x86_64"
+# For the oldest version of the C library that a wheel runs with, the name that pip had for it before PEP 600.
+NAMES = {(2, 5): "manylinux1", (2, 12): "manylinux2010", (2, 17): "manylinux2014"}
 
 
 def archive():
@@ -37,6 +39,19 @@ def build_library():
     subprocess.run(["gcc", "-shared", "-nostartfiles", "-Wl,-z,relro,-z,now,-s", *inside, "-o", str(LIBRARY)], check=True)
 
 
+def platforms():
+    """The names of the systems that the library runs on: `manylinux` (PEP 600) with the oldest version of the C library that
+    has all that it needs, if it needs nothing else."""
+    command = ["readelf", "--wide", "--dynamic", "--version-info", LIBRARY]
+    said = subprocess.run(command, check=True, capture_output=True, text=True, env={**os.environ, "LC_ALL": "C"}).stdout
+    versions = [re.fullmatch(r"GLIBC_(\d+)\.(\d+)(\.\d+)?", it) for it in re.findall(r"  Name: (\S+)  Flags:", said)]
+    if set(re.findall(r"\(NEEDED\).*\[(.*)\]", said)) - {"libc.so.6"} or not all(versions):
+        return ["linux_x86_64"]
+    least = max(((int(it[1]), int(it[2])) for it in versions), default=(2, 5))
+    least = next((it for it in NAMES if it >= least), least)
+    return [f"manylinux_{least[0]}_{least[1]}_x86_64", *([f"{NAMES[least]}_x86_64"] if least in NAMES else [])]
+
+
 def metadata(project):
     lines = ["Metadata-Version: 2.1", f"Name: {project['name']}", f"Version: {project['version']}"]
     lines += [f"Summary: {project['description']}", f"License: {project['license']}", f"Requires-Python: {project['requires-python']}"]
@@ -45,11 +60,12 @@ def metadata(project):
     return "\n".join(lines) + "\n\n" + (HERE / project["readme"]).read_text()
 
 
-def contents(project, info):
+def contents(project, info, tags):
     """The files of the wheel but the last, which lists them."""
     files = {f"xmas_elf/{it.name}": it.read_bytes() for it in sorted(PACKAGE.iterdir()) if it.is_file()}
     files[f"{info}/METADATA"] = metadata(project).encode()
-    files[f"{info}/WHEEL"] = f"Wheel-Version: 1.0\nGenerator: xmas_elf\nRoot-Is-Purelib: false\nTag: {TAG}\n".encode()
+    said = "".join(f"Tag: py3-none-{it}\n" for it in tags)
+    files[f"{info}/WHEEL"] = f"Wheel-Version: 1.0\nGenerator: xmas_elf\nRoot-Is-Purelib: false\n{said}".encode()
     for name in ("LICENSE-APACHE", "LICENSE-MIT"):
         files[f"{info}/licenses/{name}"] = (ROOT / name).read_bytes()
     return files
@@ -68,9 +84,10 @@ def build_wheel(wheel_directory, config_settings=None, metadata_directory=None):
     build_library()
     project = tomllib.loads((HERE / "pyproject.toml").read_text())["project"]
     stem = f"{project['name']}-{project['version']}"
-    files = contents(project, f"{stem}.dist-info")
+    tags = platforms()
+    files = contents(project, f"{stem}.dist-info", tags)
     files[f"{stem}.dist-info/RECORD"] = record(files, f"{stem}.dist-info").encode()
-    name = f"{stem}-{TAG}.whl"
+    name = f"{stem}-py3-none-{'.'.join(tags)}.whl"
     with zipfile.ZipFile(pathlib.Path(wheel_directory) / name, "w", zipfile.ZIP_DEFLATED) as wheel:
         for path, data in files.items():
             entry = zipfile.ZipInfo(path)

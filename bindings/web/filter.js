@@ -1,6 +1,7 @@
 // Finds the symbols of a section by parts of their names and by what they are, batch by batch.
 import { BATCH } from "./reader.js";
 import { symbolAt, symbolNamesFrom, symbolsFrom } from "./records_of.js";
+import { rangeText } from "./survey.js";
 
 /** The indices found last, in the order that was asked for. */
 let found = { section: -1, indices: [] };
@@ -50,13 +51,15 @@ export async function findSymbols(reader, turns, given) {
   const work = turns.begin("Finding symbols", total);
   const needle = Array.from(new TextEncoder().encode(given.text), small);
   const wanted = isWanted(given);
+  const isByName = given.by === "text";
   const kept = [];
   let first = 0;
   while (!work.stopped) {
     const symbols = symbolsFrom(reader, { section, first });
     if (!symbols.length) break;
-    const names = needle.length ? symbolNamesFrom(reader, { section, first }) : [];
-    keep(kept, symbols, first, wanted, namesHold(reader, names, needle));
+    const names = needle.length || isByName ? symbolNamesFrom(reader, { section, first }) : [];
+    const textOf = (at) => (isByName && names[at]?.status === 0 ? rangeText(reader, names[at].range) : "");
+    keep(kept, symbols, first, wanted, namesHold(reader, names, needle), textOf);
     first += symbols.length;
     await work.turn(first);
   }
@@ -66,9 +69,9 @@ export async function findSymbols(reader, turns, given) {
   return { count: kept.length, looked: first, stopped };
 }
 
-function keep(kept, symbols, first, wanted, holdsText) {
+function keep(kept, symbols, first, wanted, holdsText, textOf) {
   symbols.forEach((symbol, at) => {
-    if (wanted(symbol) && holdsText(at)) kept.push({ index: first + at, value: symbol.value, size: symbol.size });
+    if (wanted(symbol) && holdsText(at)) kept.push({ index: first + at, value: symbol.value, size: symbol.size, text: textOf(at) });
   });
 }
 
@@ -80,8 +83,8 @@ function ordered(kept, { by, down }) {
 }
 
 /** The symbols found last, from place `first` on. */
-export function foundRows(reader, { section, first, size }) {
+export function foundRows(reader, { section, first, size, versioned }) {
   if (found.section !== section) return [];
   const indices = found.indices.slice(first, first + Math.min(size, BATCH));
-  return indices.map((index) => symbolAt(reader, section, index)).filter(Boolean);
+  return indices.map((index) => symbolAt(reader, section, index, versioned)).filter(Boolean);
 }

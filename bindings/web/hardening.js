@@ -8,16 +8,21 @@ const FLAGS_1 = 0x6ffffffbn;
 const FLAG_BIND_NOW = 8n;
 const FLAG_1_NOW = 1n;
 const FLAG_1_PIE = 0x8000000n;
-const UNKNOWN = "not read without section headers";
+const UNKNOWN = "unknown: the dynamic entries can't be read";
 
 const yes = (is) => (is ? "yes" : "no");
 
-// What the dynamic entries say; nothing is known where there are entries that no section has.
+// What the dynamic entries say; nothing is known where the file has some that can't be read.
 function dynamicOf({ dynamicValues: values, header, segments }) {
   if (!values) return segments.some((it) => it.header.type === names.PT_DYNAMIC) ? null : { isNow: false, isProgram: false };
   const value = (tag) => values.get(tag) ?? 0n;
   const isNow = values.has(BIND_NOW) || Boolean(value(FLAGS) & FLAG_BIND_NOW) || Boolean(value(FLAGS_1) & FLAG_1_NOW);
   return { isNow, isProgram: header.type === names.ET_DYN && (Boolean(value(FLAGS_1) & FLAG_1_PIE) || values.has(DEBUG)) };
+}
+
+/** Whether the file is a program that runs at any address. */
+export function isPie(file) {
+  return Boolean(dynamicOf(file)?.isProgram);
 }
 
 /** Names and texts: whether it is a program at any address (PIE), RELRO, NX, BIND_NOW and W+X. None for an object file. */

@@ -6,7 +6,7 @@ import { partsAt } from "./parts.js";
 import { escaped, hex, hexDigits, sizeText } from "./text.js";
 import { VirtualRows } from "./virtual.js";
 
-const ROW = 16;
+const NARROW = matchMedia("(max-width: 660px)");
 const ROW_HEIGHT = 22;
 const PAGE = 4096;
 
@@ -20,6 +20,7 @@ export class HexView {
     Object.assign(this, nodes, { file: null, part: null, cursor: 0, field: null, record: null, asked: 0 });
     this.rows = new VirtualRows({ scroller: this.grid, rowHeight: ROW_HEIGHT, make: () => this.rowNode(),
       fill: (node, index) => this.fill(node, index) });
+    NARROW.addEventListener("change", () => this.file && this.layOut());
     this.grid.addEventListener("keydown", (event) => this.key(event));
     this.grid.addEventListener("pointermove", ({ target }) => this.pointAt(target));
     this.grid.addEventListener("pointerleave", () => this.lookAt(this.cursor));
@@ -33,8 +34,16 @@ export class HexView {
     this.digits = Math.max(8, hexDigits(file.size).length);
     this.rows.exact = 0;
     this.grid.scrollTop = 0;
-    this.grid.setAttribute("aria-rowcount", Math.ceil(file.size / ROW));
-    this.rows.setCount(Math.ceil(file.size / ROW));
+    this.layOut();
+  }
+
+  // Sixteen bytes in a row, or eight where there is little room.
+  layOut() {
+    this.inRow = NARROW.matches ? 8 : 16;
+    const count = Math.ceil(this.file.size / this.inRow);
+    this.grid.setAttribute("aria-rowcount", count);
+    this.rows.provide(0);
+    this.rows.setCount(count);
   }
 
   /** Shows a part from its first byte on, or from another of its bytes. */
@@ -42,24 +51,24 @@ export class HexView {
     this.part = part;
     this.record = null;
     const range = `${hex(part.start)} to ${hex(part.end)}, ${sizeText(part.end - part.start)}`;
-    this.title.replaceChildren(element("strong", {}, escaped(part.label)), ` ${range}`);
-    const row = Math.floor(offset / ROW);
+    this.title.replaceChildren(element("strong", {}, escaped(part.label)), " ", element("span", {}, range));
+    const row = Math.floor(offset / this.inRow);
     if (row < this.rows.exact || row >= this.rows.exact + this.rows.visible - 2) this.rows.goTo(row - 1);
     this.moveTo(offset);
   }
 
   rowNode() {
-    const cells = Array.from({ length: ROW }, () => element("span", { class: "byte", role: "gridcell" }));
-    const texts = Array.from({ length: ROW }, () => element("span", { class: "letter" }));
+    const cells = Array.from({ length: this.inRow }, () => element("span", { class: "byte", role: "gridcell" }));
+    const texts = Array.from({ length: this.inRow }, () => element("span", { class: "letter" }));
     return element("div", { class: "hexrow", role: "row" }, element("span", { class: "offset", role: "rowheader" }),
       element("span", { class: "bytes" }, cells), element("span", { class: "letters", "aria-hidden": true }, texts));
   }
 
   fill(node, row) {
     const [offset, bytes, letters] = node.children;
-    offset.textContent = hexDigits(row * ROW, this.digits);
+    offset.textContent = hexDigits(row * this.inRow, this.digits);
     node.setAttribute("aria-rowindex", row + 1);
-    for (let at = 0; at < ROW; at += 1) this.fillByte(bytes.children[at], letters.children[at], row * ROW + at);
+    for (let at = 0; at < this.inRow; at += 1) this.fillByte(bytes.children[at], letters.children[at], row * this.inRow + at);
   }
 
   fillByte(cell, letter, offset) {
@@ -90,7 +99,7 @@ export class HexView {
 
   moveTo(offset) {
     this.cursor = Math.max(0, Math.min(offset, this.file.size - 1));
-    this.rows.reveal(Math.floor(this.cursor / ROW));
+    this.rows.reveal(Math.floor(this.cursor / this.inRow));
     this.grid.setAttribute("aria-activedescendant", `byte-${this.cursor}`);
     this.lookAt(this.cursor);
   }
@@ -142,11 +151,11 @@ export class HexView {
   }
 
   key(event) {
-    const page = this.rows.visible * ROW;
-    const start = this.cursor - (this.cursor % ROW);
-    const moves = { ArrowRight: this.cursor + 1, ArrowLeft: this.cursor - 1, ArrowDown: this.cursor + ROW,
-      ArrowUp: this.cursor - ROW, PageDown: this.cursor + page, PageUp: this.cursor - page,
-      Home: event.ctrlKey ? 0 : start, End: event.ctrlKey ? this.file?.size - 1 : start + ROW - 1 };
+    const page = this.rows.visible * this.inRow;
+    const start = this.cursor - (this.cursor % this.inRow);
+    const moves = { ArrowRight: this.cursor + 1, ArrowLeft: this.cursor - 1, ArrowDown: this.cursor + this.inRow,
+      ArrowUp: this.cursor - this.inRow, PageDown: this.cursor + page, PageUp: this.cursor - page,
+      Home: event.ctrlKey ? 0 : start, End: event.ctrlKey ? this.file?.size - 1 : start + this.inRow - 1 };
     if (!this.file?.size || !(event.key in moves) || event.altKey || event.metaKey) return;
     event.preventDefault();
     this.moveTo(moves[event.key]);

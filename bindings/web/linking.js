@@ -62,7 +62,8 @@ export function relocationsPanel(file, client, choose) {
       table.show(it.count, (first, size) => client.ask("packed", { section, first, size }));
       return;
     }
-    const symbols = file.symbolTables.some((other) => other.section.index === header.link) ? header.link : null;
+    const hasSymbols = header.link < 0 || file.symbolTables.some((other) => other.section.index === header.link);
+    const symbols = hasSymbols ? header.link : null;
     table.show(it.count, (first, size) => client.ask("relocations", { section, symbols, first, size }));
   };
   return chosenPanel("Relocations", file.relocationTables, table, { show, none: "The file has no relocations.", what: ["relocation"] });
@@ -100,9 +101,30 @@ export function dynamicPanel(file, client, choose) {
     table.show(it.count, (first, size) =>
       client.ask("dynamic", { section: it.section.index, strings: it.strings, texts: names.TEXT_TAGS, first, size }));
   };
-  const hasSegment = file.segments.some(({ header }) => header.type === names.PT_DYNAMIC);
-  const none = `The file has no section of dynamic entries${hasSegment ? ", only a segment: the overview has the libraries that it names" : ""}.`;
+  const none = "The file has no dynamic entries.";
   return chosenPanel("Dynamic entries", file.dynamicTables, table, { show, none, what: ["dynamic entry", "dynamic entries"] });
+}
+
+function textOf(said) {
+  return said?.refused ? refusalNode(said.refused) : escaped(said?.text ?? "");
+}
+
+/** The versions that the file defines and needs. */
+export function versionsPanel(file) {
+  const { listed, refused } = file.versions;
+  const library = (it) => (it.kind === 1 && it.flags & 1 ? element("span", { class: "borrowed" }, "this file itself") : textOf(it.library));
+  const table = new Table({ label: "Versions", empty: "The file defines and needs no versions.", columns: [
+    { label: "Nr", width: "4rem", number: true, title: "The number by which symbols refer to it", cell: ({ number }) => `${number}` },
+    { label: "Kind", width: "6rem", cell: ({ kind }) => names.nameOf(names.VERSION_KINDS, kind) },
+    { label: "Name", width: "minmax(12rem, 1fr)", cell: (it) => textOf(it.refused ? it : it.name) },
+    { label: "Library", width: "minmax(12rem, 1fr)", cell: library },
+    { label: "Flags", width: "6rem", cell: ({ flags }) => names.flagNames(names.VERSION_FLAGS, flags) },
+    { label: "Hash", width: "6rem", number: true, cell: ({ hash }) => hexDigits(hash, 8) },
+  ] });
+  table.showAll(listed);
+  const why = refused ? [notice("refused", "The versions end early: ", refusalNode(refused))] : [];
+  const said = `${plural(listed.length, "version")} that the file defines, or needs of libraries.`;
+  return { node: panel("Versions", said, element("div", { class: "fill" }, why, table.node)), table };
 }
 
 // The owner of a note without the zero byte that ends it.
@@ -175,6 +197,6 @@ export function hashesPanel(file, client, { choose, check }) {
       checked, lookUpForm(file, client, table),
       element("button", { type: "button", class: "quiet", onclick: () => choose(table.section.index) }, "Show its bytes"));
   });
-  const said = file.hashTables.length ? "A table that passes its check finds a symbol wherever one that isn't local has the name; GNU's, wherever one is defined too." : "The file has no hash table of symbols.";
+  const said = file.hashTables.length ? "A table that passes its check finds a symbol wherever one that isn't local has the name; GNU's, wherever one is defined too." : "The file has no section that is a hash table of symbols.";
   return { node: panel("Hash tables", said, element("div", { class: "cards" }, cards)) };
 }

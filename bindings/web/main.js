@@ -5,13 +5,14 @@ import { HexView } from "./hex.js";
 import { LayoutMap } from "./map.js";
 import { Strip } from "./strip.js";
 import { checkHashes, stopCheck } from "./checks.js";
-import { dynamicPanel, hashesPanel, notesPanel, relocationsPanel } from "./linking.js";
+import { dynamicPanel, hashesPanel, notesPanel, relocationsPanel, versionsPanel } from "./linking.js";
 import { escaped, grouped, plural, sizeText } from "./text.js";
 import { fieldsOf } from "./fields.js";
 import { kindWords, overviewPanel } from "./overview.js";
 import { load, survey } from "./opening.js";
 import { panel, sectionsPanel, segmentsPanel } from "./tables.js";
 import { KINDS, partsAt } from "./parts.js";
+import { Places } from "./places.js";
 import { Progress } from "./progress.js";
 import { SymbolsPanel } from "./symbols.js";
 import { Tabs } from "./tabs.js";
@@ -19,6 +20,8 @@ import { takeFiles } from "./choosing.js";
 
 // A module of one memory with 64-bit addresses: what the reader's module needs of the browser.
 const WIDE_MEMORY = Uint8Array.of(0, 0x61, 0x73, 0x6d, 1, 0, 0, 0, 5, 3, 1, 4, 1);
+// Where there is little room the bytes are shown when a part of the file is chosen.
+const NARROW = matchMedia("(max-width: 600px)");
 const RECORDS = { symbols: "symbol", relocations: "rela", dynamic: "dynamic" };
 
 const page = { client: null, module: null, file: null, source: null };
@@ -27,11 +30,28 @@ const hexView = new HexView({ grid: byId("bytes"), title: byId("hextitle"), fiel
   follow: (address) => follow(address) });
 const strip = new Strip(byId("strip"), (part) => choose(part));
 const map = new LayoutMap((part) => choose(part));
-const tabs = new Tabs(byId("tabs"), byId("panels"));
+const tabs = new Tabs(byId("tabs"), byId("panels"), (title, isClick) => places.show(page.source, title, isClick));
+const places = new Places((source, tab) => goBack(source, tab));
 
 function show(view) {
   for (const name of ["welcome", "viewer"]) byId(name).hidden = name !== view;
   document.body.dataset.view = view;
+  document.title = view === "viewer" ? `${escaped(page.file.name)} · ELF viewer` : "ELF viewer";
+}
+
+// Shows the start, or a view of a file that was opened before, where Back or Forward leads to it.
+function goBack(source, tab) {
+  if (!source) return welcome();
+  tabs.current = tab;
+  if (source !== page.source || !page.file) return open(source);
+  tabs.choose(tab, false);
+  return show("viewer");
+}
+
+function welcome() {
+  show("welcome");
+  say(null);
+  byId("choose").focus();
 }
 
 function say(message) {
@@ -69,7 +89,7 @@ function chooseSegment(index) {
 function chooseRecord(record, section, row) {
   if (row.isPacked) return showAddress(row.offset);
   if (section === null) return row.shndx ? showAddress(row.value) : null;
-  const part = page.file.parts.find(({ id }) => id === `section-${section}`);
+  const part = [...page.file.parts, ...page.file.addedParts].find(({ id }) => id === `section-${section}`);
   const name = record === "rela" && !row.has_addend ? "rel" : record;
   if (part) choose(part, part.start + row.index * fieldsOf(name, page.file.header.file_class).size);
   return null;
@@ -94,6 +114,7 @@ function fillTabs(file, client) {
     ["Sections", file.sections.length, () => sectionsPanel(file, chooseSection)],
     ["Segments", file.segments.length, () => segmentsPanel(file, chooseSegment)],
     ["Symbols", sum(file.symbolTables), () => new SymbolsPanel(file, client, records("symbols"))],
+    ["Versions", file.versions.listed.length, () => versionsPanel(file)],
     ["Relocations", sum(file.relocationTables), () => relocationsPanel(file, client, records("relocations"))],
     ["Dynamic", sum(file.dynamicTables), () => dynamicPanel(file, client, records("dynamic"))],
     ["Notes", file.notes.length, () => notesPanel(file, client, notes)],
@@ -106,12 +127,12 @@ function fillHead(file) {
   byId("filesize").textContent = sizeText(file.size);
   byId("filesize").title = `${grouped(file.size)} bytes`;
   byId("kinds").replaceChildren(...kindWords(file).map((word) => element("li", {}, word)));
-  document.title = `${escaped(file.name)} · ELF viewer`;
 }
 
 function refuse(message) {
   say(message);
   show("welcome");
+  places.start();
   progress.end();
   byId("choose").focus();
 }
@@ -147,15 +168,17 @@ async function lookInto(client, source) {
   hexView.open(file, client);
   fillTabs(file, client);
   choose(file.parts.find(({ id }) => id === "header"));
+  if (NARROW.matches) toggleHex();
+  places.show(source, tabs.current, true);
   byId("filename").focus();
   progress.end();
   checkHashes(file, page.module, source);
   return null;
 }
 
-async function example() {
-  const answer = await fetch("example.elf");
-  return open(new File([await answer.blob()], "example.elf"));
+async function example({ currentTarget: { dataset } }) {
+  const answer = await fetch(dataset.example);
+  return open(new File([await answer.blob()], dataset.example));
 }
 
 /** Takes an offset or an address of the field, and shows the byte there. */
@@ -198,8 +221,22 @@ function toggleHex() {
   byId("togglehex").setAttribute("aria-expanded", !isClosed);
 }
 
+// Links of the page lead to no other entry of the history than those of `places`.
+function takeLinks() {
+  const follow = (selector, action) => document.querySelector(selector).addEventListener("click", (event) => {
+    event.preventDefault();
+    action();
+  });
+  follow(".skip", () => byId("panels").focus());
+  follow(".brand", () => {
+    places.start();
+    welcome();
+  });
+}
+
 async function start() {
-  byId("example").addEventListener("click", example);
+  for (const button of document.querySelectorAll("[data-example]")) button.addEventListener("click", example);
+  takeLinks();
   byId("go").addEventListener("submit", goTo);
   byId("togglehex").addEventListener("click", toggleHex);
   if (!WebAssembly.validate(WIDE_MEMORY)) {

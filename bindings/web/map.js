@@ -9,6 +9,8 @@ import { escaped, hex, sizeText } from "./text.js";
 const RULER = 92;
 const SPACE = 28;
 const LANE = 134;
+/** In a narrower picture the segments have less of the width, and headings fewer words. */
+const NARROW = 560;
 const MOST_PART_LANES = 4;
 const MOST_SEGMENT_LANES = 8;
 const TOP = 40;
@@ -96,7 +98,7 @@ export class LayoutMap {
 
   boxOf(part, ownLane = this.laneOf.get(part)) {
     const { width } = this;
-    const lane = Math.min(LANE, (width * 0.45) / Math.max(1, this.segmentLanes));
+    const lane = Math.min(LANE, (width * (width < NARROW ? 0.3 : 0.45)) / Math.max(1, this.segmentLanes));
     const segmentsWidth = this.segmentLanes * lane;
     const partsWidth = width - RULER - SPACE - segmentsWidth;
     const top = this.topOf(part.start);
@@ -125,7 +127,7 @@ export class LayoutMap {
     const text = (x, words) => svg("text", { class: "maphead", x, y: this.node.scrollTop + 18 }, words);
     const segment = this.file.segmentParts[0];
     const back = svg("rect", { class: "mapheadback", x: 0, y: this.node.scrollTop, width: "100%", height: 28 });
-    const words = [text(RULER - 16, "Offset"), text(RULER, "Headers and sections")];
+    const words = [text(RULER - 16, "Offset"), text(RULER, this.width < NARROW ? "Parts" : this.file.sections.length ? "Headers and sections" : "Headers and tables")];
     words[0].classList.add("atend");
     if (segment) words.push(text(this.boxOf(segment, 0).left, "Segments"));
     return [back, ...words];

@@ -67,6 +67,7 @@ export const PROCESSOR_TAGS = { 20: { 0x70000000: "PPC_GOT", 0x70000001: "PPC_OP
 /** The tags whose value is an index of the string table. */
 export const TEXT_TAGS = [1n, 14n, 15n, 29n, 0x7ffffffdn, 0x7fffffffn];
 export const NEEDED = 1n;
+export const SYMTAB_TAG = 6n;
 /** The tags whose value is a number of bytes or of records, and not an address. */
 export const SIZE_TAGS = [2n, 8n, 9n, 10n, 11n, 18n, 19n, 27n, 28n, 33n, 35n, 37n];
 /** The tags whose value is the address of a part of the file. */
@@ -80,6 +81,10 @@ export const DYNAMIC_FLAGS = {
     "NODUMP CONFALT ENDFILTEE DISPRELDNE DISPRELPND NODIRECT IGNMULDEF NOKSYMS NOHDR EDITED NORELOC SYMINTPOSE " +
     "GLOBAUDIT SINGLETON STUB PIE"),
 };
+
+/** The kinds of versions, and the flags of their records. */
+export const VERSION_KINDS = { 0: "none", 1: "defined", 2: "needed" };
+export const VERSION_FLAGS = [[1, "BASE"], [2, "WEAK"], [4, "INFO"]];
 
 export const NOTE_TYPES = {
   GNU: { 1: "ABI_TAG", 2: "HWCAP", 3: "BUILD_ID", 4: "GOLD_VERSION", 5: "PROPERTY_TYPE_0" },

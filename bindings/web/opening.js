@@ -2,7 +2,6 @@
 // the work is stopped or a part is refused.
 import * as names from "./names.js";
 import { partsOf } from "./parts.js";
-import { STATUS } from "./records.js";
 
 // For each type of section the export that answers its records, and the table of tables that it belongs to.
 const RECORD_CALLS = { [names.SYMTAB]: ["symbol", "symbol"], [names.DYNSYM]: ["symbol", "symbol"],
@@ -37,24 +36,26 @@ export async function survey(client, source) {
   file.sections = file.sectionsEnd.sections;
   file.segmentsEnd = await client.ask("segments");
   file.segments = file.segmentsEnd.segments;
-  Object.assign(file, partsOf(file));
   await findTables(client, file);
+  file.added.push(...noteSegments(file).filter(({ part }) => part).map(({ place, part, align }, at) => noteSection(place, part, align, at)));
+  Object.assign(file, partsOf(file));
   await findNotes(client, file);
-  await findBuildId(client, file);
+  file.buildId = await buildIdIn(client, file.notes) ?? await buildIdIn(client, await segmentNotes(client, file));
   await findFacts(client, file);
+  file.versions = hasDynamic(file) ? await client.ask("versions") : { listed: [], refused: null, ofSymbols: false };
   return file;
 }
 
 // The sections that hold records, each with how many, and the hash tables.
 async function findTables(client, file) {
   const tables = { symbol: [], relocation: [], dynamic: [] };
-  for (const section of file.sections) {
+  const add = async (section, strings) => {
     const [call, kind] = RECORD_CALLS[section.header.type] ?? [];
-    if (!call) continue;
-    const counted = await client.ask("count", { call, section: section.index });
-    tables[kind].push({ section, strings: file.sections[section.header.link]?.data ?? null, ...counted });
-  }
-  if (!tables.symbol.length && hasDynamic(file)) tables.symbol.push(await segmentSymbols(client));
+    if (call) tables[kind].push({ section, strings, ...await client.ask("count", { call, section: section.index }) });
+  };
+  for (const section of file.sections) await add(section, file.sections[section.header.link]?.data ?? null);
+  file.added = [];
+  if (hasDynamic(file)) await addSegmentTables(client, file, tables, add);
   file.symbolTables = tables.symbol;
   file.relocationTables = tables.relocation;
   file.dynamicTables = tables.dynamic;
@@ -63,28 +64,77 @@ async function findTables(client, file) {
     ({ section, gnu: section.header.type === names.GNU_HASH, said: null, running: false, listeners: [] }));
 }
 
+// The segment of a type, if it has bytes: in a file of debugging data alone a section without bytes has its address.
+function segmentOf({ sections, segments }, type) {
+  const isEmpty = ({ header }) => sections.some((it) => it.header.type === names.NOBITS && it.header.address === header.virtual_addr);
+  const found = segments.find(({ header }) => header.type === type);
+  return found && !isEmpty(found) ? found : null;
+}
+
 function hasDynamic(file) {
-  return file.segments.some(({ header }) => header.type === names.PT_DYNAMIC);
+  return segmentOf(file, names.PT_DYNAMIC) !== null;
 }
 
-// The symbols that the dynamic segment names, in the place of a section's, for a file without section headers.
-async function segmentSymbols(client) {
+// Adds what the dynamic segment names of each kind that no section has.
+async function addSegmentTables(client, file, tables, add) {
+  const has = (kind, type) => tables[kind].some(({ section, count }) => count && (type ?? section.header.type) === section.header.type);
+  if (!has("symbol", names.DYNSYM)) await addSegmentSymbols(client, tables.symbol);
+  const isMissing = { dynamic: !has("dynamic"), relocation: !has("relocation") };
+  if (!isMissing.dynamic && !isMissing.relocation) return;
+  const { header, data, dataRefused } = segmentOf(file, names.PT_DYNAMIC);
+  const given = { range: data, address: header.virtual_addr, fileClass: file.header.file_class };
+  const { sections, missing, refused } = data ? await client.ask("segmentTables", given) : { sections: [], missing: [], refused: dataRefused };
+  file.added = sections;
+  for (const section of sections) {
+    const [, kind] = RECORD_CALLS[section.header.type] ?? [];
+    if (isMissing[kind]) await add(section, sections.find(({ header: { type } }) => type === names.STRTAB)?.data ?? null);
+  }
+  const none = ({ name, type, refused: why }) => ({ section: { index: null, name, header: { type } }, strings: null, count: 0, refused: why });
+  if (refused && isMissing.dynamic) tables.dynamic.push(none({ name: "PT_DYNAMIC", type: names.DYNAMIC, refused }));
+  if (isMissing.relocation) tables.relocation.push(...missing.filter(({ type }) => RECORD_CALLS[type]?.[1] === "relocation").map(none));
+}
+
+// The symbols of the dynamic segment, where no section has them: why they are refused is said where other symbols aren't
+// there, or a section of them is refused too.
+async function addSegmentSymbols(client, tables) {
+  const counted = await client.ask("countDynamicSymbols");
   const section = { index: null, name: "the dynamic segment", header: { type: names.DYNSYM, link: null } };
-  return { section, strings: null, ...await client.ask("countDynamicSymbols") };
+  const isAsked = !tables.length || tables.some(({ section: { header } }) => header.type === names.DYNSYM);
+  if (counted.count || isAsked) tables.push({ section, strings: null, ...counted });
 }
 
-// Where notes stand: sections of notes, and segments of notes where no section is there.
+function noteSegments(file) {
+  return file.segments.filter(({ header }) => header.type === names.PT_NOTE).map(({ index, header, data, dataRefused }) =>
+    ({ place: `Segment ${index}`, part: data, align: header.align, why: dataRefused }));
+}
+
+// A segment of notes as the section that it would be.
+function noteSection(name, { offset, size }, align, at) {
+  const header = { type: names.NOTE, flags: names.SECTION_ALLOC, offset, size, align };
+  return { index: `notes-${at}`, name, header, isAdded: true };
+}
+
+// Where notes are: sections of notes, and segments of notes where no section can be read.
 function notePlaces(file) {
   const sections = file.sections.filter(({ header }) => header.type === names.NOTE)
     .map((it) => ({ place: it.name ?? `Section ${it.index}`, part: it.data, align: it.header.align, why: it.dataRefused }));
-  if (sections.length) return sections;
-  return file.segments.filter(({ header }) => header.type === names.PT_NOTE).map(({ index, header, dataRefused }) =>
-    ({ place: `Segment ${index}`, part: { offset: header.offset, size: header.file_size }, align: header.align, why: dataRefused }));
+  return sections.some(({ part }) => part) ? sections : [...sections, ...noteSegments(file)];
+}
+
+// The notes of the segments, as far as their sections don't show them.
+async function segmentNotes(client, file) {
+  const others = { notes: [] };
+  await readNotes(client, others, file.notes.length ? noteSegments(file) : []);
+  return others.notes;
 }
 
 async function findNotes(client, file) {
+  await readNotes(client, file, notePlaces(file));
+}
+
+async function readNotes(client, file, places) {
   Object.assign(file, { notes: [], notesRefused: [], notesCut: false });
-  for (const { place, part, align, why } of notePlaces(file)) {
+  for (const { place, part, align, why } of places) {
     if (file.notesCut) return;
     const { notes, refused, cut } = part ? await client.ask("notes", { part, align }) : { notes: [], refused: why };
     for (const note of notes) file.notes.push({ ...note, start: Number(note.start), place });
@@ -93,28 +143,28 @@ async function findNotes(client, file) {
   }
 }
 
-// The build id where the export for it finds none by a section: the description of the first note of type 3 by GNU.
-async function findBuildId(client, file) {
-  if (file.buildIdRefused?.status !== STATUS.NOT_FOUND) return;
-  const notes = file.notes.filter(({ type, name }) => type === names.NOTE_BUILD_ID && name.size === 4n);
+// The build id: the description of the first note of type 3 by GNU; or null.
+async function buildIdIn(client, all) {
+  const notes = all.filter(({ type, name }) => type === names.NOTE_BUILD_ID && name.size === 4n);
   const shown = notes.length ? await client.ask("noteRows", { notes: notes.slice(0, 64), most: MOST_ID_BYTES }) : [];
   const found = shown.find(({ name }) => names.GNU_OWNER.every((byte, at) => name[at] === byte));
-  if (found) file.buildId = [...found.desc];
+  return found ? [...found.desc] : null;
 }
 
 // The interpreter, and what the dynamic entries name.
 async function findFacts(client, file) {
-  const segment = file.segments.find(({ header }) => header.type === names.PT_INTERP);
+  const segment = segmentOf(file, names.PT_INTERP);
   const part = segment && { offset: segment.header.offset, size: segment.header.file_size };
   file.interpreter = part ? await client.ask("text", { part, index: 0 }) : null;
   Object.assign(file, { named: [], namedRefused: null, dynamicValues: null });
   for (const { section, strings, count } of file.dynamicTables) {
+    if (!count) continue;
     const rows = await client.ask("dynamic", { section: section.index, strings, texts: names.TEXT_TAGS, first: 0, size: Math.min(count, 2048) });
-    file.named.push(...rows.filter(({ tag }) => names.TEXT_TAGS.includes(tag)));
+    if (!section.isAdded) file.named.push(...rows.filter(({ tag }) => names.TEXT_TAGS.includes(tag)));
     const end = rows.findIndex(({ tag }) => tag === 0n);
     file.dynamicValues ??= new Map(rows.slice(0, end < 0 ? rows.length : end).map(({ tag, value }) => [tag, value]));
   }
-  if (file.dynamicTables.length || !hasDynamic(file)) return;
+  if (file.dynamicTables.some(({ section, count }) => count && !section.isAdded) || !hasDynamic(file)) return;
   const tags = names.TEXT_TAGS.filter((it) => it !== names.NEEDED);
   const { rows, refused } = await client.ask("dynamicTexts", { needed: names.NEEDED, tags });
   Object.assign(file, { named: rows, namedRefused: refused });

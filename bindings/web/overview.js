@@ -1,16 +1,17 @@
-// The first panel: what the file is, what it needs, what the checks say, and its header.
+// The first panel: what people look for first, what the file is, what the checks say, and its header.
 import * as names from "./names.js";
 import { element, refusalNode, verdictNode } from "./dom.js";
 import { fieldsOf } from "./fields.js";
-import { hardeningOf } from "./hardening.js";
+import { hardeningOf, isPie } from "./hardening.js";
 import { checkNode } from "./linking.js";
-import { STATUS } from "./records.js";
 import { hasData } from "./tables.js";
 import { escaped, grouped, hex, hexBytes, plural } from "./text.js";
 
 /** The words that say what a file is: `Shared object`, `x86-64`, `ELF64`, `little-endian`. */
-export function kindWords({ header }) {
-  return [names.FILE_TYPE_TEXTS[header.type] ?? `Type ${hex(header.type)}`, names.nameOf(names.MACHINES, header.machine),
+export function kindWords(file) {
+  const { header } = file;
+  const type = isPie(file) ? "Program (PIE)" : names.FILE_TYPE_TEXTS[header.type];
+  return [type ?? `Type ${hex(header.type)}`, names.nameOf(names.MACHINES, header.machine),
     names.nameOf(names.CLASSES, header.file_class), names.ENCODINGS[header.encoding] ?? "little-endian"];
 }
 
@@ -29,30 +30,29 @@ function textOrRefusal({ text, refused }) {
 
 function identity(file) {
   const { header, counts } = file;
-  const noId = file.buildIdRefused?.status === STATUS.NOT_FOUND ? "none" : refusalNode(file.buildIdRefused ?? { message: "" });
   return card("What it is", facts([
     ["Kind", kindWords(file).slice(0, 2).join(", ")],
     ["Format", `${kindWords(file)[2]}, ${kindWords(file)[3]}, ${names.nameOf(names.OS_ABIS, header.os_abi)}`],
     ["Entry point", element("code", {}, hex(header.entry_point))],
     ["Sections", grouped(counts.sections)], ["Segments", grouped(counts.segments)],
     ["Interpreter", file.interpreter ? textOrRefusal(file.interpreter) : "none"],
-    ["Build id", file.buildId ? element("code", { class: "id" }, hexBytes(file.buildId)) : noId],
   ]));
 }
 
-function needs(file) {
+// What people look for first: how the file is hardened, which libraries it needs, and its build id.
+function glance(file) {
   const entries = (tag) => file.named.filter((it) => it.tag === tag);
   const needed = entries(names.NEEDED);
   const others = [["Own name", 14n], ["Run path", 29n], ["Old run path", 15n]].filter(([, tag]) => entries(tag).length)
     .map(([name, tag]) => [name, entries(tag).map(textOrRefusal)]);
   const list = element("ul", { class: "libraries" }, needed.map((it) => element("li", {}, textOrRefusal(it))));
-  const none = file.namedRefused ? refusalNode(file.namedRefused) : element("p", { class: "hint" }, "None.");
-  return card("Libraries needed", needed.length ? list : none, others.length ? facts(others) : null);
-}
-
-function hardening(file) {
-  const rows = hardeningOf(file);
-  return rows.length ? card("How it is hardened", facts(rows)) : null;
+  const noLibraries = file.namedRefused ? refusalNode(file.namedRefused) : "none";
+  const noId = file.notesRefused.length ? refusalNode(file.notesRefused[0].refused) : "none";
+  const hardened = hardeningOf(file).map(([name, value]) => element("div", {}, element("dt", {}, name), element("dd", {}, value)));
+  return element("section", { class: "card wide first", "aria-label": "At a glance" },
+    hardened.length ? element("dl", { class: "hardened" }, hardened) : null,
+    facts([["Libraries needed", needed.length ? list : noLibraries], ...others,
+      ["Build id", file.buildId ? element("code", { class: "id" }, hexBytes(file.buildId)) : noId]]));
 }
 
 // What the checks of all sections or segments say.
@@ -84,15 +84,17 @@ function refusedList(file) {
     file.sections.map((it) => it.nameRefused && !file.namesRefused && [`Name of section ${it.index}`, it.nameRefused]),
     file.sections.map((it) => hasData(it) && it.dataRefused && [`Data of ${sectionWords(it)}`, it.dataRefused]),
     file.segments.map((it) => it.dataRefused && [`Data of segment ${it.index}`, it.dataRefused]),
-    [...file.symbolTables, ...file.relocationTables, ...file.dynamicTables].map(({ section, refused }) =>
-      refused && [`Records of ${sectionWords(section)}`, refused]),
+    [...file.symbolTables, ...file.relocationTables, ...file.dynamicTables.filter(({ section }) => section.index !== null)]
+      .map(({ section, refused }) => refused && [`Records of ${sectionWords(section)}`, refused]),
     [file.namedRefused && ["Entries of the dynamic segment", file.namedRefused]],
+    [file.versions.refused && ["Versions", file.versions.refused]],
     file.notesRefused.map(({ place, refused }) => [`Notes of ${escaped(place)}`, refused]),
   ];
   return lists.flat().filter(Boolean);
 }
 
 function sectionWords({ index, name }) {
+  if (index === null || index < 0) return escaped(name);
   return name ? `section ${index}, ${escaped(name)}` : `section ${index}`;
 }
 
@@ -133,6 +135,6 @@ function headerTable(file, show) {
 }
 
 export function overviewPanel(file, show) {
-  const cards = [identity(file), needs(file), hardening(file), checks(file), refused(file), layoutFacts(file), headerTable(file, show)].filter(Boolean);
+  const cards = [glance(file), identity(file), checks(file), refused(file), layoutFacts(file), headerTable(file, show)];
   return { node: element("div", { class: "panel" }, element("h2", { class: "hidden" }, "Overview"), element("div", { class: "scroll" }, element("div", { class: "overview" }, cards))) };
 }

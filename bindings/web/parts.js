@@ -54,12 +54,17 @@ function segmentPart(segment, { size, header: { machine } }) {
 const byStart = (one, other) => one.start - other.start || other.end - one.end;
 const hasBytes = (part) => part.end > part.start;
 
-/** The parts with bytes, segments with bytes, gaps and overlaps of a file, each in order. */
+/**
+ * The parts with bytes, segments with bytes, gaps and overlaps of a file, each in order; and the tables of the dynamic segment,
+ * which are the parts of a file without sections.
+ */
 export function partsOf(file) {
-  const sections = file.sections.map((section) => sectionPart(section, file.size));
+  const partOf = (section) => sectionPart(section, file.size);
+  const addedParts = file.added.map(partOf).filter(hasBytes);
+  const sections = file.sections.length ? file.sections.map(partOf) : addedParts;
   const parts = [...tableParts(file), ...sections].filter(hasBytes).sort(byStart);
   const segmentParts = file.segments.map((segment) => segmentPart(segment, file)).filter(hasBytes).sort(byStart);
-  return { parts, segmentParts, ...coverage(parts, file.size) };
+  return { parts, segmentParts, addedParts, ...coverage(parts, file.size) };
 }
 
 // Ranges that no part covers and ranges that more than one does, in one pass over where parts begin and end.

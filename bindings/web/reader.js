@@ -2,6 +2,7 @@
 //
 // The file lies in the module's memory, behind room for one record of each sort, for a batch of records and for
 // the bytes of a name. How records lie in memory and which parameters a function has comes from records.js.
+// Section headers that are added lie behind the file: a call whose `section` is below 0 reads them, -1 the first.
 import { FUNCTIONS, LONGEST_MESSAGE, RECORDS, STATUS } from "./records.js";
 
 export { STATUS };
@@ -13,7 +14,7 @@ export const LONGEST_NAME = 65536;
 
 const PAGE = 65536;
 const WIDEST = Math.max(...Object.values(RECORDS).map((record) => record.size));
-const ROOMS = { header: WIDEST, part: WIDEST, out: BATCH * WIDEST, count: 8, message: LONGEST_MESSAGE, name: LONGEST_NAME };
+const ROOMS = { header: WIDEST, added: WIDEST, part: WIDEST, out: BATCH * WIDEST, count: 8, message: LONGEST_MESSAGE, name: LONGEST_NAME };
 
 /** The file is larger than the memory that the browser gives the module. */
 export class DoesNotFit extends Error {}
@@ -69,7 +70,10 @@ export class Reader {
   }
 
   argument(parameter, given) {
+    if (given.section < 0) return this.argument(parameter, { ...given, section: -1 - given.section, isAdded: true });
     const { name, pointer, wide } = parameter;
+    if (given.isAdded && name === "header") return BigInt(this.places.added);
+    if (given.isAdded && name === "input_size") return BigInt(this.addedEnd);
     if (name === "part") this.write("range", this.places.part, given.part);
     if (pointer) return BigInt(this.places[name]);
     if (name === "input_size") return BigInt(this.size);
@@ -98,6 +102,29 @@ export class Reader {
     const { out, header } = this.places;
     if (opened.record) new Uint8Array(this.memory.buffer).copyWithin(header, out, out + RECORDS.header.size);
     return opened;
+  }
+
+  /** Adds section headers, each with a value for the members of these fields, in the place of those added before. */
+  addSections(sections, { fields, size }) {
+    const start = Math.ceil(this.size / 16) * 16;
+    this.addedEnd = start + sections.length * size;
+    this.grow(this.places.input + this.addedEnd);
+    const { header, added, input } = this.places;
+    new Uint8Array(this.memory.buffer).copyWithin(added, header, header + RECORDS.header.size);
+    const isLittle = this.read("header", header).encoding !== 2;
+    const own = { sh_offset: start, sh_count: sections.length, sh_entry_size: size };
+    for (const { name, at, size: width } of RECORDS.header.members) {
+      if (name in own) this.store(added + at, width, own[name]);
+    }
+    sections.forEach((section, index) => fields.forEach(({ member, at, size: width }) =>
+      this.store(input + start + index * size + at, width, section[member], isLittle)));
+  }
+
+  // Stores a number of so many bytes.
+  store(place, size, number, isLittle = true) {
+    if (size === 8) this.view().setBigUint64(place, BigInt(number), isLittle);
+    else if (size === 4) this.view().setUint32(place, Number(number), isLittle);
+    else this.view().setUint16(place, number, isLittle);
   }
 
   /** Looks a name, which is bytes, up by a hash table: `look_up` or `gnu_look_up`. */

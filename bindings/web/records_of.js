@@ -1,6 +1,7 @@
 // Rows of the tables in sections: symbols, relocations, dynamic entries and notes, from an index on.
 import { BATCH, STATUS } from "./reader.js";
 import { rangeText, refusal, textAt } from "./survey.js";
+import { symbolVersions } from "./versions_of.js";
 
 /**
  * How many records the section has, and why it has none, where it is refused. An index is refused with NO_RECORD from
@@ -45,12 +46,13 @@ export function symbolNamesFrom(reader, { section, first }, room) {
     : reader.many("symbol_names", { section, first }, room).records;
 }
 
-/** Symbols with their names. */
-export function symbolRows(reader, { section, first, size }) {
+/** Symbols with their names, and with their versions where they are those of the dynamic segment. */
+export function symbolRows(reader, { section, first, size, versioned = false }) {
   const room = Math.min(size, BATCH);
   const symbols = symbolsFrom(reader, { section, first }, room);
   const names = symbolNamesFrom(reader, { section, first }, room);
-  return symbols.map((symbol, at) => symbolRow(reader, symbol, first + at, names[at]));
+  const versions = versioned ? symbolVersions(reader, first, room) : [];
+  return symbols.map((symbol, at) => ({ ...symbolRow(reader, symbol, first + at, names[at]), version: versions[at] ?? null }));
 }
 
 function symbolRow(reader, symbol, index, name) {
@@ -59,8 +61,8 @@ function symbolRow(reader, symbol, index, name) {
 }
 
 /** One symbol with its name. */
-export function symbolAt(reader, section, index) {
-  return symbolRows(reader, { section, first: index, size: 1 })[0] ?? null;
+export function symbolAt(reader, section, index, versioned = false) {
+  return symbolRows(reader, { section, first: index, size: 1, versioned })[0] ?? null;
 }
 
 /** Relocations, each with the symbol that it names in the section `symbols`. */

@@ -27,7 +27,6 @@ export function headerOf(reader) {
   if (!header) return { refused: refusal(reader, status) };
   const names = reader.one("names");
   const index = reader.one("names_index");
-  const buildId = reader.one("build_id");
   return {
     header,
     check: refusal(reader, reader.call("check_header")),
@@ -35,9 +34,6 @@ export function headerOf(reader) {
     names: names.record ?? null,
     namesRefused: refusal(reader, names.status),
     namesIndex: index.record ?? null,
-    buildId: buildId.record ? [...reader.bytes(buildId.record.offset, buildId.record.size)] : null,
-    buildIdRange: buildId.record ?? null,
-    buildIdRefused: refusal(reader, buildId.status),
   };
 }
 

@@ -23,17 +23,27 @@ export function symbolName(file, { text, refused, info, shndx }) {
   return section?.name ? element("span", { class: "borrowed" }, escaped(section.name)) : "";
 }
 
+// A version as it follows a symbol's name: `@@V` where it is the default of the name, and else `@V`.
+function versionOf({ version }) {
+  if (!version?.kind) return "";
+  const { name, library, kind, hidden } = version;
+  if (name.refused) return refusalNode(name.refused);
+  const title = kind === 2 ? `needed of ${escaped(library?.text ?? "")}` : hidden ? "not the default version" : "the default version";
+  return element("span", { title }, `${kind === 1 && !hidden ? "@@" : "@"}${escaped(name.text)}`);
+}
+
 function columns(file) {
   const fileClass = file.header.file_class;
   return [
-    { label: "Nr", width: "4rem", number: true, by: "index", cell: ({ index }) => `${index}` },
+    { label: "Nr", width: "3rem", number: true, by: "index", cell: ({ index }) => `${index}` },
     { label: "Value", width: fileClass === 1 ? "5rem" : "8rem", number: true, by: "value", cell: ({ value }) => address(value, fileClass) },
-    { label: "Size", width: "5rem", number: true, by: "size", cell: ({ size }) => `${size}` },
-    { label: "Type", width: "5.5rem", cell: ({ info }) => names.nameOf(names.SYMBOL_TYPES, info % 16) },
-    { label: "Binding", width: "5.5rem", cell: ({ info }) => names.nameOf(names.SYMBOL_BINDINGS, Math.floor(info / 16)) },
-    { label: "Visibility", width: "6.5rem", cell: ({ other }) => names.VISIBILITIES[other % 4] },
-    { label: "Section", width: "8rem", cell: (it) => sectionOf(file, it) },
-    { label: "Name", width: "minmax(15rem, 1fr)", cell: (it) => symbolName(file, it) },
+    { label: "Size", width: "3.5rem", number: true, by: "size", cell: ({ size }) => `${size}` },
+    { label: "Type", width: "4.5rem", cell: ({ info }) => names.nameOf(names.SYMBOL_TYPES, info % 16) },
+    { label: "Binding", width: "4.5rem", cell: ({ info }) => names.nameOf(names.SYMBOL_BINDINGS, Math.floor(info / 16)) },
+    { label: "Visibility", width: "6rem", cell: ({ other }) => names.VISIBILITIES[other % 4] },
+    { label: "Section", width: "6.5rem", cell: (it) => sectionOf(file, it) },
+    { label: "Name", width: "minmax(12rem, 1fr)", by: "text", cell: (it) => symbolName(file, it) },
+    ...(file.versions.ofSymbols ? [{ label: "Version", width: "10rem", cell: versionOf }] : []),
   ];
 }
 
@@ -99,6 +109,12 @@ export class SymbolsPanel {
     return this.find();
   }
 
+  // Whether the symbols are those of the dynamic segment, which have the versions.
+  isDynamic({ index, header }) {
+    const { dynamicValues, versions } = this.file;
+    return versions.ofSymbols && (index === null || (header.type === names.DYNSYM && header.address === dynamicValues?.get(names.SYMTAB_TAG)));
+  }
+
   showNone() {
     this.said.textContent = "The file has no table of symbols.";
     this.table.show(0, () => []);
@@ -108,16 +124,17 @@ export class SymbolsPanel {
     if (!this.current) return;
     this.asked += 1;
     const { asked, current: { section: { index: section }, count } } = this;
+    const versioned = this.isDynamic(this.current.section);
     const wanted = this.wanted();
     if (this.isAll(wanted)) {
       this.said.textContent = plural(count, "symbol");
-      this.table.show(count, (first, size) => this.client.ask("symbols", { section, first, size }));
+      this.table.show(count, (first, size) => this.client.ask("symbols", { section, first, size, versioned }));
       return;
     }
     const found = await this.client.ask("find", { section, total: count, ...wanted });
     if (asked !== this.asked) return;
     const partly = found.stopped ? `, stopped after ${grouped(found.looked)}` : "";
     this.said.textContent = `${grouped(found.count)} of ${plural(count, "symbol")}${partly}`;
-    this.table.show(found.count, (first, size) => this.client.ask("found", { section, first, size }));
+    this.table.show(found.count, (first, size) => this.client.ask("found", { section, first, size, versioned }));
   }
 }

@@ -6,13 +6,22 @@ import { VirtualRows } from "./virtual.js";
 const ROW_HEIGHT = 28;
 const HEAD_HEIGHT = 32;
 const PAGE = 256;
-/** A text of more letters may be cut off in its cell, and is shown as a whole at the pointer. */
+/** A text of more letters may be cut off in its cell, and is shown as a whole at the pointer. A number is never cut off. */
 const LONG = 24;
+/** The width of a digit, in pixels. */
+const DIGIT = 7.8;
+const NARROW = matchMedia("(max-width: 600px)");
 let tables = 0;
 
 // The least width of a column: its own, or the first of `minmax(..)`.
-function leastWidth({ width }) {
-  return width.match(/[\d.]+rem/)[0];
+function leastWidth(width) {
+  return width.match(/^max\(.*\)$|[\d.]+rem/)[0];
+}
+
+// The columns in their order; where there is little room, names follow the first column.
+function inOrder([first, ...others]) {
+  if (!NARROW.matches) return [first, ...others];
+  return [first, ...others.filter(({ label }) => label === "Name"), ...others.filter(({ label }) => label !== "Name")];
 }
 
 /** Has a cell show texts and nodes; a string alone is the usual case. */
@@ -30,22 +39,35 @@ export class Table {
    * @param choose is called with the row that is clicked, or on which Enter is pressed
    * @param sort is called with `by` of a column and whether it goes down
    */
-  constructor({ label, columns, choose = () => {}, sort = null, empty = "Nothing to show." }) {
-    Object.assign(this, { columns, choose, sort, empty, active: -1, chosen: -1, count: 0, sorted: null });
+  constructor({ label, columns: given, choose = () => {}, sort = null, empty = "Nothing to show." }) {
+    const columns = inOrder(given);
+    Object.assign(this, { columns, choose, sort, empty, active: -1, chosen: -1, count: 0, sorted: null, longest: columns.map(() => 0) });
     tables += 1;
     this.id = `table${tables}`;
     this.head = element("div", { class: "head", role: "row", "aria-rowindex": 1 }, columns.map((it) => this.headCell(it)));
     this.node = element("div", { class: "table", role: "grid", tabindex: 0, "aria-label": label,
       onkeydown: (event) => this.key(event), onfocus: () => this.focused() }, this.head);
-    this.node.style.setProperty("--columns", columns.map((it) => it.width).join(" "));
-    this.node.style.setProperty("--least", `calc(${columns.map((it) => leastWidth(it)).join(" + ")} + ${columns.length * 14 + 26}px)`);
+    this.setWidths();
     this.message = element("p", { class: "empty" }, empty);
     this.rows = new VirtualRows({ scroller: this.node, rowHeight: ROW_HEIGHT, headHeight: HEAD_HEIGHT,
       make: () => this.rowNode(), fill: (node, index) => this.fill(node, index) });
   }
 
+  // Columns of numbers are as wide as the longest number that was shown.
+  setWidths() {
+    const widths = this.columns.map(({ width }, at) => (this.longest[at] ? `max(${width}, ${Math.ceil(this.longest[at] * DIGIT)}px)` : width));
+    this.node.style.setProperty("--columns", widths.join(" "));
+    this.node.style.setProperty("--least", `calc(${widths.map(leastWidth).join(" + ")} + ${widths.length * 14 + 26}px)`);
+  }
+
+  makeRoom(cells) {
+    const before = this.longest.join();
+    this.longest = this.longest.map((longest, at) => (this.columns[at].number ? Math.max(longest, cells[at].textContent.length) : 0));
+    if (this.longest.join() !== before) this.setWidths();
+  }
+
   headCell({ label, by, number, title }) {
-    const text = by && this.sort ? element("button", { type: "button", tabindex: -1 }, label) : label;
+    const text = by && this.sort ? element("button", { type: "button" }, label) : label;
     const cell = element("div", { role: "columnheader", class: number ? "number" : null, title }, text);
     if (by && this.sort) cell.addEventListener("click", () => this.sortBy(by));
     return cell;
@@ -98,6 +120,7 @@ export class Table {
     node.classList.toggle("active", index === this.active);
     node.classList.toggle("waiting", !row);
     this.columns.forEach(({ cell }, at) => put(node.children[at], row ? cell(row) : ""));
+    if (row) this.makeRoom(node.children);
   }
 
   chooseAt(index) {
@@ -122,7 +145,7 @@ export class Table {
     const page = this.rows.visible - 1;
     const moves = { ArrowDown: this.active + 1, ArrowUp: this.active - 1, PageDown: this.active + page,
       PageUp: this.active - page, Home: 0, End: this.count - 1 };
-    if (!this.count || event.ctrlKey || event.altKey || event.metaKey) return;
+    if (!this.count || event.target !== this.node || event.ctrlKey || event.altKey || event.metaKey) return;
     if (event.key in moves) this.moveTo(moves[event.key]);
     else if ((event.key === "Enter" || event.key === " ") && this.active >= 0) this.chooseAt(this.active);
     else return;

@@ -1,10 +1,12 @@
 // The list of tabs, for the keyboard too: arrows move, Home and End go to the ends. A panel is made when it is first shown.
+// A tab that is clicked is a step for Back; one that the keyboard goes over is none.
 import { element } from "./dom.js";
 import { grouped } from "./text.js";
 
 export class Tabs {
-  constructor(list, panels) {
-    Object.assign(this, { list, panels, tabs: [], current: "Overview" });
+  /** @param chosen is called with the title of a tab, and whether it was clicked */
+  constructor(list, panels, chosen = () => {}) {
+    Object.assign(this, { list, panels, chosen, tabs: [], current: "Overview" });
     list.addEventListener("keydown", (event) => this.key(event));
   }
 
@@ -20,7 +22,12 @@ export class Tabs {
     const id = title.toLowerCase().replaceAll(" ", "");
     const number = count === null ? null : element("span", { class: "count" }, grouped(count));
     return element("button", { type: "button", role: "tab", id: `tab-${id}`, class: count === 0 ? "none" : null,
-      onclick: () => this.show(this.tabs.find((it) => it.title === title)) }, element("span", {}, title), number);
+      onclick: () => this.choose(title, true) }, element("span", {}, title), number);
+  }
+
+  choose(title, isClick) {
+    this.show(this.tabs.find((it) => it.title === title) ?? this.tabs[0]);
+    this.chosen(this.current, isClick);
   }
 
   show(shown) {
@@ -32,6 +39,7 @@ export class Tabs {
       tab.button.tabIndex = isShown ? 0 : -1;
       if (tab.made) tab.made.holder.hidden = !isShown;
     }
+    shown.button.scrollIntoView({ block: "nearest", inline: "nearest" });
     shown.made.shown?.();
   }
 
@@ -51,7 +59,7 @@ export class Tabs {
     if (!(event.key in moves)) return;
     event.preventDefault();
     const next = this.tabs[Math.max(0, Math.min(moves[event.key], last))];
-    this.show(next);
+    this.choose(next.title, false);
     next.button.focus();
   }
 }

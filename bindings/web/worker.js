@@ -6,7 +6,9 @@ import { count, countDynamicSymbols, dynamicRows, dynamicTexts, lookUp, noteRows
   symbolRows } from "./records_of.js";
 import { DoesNotFit, Reader } from "./reader.js";
 import { findSymbols, foundRows } from "./filter.js";
+import { segmentTables } from "./segment_tables.js";
 import { Turns } from "./turns.js";
+import { versionsOf } from "./versions_of.js";
 import { headerOf, notesOf, sectionsOf, segmentsOf, textAt } from "./survey.js";
 
 const PIECE = 4 * 1024 * 1024;
@@ -58,6 +60,8 @@ const calls = {
   symbols: (given) => symbolRows(reader, given),
   countDynamicSymbols: () => countDynamicSymbols(reader),
   dynamicTexts: (given) => dynamicTexts(reader, given),
+  segmentTables: (given) => segmentTables(reader, given),
+  versions: () => versionsOf(reader),
   relocations: (given) => relocationRows(reader, given),
   packed: (given) => packedRows(reader, given),
   dynamic: (given) => dynamicRows(reader, given),

@@ -14,6 +14,9 @@ fi
 mkdir "$room/work"
 cp -r "$dist" "$room/work/dist"
 
+# The name of the wheel says which C libraries it runs with.
+compgen -G "$room/work/dist/python/*-manylinux_*.whl" > /dev/null || { echo "the wheel isn't named for manylinux" >&2; exit 1; }
+
 # The compilers alone: those of the system, and cargo's own folder, as a toolchain has it.
 toolchain="$(dirname "$(rustc --print sysroot)/bin/cargo")"
 path="$toolchain:/usr/bin:/bin"

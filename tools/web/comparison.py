@@ -67,8 +67,11 @@ def compare_tables(test, path, tab, label, wanted, form):
             test.same(f"{path}: {tab} {index} of {name}", form(row, listed), listed)
 
 
-def symbol_form(row, _=None):
-    return [*row[:6], readelf.plain(row[7])]
+def symbol_form(row, wanted):
+    """Number, value, size, type, binding, visibility and name, and the version of a dynamic symbol. The symbols that name a
+    version have none by readelf."""
+    version = "" if len(row) < 9 or row[6] == "ABS" and row[8] == f"@@{row[7]}" else row[8]
+    return [*row[:6], readelf.plain(row[7]), version][:len(wanted or []) or 7]
 
 
 def relocation_form(row, wanted):
@@ -91,6 +94,12 @@ def compare_dynamic(test, path):
             test.same(f"{path}: text of dynamic entry {index}", shown[4], text)
 
 
+def compare_versions(test, path):
+    test.tab("Versions")
+    _, rows = test.rows()
+    test.same(f"{path}: versions", [row[:5] for _, row in sorted(rows.items())], readelf.versions(path))
+
+
 def compare_notes(test, path):
     test.tab("Notes")
     _, rows = test.rows()
@@ -107,6 +116,7 @@ def compare_file(test, path, drops=False):
     compare_tables(test, path, "Symbols", "Table", readelf.symbols(path), symbol_form)
     wide = readelf.header(path)["Class"] == "ELF64"
     compare_tables(test, path, "Relocations", "Section", readelf.relocations(path, wide), relocation_form)
+    compare_dynamic(test, path)
     if readelf.sections(path):
-        compare_dynamic(test, path)
+        compare_versions(test, path)
     compare_notes(test, path)

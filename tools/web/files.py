@@ -45,20 +45,39 @@ def cut_file(room, path, size):
     return cut
 
 
-def checked(room):
-    """A whole file, and one with faults in the header, in sections 3 and 4 and in segments 0 and 1."""
-    layout, whole = damage.Layout(True, "little"), damage.worked(True, "little", only=(".strtab", ".symtab", ".text", ".comment"))
-    sections, segments = layout.get(whole, 0, layout.header["shoff"]), layout.header_size
-    faults = [(0, layout.header["ehsize"], 0), (sections + 3 * layout.section_size, layout.section["type"], 12),
-              (sections + 4 * layout.section_size, layout.section["offset"], 1 << 40), (segments, layout.segment["vaddr"], 4),
-              (segments + layout.segment_size, layout.segment["offset"], 1 << 40)]
-    damaged = bytearray(whole)
-    for fault in faults:
-        layout.put(damaged, *fault)
-    paths = room / "whole.elf", room / "faults.elf"
-    for path, data in zip(paths, (whole, damaged)):
-        path.write_bytes(data)
-    return paths
+def without_sections(room, path):
+    """A file without its section headers."""
+    data = bytearray(path.read_bytes())
+    layout = damage.Layout(data[4] == 2, "big" if data[5] == 2 else "little")
+    for name in ("shoff", "shnum", "shstrndx"):
+        layout.put(data, 0, layout.header[name], 0)
+    bare = room / f"bare-{path.name}"
+    bare.write_bytes(data)
+    return bare
+
+
+def refused_symbols(room, path):
+    """A file whose dynamic symbols are no section's: their section goes past the end of the file."""
+    layout, data = damage.Layout(True, "little"), bytearray(path.read_bytes())
+    sections, count = (layout.get(data, 0, layout.header[name]) for name in ("shoff", "shnum"))
+    for header in range(sections, sections + count * layout.section_size, layout.section_size):
+        if layout.get(data, header, layout.section["type"]) == 11:
+            layout.put(data, header, layout.section["offset"], 1 << 40)
+    refused = room / f"refused-{path.name}"
+    refused.write_bytes(data)
+    return refused
+
+
+def wide_numbers(room, path):
+    """An example whose section 14 and segment 6 have the greatest numbers in all their fields but the type."""
+    layout, data = damage.Layout(True, "little"), bytearray(path.read_bytes())
+    sections = layout.get(data, 0, layout.header["shoff"])
+    for base, fields in ((sections + 14 * layout.section_size, layout.section), (64 + 6 * layout.segment_size, layout.segment)):
+        for name in set(fields) - {"type", "name"}:
+            layout.put(data, base, fields[name], 2**64 - 1)
+    wide = room / "wide-numbers.elf"
+    wide.write_bytes(data)
+    return wide
 
 
 def slow_table(room):

@@ -24,7 +24,7 @@ sys.path.insert(1, str(pathlib.Path(__file__).resolve().parents[1]))
 import files
 import readelf
 from compare import damage
-from comparison import compare_file, compare_segments
+from comparison import compare_file, compare_segments, compare_tables, symbol_form
 
 try:
     from chromium import Chromium
@@ -34,7 +34,8 @@ except ImportError as missing:
 TOP = pathlib.Path(__file__).resolve().parents[2]
 MOST_ROWS = 800
 SIZE = (1440, 2400)
-TABS = ("Overview", "Layout", "Sections", "Segments", "Symbols", "Relocations", "Dynamic", "Notes", "Hash tables")
+LIBRARIES = pathlib.Path("/usr/lib/x86_64-linux-gnu")
+TABS = ("Overview", "Layout", "Sections", "Segments", "Symbols", "Versions", "Relocations", "Dynamic", "Notes", "Hash tables")
 
 # Texts in view whose contrast with what is behind them is below 4.5, as the accessibility guidelines ask for.
 CONTRAST = """
@@ -186,7 +187,11 @@ def is_elf(path):
 
 def try_comparison(test, options, room):
     """Files of the system and of other machines, of both classes and byte orders, compared with readelf."""
-    paths = [*system_files(options.files), *files.of_other_machines(room)]
+    others = files.of_other_machines(room)
+    libraries = [LIBRARIES / "libc.so.6", LIBRARIES / "libm.so.6", *(it for it in others if it.suffix == ".so")]
+    bare = [files.without_sections(room, it) for it in libraries]
+    stored = [TOP / "crates/elfsym/data" / it for it in ("versions.so", "needs.so")]
+    paths = [options.site / "example.elf", *stored, *bare, *system_files(options.files), *others]
     for index, path in enumerate(paths):
         compare_file(test, path, drops=index % 10 == 0)
     headers = [readelf.header(path) for path in paths]
@@ -231,7 +236,7 @@ def try_damaged(test, options, room):
 # What the Overview says of the checks; the labels of the columns of the table in view.
 CHECKS = """
 (() => {
-  const card = Array.from(document.querySelectorAll(".card")).find((it) => it.querySelector("h3").textContent === "What the checks say");
+  const card = Array.from(document.querySelectorAll(".card")).find((it) => it.querySelector("h3")?.textContent === "What the checks say");
   return Array.from(card.querySelectorAll("dt"), (it) => `${it.textContent}: ${it.nextElementSibling.textContent}`);
 })()
 """
@@ -245,47 +250,115 @@ def said_of(test, tab, label):
     return {index: row[labels.index(label)] for index, row in rows.items()} if label in labels else {}
 
 
-def try_checks(test, options, room):
-    """What the checks of the header, of each section and of each segment say of a whole file, and of one with faults."""
-    size, kind, end = "header_size does not match size of header", "Invalid sh type", "entry point out of range"
-    align, none, outside = "Invalid combination of virtual_addr, offset, and align", "Attempt to get data of a null header", "Data is out of range"
-    rows = lambda text: lambda count, faults: {**dict.fromkeys(range(count), text), **faults}
-    passing, silent = rows("passes"), rows("")
-    wanted = [(["Header: passes", "Sections: passes", "Segments: passes"], passing(6, {}), {}, passing(7, {}), silent(7, {4: none})),
-              ([f"Header: {size}", f"Sections: {kind} at section 3", f"Segments: {align} at segment 0, and 1 more"],
-               passing(6, {3: kind}), silent(6, {3: kind, 4: outside}), passing(7, {0: align, 1: end}), silent(7, {1: outside, 4: none}))]
-    for path, (checks, *columns) in zip(files.checked(room), wanted):
-        test.open(path)
-        test.tab("Overview")
-        test.same(f"{path}: checks", test.page.run(CHECKS), checks)
-        shown = [said_of(test, tab, label) for tab in ("Sections", "Segments") for label in ("Check", "Data")]
-        test.same(f"{path}: checks and data of sections and segments", shown, columns)
-
-
 def try_hardening(test, options, room):
     """What the overview says of how a file is hardened, for programs linked in several ways and shared objects."""
     import hardening
 
-    card = CHECKS.replace("What the checks say", "How it is hardened").replace("Array.from(card.", "!card ? [] : Array.from(card.")
-    libraries = [pathlib.Path("/usr/lib/x86_64-linux-gnu") / it for it in ("libc.so.6", "libz.so.1")]
-    for path in (*hardening.programs(room), *(it for it in libraries if it.exists())):
+    shown = "Array.from(document.querySelectorAll('.hardened dt'), (it) => `${it.textContent}: ${it.nextElementSibling.textContent}`)"
+    programs = list(hardening.programs(room))
+    libraries = [it for it in (LIBRARIES / "libc.so.6", LIBRARIES / "libz.so.1") if it.exists()]
+    bare = [files.without_sections(room, it) for it in programs[:-1]]
+    for path in (*programs, *libraries, *bare):
         test.open(path)
         test.tab("Overview")
-        test.same(f"{path}: hardening", test.page.run(card), hardening.said_of(path))
+        test.same(f"{path}: hardening", test.page.run(shown), hardening.said_of(path))
 
 
-def try_packed_relocations(test, options, room):
-    """A section of type RELR passes its check, and nothing of it is an error."""
-    path = room / "packed.elf"
-    (room / "packed.c").write_text("int a; int *p[200] = {&a, 0, &a, [9] = &a, [150] = &a}; int main(void) { return 0; }\n")
-    subprocess.run(["gcc", room / "packed.c", "-o", path, "-Wl,-z,pack-relative-relocs"], check=True)
+def try_refused_symbols(test, options, room):
+    """Where a section of dynamic symbols is refused, those of the dynamic segment are shown."""
+    whole = LIBRARIES / "libm.so.6"
+    path = files.refused_symbols(room, whole)
     test.open(path)
+    compare_tables(test, path, "Symbols", "Table", {"the dynamic segment": readelf.symbols(whole)[".dynsym"]}, symbol_form)
+
+
+def try_examples(test, options):
+    """The example without faults has none, by the page and by readelf. Of the other the page says what is wrong with the header,
+    with each section and each segment, and with the hash table."""
+    size, kind, end = "header_size does not match size of header", "Invalid sh type", "entry point out of range"
+    align, outside = "Invalid combination of virtual_addr, offset, and align", "Data is out of range"
+    rows = lambda count, faults: {**dict.fromkeys(range(count), "passes"), **faults}
+    silent = lambda count, faults: {**dict.fromkeys(range(count), ""), **faults}
+    wanted = {"example.elf": [["Header: passes", "Sections: passes", "Segments: passes", "Hash table .hash: passes its check"],
+                              rows(19, {}), {}, rows(8, {}), {}],
+              "example-with-faults.elf": [[f"Header: {size}", f"Sections: {kind} at section 15", f"Segments: {end} at segment 5, and 1 more",
+                                           "Hash table .hash: Chain index is out of range"],
+                                          rows(19, {15: kind}), silent(19, {11: outside, 15: kind}), rows(8, {5: end, 7: align}), silent(8, {5: outside})]}
+    for name, said in wanted.items():
+        test.page.run("document.querySelector('.brand')?.click(); document.body.dataset.state = 'waiting'")
+        test.page.run(f"document.querySelector('[data-example=\"{name}\"]').click()")
+        test.page.wait("document.body.dataset.state === 'ready' && !document.querySelector('.overview .pending')")
+        test.tab("Overview")
+        test.same(f"{name}: errors in the overview", test.page.run("document.querySelector('.overview .refusal') !== null"), name != "example.elf")
+        columns = [said_of(test, tab, label) for tab in ("Sections", "Segments") for label in ("Check", "Data")]
+        test.same(f"{name}: checks, and those of sections and segments with their data", [test.page.run(CHECKS), *columns], said)
+        printed = subprocess.run(["readelf", "--all", "--wide", options.site / name], capture_output=True).stderr
+        test.same(f"{name}: errors by readelf", bool(printed), name != "example.elf")
+
+
+def try_back(test, options):
+    """Back and Forward lead through the views and files that were opened, and not out of the page."""
+    test.open(options.site / "example.elf")
     test.tab("Overview")
-    test.same(f"{path}: sections", "Sections: passes" in test.page.run(CHECKS), True)
-    test.same(f"{path}: data", "Data of" in test.page.run("document.querySelector('.overview').textContent"), False)
-    test.tab("Sections")
-    labels, (_, rows) = test.page.run(LABELS), test.rows()
-    test.same(f"{path}: type", any("RELR" in row for row in rows.values()) and "Type" in labels, True)
+    test.page.run("document.querySelector('.brand').click()")
+    for path, tab in ((TOP / "crates/elfnm/data/add.o", "Symbols"), (options.site / "example.elf", "Notes")):
+        test.open(path)
+        test.tab(tab)
+    seen = """[document.body.dataset.view, document.getElementById('filename').textContent,
+      document.querySelector('[role=tab][aria-selected=true] span').textContent, document.body.dataset.state].join(' ')"""
+    steps = [("back", "viewer example.elf Symbols"), ("back", "viewer add.o Symbols"), ("back", "viewer add.o Overview"),
+             ("back", "welcome add.o Overview"), ("forward", "viewer add.o Overview"), ("forward", "viewer add.o Symbols")]
+    for step, wanted in steps:
+        test.page.run(f"history.{step}()")
+        test.page.wait(f"{seen} === '{wanted} ready'", 10)
+        test.compared += 1
+
+
+def try_sorting(test, options):
+    """Symbols are sorted by their names, by the keyboard alone."""
+    path = LIBRARIES / "libm.so.6"
+    wanted = sorted(it[6] for it in readelf.symbols(path)[".dynsym"])
+    test.open(path)
+    test.tab("Symbols")
+    test.page.run("Array.from(document.querySelectorAll('[role=tabpanel]:not([hidden]) select')).at(-1).focus()")
+    for _ in range(5):
+        test.page.key("Tab")
+    test.same("the fifth stop after the filter", test.page.run("document.activeElement.textContent"), "Name")
+    for order, names in (("ascending", wanted), ("descending", wanted[::-1])):
+        test.page.key("Enter")
+        test.page.wait(f"document.querySelector('[aria-sort={order}]') && / of /.test(document.querySelector('[role=tabpanel]:not([hidden]) .said').textContent)")
+        time.sleep(0.3)
+        _, rows = test.rows()
+        test.same(f"names {order}", {at: row[7] for at, row in rows.items()}, {at: names[at] for at in rows})
+
+
+# Numbers that are cut off in their places, and whether the page is wider than the window.
+CUT = """
+(() => {
+  const isCut = (it) => it.checkVisibility() && it.scrollWidth > it.clientWidth + 1 && getComputedStyle(it).overflowX !== "auto";
+  const cut = Array.from(document.querySelectorAll(".number, .count, dd, td, .hextitle span, #filesize")).filter(isCut);
+  return [...cut.map((it) => it.textContent), ...(document.documentElement.scrollWidth > innerWidth ? ["the page"] : [])];
+})()
+"""
+
+
+# Whether the build id, the last of what people look for, is in view.
+FIRST = """document.querySelector(".id").getBoundingClientRect().bottom < document.getElementById("panels").getBoundingClientRect().bottom"""
+
+
+def try_narrow(test, options, room):
+    """In 400 pixels all views fit, and in any width no number is cut off."""
+    for width in (400, 1280):
+        test.page.resize(width, 800)
+        for path in (files.wide_numbers(room, options.site / "example.elf"), LIBRARIES / "libc.so.6"):
+            test.open(path)
+            for tab in TABS:
+                test.tab(tab)
+                time.sleep(0.2)
+                if tab == "Overview":
+                    test.same(f"{path}: what people look for is in the first view, {width} pixels wide", test.page.run(FIRST), True)
+                test.same(f"{path}: cut off in {tab}, {width} pixels wide", test.page.run(CUT), [])
+    test.page.resize(*SIZE)
 
 
 def try_cut(test, options, room):
@@ -357,8 +430,7 @@ def unnamed(page):
 
 def try_screen_reader(test, options):
     """Whatever a screen reader meets in a view has a name, and refers to what is there."""
-    test.page.run("document.body.dataset.state = 'left'; document.querySelector('.brand').click()")
-    test.page.wait("document.body?.dataset.state === 'ready'")
+    test.page.run("document.querySelector('.brand').click()")
     test.same("without a name before a file is opened", unnamed(test.page), [])
     test.open(options.site / "example.elf")
     for tab in TABS:

@@ -23,10 +23,19 @@ sources() {
     { cat crates.txt; find "${uses[@]/#/crates/}" -path '*/out' -prune -o \( -name '*.rt' -o -name '*.antt' \) -print0 | sort -z | xargs -0 cat; } | sha256sum
 }
 
-# crates.txt builds `elf_c` for x86-64. The module is built of a copy of the sources, whose line says wasm64; the copy begins
-# with what was proved here.
+# Whether it ends by itself or is stopped, nothing that this script began goes on or stays.
+room="" running=""
+ended() {
+    if [ -n "$running" ]; then kill "$running" 2> /dev/null && wait "$running" || true; fi
+    if [ -n "$room" ]; then rm -rf "$room"; fi
+}
+trap ended EXIT
+for signal in HUP INT TERM; do trap 'exit 1' "$signal"; done
+
+# crates.txt builds `elf_c` for x86-64. The module is built of a copy of the sources, whose line says wasm64. What was
+# proved here is copied too: `rt` proves again only what differs from the sources.
 module() {
-    local sum tree
+    local sum crate part
     sum="$(sources)"
     if [ -f "$web/out/elf_c.wasm" ] && [ "$sum" = "$(cat "$web/out/sum" 2> /dev/null)" ]; then return; fi
     if ! command -v rt > /dev/null; then
@@ -34,20 +43,25 @@ module() {
         echo "web: or set XMAS_ELF_MODULE to a file elf_c.wasm" >&2
         exit 1
     fi
-    tree="$(mktemp -d)"
-    trap 'rm -rf "$tree"' RETURN
-    cp HANDLES "$tree/"
-    sed -E -n "/^($(IFS='|'; echo "${uses[*]}"))[ :]/p" crates.txt | sed 's/^elf_c staticlib:/elf_c wasm64:/' > "$tree/crates.txt"
+    room="$(mktemp -d)"
+    cp HANDLES "$room/"
+    sed -E -n "/^($(IFS='|'; echo "${uses[*]}"))[ :]/p" crates.txt | sed 's/^elf_c staticlib:/elf_c wasm64:/' > "$room/crates.txt"
     for crate in "${uses[@]}"; do
-        mkdir -p "$tree/crates/$crate"
-        for part in src specs proofs; do
-            if [ -d "crates/$crate/$part" ]; then cp -r "crates/$crate/$part" "$tree/crates/$crate/"; fi
+        mkdir -p "$room/crates/$crate/out"
+        for part in src specs proofs out/rlib; do
+            if [ -d "crates/$crate/$part" ]; then cp -a "crates/$crate/$part" "$room/crates/$crate/$(dirname "$part")/"; fi
         done
     done
+    if [ -d crates/elf_c/out/incremental ]; then cp -a crates/elf_c/out/incremental "$room/crates/elf_c/out/"; fi
     echo "web: builds the module, which proves what of elf_c and below it isn't proved yet; its log is $web/out/log"
-    (cd "$tree/crates/elf_c" && rt lib) > "$web/out/log" 2>&1 || { tail -n 20 "$web/out/log" >&2; exit 1; }
-    cp "$tree/crates/elf_c/out/elf_c.wasm" "$web/out/elf_c.wasm"
+    (cd "$room/crates/elf_c" && exec rt lib) > "$web/out/log" 2>&1 &
+    running=$!
+    wait "$running" || { tail -n 20 "$web/out/log" >&2; exit 1; }
+    running=""
+    cp "$room/crates/elf_c/out/elf_c.wasm" "$web/out/elf_c.wasm"
     echo "$sum" > "$web/out/sum"
+    rm -rf "$room"
+    room=""
 }
 
 if [ "$does" = test ]; then
@@ -67,19 +81,15 @@ mkdir -p "$site"
 cp "$web"/*.html "$web"/*.css "$web"/*.js "$web"/*.svg "$site/"
 cp "$XMAS_ELF_MODULE" "$site/elf_c.wasm"
 tools/web/records.py "$site/records.js"
-python3 - "$site/example.elf" << 'END'
-import pathlib
-import sys
-sys.path.insert(0, "tools")
-from compare import damage
-pathlib.Path(sys.argv[1]).write_bytes(damage.worked(True, "little"))
-END
+tools/web/example.py "$site"
 echo "web: $site"
 if [ "$does" = test ]; then
     /usr/bin/python3 tools/web/page.py
 elif [ "$does" = serve ]; then
     echo "web: http://127.0.0.1:$port (stop with Ctrl-C)"
-    python3 -m http.server --bind 127.0.0.1 --directory "$site" "$port" > /dev/null 2> "$web/out/served" || {
+    python3 -m http.server --bind 127.0.0.1 --directory "$site" "$port" > /dev/null 2> "$web/out/served" &
+    running=$!
+    wait "$running" || {
         echo "web: port $port can't be served: $(tail -n 1 "$web/out/served"). Another is taken by --port N" >&2
         exit 1
     }
