@@ -2,42 +2,40 @@
 import re
 import subprocess
 
-SECTION = re.compile(r"\s*\[ *(\d+)\] (.*?) *(\S+) +([0-9a-f]{8,16}) ([0-9a-f]{6,}) ([0-9a-f]{6,}) ([0-9a-f]{2,}) +([A-Za-z]*) +(\d+) +(\d+) +(\d+)$")
-SEGMENT = re.compile(r"  (\S+) +(0x[0-9a-f]+) (0x[0-9a-f]+) (0x[0-9a-f]+) (0x[0-9a-f]+) (0x[0-9a-f]+) ([RWE ]{3}) (\S+)$")
-HELD = re.compile(r"   (\d\d+) +(.*)$")
+SECTION = re.compile(r"^ *\[ *(\d+)\] (.*?) *(\S+) +([0-9a-f]{8,16}) ([0-9a-f]{6,}) ([0-9a-f]{6,}) ([0-9a-f]{2,}) +([A-Za-z]*) +(\d+) +(\d+) +(\d+)$", re.M)
+SEGMENT = re.compile(r"^  (\S+) +(0x[0-9a-f]+) (0x[0-9a-f]+) (0x[0-9a-f]+) (0x[0-9a-f]+) (0x[0-9a-f]+) ([RWE ]{3}) (\S+)$", re.M)
+HELD = re.compile(r"^   (\d\d+) +(.*)$", re.M)
 SYMBOL = re.compile(r" *(\d+): ([0-9a-f]+) +(0x[0-9a-f]+|\d+) (\S+) +(\S+) +(\S+)(?: +\[.*?\])? +(\S+) ?(.*)$")
 RELOCATION = re.compile(r"([0-9a-f]{8,16}) +([0-9a-f]{8,16}) (\S+) *(.*)$")
 PACKED = re.compile(r"([0-9a-f]{8,16})$")
-DYNAMIC = re.compile(r" (0x[0-9a-f]+) \((\w+)\) +(.*)$")
+DYNAMIC = re.compile(r"^ (0x[0-9a-f]+) \((\w+)\) +(.*)$", re.M)
 DEFINED = re.compile(r"  (?:0x)?[0-9a-f]+: Rev: \d+  Flags: (.*?) +Index: (\d+)  Cnt: \d+  Name: (.*)$")
 NEEDED = re.compile(r"  0x[0-9a-f]+:   Name: (.*?)  Flags: (.*?)  Version: (\d+)$")
 # The tables of the dynamic segment, by readelf's names for them.
 USED = {"RELA": "DT_RELA", "REL": "DT_REL", "PLT": "DT_JMPREL", "RELR": "DT_RELR"}
-NOTE = re.compile(r"  (\S.*?) +(0x[0-9a-f]{8})\t(.*)$")
+NOTE = re.compile(r"^  (\S.*?) +(0x[0-9a-f]{8})\t.*$", re.M)
 
 
-def lines(path, *options):
-    said = subprocess.run(["readelf", "--wide", *options, str(path)], capture_output=True, env={"LC_ALL": "C.UTF-8"})
-    return said.stdout.decode("utf-8", "surrogateescape").splitlines()
+def said(path, *options):
+    done = subprocess.run(["readelf", "--wide", *options, str(path)], capture_output=True, env={"LC_ALL": "C.UTF-8"})
+    return done.stdout.decode("utf-8", "surrogateescape")
 
 
 def header(path):
     """The numbers of the header, by the names that readelf has for them."""
-    found = dict(re.findall(r"^  ([\w' /]+?): +(.*)$", "\n".join(lines(path, "--file-header")), re.M))
-    return {name: re.sub(r" \(.*", "", text) for name, text in found.items()}
+    found = re.findall(r"^  ([\w' /]+?): +(.*)$", said(path, "--file-header"), re.M)
+    return {name: re.sub(r" \(.*", "", text) for name, text in found}
 
 
 def sections(path):
-    found = filter(None, (SECTION.match(it) for it in lines(path, "--section-headers")))
-    return [list(it.groups()) for it in found]
+    return [list(it) for it in SECTION.findall(said(path, "--section-headers"))]
 
 
 def segments(path):
     """Each segment, and the names of the sections in it."""
-    said = lines(path, "--program-headers")
-    rows = [[it.strip() for it in found.groups()] for found in map(SEGMENT.match, said) if found]
-    held = {int(found[1]): found[2].strip() for found in map(HELD.match, said) if found}
-    return [[*row, held.get(index, "")] for index, row in enumerate(rows)]
+    printed = said(path, "--program-headers")
+    held = {int(index): names.strip() for index, names in HELD.findall(printed)}
+    return [[*(it.strip() for it in row), held.get(index, "")] for index, row in enumerate(SEGMENT.findall(printed))]
 
 
 def plain(name):
@@ -52,12 +50,10 @@ def symbols(path):
     Of a file without section headers these are the symbols of the dynamic segment.
     """
     tables, rows = {}, []
-    for line in lines(path, "--syms", *([] if sections(path) else ["--use-dynamic"])):
-        begun = re.match(r"Symbol table (?:'(.*)'|for image) contains", line)
-        if begun:
+    for line in said(path, "--syms", *([] if sections(path) else ["--use-dynamic"])).split("\n"):
+        if begun := re.match(r"Symbol table (?:'(.*)'|for image) contains", line):
             rows, dynamic = tables.setdefault(begun[1] or "the dynamic segment", []), begun[1] in (None, ".dynsym")
-        found = SYMBOL.match(line)
-        if found:
+        if found := SYMBOL.match(line):
             number, value, size, kind, binding, visibility, _, name = found.groups()
             version = [re.sub(r"^[^@]*| \(\d+\)$", "", name)] if dynamic else []
             rows.append([number, value, str(int(size, 0)), kind, binding, visibility, plain(name), *version])
@@ -70,12 +66,10 @@ def relocations(path, wide):
     Of a file without section headers these are the tables of the dynamic segment.
     """
     tables, rows, shift = {}, [], 32 if wide else 8
-    for line in lines(path, "--relocs", *([] if sections(path) else ["--use-dynamic"])):
-        begun = re.match(r"Relocation section '(.*)' at offset|'(\w+)' relocation section at offset", line)
-        if begun:
+    for line in said(path, "--relocs", *([] if sections(path) else ["--use-dynamic"])).split("\n"):
+        if begun := re.match(r"Relocation section '(.*)' at offset|'(\w+)' relocation section at offset", line):
             rows = tables.setdefault(begun[1] or USED[begun[2]], [])
-        found = RELOCATION.match(line)
-        if found:
+        if found := RELOCATION.match(line):
             info, rest = int(found[2], 16), found[4]
             kind = (hex(info % (1 << shift)), found[3])
             rows.append([found[1], kind, addend(rest), str(info >> shift)])
@@ -93,34 +87,30 @@ def addend(rest):
 
 def dynamic(path):
     """Number and name of each tag, and the text that the value is."""
-    rows = []
-    for found in filter(None, map(DYNAMIC.match, lines(path, "--dynamic"))):
-        text = re.search(r"\[(.*)\]$", found[3])
-        rows.append([found[1], found[2], text[1] if text else None])
-    return rows
+    rows = ([tag, name, re.search(r"\[(.*)\]$", value)] for tag, name, value in DYNAMIC.findall(said(path, "--dynamic")))
+    return [[tag, name, text[1] if text else None] for tag, name, text in rows]
 
 
 def versions(path):
     """Number, kind, name, library and flags of each version that the file defines or needs."""
     rows, library = [], ""
-    for line in lines(path, "--version-info"):
+    for line in said(path, "--version-info").split("\n"):
         library = (re.search(r"  File: (.*)  Cnt: ", line) or ["", library])[1]
-        defined, needed = DEFINED.match(line), NEEDED.match(line)
-        if defined:
+        if defined := DEFINED.match(line):
             of = "this file itself" if "BASE" in defined[1] else ""
             rows.append([defined[2], "defined", defined[3], of, defined[1].replace("none", "")])
-        if needed:
+        if needed := NEEDED.match(line):
             rows.append([needed[3], "needed", needed[1], library, needed[2].replace("none", "")])
     return rows
 
 
 def notes(path):
-    return [[found[1], str(int(found[2], 16))] for found in map(NOTE.match, lines(path, "--notes")) if found]
+    return [[owner, str(int(size, 16))] for owner, size in NOTE.findall(said(path, "--notes"))]
 
 
 def needed(path):
-    return re.findall(r"\(NEEDED\) +Shared library: \[(.*)\]", "\n".join(lines(path, "--dynamic")))
+    return [text for _, name, text in dynamic(path) if name == "NEEDED"]
 
 
 def build_id(path):
-    return next(iter(re.findall(r"Build ID: ([0-9a-f]+)", "\n".join(lines(path, "--notes")))), None)
+    return next(iter(re.findall(r"Build ID: ([0-9a-f]+)", said(path, "--notes"))), None)
