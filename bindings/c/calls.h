@@ -17,9 +17,8 @@ union output {
     xmas_elf_note_t of_note[3];
     xmas_elf_version_t of_version[3];
     xmas_elf_found_symbol_t of_found_symbol[3];
-    xmas_elf_look_up_t of_look_up[3];
     xmas_elf_answer_t of_answer[3];
-    xmas_elf_gnu_table_t of_gnu_table[3];
+    xmas_elf_hash_table_t of_hash_table[3];
     uint8_t of_u8[3];
 };
 
@@ -65,10 +64,6 @@ static uint32_t any_section_data(const struct asked *a, union output *out)
 {
     return xmas_elf_section_data(a->bytes, a->size, &a->header, (uint64_t)a->index, &out[0].of_range[0]);
 }
-static uint32_t any_section_name(const struct asked *a, union output *out)
-{
-    return xmas_elf_section_name(a->bytes, a->size, &a->header, (uint64_t)a->index, &out[0].of_range[0]);
-}
 static uint32_t any_section_names(const struct asked *a, union output *out)
 {
     return xmas_elf_section_names(a->bytes, a->size, &a->header, (uint64_t)a->index, out[0].of_name, 3, &out[1].of_u64[0]);
@@ -80,10 +75,6 @@ static uint32_t any_names(const struct asked *a, union output *out)
 static uint32_t any_text(const struct asked *a, union output *out)
 {
     return xmas_elf_text(a->bytes, a->size, &a->part, (uint64_t)a->index, &out[0].of_range[0]);
-}
-static uint32_t any_section_text(const struct asked *a, union output *out)
-{
-    return xmas_elf_section_text(a->bytes, a->size, &a->header, (uint64_t)a->section, (uint64_t)a->index, &out[0].of_range[0]);
 }
 static uint32_t any_segment(const struct asked *a, union output *out)
 {
@@ -102,33 +93,17 @@ static uint32_t any_segment_data(const struct asked *a, union output *out)
 {
     return xmas_elf_segment_data(a->bytes, a->size, &a->header, (uint32_t)a->index, &out[0].of_range[0]);
 }
-static uint32_t any_symbol(const struct asked *a, union output *out)
-{
-    return xmas_elf_symbol(a->bytes, a->size, &a->header, (uint64_t)a->section, (uint64_t)a->index, &out[0].of_symbol[0]);
-}
 static uint32_t any_symbols(const struct asked *a, union output *out)
 {
-    return xmas_elf_symbols(a->bytes, a->size, &a->header, (uint64_t)a->section, (uint64_t)a->index, out[0].of_symbol, 3, &out[1].of_u64[0]);
+    return xmas_elf_symbols(a->bytes, a->size, &a->table, (uint64_t)a->index, out[0].of_symbol, 3, &out[1].of_u64[0]);
 }
 static uint32_t any_symbol_names(const struct asked *a, union output *out)
 {
-    return xmas_elf_symbol_names(a->bytes, a->size, &a->header, (uint64_t)a->section, (uint64_t)a->index, out[0].of_name, 3, &out[1].of_u64[0]);
+    return xmas_elf_symbol_names(a->bytes, a->size, &a->table, (uint64_t)a->index, out[0].of_name, 3, &out[1].of_u64[0]);
 }
 static uint32_t any_symbols_open(const struct asked *a, union output *out)
 {
     return xmas_elf_symbols_open(a->bytes, a->size, &a->header, (uint64_t)a->section, &out[0].of_symbol_table[0]);
-}
-static uint32_t any_symbol_of(const struct asked *a, union output *out)
-{
-    return xmas_elf_symbol_of(a->bytes, a->size, &a->table, (uint64_t)a->index, &out[0].of_symbol[0]);
-}
-static uint32_t any_symbol_name_of(const struct asked *a, union output *out)
-{
-    return xmas_elf_symbol_name_of(a->bytes, a->size, &a->table, (uint64_t)a->index, &out[0].of_range[0]);
-}
-static uint32_t any_relocation(const struct asked *a, union output *out)
-{
-    return xmas_elf_relocation(a->bytes, a->size, &a->header, (uint64_t)a->section, (uint64_t)a->index, &out[0].of_relocation[0]);
 }
 static uint32_t any_relocations(const struct asked *a, union output *out)
 {
@@ -138,10 +113,6 @@ static uint32_t any_packed_relocations(const struct asked *a, union output *out)
 {
     return xmas_elf_packed_relocations(a->bytes, a->size, &a->header, (uint64_t)a->section, (uint64_t)a->index, out[0].of_u64, 3, &out[1].of_u64[0]);
 }
-static uint32_t any_dynamic(const struct asked *a, union output *out)
-{
-    return xmas_elf_dynamic(a->bytes, a->size, &a->header, (uint64_t)a->section, (uint64_t)a->index, &out[0].of_dynamic[0]);
-}
 static uint32_t any_dynamics(const struct asked *a, union output *out)
 {
     return xmas_elf_dynamics(a->bytes, a->size, &a->header, (uint64_t)a->section, (uint64_t)a->index, out[0].of_dynamic, 3, &out[1].of_u64[0]);
@@ -150,33 +121,13 @@ static uint32_t any_note(const struct asked *a, union output *out)
 {
     return xmas_elf_note(a->bytes, a->size, &a->header, &a->part, (uint64_t)a->index, &out[0].of_note[0]);
 }
-static uint32_t any_build_id(const struct asked *a, union output *out)
-{
-    return xmas_elf_build_id(a->bytes, a->size, &a->header, &out[0].of_range[0]);
-}
 static uint32_t any_bytes_at(const struct asked *a, union output *out)
 {
     return xmas_elf_bytes_at(a->bytes, a->size, &a->header, (uint64_t)a->index, (uint64_t)a->index, &out[0].of_range[0]);
 }
-static uint32_t any_dynamic_text(const struct asked *a, union output *out)
+static uint32_t any_dynamic_texts(const struct asked *a, union output *out)
 {
-    return xmas_elf_dynamic_text(a->bytes, a->size, &a->header, (uint64_t)a->index, &out[0].of_range[0]);
-}
-static uint32_t any_needed(const struct asked *a, union output *out)
-{
-    return xmas_elf_needed(a->bytes, a->size, &a->header, (uint64_t)a->index, out[0].of_name, 3, &out[1].of_u64[0]);
-}
-static uint32_t any_dynamic_symbol_count(const struct asked *a, union output *out)
-{
-    return xmas_elf_dynamic_symbol_count(a->bytes, a->size, &a->header, &out[0].of_u64[0]);
-}
-static uint32_t any_dynamic_symbols(const struct asked *a, union output *out)
-{
-    return xmas_elf_dynamic_symbols(a->bytes, a->size, &a->header, (uint64_t)a->index, out[0].of_symbol, 3, &out[1].of_u64[0]);
-}
-static uint32_t any_dynamic_symbol_names(const struct asked *a, union output *out)
-{
-    return xmas_elf_dynamic_symbol_names(a->bytes, a->size, &a->header, (uint64_t)a->index, out[0].of_name, 3, &out[1].of_u64[0]);
+    return xmas_elf_dynamic_texts(a->bytes, a->size, &a->header, (uint64_t)a->index, (uint64_t)a->index, out[0].of_name, 3, &out[1].of_u64[0]);
 }
 static uint32_t any_dynamic_symbols_open(const struct asked *a, union output *out)
 {
@@ -198,49 +149,19 @@ static uint32_t any_find_symbol(const struct asked *a, union output *out)
 {
     return xmas_elf_find_symbol(a->bytes, a->size, &a->header, a->name, a->name_size, a->name, a->name_size, &out[0].of_found_symbol[0]);
 }
-static uint32_t any_look_up(const struct asked *a, union output *out)
-{
-    return xmas_elf_look_up(a->bytes, a->size, &a->header, (uint64_t)a->section, a->name, a->name_size, &out[0].of_look_up[0]);
-}
 static uint32_t any_look_ups(const struct asked *a, union output *out)
 {
-    (void)xmas_elf_look_ups(a->bytes, a->size, &a->header, (uint64_t)a->section, a->name, a->name_size, &a->part, 1, out[0].of_answer, 3);
+    (void)xmas_elf_look_ups(a->bytes, a->size, &a->hash, a->name, a->name_size, &a->part, 1, out[0].of_answer, 3);
     return XMAS_ELF_OK;
 }
 static uint32_t any_hash_open(const struct asked *a, union output *out)
 {
-    return xmas_elf_hash_open(a->bytes, a->size, &a->header, (uint64_t)a->section, &out[0].of_gnu_table[0]);
-}
-static uint32_t any_hash_look_up_of(const struct asked *a, union output *out)
-{
-    return xmas_elf_hash_look_up_of(a->bytes, a->size, &a->hash, a->name, a->name_size, &out[0].of_look_up[0]);
+    return xmas_elf_hash_open(a->bytes, a->size, &a->header, (uint64_t)a->section, &out[0].of_hash_table[0]);
 }
 static uint32_t any_check_hash(const struct asked *a, union output *out)
 {
     (void)out;
-    return xmas_elf_check_hash(a->bytes, a->size, &a->header, (uint64_t)a->section);
-}
-static uint32_t any_gnu_look_up(const struct asked *a, union output *out)
-{
-    return xmas_elf_gnu_look_up(a->bytes, a->size, &a->header, (uint64_t)a->section, a->name, a->name_size, &out[0].of_look_up[0]);
-}
-static uint32_t any_gnu_look_ups(const struct asked *a, union output *out)
-{
-    (void)xmas_elf_gnu_look_ups(a->bytes, a->size, &a->header, (uint64_t)a->section, a->name, a->name_size, &a->part, 1, out[0].of_answer, 3);
-    return XMAS_ELF_OK;
-}
-static uint32_t any_gnu_open(const struct asked *a, union output *out)
-{
-    return xmas_elf_gnu_open(a->bytes, a->size, &a->header, (uint64_t)a->section, &out[0].of_gnu_table[0]);
-}
-static uint32_t any_gnu_look_up_of(const struct asked *a, union output *out)
-{
-    return xmas_elf_gnu_look_up_of(a->bytes, a->size, &a->hash, a->name, a->name_size, &out[0].of_look_up[0]);
-}
-static uint32_t any_check_gnu_hash(const struct asked *a, union output *out)
-{
-    (void)out;
-    return xmas_elf_check_gnu_hash(a->bytes, a->size, &a->header, (uint64_t)a->section);
+    return xmas_elf_check_hash(a->bytes, a->size, &a->hash);
 }
 static uint32_t any_message(const struct asked *a, union output *out)
 {
@@ -264,48 +185,29 @@ static const struct any {
     {"find_section", any_find_section, {XMAS_ELF_OK, XMAS_ELF_NOT_FOUND}, 2},
     {"find_section_index", any_find_section_index, {XMAS_ELF_OK, XMAS_ELF_NOT_FOUND}, 2},
     {"section_data", any_section_data, {XMAS_ELF_OK, XMAS_ELF_SHORT_SECTION_HEADER, XMAS_ELF_UNKNOWN_CLASS, XMAS_ELF_SMALL_ENTRY, XMAS_ELF_INVALID_SH_TYPE, XMAS_ELF_NULL_DATA, XMAS_ELF_DATA_RANGE}, 7},
-    {"section_name", any_section_name, {XMAS_ELF_OK, XMAS_ELF_SHORT_SECTION_HEADER, XMAS_ELF_UNKNOWN_CLASS, XMAS_ELF_SMALL_ENTRY, XMAS_ELF_INVALID_SH_TYPE, XMAS_ELF_NULL_NAME, XMAS_ELF_RESERVED_INDEX, XMAS_ELF_SHORT_SECTION_OFFSET, XMAS_ELF_TEXT_START, XMAS_ELF_TEXT_END, XMAS_ELF_TEXT_UTF_8}, 11},
     {"section_names", any_section_names, {XMAS_ELF_OK, XMAS_ELF_NO_RECORD}, 2},
     {"names", any_names, {XMAS_ELF_OK, XMAS_ELF_RESERVED_INDEX, XMAS_ELF_SHORT_SECTION_HEADER, XMAS_ELF_UNKNOWN_CLASS, XMAS_ELF_SMALL_ENTRY, XMAS_ELF_SHORT_SECTION_OFFSET}, 6},
     {"text", any_text, {XMAS_ELF_OK, XMAS_ELF_DATA_RANGE, XMAS_ELF_TEXT_START, XMAS_ELF_TEXT_END, XMAS_ELF_TEXT_UTF_8}, 5},
-    {"section_text", any_section_text, {XMAS_ELF_OK, XMAS_ELF_SHORT_SECTION_HEADER, XMAS_ELF_UNKNOWN_CLASS, XMAS_ELF_SMALL_ENTRY, XMAS_ELF_INVALID_SH_TYPE, XMAS_ELF_NULL_DATA, XMAS_ELF_DATA_RANGE, XMAS_ELF_TEXT_START, XMAS_ELF_TEXT_END, XMAS_ELF_TEXT_UTF_8}, 10},
     {"segment", any_segment, {XMAS_ELF_OK, XMAS_ELF_NO_PROGRAM_HEADERS, XMAS_ELF_UNKNOWN_CLASS, XMAS_ELF_SHORT_PROGRAM_HEADER, XMAS_ELF_SMALL_ENTRY}, 5},
     {"check_segment", any_check_segment, {XMAS_ELF_OK, XMAS_ELF_NO_PROGRAM_HEADERS, XMAS_ELF_UNKNOWN_CLASS, XMAS_ELF_SHORT_PROGRAM_HEADER, XMAS_ELF_SMALL_ENTRY, XMAS_ELF_PH_SIZE_MISMATCH, XMAS_ELF_ENTRY_POINT_RANGE, XMAS_ELF_INVALID_PH_TYPE, XMAS_ELF_SH_LIB_USED, XMAS_ELF_BAD_ALIGN}, 10},
     {"segments", any_segments, {XMAS_ELF_OK, XMAS_ELF_NO_RECORD}, 2},
     {"segment_data", any_segment_data, {XMAS_ELF_OK, XMAS_ELF_NO_PROGRAM_HEADERS, XMAS_ELF_UNKNOWN_CLASS, XMAS_ELF_SHORT_PROGRAM_HEADER, XMAS_ELF_SMALL_ENTRY, XMAS_ELF_INVALID_PH_TYPE, XMAS_ELF_NULL_DATA, XMAS_ELF_DATA_RANGE}, 8},
-    {"symbol", any_symbol, {XMAS_ELF_OK, XMAS_ELF_SHORT_SECTION_HEADER, XMAS_ELF_UNKNOWN_CLASS, XMAS_ELF_SMALL_ENTRY, XMAS_ELF_INVALID_SH_TYPE, XMAS_ELF_DATA_RANGE, XMAS_ELF_NOT_MULTIPLE, XMAS_ELF_NOTE_32, XMAS_ELF_SHORT_DATA, XMAS_ELF_OTHER_DATA, XMAS_ELF_NO_RECORD}, 11},
-    {"symbols", any_symbols, {XMAS_ELF_OK, XMAS_ELF_SHORT_SECTION_HEADER, XMAS_ELF_UNKNOWN_CLASS, XMAS_ELF_SMALL_ENTRY, XMAS_ELF_INVALID_SH_TYPE, XMAS_ELF_DATA_RANGE, XMAS_ELF_NOT_MULTIPLE, XMAS_ELF_NOTE_32, XMAS_ELF_SHORT_DATA, XMAS_ELF_OTHER_DATA, XMAS_ELF_NO_RECORD}, 11},
-    {"symbol_names", any_symbol_names, {XMAS_ELF_OK, XMAS_ELF_SHORT_SECTION_HEADER, XMAS_ELF_UNKNOWN_CLASS, XMAS_ELF_SMALL_ENTRY, XMAS_ELF_INVALID_SH_TYPE, XMAS_ELF_DATA_RANGE, XMAS_ELF_NOT_MULTIPLE, XMAS_ELF_NOTE_32, XMAS_ELF_SHORT_DATA, XMAS_ELF_OTHER_DATA, XMAS_ELF_NO_RECORD}, 11},
+    {"symbols", any_symbols, {XMAS_ELF_OK, XMAS_ELF_DATA_RANGE, XMAS_ELF_NOT_MULTIPLE, XMAS_ELF_NO_RECORD}, 4},
+    {"symbol_names", any_symbol_names, {XMAS_ELF_OK, XMAS_ELF_DATA_RANGE, XMAS_ELF_NOT_MULTIPLE, XMAS_ELF_NO_RECORD}, 4},
     {"symbols_open", any_symbols_open, {XMAS_ELF_OK, XMAS_ELF_SHORT_SECTION_HEADER, XMAS_ELF_UNKNOWN_CLASS, XMAS_ELF_SMALL_ENTRY, XMAS_ELF_INVALID_SH_TYPE, XMAS_ELF_DATA_RANGE, XMAS_ELF_NOT_MULTIPLE, XMAS_ELF_NOTE_32, XMAS_ELF_SHORT_DATA, XMAS_ELF_OTHER_DATA}, 10},
-    {"symbol_of", any_symbol_of, {XMAS_ELF_OK, XMAS_ELF_DATA_RANGE, XMAS_ELF_NO_RECORD}, 3},
-    {"symbol_name_of", any_symbol_name_of, {XMAS_ELF_OK, XMAS_ELF_DATA_RANGE, XMAS_ELF_NO_RECORD, XMAS_ELF_TEXT_START, XMAS_ELF_TEXT_END, XMAS_ELF_TEXT_UTF_8}, 6},
-    {"relocation", any_relocation, {XMAS_ELF_OK, XMAS_ELF_SHORT_SECTION_HEADER, XMAS_ELF_UNKNOWN_CLASS, XMAS_ELF_SMALL_ENTRY, XMAS_ELF_INVALID_SH_TYPE, XMAS_ELF_DATA_RANGE, XMAS_ELF_NOT_MULTIPLE, XMAS_ELF_NOTE_32, XMAS_ELF_SHORT_DATA, XMAS_ELF_OTHER_DATA, XMAS_ELF_NO_RECORD}, 11},
     {"relocations", any_relocations, {XMAS_ELF_OK, XMAS_ELF_SHORT_SECTION_HEADER, XMAS_ELF_UNKNOWN_CLASS, XMAS_ELF_SMALL_ENTRY, XMAS_ELF_INVALID_SH_TYPE, XMAS_ELF_DATA_RANGE, XMAS_ELF_NOT_MULTIPLE, XMAS_ELF_NOTE_32, XMAS_ELF_SHORT_DATA, XMAS_ELF_OTHER_DATA, XMAS_ELF_NO_RECORD}, 11},
     {"packed_relocations", any_packed_relocations, {XMAS_ELF_OK, XMAS_ELF_SHORT_SECTION_HEADER, XMAS_ELF_UNKNOWN_CLASS, XMAS_ELF_SMALL_ENTRY, XMAS_ELF_OTHER_DATA, XMAS_ELF_DATA_RANGE, XMAS_ELF_LINK_NOT_MULTIPLE, XMAS_ELF_NO_RECORD}, 8},
-    {"dynamic", any_dynamic, {XMAS_ELF_OK, XMAS_ELF_SHORT_SECTION_HEADER, XMAS_ELF_UNKNOWN_CLASS, XMAS_ELF_SMALL_ENTRY, XMAS_ELF_INVALID_SH_TYPE, XMAS_ELF_DATA_RANGE, XMAS_ELF_NOT_MULTIPLE, XMAS_ELF_NOTE_32, XMAS_ELF_SHORT_DATA, XMAS_ELF_OTHER_DATA, XMAS_ELF_NO_RECORD}, 11},
     {"dynamics", any_dynamics, {XMAS_ELF_OK, XMAS_ELF_SHORT_SECTION_HEADER, XMAS_ELF_UNKNOWN_CLASS, XMAS_ELF_SMALL_ENTRY, XMAS_ELF_INVALID_SH_TYPE, XMAS_ELF_DATA_RANGE, XMAS_ELF_NOT_MULTIPLE, XMAS_ELF_NOTE_32, XMAS_ELF_SHORT_DATA, XMAS_ELF_OTHER_DATA, XMAS_ELF_NO_RECORD}, 11},
     {"note", any_note, {XMAS_ELF_OK, XMAS_ELF_DATA_RANGE, XMAS_ELF_NO_RECORD, XMAS_ELF_LINK_SHORT_NOTE}, 4},
-    {"build_id", any_build_id, {XMAS_ELF_OK, XMAS_ELF_NOT_FOUND, XMAS_ELF_DATA_RANGE, XMAS_ELF_NO_RECORD, XMAS_ELF_LINK_SHORT_NOTE}, 5},
     {"bytes_at", any_bytes_at, {XMAS_ELF_OK, XMAS_ELF_LINK_ADDRESS, XMAS_ELF_DATA_RANGE}, 3},
-    {"dynamic_text", any_dynamic_text, {XMAS_ELF_OK, XMAS_ELF_LINK_NO_DYNAMIC, XMAS_ELF_DATA_RANGE, XMAS_ELF_NOT_MULTIPLE, XMAS_ELF_NOT_FOUND, XMAS_ELF_LINK_NO_ENTRY, XMAS_ELF_LINK_ADDRESS, XMAS_ELF_TEXT_START, XMAS_ELF_TEXT_END, XMAS_ELF_TEXT_UTF_8}, 10},
-    {"needed", any_needed, {XMAS_ELF_OK, XMAS_ELF_LINK_NO_DYNAMIC, XMAS_ELF_DATA_RANGE, XMAS_ELF_NOT_MULTIPLE, XMAS_ELF_NO_RECORD}, 5},
-    {"dynamic_symbol_count", any_dynamic_symbol_count, {XMAS_ELF_OK, XMAS_ELF_LINK_NO_DYNAMIC, XMAS_ELF_DATA_RANGE, XMAS_ELF_NOT_MULTIPLE, XMAS_ELF_LINK_NO_ENTRY, XMAS_ELF_LINK_ADDRESS, XMAS_ELF_SHORT_DATA, XMAS_ELF_LINK_SHORT_TABLE, XMAS_ELF_LINK_BLOOM_COUNT, XMAS_ELF_LINK_CHAIN_INDEX, XMAS_ELF_LINK_CHAIN_DATA, XMAS_ELF_LINK_SYMBOL_INDEX}, 12},
-    {"dynamic_symbols", any_dynamic_symbols, {XMAS_ELF_OK, XMAS_ELF_LINK_NO_DYNAMIC, XMAS_ELF_DATA_RANGE, XMAS_ELF_NOT_MULTIPLE, XMAS_ELF_LINK_NO_ENTRY, XMAS_ELF_LINK_ADDRESS, XMAS_ELF_SHORT_DATA, XMAS_ELF_LINK_SHORT_TABLE, XMAS_ELF_LINK_BLOOM_COUNT, XMAS_ELF_LINK_CHAIN_INDEX, XMAS_ELF_LINK_CHAIN_DATA, XMAS_ELF_LINK_SYMBOL_INDEX, XMAS_ELF_NO_RECORD}, 13},
-    {"dynamic_symbol_names", any_dynamic_symbol_names, {XMAS_ELF_OK, XMAS_ELF_LINK_NO_DYNAMIC, XMAS_ELF_DATA_RANGE, XMAS_ELF_NOT_MULTIPLE, XMAS_ELF_LINK_NO_ENTRY, XMAS_ELF_LINK_ADDRESS, XMAS_ELF_SHORT_DATA, XMAS_ELF_LINK_SHORT_TABLE, XMAS_ELF_LINK_BLOOM_COUNT, XMAS_ELF_LINK_CHAIN_INDEX, XMAS_ELF_LINK_CHAIN_DATA, XMAS_ELF_LINK_SYMBOL_INDEX, XMAS_ELF_NO_RECORD}, 13},
+    {"dynamic_texts", any_dynamic_texts, {XMAS_ELF_OK, XMAS_ELF_LINK_NO_DYNAMIC, XMAS_ELF_DATA_RANGE, XMAS_ELF_NOT_MULTIPLE, XMAS_ELF_NO_RECORD}, 5},
     {"dynamic_symbols_open", any_dynamic_symbols_open, {XMAS_ELF_OK, XMAS_ELF_LINK_NO_DYNAMIC, XMAS_ELF_DATA_RANGE, XMAS_ELF_NOT_MULTIPLE, XMAS_ELF_LINK_NO_ENTRY, XMAS_ELF_LINK_ADDRESS, XMAS_ELF_SHORT_DATA, XMAS_ELF_LINK_SHORT_TABLE, XMAS_ELF_LINK_BLOOM_COUNT, XMAS_ELF_LINK_CHAIN_INDEX, XMAS_ELF_LINK_CHAIN_DATA, XMAS_ELF_LINK_SYMBOL_INDEX}, 12},
     {"dynamic_symbol_versions", any_dynamic_symbol_versions, {XMAS_ELF_OK, XMAS_ELF_LINK_NO_DYNAMIC, XMAS_ELF_DATA_RANGE, XMAS_ELF_NOT_MULTIPLE, XMAS_ELF_LINK_NO_ENTRY, XMAS_ELF_LINK_ADDRESS, XMAS_ELF_SHORT_DATA, XMAS_ELF_LINK_SHORT_TABLE, XMAS_ELF_LINK_BLOOM_COUNT, XMAS_ELF_LINK_CHAIN_INDEX, XMAS_ELF_LINK_CHAIN_DATA, XMAS_ELF_LINK_SYMBOL_INDEX, XMAS_ELF_NOT_FOUND, XMAS_ELF_NO_RECORD}, 14},
     {"version_definitions", any_version_definitions, {XMAS_ELF_OK, XMAS_ELF_LINK_NO_DYNAMIC, XMAS_ELF_DATA_RANGE, XMAS_ELF_NOT_MULTIPLE, XMAS_ELF_LINK_ADDRESS, XMAS_ELF_LINK_NO_ENTRY, XMAS_ELF_NO_RECORD}, 7},
     {"version_needs", any_version_needs, {XMAS_ELF_OK, XMAS_ELF_LINK_NO_DYNAMIC, XMAS_ELF_DATA_RANGE, XMAS_ELF_NOT_MULTIPLE, XMAS_ELF_LINK_ADDRESS, XMAS_ELF_LINK_NO_ENTRY, XMAS_ELF_NO_RECORD}, 7},
     {"find_symbol", any_find_symbol, {XMAS_ELF_OK, XMAS_ELF_TEXT_UTF_8, XMAS_ELF_LINK_NO_DYNAMIC, XMAS_ELF_DATA_RANGE, XMAS_ELF_NOT_MULTIPLE, XMAS_ELF_LINK_NO_ENTRY, XMAS_ELF_LINK_ADDRESS, XMAS_ELF_SHORT_DATA, XMAS_ELF_LINK_SHORT_TABLE, XMAS_ELF_LINK_BLOOM_COUNT, XMAS_ELF_LINK_CHAIN_INDEX, XMAS_ELF_LINK_CHAIN_DATA, XMAS_ELF_LINK_SYMBOL_INDEX, XMAS_ELF_HASH_DATA, XMAS_ELF_CHAIN_INDEX, XMAS_ELF_SYMBOL_INDEX, XMAS_ELF_CHAIN_SUM, XMAS_ELF_HASH_CYCLE, XMAS_ELF_LINK_SHORT_VERSION, XMAS_ELF_LINK_VERSION_COUNT, XMAS_ELF_TEXT_START, XMAS_ELF_TEXT_END}, 22},
-    {"look_up", any_look_up, {XMAS_ELF_OK, XMAS_ELF_TEXT_UTF_8, XMAS_ELF_SHORT_SECTION_HEADER, XMAS_ELF_UNKNOWN_CLASS, XMAS_ELF_SMALL_ENTRY, XMAS_ELF_INVALID_SH_TYPE, XMAS_ELF_DATA_RANGE, XMAS_ELF_NOT_MULTIPLE, XMAS_ELF_NOTE_32, XMAS_ELF_SHORT_DATA, XMAS_ELF_OTHER_DATA, XMAS_ELF_HASH_DATA, XMAS_ELF_CHAIN_INDEX, XMAS_ELF_SYMBOL_INDEX, XMAS_ELF_CHAIN_SUM, XMAS_ELF_HASH_CYCLE}, 16},
     {"look_ups", any_look_ups, {XMAS_ELF_OK}, 1},
-    {"hash_open", any_hash_open, {XMAS_ELF_OK, XMAS_ELF_SHORT_SECTION_HEADER, XMAS_ELF_UNKNOWN_CLASS, XMAS_ELF_SMALL_ENTRY, XMAS_ELF_INVALID_SH_TYPE, XMAS_ELF_DATA_RANGE, XMAS_ELF_NOT_MULTIPLE, XMAS_ELF_NOTE_32, XMAS_ELF_SHORT_DATA, XMAS_ELF_OTHER_DATA}, 10},
-    {"hash_look_up_of", any_hash_look_up_of, {XMAS_ELF_OK, XMAS_ELF_TEXT_UTF_8, XMAS_ELF_DATA_RANGE, XMAS_ELF_SHORT_DATA, XMAS_ELF_NOT_MULTIPLE, XMAS_ELF_HASH_DATA, XMAS_ELF_CHAIN_INDEX, XMAS_ELF_SYMBOL_INDEX, XMAS_ELF_CHAIN_SUM, XMAS_ELF_HASH_CYCLE}, 10},
-    {"check_hash", any_check_hash, {XMAS_ELF_OK, XMAS_ELF_SHORT_SECTION_HEADER, XMAS_ELF_UNKNOWN_CLASS, XMAS_ELF_SMALL_ENTRY, XMAS_ELF_INVALID_SH_TYPE, XMAS_ELF_DATA_RANGE, XMAS_ELF_NOT_MULTIPLE, XMAS_ELF_NOTE_32, XMAS_ELF_SHORT_DATA, XMAS_ELF_OTHER_DATA, XMAS_ELF_HASH_DATA, XMAS_ELF_CHAIN_INDEX, XMAS_ELF_SYMBOL_INDEX, XMAS_ELF_CHAIN_SUM, XMAS_ELF_HASH_CYCLE, XMAS_ELF_HASH_MISSING}, 16},
-    {"gnu_look_up", any_gnu_look_up, {XMAS_ELF_OK, XMAS_ELF_TEXT_UTF_8, XMAS_ELF_SHORT_SECTION_HEADER, XMAS_ELF_UNKNOWN_CLASS, XMAS_ELF_SMALL_ENTRY, XMAS_ELF_OTHER_DATA, XMAS_ELF_DATA_RANGE, XMAS_ELF_LINK_SHORT_TABLE, XMAS_ELF_LINK_BLOOM_COUNT, XMAS_ELF_INVALID_SH_TYPE, XMAS_ELF_NOT_MULTIPLE, XMAS_ELF_NOTE_32, XMAS_ELF_SHORT_DATA, XMAS_ELF_LINK_CHAIN_INDEX, XMAS_ELF_LINK_SYMBOL_INDEX, XMAS_ELF_LINK_CHAIN_DATA}, 16},
-    {"gnu_look_ups", any_gnu_look_ups, {XMAS_ELF_OK}, 1},
-    {"gnu_open", any_gnu_open, {XMAS_ELF_OK, XMAS_ELF_SHORT_SECTION_HEADER, XMAS_ELF_UNKNOWN_CLASS, XMAS_ELF_SMALL_ENTRY, XMAS_ELF_OTHER_DATA, XMAS_ELF_DATA_RANGE, XMAS_ELF_LINK_SHORT_TABLE, XMAS_ELF_LINK_BLOOM_COUNT, XMAS_ELF_INVALID_SH_TYPE, XMAS_ELF_NOT_MULTIPLE, XMAS_ELF_NOTE_32, XMAS_ELF_SHORT_DATA}, 12},
-    {"gnu_look_up_of", any_gnu_look_up_of, {XMAS_ELF_OK, XMAS_ELF_TEXT_UTF_8, XMAS_ELF_DATA_RANGE, XMAS_ELF_LINK_SHORT_TABLE, XMAS_ELF_LINK_BLOOM_COUNT, XMAS_ELF_NOT_MULTIPLE, XMAS_ELF_LINK_CHAIN_INDEX, XMAS_ELF_LINK_SYMBOL_INDEX, XMAS_ELF_LINK_CHAIN_DATA}, 9},
-    {"check_gnu_hash", any_check_gnu_hash, {XMAS_ELF_OK, XMAS_ELF_SHORT_SECTION_HEADER, XMAS_ELF_UNKNOWN_CLASS, XMAS_ELF_SMALL_ENTRY, XMAS_ELF_OTHER_DATA, XMAS_ELF_DATA_RANGE, XMAS_ELF_LINK_SHORT_TABLE, XMAS_ELF_LINK_BLOOM_COUNT, XMAS_ELF_INVALID_SH_TYPE, XMAS_ELF_NOT_MULTIPLE, XMAS_ELF_NOTE_32, XMAS_ELF_SHORT_DATA, XMAS_ELF_LINK_CHAIN_INDEX, XMAS_ELF_LINK_SYMBOL_INDEX, XMAS_ELF_LINK_CHAIN_DATA, XMAS_ELF_LINK_MISSING}, 16},
+    {"hash_open", any_hash_open, {XMAS_ELF_OK, XMAS_ELF_SHORT_SECTION_HEADER, XMAS_ELF_UNKNOWN_CLASS, XMAS_ELF_SMALL_ENTRY, XMAS_ELF_INVALID_SH_TYPE, XMAS_ELF_DATA_RANGE, XMAS_ELF_NOT_MULTIPLE, XMAS_ELF_NOTE_32, XMAS_ELF_SHORT_DATA, XMAS_ELF_LINK_SHORT_TABLE, XMAS_ELF_LINK_BLOOM_COUNT, XMAS_ELF_OTHER_DATA}, 12},
+    {"check_hash", any_check_hash, {XMAS_ELF_OK, XMAS_ELF_DATA_RANGE, XMAS_ELF_SHORT_DATA, XMAS_ELF_LINK_SHORT_TABLE, XMAS_ELF_LINK_BLOOM_COUNT, XMAS_ELF_NOT_MULTIPLE, XMAS_ELF_HASH_DATA, XMAS_ELF_CHAIN_INDEX, XMAS_ELF_SYMBOL_INDEX, XMAS_ELF_CHAIN_SUM, XMAS_ELF_HASH_CYCLE, XMAS_ELF_LINK_CHAIN_INDEX, XMAS_ELF_LINK_SYMBOL_INDEX, XMAS_ELF_LINK_CHAIN_DATA, XMAS_ELF_HASH_MISSING, XMAS_ELF_LINK_MISSING}, 16},
     {"message", any_message, {XMAS_ELF_OK}, 1},
 };

@@ -15,8 +15,8 @@ struct asked {
     uint64_t index;
     xmas_elf_range_t part;
     xmas_elf_symbol_table_t table; /* of the symbols for dynamic linking */
-    xmas_elf_gnu_table_t hash; /* GNU's table */
-    xmas_elf_gnu_table_t sysv; /* the standard's */
+    xmas_elf_hash_table_t hash; /* GNU's table */
+    xmas_elf_hash_table_t sysv; /* the standard's */
 };
 
 /* A row of calls.h for each export of the list. */
@@ -34,12 +34,11 @@ struct outputs {
         xmas_elf_segment_t segments[3];
         xmas_elf_symbol_t symbols[3];
         xmas_elf_symbol_table_t table;
-        xmas_elf_gnu_table_t hash;
+        xmas_elf_hash_table_t hash;
         xmas_elf_relocation_t relocations[3];
         xmas_elf_dynamic_t dynamics[3];
         uint64_t addresses[3];
         xmas_elf_note_t note;
-        xmas_elf_look_up_t look_up;
         xmas_elf_answer_t answers[3];
         xmas_elf_version_t versions[3];
         xmas_elf_found_symbol_t found_symbol;
@@ -49,17 +48,19 @@ struct outputs {
 };
 
 #define FILE_OF(asked) (asked)->bytes, (asked)->size, &(asked)->header
+#define TABLE_OF(asked) (asked)->bytes, (asked)->size, &(asked)->table
 #define CALL(name) static uint32_t name##_call(const struct asked *a, struct outputs *out)
 
 /* A call for many: with no room it answers the same status, and that there are none. */
-#define CALL_MANY(name, array, ...) \
+#define CALL_MANY_OF(name, array, ...) \
     CALL(name) \
     { \
         uint64_t none = 7; \
-        uint32_t status = xmas_elf_##name(FILE_OF(a), __VA_ARGS__, NULL, 0, &none); \
+        uint32_t status = xmas_elf_##name(__VA_ARGS__, NULL, 0, &none); \
         if (none != (status == XMAS_ELF_OK ? 0 : 7)) return 999; \
-        return xmas_elf_##name(FILE_OF(a), __VA_ARGS__, out->of.array, 2, &out->count) == status ? status : 998; \
+        return xmas_elf_##name(__VA_ARGS__, out->of.array, 2, &out->count) == status ? status : 998; \
     }
+#define CALL_MANY(name, array, ...) CALL_MANY_OF(name, array, FILE_OF(a), __VA_ARGS__)
 
 CALL(open) { return xmas_elf_open(a->bytes, a->size < a->index ? a->size : (size_t)a->index, &out->of.header); }
 CALL(check_header) { (void)out; return xmas_elf_check_header(FILE_OF(a)); }
@@ -71,7 +72,6 @@ CALL_MANY(sections, sections, a->index)
 CALL(find_section) { return xmas_elf_find_section(FILE_OF(a), a->name, a->name_size, &out->of.sections[0]); }
 CALL(find_section_index) { return xmas_elf_find_section_index(FILE_OF(a), a->name, a->name_size, &out->of.addresses[0]); }
 CALL(section_data) { return xmas_elf_section_data(FILE_OF(a), a->index, &out->of.range); }
-CALL(section_name) { return xmas_elf_section_name(FILE_OF(a), a->index, &out->of.range); }
 CALL_MANY(section_names, names, a->index)
 CALL(names) { return xmas_elf_names(FILE_OF(a), &out->of.range); }
 CALL(text)
@@ -79,36 +79,15 @@ CALL(text)
     const xmas_elf_range_t magic = {1, 60}; /* "ELF" and zeros follow */
     return xmas_elf_text(a->bytes, a->size, &magic, a->index, &out->of.range);
 }
-CALL(section_text) { return xmas_elf_section_text(FILE_OF(a), a->section, a->index, &out->of.range); }
 CALL(segment) { return xmas_elf_segment(FILE_OF(a), (uint32_t)a->index, &out->of.segments[0]); }
 CALL(check_segment) { (void)out; return xmas_elf_check_segment(FILE_OF(a), (uint32_t)a->index); }
 CALL_MANY(segments, segments, a->index)
 CALL(segment_data) { return xmas_elf_segment_data(FILE_OF(a), (uint32_t)a->index, &out->of.range); }
-CALL(symbol) { return xmas_elf_symbol(FILE_OF(a), a->section, a->index, &out->of.symbols[0]); }
-CALL_MANY(symbols, symbols, a->section, a->index)
-CALL_MANY(symbol_names, names, a->section, a->index)
+CALL_MANY_OF(symbols, symbols, TABLE_OF(a), a->index)
+CALL_MANY_OF(symbol_names, names, TABLE_OF(a), a->index)
 CALL(symbols_open) { return xmas_elf_symbols_open(FILE_OF(a), a->index == 0 ? a->section : a->index, &out->of.table); }
-CALL(symbol_of) /* the symbol of the section */
-{
-    xmas_elf_symbol_t symbol;
-    uint32_t status = xmas_elf_symbol_of(a->bytes, a->size, &a->table, a->index, &out->of.symbols[0]);
-    if (status != XMAS_ELF_OK) return status;
-    if (xmas_elf_symbol(FILE_OF(a), a->section, a->index, &symbol) != XMAS_ELF_OK || a->index >= a->table.count) return 999;
-    return memcmp(&symbol, &out->of.symbols[0], sizeof symbol) == 0 ? status : 998;
-}
-CALL(symbol_name_of) /* the name of the symbol of the section */
-{
-    xmas_elf_name_t name;
-    uint64_t count;
-    uint32_t status = xmas_elf_symbol_name_of(a->bytes, a->size, &a->table, a->index, &out->of.range);
-    if (status != XMAS_ELF_OK) return status;
-    if (xmas_elf_symbol_names(FILE_OF(a), a->section, a->index, &name, 1, &count) != XMAS_ELF_OK || count != 1) return 999;
-    return name.status == XMAS_ELF_OK && memcmp(&name.range, &out->of.range, sizeof name.range) == 0 ? status : 998;
-}
-CALL(relocation) { return xmas_elf_relocation(FILE_OF(a), a->section, a->index, &out->of.relocations[0]); }
 CALL_MANY(relocations, relocations, a->section, a->index)
 CALL_MANY(packed_relocations, addresses, a->section, a->index)
-CALL(dynamic) { return xmas_elf_dynamic(FILE_OF(a), a->section, a->index, &out->of.dynamics[0]); }
 CALL_MANY(dynamics, dynamics, a->section, a->index)
 CALL(note)
 {
@@ -117,32 +96,26 @@ CALL(note)
     if (xmas_elf_section(FILE_OF(a), a->section, &section) == XMAS_ELF_OK && a->index == 0) part.offset = section.offset, part.size = section.size;
     return xmas_elf_note(FILE_OF(a), &part, 4, &out->of.note);
 }
-CALL(build_id) { return xmas_elf_build_id(FILE_OF(a), &out->of.range); }
 CALL(bytes_at) { return xmas_elf_bytes_at(FILE_OF(a), a->index, 1, &out->of.range); }
-CALL(dynamic_text) { return xmas_elf_dynamic_text(FILE_OF(a), a->index, &out->of.range); }
-CALL_MANY(needed, names, a->index)
-CALL(dynamic_symbol_count) { return xmas_elf_dynamic_symbol_count(FILE_OF(a), &out->of.addresses[0]); }
-CALL_MANY(dynamic_symbols, symbols, a->index)
-CALL_MANY(dynamic_symbol_names, names, a->index)
-CALL(dynamic_symbols_open) /* the symbols of the dynamic segment, with their names */
+CALL_MANY(dynamic_texts, names, 1, a->index) /* DT_NEEDED */
+CALL(dynamic_symbols_open) /* the symbols of the section for dynamic linking, with their names */
 {
     xmas_elf_symbol_t symbols[2];
-    xmas_elf_name_t name;
-    uint64_t count, one;
+    xmas_elf_name_t names[2];
+    uint64_t one;
     xmas_elf_symbol_table_t *table = &out->of.table;
     uint32_t status = xmas_elf_dynamic_symbols_open(FILE_OF(a), table);
     if (status != XMAS_ELF_OK) return status;
-    if (xmas_elf_dynamic_symbol_count(FILE_OF(a), &count) != XMAS_ELF_OK || count != table->count) return 999;
-    for (uint64_t i = 0; i < count; i++) {
-        xmas_elf_range_t range = {0, 0};
-        if (xmas_elf_dynamic_symbols(FILE_OF(a), i, &symbols[0], 1, &one) != XMAS_ELF_OK) return 998;
-        if (xmas_elf_symbol_of(a->bytes, a->size, table, i, &symbols[1]) != XMAS_ELF_OK) return 997;
+    if (table->count != a->table.count) return 999;
+    for (uint64_t i = 0; i < table->count; i++) {
+        if (xmas_elf_symbols(TABLE_OF(a), i, &symbols[0], 1, &one) != XMAS_ELF_OK) return 998;
+        if (xmas_elf_symbols(a->bytes, a->size, table, i, &symbols[1], 1, &one) != XMAS_ELF_OK) return 997;
         if (memcmp(&symbols[0], &symbols[1], sizeof *symbols) != 0) return 996;
-        if (xmas_elf_dynamic_symbol_names(FILE_OF(a), i, &name, 1, &one) != XMAS_ELF_OK) return 995;
-        if (xmas_elf_symbol_name_of(a->bytes, a->size, table, i, &range) != name.status) return 994;
-        if (memcmp(&name.range, &range, sizeof range) != 0) return 993;
+        if (xmas_elf_symbol_names(TABLE_OF(a), i, &names[0], 1, &one) != XMAS_ELF_OK) return 995;
+        if (xmas_elf_symbol_names(a->bytes, a->size, table, i, &names[1], 1, &one) != XMAS_ELF_OK) return 994;
+        if (memcmp(&names[0].range, &names[1].range, sizeof names[0].range) != 0 || names[0].status != names[1].status) return 993;
     }
-    return xmas_elf_symbol_of(a->bytes, a->size, table, count, &symbols[1]) == XMAS_ELF_NO_RECORD ? status : 992;
+    return xmas_elf_symbols(a->bytes, a->size, table, table->count, symbols, 2, &one) == XMAS_ELF_NO_RECORD ? status : 992;
 }
 CALL_MANY(dynamic_symbol_versions, versions, a->index)
 CALL_MANY(version_definitions, versions, a->index)
@@ -156,46 +129,29 @@ CALL(find_symbol) /* by the version of the name it is the same symbol as without
     if (status != XMAS_ELF_OK) return status;
     return plain.found && memcmp(&plain, &out->of.found_symbol, sizeof plain) == 0 ? status : 998;
 }
-CALL(look_up) { return xmas_elf_look_up(FILE_OF(a), a->section, a->name, a->name_size, &out->of.look_up); }
-CALL(gnu_look_up) { return xmas_elf_gnu_look_up(FILE_OF(a), a->section, a->name, a->name_size, &out->of.look_up); }
 CALL(hash_open) { return xmas_elf_hash_open(FILE_OF(a), a->index == 0 ? a->section : a->index, &out->of.hash); }
-CALL(gnu_open) { return xmas_elf_gnu_open(FILE_OF(a), a->index == 0 ? a->section : a->index, &out->of.hash); }
-
-/* By a table that was found a look-up finds what it finds in the section. */
-#define CALL_OF(call, record, in_section) \
-    CALL(call) \
-    { \
-        xmas_elf_look_up_t said; \
-        uint32_t status = xmas_elf_##call(a->bytes, a->size, &a->record, a->name, a->name_size, &out->of.look_up); \
-        if (status != XMAS_ELF_OK) return status; \
-        if (in_section(FILE_OF(a), a->section, a->name, a->name_size, &said) != XMAS_ELF_OK || !said.found) return 999; \
-        return memcmp(&said, &out->of.look_up, sizeof said) == 0 ? status : 998; \
-    }
-
-CALL_OF(hash_look_up_of, sysv, xmas_elf_look_up)
-CALL_OF(gnu_look_up_of, hash, xmas_elf_gnu_look_up)
-CALL(check_hash) { (void)out; return xmas_elf_check_hash(FILE_OF(a), a->section); }
-CALL(check_gnu_hash) { (void)out; return xmas_elf_check_gnu_hash(FILE_OF(a), a->section); }
-
-typedef void many_call(const uint8_t *, size_t, const xmas_elf_header_t *, uint64_t, const uint8_t *, size_t,
-                       const xmas_elf_range_t *, size_t, xmas_elf_answer_t *, size_t);
-
-/* A call for many look-ups answers nothing: the status of its first answer stands for it. */
-static uint32_t first_status(many_call *call, const struct asked *a, struct outputs *out)
+CALL(check_hash) /* both tables */
+{
+    uint32_t status = xmas_elf_check_hash(a->bytes, a->size, &a->sysv);
+    (void)out;
+    return xmas_elf_check_hash(a->bytes, a->size, &a->hash) == status ? status : 999;
+}
+CALL(look_ups) /* answers nothing: the status of the first answer stands for it; both tables find the same symbol */
 {
     const xmas_elf_range_t ranges[2] = {{0, a->name_size}, {0, a->name_size}};
     struct outputs untouched = *out;
-    call(FILE_OF(a), a->section, a->name, a->name_size, NULL, 0, out->of.answers, 2);
-    call(FILE_OF(a), a->section, a->name, a->name_size, ranges, 2, NULL, 0);
+    xmas_elf_answer_t sysv;
+    xmas_elf_look_ups(a->bytes, a->size, &a->hash, a->name, a->name_size, NULL, 0, out->of.answers, 2);
+    xmas_elf_look_ups(a->bytes, a->size, &a->hash, a->name, a->name_size, ranges, 2, NULL, 0);
     if (memcmp(&untouched, out, sizeof untouched) != 0) return 999;
-    call(FILE_OF(a), a->section, a->name, a->name_size, ranges, 2, out->of.answers, 2);
+    xmas_elf_look_ups(a->bytes, a->size, &a->hash, a->name, a->name_size, ranges, 2, out->of.answers, 2);
+    xmas_elf_look_ups(a->bytes, a->size, &a->sysv, a->name, a->name_size, ranges, 2, &sysv, 1);
     uint32_t status = out->of.answers[0].status;
-    if (status != out->of.answers[1].status) return 998;
+    if (status != out->of.answers[1].status || status != sysv.status) return 998;
+    if (out->of.answers[0].found != (status == XMAS_ELF_OK) || out->of.answers[0].index != sysv.index) return 997;
     if (status != XMAS_ELF_OK) *out = untouched;
     return status;
 }
-CALL(look_ups) { return first_status(xmas_elf_look_ups, a, out); }
-CALL(gnu_look_ups) { return first_status(xmas_elf_gnu_look_ups, a, out); }
 CALL(message) /* OK where the status `index` has a text */
 {
     size_t whole = xmas_elf_message((uint32_t)a->index, NULL, 0);
@@ -204,7 +160,7 @@ CALL(message) /* OK where the status `index` has a text */
     return whole > 0 && whole <= sizeof out->of.text ? XMAS_ELF_OK : XMAS_ELF_NOT_FOUND;
 }
 
-enum table { NONE, SYMBOLS = 11, STRINGS = 3, RELOCATIONS = 4, DYNAMIC = 6, NOTES = 7, PACKED = 19, HASH = 5, GNU_HASH = 0x6ffffff6 };
+enum table { NONE, SYMBOLS = 11, RELOCATIONS = 4, DYNAMIC = 6, NOTES = 7, PACKED = 19, HASH = 5, GNU_HASH = 0x6ffffff6 };
 #define FAR (UINT64_C(1) << 40)
 #define SHORT XMAS_ELF_SHORT_SECTION_HEADER
 
@@ -227,49 +183,30 @@ static const struct row {
     {"find_section", find_section_call, NONE, 0, 0, XMAS_ELF_NOT_FOUND, XMAS_ELF_NOT_FOUND},
     {"find_section_index", find_section_index_call, NONE, 0, 0, XMAS_ELF_NOT_FOUND, XMAS_ELF_NOT_FOUND},
     {"section_data", section_data_call, NONE, 1, 0, XMAS_ELF_NULL_DATA, SHORT},
-    {"section_name", section_name_call, NONE, 1, 0, XMAS_ELF_NULL_NAME, SHORT},
     {"section_names", section_names_call, NONE, 1, FAR, XMAS_ELF_NO_RECORD, XMAS_ELF_NO_RECORD},
     {"names", names_call, NONE, 0, 0, XMAS_ELF_RESERVED_INDEX, SHORT},
     {"text", text_call, NONE, 0, 61, XMAS_ELF_TEXT_START, XMAS_ELF_DATA_RANGE},
-    {"section_text", section_text_call, STRINGS, 0, FAR, XMAS_ELF_TEXT_START, SHORT},
     {"segment", segment_call, NONE, 0, 60000, XMAS_ELF_NO_PROGRAM_HEADERS, XMAS_ELF_SHORT_PROGRAM_HEADER},
     {"check_segment", check_segment_call, NONE, 0, 60000, XMAS_ELF_NO_PROGRAM_HEADERS, XMAS_ELF_SHORT_PROGRAM_HEADER},
     {"segments", segments_call, NONE, 0, FAR, XMAS_ELF_NO_RECORD, XMAS_ELF_NO_RECORD},
     {"segment_data", segment_data_call, NONE, 0, 60000, XMAS_ELF_NO_PROGRAM_HEADERS, XMAS_ELF_SHORT_PROGRAM_HEADER},
-    {"symbol", symbol_call, SYMBOLS, 1, FAR, XMAS_ELF_NO_RECORD, SHORT},
-    {"symbols", symbols_call, SYMBOLS, 1, FAR, XMAS_ELF_NO_RECORD, SHORT},
-    {"symbol_names", symbol_names_call, SYMBOLS, 1, FAR, XMAS_ELF_NO_RECORD, SHORT},
+    {"symbols", symbols_call, NONE, 1, FAR, XMAS_ELF_NO_RECORD, XMAS_ELF_DATA_RANGE},
+    {"symbol_names", symbol_names_call, NONE, 1, FAR, XMAS_ELF_NO_RECORD, XMAS_ELF_DATA_RANGE},
     {"symbols_open", symbols_open_call, SYMBOLS, 0, FAR, SHORT, SHORT},
-    {"symbol_of", symbol_of_call, SYMBOLS, 1, FAR, XMAS_ELF_NO_RECORD, XMAS_ELF_DATA_RANGE},
-    {"symbol_name_of", symbol_name_of_call, SYMBOLS, 1, FAR, XMAS_ELF_NO_RECORD, XMAS_ELF_DATA_RANGE},
-    {"relocation", relocation_call, RELOCATIONS, 0, FAR, XMAS_ELF_NO_RECORD, SHORT},
     {"relocations", relocations_call, RELOCATIONS, 0, FAR, XMAS_ELF_NO_RECORD, SHORT},
     {"packed_relocations", packed_relocations_call, PACKED, 0, FAR, XMAS_ELF_NO_RECORD, SHORT},
-    {"dynamic", dynamic_call, DYNAMIC, 0, FAR, XMAS_ELF_NO_RECORD, SHORT},
     {"dynamics", dynamics_call, DYNAMIC, 0, FAR, XMAS_ELF_NO_RECORD, SHORT},
     {"note", note_call, NOTES, 0, FAR, XMAS_ELF_DATA_RANGE, XMAS_ELF_DATA_RANGE},
-    {"build_id", build_id_call, NONE, 0, 0, XMAS_ELF_NOT_FOUND, XMAS_ELF_NOT_FOUND},
     {"bytes_at", bytes_at_call, NONE, 0, FAR, XMAS_ELF_LINK_ADDRESS, XMAS_ELF_LINK_ADDRESS},
-    {"dynamic_text", dynamic_text_call, NONE, 1, FAR, XMAS_ELF_NOT_FOUND, XMAS_ELF_LINK_NO_DYNAMIC},
-    {"needed", needed_call, NONE, 0, FAR, XMAS_ELF_NO_RECORD, XMAS_ELF_LINK_NO_DYNAMIC},
-    {"dynamic_symbol_count", dynamic_symbol_count_call, NONE, 0, 0, XMAS_ELF_OK, XMAS_ELF_LINK_NO_DYNAMIC},
-    {"dynamic_symbols", dynamic_symbols_call, NONE, 1, FAR, XMAS_ELF_NO_RECORD, XMAS_ELF_LINK_NO_DYNAMIC},
-    {"dynamic_symbol_names", dynamic_symbol_names_call, NONE, 1, FAR, XMAS_ELF_NO_RECORD, XMAS_ELF_LINK_NO_DYNAMIC},
+    {"dynamic_texts", dynamic_texts_call, NONE, 0, FAR, XMAS_ELF_NO_RECORD, XMAS_ELF_LINK_NO_DYNAMIC},
     {"dynamic_symbols_open", dynamic_symbols_open_call, NONE, 0, 0, XMAS_ELF_OK, XMAS_ELF_LINK_NO_DYNAMIC},
     {"dynamic_symbol_versions", dynamic_symbol_versions_call, NONE, 1, FAR, XMAS_ELF_NO_RECORD, XMAS_ELF_LINK_NO_DYNAMIC},
     {"version_definitions", version_definitions_call, NONE, 1, FAR, XMAS_ELF_NO_RECORD, XMAS_ELF_LINK_NO_DYNAMIC},
     {"version_needs", version_needs_call, NONE, 0, FAR, XMAS_ELF_NO_RECORD, XMAS_ELF_LINK_NO_DYNAMIC},
     {"find_symbol", find_symbol_call, HASH, 0, 0, XMAS_ELF_TEXT_UTF_8, XMAS_ELF_LINK_NO_DYNAMIC},
-    {"look_up", look_up_call, HASH, 0, 0, XMAS_ELF_TEXT_UTF_8, SHORT},
-    {"look_ups", look_ups_call, HASH, 0, 0, XMAS_ELF_TEXT_UTF_8, SHORT},
+    {"look_ups", look_ups_call, HASH, 0, 0, XMAS_ELF_TEXT_UTF_8, XMAS_ELF_DATA_RANGE},
     {"hash_open", hash_open_call, HASH, 0, FAR, SHORT, SHORT},
-    {"hash_look_up_of", hash_look_up_of_call, HASH, 0, 0, XMAS_ELF_TEXT_UTF_8, XMAS_ELF_DATA_RANGE},
-    {"check_hash", check_hash_call, HASH, 0, 0, XMAS_ELF_OK, SHORT},
-    {"gnu_look_up", gnu_look_up_call, GNU_HASH, 0, 0, XMAS_ELF_TEXT_UTF_8, SHORT},
-    {"gnu_look_ups", gnu_look_ups_call, GNU_HASH, 0, 0, XMAS_ELF_TEXT_UTF_8, SHORT},
-    {"gnu_open", gnu_open_call, GNU_HASH, 0, FAR, SHORT, SHORT},
-    {"gnu_look_up_of", gnu_look_up_of_call, GNU_HASH, 0, 0, XMAS_ELF_TEXT_UTF_8, XMAS_ELF_DATA_RANGE},
-    {"check_gnu_hash", check_gnu_hash_call, GNU_HASH, 0, 0, XMAS_ELF_OK, SHORT},
+    {"check_hash", check_hash_call, HASH, 0, 0, XMAS_ELF_OK, XMAS_ELF_DATA_RANGE},
     {"message", message_call, NONE, XMAS_ELF_NOT_FOUND, 0, XMAS_ELF_NOT_FOUND, XMAS_ELF_OK},
 };
 
@@ -387,7 +324,7 @@ int main(int argc, char **argv)
     memcpy(unaligned, bytes, file.size);
     if (xmas_elf_open(file.bytes, file.size, &file.header) != XMAS_ELF_OK) return 2;
     if (xmas_elf_symbols_open(FILE_OF(&file), section_of_type(&file, SYMBOLS), &file.table) != XMAS_ELF_OK) return 2;
-    if (xmas_elf_gnu_open(FILE_OF(&file), section_of_type(&file, GNU_HASH), &file.hash) != XMAS_ELF_OK) return 2;
+    if (xmas_elf_hash_open(FILE_OF(&file), section_of_type(&file, GNU_HASH), &file.hash) != XMAS_ELF_OK) return 2;
     if (xmas_elf_hash_open(FILE_OF(&file), section_of_type(&file, HASH), &file.sysv) != XMAS_ELF_OK) return 2;
     for (size_t i = 0; i < sizeof rows / sizeof *rows; i++) visit(&rows[i], file, unaligned);
     for (size_t i = 0; i < sizeof every / sizeof *every; i++) visit_any(&every[i], &file, unaligned);

@@ -22,14 +22,13 @@ static uint8_t *read_file(const char *path, size_t *size)
 
 static void print_symbols(const uint8_t *input, size_t size, const xmas_elf_header_t *header, uint64_t index)
 {
-    xmas_elf_section_t section;
+    xmas_elf_symbol_table_t table;
     xmas_elf_symbol_t symbols[64];
     xmas_elf_name_t names[64];
     uint64_t count;
-    if (xmas_elf_section(input, size, header, index, &section) != XMAS_ELF_OK) return;
-    if (section.type != 2 && section.type != 11) return; /* SHT_SYMTAB, SHT_DYNSYM */
-    for (uint64_t first = 1; xmas_elf_symbols(input, size, header, index, first, symbols, 64, &count) == XMAS_ELF_OK; first += count) {
-        if (xmas_elf_symbol_names(input, size, header, index, first, names, 64, &count) != XMAS_ELF_OK) return;
+    if (xmas_elf_symbols_open(input, size, header, index, &table) != XMAS_ELF_OK) return; /* mostly: other data than symbols */
+    for (uint64_t first = 1; xmas_elf_symbols(input, size, &table, first, symbols, 64, &count) == XMAS_ELF_OK; first += count) {
+        if (xmas_elf_symbol_names(input, size, &table, first, names, 64, &count) != XMAS_ELF_OK) return;
         for (uint64_t i = 0; i < count; i++)
             if (names[i].status == XMAS_ELF_OK)
                 printf("%016llx %5u %.*s\n", (unsigned long long)symbols[i].value, symbols[i].shndx, (int)names[i].range.size,

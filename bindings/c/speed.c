@@ -12,11 +12,11 @@ struct input {
     const uint8_t *bytes;
     size_t size;
     xmas_elf_header_t header;
-    uint64_t sections, symbols_at, table_at, names;
+    uint64_t sections, symbols_at, names;
     xmas_elf_range_t *name;
     xmas_elf_range_t last;
     xmas_elf_symbol_table_t table;
-    xmas_elf_gnu_table_t hash;
+    xmas_elf_hash_table_t hash;
 };
 
 /* Each pass adds numbers up, and says how many items it saw. */
@@ -34,14 +34,6 @@ static uint64_t sections_pass(const struct input *input, uint64_t *sum)
     xmas_elf_section_t section;
     for (uint64_t i = 0; i < input->sections; i++)
         if (xmas_elf_section(input->bytes, input->size, &input->header, i, &section) == XMAS_ELF_OK) *sum += section.size;
-    return input->sections;
-}
-
-static uint64_t names_pass(const struct input *input, uint64_t *sum)
-{
-    xmas_elf_range_t name;
-    for (uint64_t i = 0; i < input->sections; i++)
-        if (xmas_elf_section_name(input->bytes, input->size, &input->header, i, &name) == XMAS_ELF_OK) *sum += name.size;
     return input->sections;
 }
 
@@ -92,19 +84,8 @@ static uint64_t symbols_pass(const struct input *input, uint64_t *sum)
 {
     xmas_elf_symbol_t symbol;
     uint64_t i = 0;
-    while (xmas_elf_symbol(input->bytes, input->size, &input->header, input->symbols_at, i, &symbol) == XMAS_ELF_OK) {
-        *sum += symbol.value;
-        i++;
-    }
-    return i;
-}
-
-/* The same of a table that was found once. */
-static uint64_t symbols_of_pass(const struct input *input, uint64_t *sum)
-{
-    xmas_elf_symbol_t symbol;
-    uint64_t i = 0;
-    while (xmas_elf_symbol_of(input->bytes, input->size, &input->table, i, &symbol) == XMAS_ELF_OK) {
+    uint64_t count;
+    while (xmas_elf_symbols(input->bytes, input->size, &input->table, i, &symbol, 1, &count) == XMAS_ELF_OK) {
         *sum += symbol.value;
         i++;
     }
@@ -115,7 +96,7 @@ static uint64_t symbols_many_pass(const struct input *input, uint64_t *sum)
 {
     xmas_elf_symbol_t symbols[64];
     uint64_t first = 0, count;
-    while (xmas_elf_symbols(input->bytes, input->size, &input->header, input->symbols_at, first, symbols, 64, &count) == XMAS_ELF_OK) {
+    while (xmas_elf_symbols(input->bytes, input->size, &input->table, first, symbols, 64, &count) == XMAS_ELF_OK) {
         for (uint64_t i = 0; i < count; i++) *sum += symbols[i].value;
         first += count;
     }
@@ -126,20 +107,11 @@ static uint64_t symbol_names_pass(const struct input *input, uint64_t *sum)
 {
     xmas_elf_name_t names[64];
     uint64_t first = 0, count;
-    while (xmas_elf_symbol_names(input->bytes, input->size, &input->header, input->symbols_at, first, names, 64, &count) == XMAS_ELF_OK) {
+    while (xmas_elf_symbol_names(input->bytes, input->size, &input->table, first, names, 64, &count) == XMAS_ELF_OK) {
         for (uint64_t i = 0; i < count; i++) *sum += names[i].range.size;
         first += count;
     }
     return first;
-}
-
-/* The names one by one, of a table that was found once. */
-static uint64_t symbol_names_of_pass(const struct input *input, uint64_t *sum)
-{
-    xmas_elf_range_t name;
-    for (uint64_t i = 0; i < input->table.count; i++)
-        if (xmas_elf_symbol_name_of(input->bytes, input->size, &input->table, i, &name) == XMAS_ELF_OK) *sum += name.size;
-    return input->table.count;
 }
 
 /* The last section that has a name, by it. */
@@ -155,22 +127,11 @@ static uint64_t find_pass(const struct input *input, uint64_t *sum)
 /* Each name of the symbols for the dynamic linker, by GNU's hash table. */
 static uint64_t look_ups_pass(const struct input *input, uint64_t *sum)
 {
-    xmas_elf_look_up_t said;
-    for (uint64_t i = 0; i < input->names; i++)
-        if (xmas_elf_gnu_look_up(input->bytes, input->size, &input->header, input->table_at, input->bytes + input->name[i].offset,
-                                 (size_t)input->name[i].size, &said) == XMAS_ELF_OK)
-            *sum += said.index;
-    return input->names;
-}
-
-/* The same in a table that was found once. */
-static uint64_t look_ups_of_pass(const struct input *input, uint64_t *sum)
-{
-    xmas_elf_look_up_t said;
-    for (uint64_t i = 0; i < input->names; i++)
-        if (xmas_elf_gnu_look_up_of(input->bytes, input->size, &input->hash, input->bytes + input->name[i].offset,
-                                    (size_t)input->name[i].size, &said) == XMAS_ELF_OK)
-            *sum += said.index;
+    xmas_elf_answer_t said;
+    for (uint64_t i = 0; i < input->names; i++) {
+        xmas_elf_look_ups(input->bytes, input->size, &input->hash, input->bytes, input->size, input->name + i, 1, &said, 1);
+        *sum += said.index;
+    }
     return input->names;
 }
 
@@ -180,8 +141,7 @@ static uint64_t look_ups_many_pass(const struct input *input, uint64_t *sum)
     xmas_elf_answer_t said[64];
     for (uint64_t i = 0; i < input->names; i += 64) {
         size_t count = input->names - i < 64 ? (size_t)(input->names - i) : 64;
-        xmas_elf_gnu_look_ups(input->bytes, input->size, &input->header, input->table_at, input->bytes, input->size,
-                              input->name + i, count, said, count);
+        xmas_elf_look_ups(input->bytes, input->size, &input->hash, input->bytes, input->size, input->name + i, count, said, count);
         for (size_t k = 0; k < count; k++) *sum += said[k].index;
     }
     return input->names;
@@ -189,22 +149,19 @@ static uint64_t look_ups_many_pass(const struct input *input, uint64_t *sum)
 
 static uint64_t check_pass(const struct input *input, uint64_t *sum)
 {
-    *sum += xmas_elf_check_gnu_hash(input->bytes, input->size, &input->header, input->table_at);
+    *sum += xmas_elf_check_hash(input->bytes, input->size, &input->hash);
     return input->names;
 }
 
 /* Where the names of the symbols stand that GNU's hash table is for. */
-static void find_names(struct input *input, uint64_t table, uint64_t symbols)
+static void find_names(struct input *input, uint64_t table)
 {
-    xmas_elf_section_t section;
-    xmas_elf_range_t strings;
-    xmas_elf_symbol_t symbol;
-    input->table_at = table;
-    if (xmas_elf_section(input->bytes, input->size, &input->header, symbols, &section) != XMAS_ELF_OK) return;
-    if (xmas_elf_section_data(input->bytes, input->size, &input->header, section.link, &strings) != XMAS_ELF_OK) return;
-    input->name = calloc((size_t)(section.size / 16) + 1, sizeof *input->name);
-    for (uint64_t i = 1; input->name && xmas_elf_symbol(input->bytes, input->size, &input->header, symbols, i, &symbol) == XMAS_ELF_OK; i++)
-        if (xmas_elf_text(input->bytes, input->size, &strings, symbol.name, &input->name[input->names]) == XMAS_ELF_OK) input->names++;
+    xmas_elf_name_t name;
+    uint64_t count;
+    if (xmas_elf_hash_open(input->bytes, input->size, &input->header, table, &input->hash) != XMAS_ELF_OK) return;
+    input->name = calloc((size_t)input->hash.symbols.count, sizeof *input->name);
+    for (uint64_t i = 1; input->name && xmas_elf_symbol_names(input->bytes, input->size, &input->hash.symbols, i, &name, 1, &count) == XMAS_ELF_OK; i++)
+        if (name.status == XMAS_ELF_OK) input->name[input->names++] = name.range;
 }
 
 static double now(void)
@@ -252,30 +209,27 @@ int main(int argc, char **argv)
     if (xmas_elf_counts(bytes, size, &input.header, &counts) != XMAS_ELF_OK) return 1;
     input.sections = counts.sections;
     xmas_elf_section_t section;
+    xmas_elf_name_t name;
+    uint64_t count;
     for (uint64_t i = 0; i < input.sections; i++) {
         if (xmas_elf_section(bytes, size, &input.header, i, &section) != XMAS_ELF_OK) continue;
-        (void)xmas_elf_section_name(bytes, size, &input.header, i, &input.last); /* a refusal leaves the name before */
+        if (xmas_elf_section_names(bytes, size, &input.header, i, &name, 1, &count) == XMAS_ELF_OK && name.status == XMAS_ELF_OK) input.last = name.range;
         if (section.type == 2 || (section.type == 11 && !input.symbols_at)) input.symbols_at = i;
-        if (section.type == 0x6ffffff6) find_names(&input, i, section.link);
+        if (section.type == 0x6ffffff6) find_names(&input, i);
     }
-    if (xmas_elf_symbols_open(bytes, size, &input.header, input.symbols_at, &input.table) != XMAS_ELF_OK) input.table.count = 0;
+    if (xmas_elf_symbols_open(bytes, size, &input.header, input.symbols_at, &input.table) != XMAS_ELF_OK) input.table.symbols.size = 0;
     measure("header", open_pass, &input);
     measure("section headers one by one", sections_pass, &input);
     measure("section headers, 64 at a time", sections_many_pass, &input);
-    measure("names of sections one by one", names_pass, &input);
     measure("names of sections, 64 at a time", names_many_pass, &input);
     measure("the last section by its name", find_pass, &input);
     measure("data of sections one by one", data_pass, &input);
     measure("program headers, 64 at a time", segments_many_pass, &input);
     measure("symbols one by one", symbols_pass, &input);
-    measure("symbols of a table one by one", symbols_of_pass, &input);
     measure("symbols, 64 at a time", symbols_many_pass, &input);
     measure("names of symbols, 64 at a time", symbol_names_pass, &input);
-    measure("names of symbols of a table one by one", symbol_names_of_pass, &input);
     if (input.names) {
         measure("look-ups by GNU's hash table", look_ups_pass, &input);
-        if (xmas_elf_gnu_open(bytes, size, &input.header, input.table_at, &input.hash) == XMAS_ELF_OK)
-            measure("the same in a table that was found", look_ups_of_pass, &input);
         measure("the same, 64 names by one call", look_ups_many_pass, &input);
         measure("the check of that table, for a symbol", check_pass, &input);
     }

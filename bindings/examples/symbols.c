@@ -21,6 +21,7 @@ int main(int argc, char **argv)
     uint32_t status;
     xmas_elf_header_t header;
     xmas_elf_counts_t counts;
+    xmas_elf_symbol_table_t table;
     xmas_elf_symbol_t symbols[64];
     xmas_elf_name_t names[64];
     uint64_t first, count;
@@ -31,12 +32,14 @@ int main(int argc, char **argv)
     if ((status = xmas_elf_open(input, size, &header))) return refused(status);
     if ((status = xmas_elf_check_header(input, size, &header))) return refused(status);
     if ((status = xmas_elf_counts(input, size, &header, &counts))) return refused(status);
-    for (uint64_t section = 0; section < counts.sections; section++)
-        for (first = 0; !xmas_elf_symbols(input, size, &header, section, first, symbols, 64, &count); first += count) {
-            if ((status = xmas_elf_symbol_names(input, size, &header, section, first, names, 64, &count))) return refused(status);
+    for (uint64_t section = 0; section < counts.sections; section++) {
+        if (xmas_elf_symbols_open(input, size, &header, section, &table)) continue;
+        for (first = 0; !xmas_elf_symbols(input, size, &table, first, symbols, 64, &count); first += count) {
+            if ((status = xmas_elf_symbol_names(input, size, &table, first, names, 64, &count))) return refused(status);
             for (uint64_t i = 0; i < count; i++)
                 if (names[i].range.size)
                     printf("%016" PRIx64 " %.*s\n", symbols[i].value, (int)names[i].range.size, (char *)input + names[i].range.offset);
         }
+    }
     return 0;
 }

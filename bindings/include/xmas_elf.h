@@ -400,16 +400,6 @@ typedef struct xmas_elf_note_t {
     uint32_t type;
 } xmas_elf_note_t;
 
-/* The result of a look-up. */
-typedef struct xmas_elf_look_up_t {
-    /* 1 where a symbol is found, and else 0. */
-    uint32_t found;
-    /* The index of the symbol, or 0. */
-    uint32_t index;
-    /* The number of chain entries that the look-up read. */
-    uint32_t looked_at;
-} xmas_elf_look_up_t;
-
 /* The result of one look-up of many. */
 typedef struct xmas_elf_answer_t {
     /* The status of this look-up; where it is not OK, the numbers after it are 0. */
@@ -422,14 +412,16 @@ typedef struct xmas_elf_answer_t {
     uint32_t looked_at;
 } xmas_elf_answer_t;
 
-/* A hash table of a section with its symbols, found once: the numbers that `xmas_elf_gnu_open` fills, and that
- * `xmas_elf_gnu_look_up_of` takes back; and those of `xmas_elf_hash_open` for `xmas_elf_hash_look_up_of`. */
-typedef struct xmas_elf_gnu_table_t {
+/* A hash table of a section with its symbols, found once: the numbers that `xmas_elf_hash_open` fills, and that other
+ * calls take back. */
+typedef struct xmas_elf_hash_table_t {
     /* The bytes of the hash table. */
     xmas_elf_range_t table;
     /* Its symbols, with the string table in which look-ups compare their names. */
     xmas_elf_symbol_table_t symbols;
-} xmas_elf_gnu_table_t;
+    /* The type of the section: 0x6ffffff6 (SHT_GNU_HASH) for GNU's table, any other number for the gABI's. */
+    uint32_t kind;
+} xmas_elf_hash_table_t;
 
 /* The version of a symbol, or one that a file defines or needs (LSB, "Symbol Versioning"). */
 typedef struct xmas_elf_version_t {
@@ -510,8 +502,8 @@ XMAS_ELF_NODISCARD uint32_t xmas_elf_find_section(const uint8_t *input, size_t i
     const xmas_elf_header_t *header, const uint8_t *name, size_t name_size, xmas_elf_section_t *out)
     XMAS_ELF_NOEXCEPT;
 
-/* The index of the first section with a name: that of the section that `xmas_elf_find_section` gives. Errors:
- * XMAS_ELF_NOT_FOUND. */
+/* The index of the first section with a name: that of the section that `xmas_elf_find_section` gives, which takes
+ * less time. Errors: XMAS_ELF_NOT_FOUND. */
 XMAS_ELF_NODISCARD uint32_t xmas_elf_find_section_index(const uint8_t *input, size_t input_size,
     const xmas_elf_header_t *header, const uint8_t *name, size_t name_size, uint64_t *out) XMAS_ELF_NOEXCEPT;
 
@@ -523,20 +515,13 @@ XMAS_ELF_NODISCARD uint32_t xmas_elf_find_section_index(const uint8_t *input, si
 XMAS_ELF_NODISCARD uint32_t xmas_elf_section_data(const uint8_t *input, size_t input_size,
     const xmas_elf_header_t *header, uint64_t index, xmas_elf_range_t *out) XMAS_ELF_NOEXCEPT;
 
-/* The range of a section's name, without the zero byte that ends it. It is UTF-8. XMAS_ELF_NULL_NAME is for type
- * SHT_NULL, which section 0 has, XMAS_ELF_INVALID_SH_TYPE for a type that this reader does not know, such as 19
- * (SHT_RELR); `xmas_elf_names` and `xmas_elf_text` give the names of these too. Errors, in the order of the tests:
- * XMAS_ELF_SHORT_SECTION_HEADER, XMAS_ELF_UNKNOWN_CLASS, XMAS_ELF_SMALL_ENTRY, XMAS_ELF_INVALID_SH_TYPE,
- * XMAS_ELF_NULL_NAME, XMAS_ELF_RESERVED_INDEX, XMAS_ELF_SHORT_SECTION_OFFSET, XMAS_ELF_TEXT_START, XMAS_ELF_TEXT_END,
- * XMAS_ELF_TEXT_UTF_8. */
-XMAS_ELF_NODISCARD uint32_t xmas_elf_section_name(const uint8_t *input, size_t input_size,
-    const xmas_elf_header_t *header, uint64_t index, xmas_elf_range_t *out) XMAS_ELF_NOEXCEPT;
-
-/* The ranges of the names of sections from index `first` on, each with a status of its own, as
- * `xmas_elf_section_name` returns them. The call gives as many names as `xmas_elf_sections` gives headers. Errors:
- * XMAS_ELF_NO_RECORD. Errors of a record, in the order of the tests: XMAS_ELF_INVALID_SH_TYPE, XMAS_ELF_NULL_NAME,
- * XMAS_ELF_RESERVED_INDEX, XMAS_ELF_SHORT_SECTION_HEADER, XMAS_ELF_SHORT_SECTION_OFFSET, XMAS_ELF_TEXT_START,
- * XMAS_ELF_TEXT_END, XMAS_ELF_TEXT_UTF_8. */
+/* The ranges of the names of sections from index `first` on, each with a status of its own, without the zero bytes
+ * that end them. They are UTF-8. XMAS_ELF_NULL_NAME is for type SHT_NULL, which section 0 has,
+ * XMAS_ELF_INVALID_SH_TYPE for a type that this reader does not know, such as 19 (SHT_RELR); `xmas_elf_names` and
+ * `xmas_elf_text` give the names of these too. The call gives as many names as `xmas_elf_sections` gives headers.
+ * Errors: XMAS_ELF_NO_RECORD. Errors of a record, in the order of the tests: XMAS_ELF_INVALID_SH_TYPE,
+ * XMAS_ELF_NULL_NAME, XMAS_ELF_RESERVED_INDEX, XMAS_ELF_SHORT_SECTION_HEADER, XMAS_ELF_SHORT_SECTION_OFFSET,
+ * XMAS_ELF_TEXT_START, XMAS_ELF_TEXT_END, XMAS_ELF_TEXT_UTF_8. */
 XMAS_ELF_NODISCARD uint32_t xmas_elf_section_names(const uint8_t *input, size_t input_size,
     const xmas_elf_header_t *header, uint64_t first, xmas_elf_name_t *out, size_t out_count, uint64_t *count)
     XMAS_ELF_NOEXCEPT;
@@ -553,14 +538,6 @@ XMAS_ELF_NODISCARD uint32_t xmas_elf_names(const uint8_t *input, size_t input_si
  * XMAS_ELF_TEXT_END, XMAS_ELF_TEXT_UTF_8. */
 XMAS_ELF_NODISCARD uint32_t xmas_elf_text(const uint8_t *input, size_t input_size, const xmas_elf_range_t *part,
     uint64_t index, xmas_elf_range_t *out) XMAS_ELF_NOEXCEPT;
-
-/* The range of the text that begins `index` bytes after the start of a section's data and ends before the next zero
- * byte of the data: the name of a symbol is the text at its `name` in the section `link` of its own section. The call
- * does not test that the section is of type SHT_STRTAB. Errors, in the order of the tests:
- * XMAS_ELF_SHORT_SECTION_HEADER, XMAS_ELF_UNKNOWN_CLASS, XMAS_ELF_SMALL_ENTRY, XMAS_ELF_INVALID_SH_TYPE,
- * XMAS_ELF_NULL_DATA, XMAS_ELF_DATA_RANGE, XMAS_ELF_TEXT_START, XMAS_ELF_TEXT_END, XMAS_ELF_TEXT_UTF_8. */
-XMAS_ELF_NODISCARD uint32_t xmas_elf_section_text(const uint8_t *input, size_t input_size,
-    const xmas_elf_header_t *header, uint64_t section, uint64_t index, xmas_elf_range_t *out) XMAS_ELF_NOEXCEPT;
 
 /* The program header at an index. Errors, in the order of the tests: XMAS_ELF_NO_PROGRAM_HEADERS,
  * XMAS_ELF_UNKNOWN_CLASS, XMAS_ELF_SHORT_PROGRAM_HEADER, XMAS_ELF_SMALL_ENTRY. */
@@ -589,65 +566,37 @@ XMAS_ELF_NODISCARD uint32_t xmas_elf_segments(const uint8_t *input, size_t input
 XMAS_ELF_NODISCARD uint32_t xmas_elf_segment_data(const uint8_t *input, size_t input_size,
     const xmas_elf_header_t *header, uint32_t index, xmas_elf_range_t *out) XMAS_ELF_NOEXCEPT;
 
-/* The symbol at an index of a section of type SHT_SYMTAB or SHT_DYNSYM. The name is a text of the string table that
- * is the section `link`. For a section of another type the status is an error, mostly XMAS_ELF_OTHER_DATA. Errors, in
- * the order of the tests: XMAS_ELF_SHORT_SECTION_HEADER, XMAS_ELF_UNKNOWN_CLASS, XMAS_ELF_SMALL_ENTRY,
- * XMAS_ELF_INVALID_SH_TYPE, XMAS_ELF_DATA_RANGE, XMAS_ELF_NOT_MULTIPLE, XMAS_ELF_NOTE_32, XMAS_ELF_SHORT_DATA,
- * XMAS_ELF_OTHER_DATA, XMAS_ELF_NO_RECORD. */
-XMAS_ELF_NODISCARD uint32_t xmas_elf_symbol(const uint8_t *input, size_t input_size, const xmas_elf_header_t *header,
-    uint64_t section, uint64_t index, xmas_elf_symbol_t *out) XMAS_ELF_NOEXCEPT;
-
-/* The symbols from index `first` on of a section. Errors, in the order of the tests: XMAS_ELF_SHORT_SECTION_HEADER,
- * XMAS_ELF_UNKNOWN_CLASS, XMAS_ELF_SMALL_ENTRY, XMAS_ELF_INVALID_SH_TYPE, XMAS_ELF_DATA_RANGE, XMAS_ELF_NOT_MULTIPLE,
- * XMAS_ELF_NOTE_32, XMAS_ELF_SHORT_DATA, XMAS_ELF_OTHER_DATA, XMAS_ELF_NO_RECORD. */
-XMAS_ELF_NODISCARD uint32_t xmas_elf_symbols(const uint8_t *input, size_t input_size, const xmas_elf_header_t *header,
-    uint64_t section, uint64_t first, xmas_elf_symbol_t *out, size_t out_count, uint64_t *count) XMAS_ELF_NOEXCEPT;
+/* The symbols from index `first` on of a table that `xmas_elf_symbols_open` or `xmas_elf_dynamic_symbols_open` found.
+ * Any table may be given: each call compares its range with the input, and its count is not read. XMAS_ELF_DATA_RANGE
+ * is for symbols that do not lie in the input. Errors, in the order of the tests: XMAS_ELF_DATA_RANGE,
+ * XMAS_ELF_NOT_MULTIPLE, XMAS_ELF_NO_RECORD. */
+XMAS_ELF_NODISCARD uint32_t xmas_elf_symbols(const uint8_t *input, size_t input_size,
+    const xmas_elf_symbol_table_t *table, uint64_t first, xmas_elf_symbol_t *out, size_t out_count, uint64_t *count)
+    XMAS_ELF_NOEXCEPT;
 
 /* The ranges of the names of these symbols, each with a status of its own: the texts at each symbol's `name` in the
- * string table that the section is linked to. The call gives as many names as `xmas_elf_symbols` gives symbols.
- * Errors, in the order of the tests: XMAS_ELF_SHORT_SECTION_HEADER, XMAS_ELF_UNKNOWN_CLASS, XMAS_ELF_SMALL_ENTRY,
- * XMAS_ELF_INVALID_SH_TYPE, XMAS_ELF_DATA_RANGE, XMAS_ELF_NOT_MULTIPLE, XMAS_ELF_NOTE_32, XMAS_ELF_SHORT_DATA,
- * XMAS_ELF_OTHER_DATA, XMAS_ELF_NO_RECORD. Errors of a record, in the order of the tests:
- * XMAS_ELF_SHORT_SECTION_HEADER, XMAS_ELF_INVALID_SH_TYPE, XMAS_ELF_NULL_DATA, XMAS_ELF_DATA_RANGE,
- * XMAS_ELF_TEXT_START, XMAS_ELF_TEXT_END, XMAS_ELF_TEXT_UTF_8. */
+ * string table. The call gives as many names as `xmas_elf_symbols` gives symbols. If `strings_status` of the table is
+ * not 0, it is the status of each name; XMAS_ELF_DATA_RANGE is for a string table that does not lie in the input.
+ * Errors, in the order of the tests: XMAS_ELF_DATA_RANGE, XMAS_ELF_NOT_MULTIPLE, XMAS_ELF_NO_RECORD. Errors of a
+ * record, in the order of the tests: XMAS_ELF_DATA_RANGE, XMAS_ELF_TEXT_START, XMAS_ELF_TEXT_END,
+ * XMAS_ELF_TEXT_UTF_8. */
 XMAS_ELF_NODISCARD uint32_t xmas_elf_symbol_names(const uint8_t *input, size_t input_size,
-    const xmas_elf_header_t *header, uint64_t section, uint64_t first, xmas_elf_name_t *out, size_t out_count,
-    uint64_t *count) XMAS_ELF_NOEXCEPT;
+    const xmas_elf_symbol_table_t *table, uint64_t first, xmas_elf_name_t *out, size_t out_count, uint64_t *count)
+    XMAS_ELF_NOEXCEPT;
 
 /* Finds the symbols of a section of type SHT_SYMTAB or SHT_DYNSYM, and the string table that it is linked to, once
- * for many calls of `xmas_elf_symbol_of` and `xmas_elf_symbol_name_of`. If the string table can't be read, the call
- * is OK, and `strings_status` is the reason. Errors, in the order of the tests: XMAS_ELF_SHORT_SECTION_HEADER,
- * XMAS_ELF_UNKNOWN_CLASS, XMAS_ELF_SMALL_ENTRY, XMAS_ELF_INVALID_SH_TYPE, XMAS_ELF_DATA_RANGE, XMAS_ELF_NOT_MULTIPLE,
- * XMAS_ELF_NOTE_32, XMAS_ELF_SHORT_DATA, XMAS_ELF_OTHER_DATA. */
+ * for many calls of `xmas_elf_symbols` and `xmas_elf_symbol_names`. For a section of another type the status is an
+ * error, mostly XMAS_ELF_OTHER_DATA. If the string table can't be read, the call is OK, and `strings_status` is the
+ * reason. Errors, in the order of the tests: XMAS_ELF_SHORT_SECTION_HEADER, XMAS_ELF_UNKNOWN_CLASS,
+ * XMAS_ELF_SMALL_ENTRY, XMAS_ELF_INVALID_SH_TYPE, XMAS_ELF_DATA_RANGE, XMAS_ELF_NOT_MULTIPLE, XMAS_ELF_NOTE_32,
+ * XMAS_ELF_SHORT_DATA, XMAS_ELF_OTHER_DATA. */
 XMAS_ELF_NODISCARD uint32_t xmas_elf_symbols_open(const uint8_t *input, size_t input_size,
     const xmas_elf_header_t *header, uint64_t section, xmas_elf_symbol_table_t *out) XMAS_ELF_NOEXCEPT;
 
-/* The symbol at an index of a table that was found, as `xmas_elf_symbol` or `xmas_elf_dynamic_symbols` returns it.
- * Any table may be given: each call compares its range with the input, and `count` is not read. XMAS_ELF_DATA_RANGE
- * is for symbols that do not lie in the input. Errors, in the order of the tests: XMAS_ELF_DATA_RANGE,
- * XMAS_ELF_NO_RECORD. */
-XMAS_ELF_NODISCARD uint32_t xmas_elf_symbol_of(const uint8_t *input, size_t input_size,
-    const xmas_elf_symbol_table_t *table, uint64_t index, xmas_elf_symbol_t *out) XMAS_ELF_NOEXCEPT;
-
-/* The range of the name of the symbol at an index of a table that was found, as `xmas_elf_symbol_names` or
- * `xmas_elf_dynamic_symbol_names` returns it. Any table may be given. After the errors of `xmas_elf_symbol_of` the
- * status is `strings_status`, if that is not 0, and then XMAS_ELF_DATA_RANGE for a string table that does not lie in
- * the input. Errors, in the order of the tests: XMAS_ELF_DATA_RANGE, XMAS_ELF_NO_RECORD, XMAS_ELF_TEXT_START,
- * XMAS_ELF_TEXT_END, XMAS_ELF_TEXT_UTF_8. */
-XMAS_ELF_NODISCARD uint32_t xmas_elf_symbol_name_of(const uint8_t *input, size_t input_size,
-    const xmas_elf_symbol_table_t *table, uint64_t index, xmas_elf_range_t *out) XMAS_ELF_NOEXCEPT;
-
-/* The relocation at an index of a section of type SHT_REL or SHT_RELA. For a section of another type the status is an
- * error, mostly XMAS_ELF_OTHER_DATA. Errors, in the order of the tests: XMAS_ELF_SHORT_SECTION_HEADER,
+/* The relocations from index `first` on of a section of type SHT_REL or SHT_RELA. For a section of another type the
+ * status is an error, mostly XMAS_ELF_OTHER_DATA. Errors, in the order of the tests: XMAS_ELF_SHORT_SECTION_HEADER,
  * XMAS_ELF_UNKNOWN_CLASS, XMAS_ELF_SMALL_ENTRY, XMAS_ELF_INVALID_SH_TYPE, XMAS_ELF_DATA_RANGE, XMAS_ELF_NOT_MULTIPLE,
  * XMAS_ELF_NOTE_32, XMAS_ELF_SHORT_DATA, XMAS_ELF_OTHER_DATA, XMAS_ELF_NO_RECORD. */
-XMAS_ELF_NODISCARD uint32_t xmas_elf_relocation(const uint8_t *input, size_t input_size,
-    const xmas_elf_header_t *header, uint64_t section, uint64_t index, xmas_elf_relocation_t *out) XMAS_ELF_NOEXCEPT;
-
-/* The relocations from index `first` on of a section. Errors, in the order of the tests:
- * XMAS_ELF_SHORT_SECTION_HEADER, XMAS_ELF_UNKNOWN_CLASS, XMAS_ELF_SMALL_ENTRY, XMAS_ELF_INVALID_SH_TYPE,
- * XMAS_ELF_DATA_RANGE, XMAS_ELF_NOT_MULTIPLE, XMAS_ELF_NOTE_32, XMAS_ELF_SHORT_DATA, XMAS_ELF_OTHER_DATA,
- * XMAS_ELF_NO_RECORD. */
 XMAS_ELF_NODISCARD uint32_t xmas_elf_relocations(const uint8_t *input, size_t input_size,
     const xmas_elf_header_t *header, uint64_t section, uint64_t first, xmas_elf_relocation_t *out, size_t out_count,
     uint64_t *count) XMAS_ELF_NOEXCEPT;
@@ -660,35 +609,21 @@ XMAS_ELF_NODISCARD uint32_t xmas_elf_packed_relocations(const uint8_t *input, si
     const xmas_elf_header_t *header, uint64_t section, uint64_t first, uint64_t *out, size_t out_count,
     uint64_t *count) XMAS_ELF_NOEXCEPT;
 
-/* The dynamic entry at an index of a section of type SHT_DYNAMIC, also after the entry with tag 0. For a section of
- * another type the status is an error, mostly XMAS_ELF_OTHER_DATA. Errors, in the order of the tests:
- * XMAS_ELF_SHORT_SECTION_HEADER, XMAS_ELF_UNKNOWN_CLASS, XMAS_ELF_SMALL_ENTRY, XMAS_ELF_INVALID_SH_TYPE,
+/* The dynamic entries from index `first` on of a section of type SHT_DYNAMIC, also those after the entry with tag 0.
+ * For a section of another type the status is an error, mostly XMAS_ELF_OTHER_DATA. Errors, in the order of the
+ * tests: XMAS_ELF_SHORT_SECTION_HEADER, XMAS_ELF_UNKNOWN_CLASS, XMAS_ELF_SMALL_ENTRY, XMAS_ELF_INVALID_SH_TYPE,
  * XMAS_ELF_DATA_RANGE, XMAS_ELF_NOT_MULTIPLE, XMAS_ELF_NOTE_32, XMAS_ELF_SHORT_DATA, XMAS_ELF_OTHER_DATA,
  * XMAS_ELF_NO_RECORD. */
-XMAS_ELF_NODISCARD uint32_t xmas_elf_dynamic(const uint8_t *input, size_t input_size, const xmas_elf_header_t *header,
-    uint64_t section, uint64_t index, xmas_elf_dynamic_t *out) XMAS_ELF_NOEXCEPT;
-
-/* The dynamic entries from index `first` on of a section, also those after the entry with tag 0. Errors, in the order
- * of the tests: XMAS_ELF_SHORT_SECTION_HEADER, XMAS_ELF_UNKNOWN_CLASS, XMAS_ELF_SMALL_ENTRY,
- * XMAS_ELF_INVALID_SH_TYPE, XMAS_ELF_DATA_RANGE, XMAS_ELF_NOT_MULTIPLE, XMAS_ELF_NOTE_32, XMAS_ELF_SHORT_DATA,
- * XMAS_ELF_OTHER_DATA, XMAS_ELF_NO_RECORD. */
 XMAS_ELF_NODISCARD uint32_t xmas_elf_dynamics(const uint8_t *input, size_t input_size,
     const xmas_elf_header_t *header, uint64_t section, uint64_t first, xmas_elf_dynamic_t *out, size_t out_count,
     uint64_t *count) XMAS_ELF_NOEXCEPT;
 
 /* The first note of a range, by the alignment of its section or segment (8, and else 4). XMAS_ELF_NO_RECORD is for an
- * empty range, XMAS_ELF_LINK_SHORT_NOTE for one that holds no whole note. Errors, in the order of the tests:
- * XMAS_ELF_DATA_RANGE, XMAS_ELF_NO_RECORD, XMAS_ELF_LINK_SHORT_NOTE. */
+ * empty range, XMAS_ELF_LINK_SHORT_NOTE for one that holds no whole note. The build id of a file is the description
+ * of the first note of type 3 (NT_GNU_BUILD_ID) with name `GNU`, in the sections of type SHT_NOTE or the segments of
+ * type PT_NOTE. Errors, in the order of the tests: XMAS_ELF_DATA_RANGE, XMAS_ELF_NO_RECORD, XMAS_ELF_LINK_SHORT_NOTE. */
 XMAS_ELF_NODISCARD uint32_t xmas_elf_note(const uint8_t *input, size_t input_size, const xmas_elf_header_t *header,
     const xmas_elf_range_t *part, uint64_t align, xmas_elf_note_t *out) XMAS_ELF_NOEXCEPT;
-
-/* The range of the build id, of a file of either class: the description of the first note of section
- * `.note.gnu.build-id`. XMAS_ELF_NOT_FOUND is for a file without this section, and for a first note that is not of
- * type 3 with name `GNU`. Without section headers, look through the notes of the segments of type 4 (PT_NOTE).
- * Errors, in the order of the tests: XMAS_ELF_NOT_FOUND, XMAS_ELF_DATA_RANGE, XMAS_ELF_NO_RECORD,
- * XMAS_ELF_LINK_SHORT_NOTE. */
-XMAS_ELF_NODISCARD uint32_t xmas_elf_build_id(const uint8_t *input, size_t input_size,
-    const xmas_elf_header_t *header, xmas_elf_range_t *out) XMAS_ELF_NOEXCEPT;
 
 /* The range of the file bytes for addresses `address .. address + count`: those of the first PT_LOAD segment that has
  * them all. No section header is needed. Of a segment without file bytes the offset is 0. Errors, in the order of the
@@ -696,72 +631,39 @@ XMAS_ELF_NODISCARD uint32_t xmas_elf_build_id(const uint8_t *input, size_t input
 XMAS_ELF_NODISCARD uint32_t xmas_elf_bytes_at(const uint8_t *input, size_t input_size,
     const xmas_elf_header_t *header, uint64_t address, uint64_t count, xmas_elf_range_t *out) XMAS_ELF_NOEXCEPT;
 
-/* The range of the text that the first dynamic entry with a tag names: for tag 14 (DT_SONAME) the name of the
- * library, for 29 (DT_RUNPATH) and 15 (DT_RPATH) the folders where the dynamic linker looks for libraries. The
- * entries are those of the first segment of type PT_DYNAMIC before the entry with tag 0, so no section header is
- * needed. XMAS_ELF_NOT_FOUND is for a tag that no entry has. Errors, in the order of the tests:
- * XMAS_ELF_LINK_NO_DYNAMIC, XMAS_ELF_DATA_RANGE, XMAS_ELF_NOT_MULTIPLE, XMAS_ELF_NOT_FOUND, XMAS_ELF_LINK_NO_ENTRY,
- * XMAS_ELF_LINK_ADDRESS, XMAS_ELF_TEXT_START, XMAS_ELF_TEXT_END, XMAS_ELF_TEXT_UTF_8. */
-XMAS_ELF_NODISCARD uint32_t xmas_elf_dynamic_text(const uint8_t *input, size_t input_size,
-    const xmas_elf_header_t *header, uint64_t tag, xmas_elf_range_t *out) XMAS_ELF_NOEXCEPT;
-
-/* The ranges of the names of the libraries that the file needs (DT_NEEDED), each with a status of its own, in the
- * order of the entries of `xmas_elf_dynamic_text`. Index `first` counts libraries. Each call reads the entries from
- * the first on, so give room for all where a file may have many. Errors, in the order of the tests:
+/* The ranges of the texts that the dynamic entries with a tag name, from index `first` of them on, each with a status
+ * of its own, in the order of the entries: for tag 1 (DT_NEEDED) the names of the libraries that the file needs, for
+ * 14 (DT_SONAME) the name of the library, for 29 (DT_RUNPATH) and 15 (DT_RPATH) the folders where the dynamic linker
+ * looks for libraries. The entries are those of the first segment of type PT_DYNAMIC before the entry with tag 0, so
+ * no section header is needed. XMAS_ELF_NO_RECORD is for a tag that no more entries have. Each call reads the entries
+ * from the first on, so give room for all where a file may have many. Errors, in the order of the tests:
  * XMAS_ELF_LINK_NO_DYNAMIC, XMAS_ELF_DATA_RANGE, XMAS_ELF_NOT_MULTIPLE, XMAS_ELF_NO_RECORD. Errors of a record, in
  * the order of the tests: XMAS_ELF_LINK_NO_ENTRY, XMAS_ELF_LINK_ADDRESS, XMAS_ELF_DATA_RANGE, XMAS_ELF_TEXT_START,
  * XMAS_ELF_TEXT_END, XMAS_ELF_TEXT_UTF_8. */
-XMAS_ELF_NODISCARD uint32_t xmas_elf_needed(const uint8_t *input, size_t input_size, const xmas_elf_header_t *header,
-    uint64_t first, xmas_elf_name_t *out, size_t out_count, uint64_t *count) XMAS_ELF_NOEXCEPT;
+XMAS_ELF_NODISCARD uint32_t xmas_elf_dynamic_texts(const uint8_t *input, size_t input_size,
+    const xmas_elf_header_t *header, uint64_t tag, uint64_t first, xmas_elf_name_t *out, size_t out_count,
+    uint64_t *count) XMAS_ELF_NOEXCEPT;
 
-/* The number of symbols of the dynamic segment, which no entry says: the number of chains of the gABI's hash table
- * (DT_HASH) where the segment names one, and else one more than the last index that GNU's (DT_GNU_HASH) reaches, or
- * its first index where it reaches none; this one does not count symbols after the last exported one. No section
- * header is needed. Errors, in the order of the tests: XMAS_ELF_LINK_NO_DYNAMIC, XMAS_ELF_DATA_RANGE,
+/* Finds the symbols of the dynamic segment (DT_SYMTAB) and the string table of their names (DT_STRTAB), once for many
+ * calls of `xmas_elf_symbols` and `xmas_elf_symbol_names`. No section header is needed. The count of the table is one
+ * that no entry says: the number of chains of the gABI's hash table (DT_HASH) where the segment names one, and else
+ * one more than the last index that GNU's (DT_GNU_HASH) reaches, or its first index where it reaches none; this one
+ * does not count symbols after the last exported one. If the string table can't be read, the call is OK, and
+ * `strings_status` is the reason. Errors, in the order of the tests: XMAS_ELF_LINK_NO_DYNAMIC, XMAS_ELF_DATA_RANGE,
  * XMAS_ELF_NOT_MULTIPLE, XMAS_ELF_LINK_NO_ENTRY, XMAS_ELF_LINK_ADDRESS, XMAS_ELF_SHORT_DATA,
  * XMAS_ELF_LINK_SHORT_TABLE, XMAS_ELF_LINK_BLOOM_COUNT, XMAS_ELF_LINK_CHAIN_INDEX, XMAS_ELF_LINK_CHAIN_DATA,
  * XMAS_ELF_LINK_SYMBOL_INDEX. */
-XMAS_ELF_NODISCARD uint32_t xmas_elf_dynamic_symbol_count(const uint8_t *input, size_t input_size,
-    const xmas_elf_header_t *header, uint64_t *out) XMAS_ELF_NOEXCEPT;
-
-/* The symbols of the dynamic segment (DT_SYMTAB) from index `first` on, as many in all as
- * `xmas_elf_dynamic_symbol_count` says. No section header is needed. Each call counts the symbols anew, so give room
- * for all. Errors, in the order of the tests: XMAS_ELF_LINK_NO_DYNAMIC, XMAS_ELF_DATA_RANGE, XMAS_ELF_NOT_MULTIPLE,
- * XMAS_ELF_LINK_NO_ENTRY, XMAS_ELF_LINK_ADDRESS, XMAS_ELF_SHORT_DATA, XMAS_ELF_LINK_SHORT_TABLE,
- * XMAS_ELF_LINK_BLOOM_COUNT, XMAS_ELF_LINK_CHAIN_INDEX, XMAS_ELF_LINK_CHAIN_DATA, XMAS_ELF_LINK_SYMBOL_INDEX,
- * XMAS_ELF_NO_RECORD. */
-XMAS_ELF_NODISCARD uint32_t xmas_elf_dynamic_symbols(const uint8_t *input, size_t input_size,
-    const xmas_elf_header_t *header, uint64_t first, xmas_elf_symbol_t *out, size_t out_count, uint64_t *count)
-    XMAS_ELF_NOEXCEPT;
-
-/* The ranges of the names of these symbols, each with a status of its own: the texts at each symbol's `name` in the
- * string table of the dynamic segment (DT_STRTAB). The call gives as many names as `xmas_elf_dynamic_symbols` gives
- * symbols. Errors, in the order of the tests: XMAS_ELF_LINK_NO_DYNAMIC, XMAS_ELF_DATA_RANGE, XMAS_ELF_NOT_MULTIPLE,
- * XMAS_ELF_LINK_NO_ENTRY, XMAS_ELF_LINK_ADDRESS, XMAS_ELF_SHORT_DATA, XMAS_ELF_LINK_SHORT_TABLE,
- * XMAS_ELF_LINK_BLOOM_COUNT, XMAS_ELF_LINK_CHAIN_INDEX, XMAS_ELF_LINK_CHAIN_DATA, XMAS_ELF_LINK_SYMBOL_INDEX,
- * XMAS_ELF_NO_RECORD. Errors of a record, in the order of the tests: XMAS_ELF_LINK_NO_ENTRY, XMAS_ELF_LINK_ADDRESS,
- * XMAS_ELF_DATA_RANGE, XMAS_ELF_TEXT_START, XMAS_ELF_TEXT_END, XMAS_ELF_TEXT_UTF_8. */
-XMAS_ELF_NODISCARD uint32_t xmas_elf_dynamic_symbol_names(const uint8_t *input, size_t input_size,
-    const xmas_elf_header_t *header, uint64_t first, xmas_elf_name_t *out, size_t out_count, uint64_t *count)
-    XMAS_ELF_NOEXCEPT;
-
-/* Finds the symbols of the dynamic segment and the string table of their names, as `xmas_elf_dynamic_symbols` and
- * `xmas_elf_dynamic_symbol_names` do, once for many calls of `xmas_elf_symbol_of` and `xmas_elf_symbol_name_of`. It
- * needs no section headers. If the string table can't be read, the call is OK, and `strings_status` is the reason.
- * Errors, in the order of the tests: XMAS_ELF_LINK_NO_DYNAMIC, XMAS_ELF_DATA_RANGE, XMAS_ELF_NOT_MULTIPLE,
- * XMAS_ELF_LINK_NO_ENTRY, XMAS_ELF_LINK_ADDRESS, XMAS_ELF_SHORT_DATA, XMAS_ELF_LINK_SHORT_TABLE,
- * XMAS_ELF_LINK_BLOOM_COUNT, XMAS_ELF_LINK_CHAIN_INDEX, XMAS_ELF_LINK_CHAIN_DATA, XMAS_ELF_LINK_SYMBOL_INDEX. */
 XMAS_ELF_NODISCARD uint32_t xmas_elf_dynamic_symbols_open(const uint8_t *input, size_t input_size,
     const xmas_elf_header_t *header, xmas_elf_symbol_table_t *out) XMAS_ELF_NOEXCEPT;
 
 /* The versions of the symbols of the dynamic segment (DT_VERSYM) from index `first` on, each with a status of its
  * own: the first definition with the symbol's number but for the one that names the file, and else the first need
- * with it. The call gives as many versions as `xmas_elf_dynamic_symbols` gives symbols. XMAS_ELF_NOT_FOUND is for a
- * file whose symbols have no versions. Each call counts the symbols anew, so give room for all. Errors, in the order
- * of the tests: XMAS_ELF_LINK_NO_DYNAMIC, XMAS_ELF_DATA_RANGE, XMAS_ELF_NOT_MULTIPLE, XMAS_ELF_LINK_NO_ENTRY,
- * XMAS_ELF_LINK_ADDRESS, XMAS_ELF_SHORT_DATA, XMAS_ELF_LINK_SHORT_TABLE, XMAS_ELF_LINK_BLOOM_COUNT,
- * XMAS_ELF_LINK_CHAIN_INDEX, XMAS_ELF_LINK_CHAIN_DATA, XMAS_ELF_LINK_SYMBOL_INDEX, XMAS_ELF_NOT_FOUND,
- * XMAS_ELF_NO_RECORD. Errors of a record, in the order of the tests: XMAS_ELF_LINK_SHORT_VERSION,
+ * with it. The call gives as many versions as the table of `xmas_elf_dynamic_symbols_open` has symbols.
+ * XMAS_ELF_NOT_FOUND is for a file whose symbols have no versions. Each call counts the symbols anew, so give room
+ * for all. Errors, in the order of the tests: XMAS_ELF_LINK_NO_DYNAMIC, XMAS_ELF_DATA_RANGE, XMAS_ELF_NOT_MULTIPLE,
+ * XMAS_ELF_LINK_NO_ENTRY, XMAS_ELF_LINK_ADDRESS, XMAS_ELF_SHORT_DATA, XMAS_ELF_LINK_SHORT_TABLE,
+ * XMAS_ELF_LINK_BLOOM_COUNT, XMAS_ELF_LINK_CHAIN_INDEX, XMAS_ELF_LINK_CHAIN_DATA, XMAS_ELF_LINK_SYMBOL_INDEX,
+ * XMAS_ELF_NOT_FOUND, XMAS_ELF_NO_RECORD. Errors of a record, in the order of the tests: XMAS_ELF_LINK_SHORT_VERSION,
  * XMAS_ELF_LINK_VERSION_COUNT, XMAS_ELF_LINK_NO_ENTRY, XMAS_ELF_LINK_ADDRESS, XMAS_ELF_DATA_RANGE,
  * XMAS_ELF_TEXT_START, XMAS_ELF_TEXT_END, XMAS_ELF_TEXT_UTF_8. */
 XMAS_ELF_NODISCARD uint32_t xmas_elf_dynamic_symbol_versions(const uint8_t *input, size_t input_size,
@@ -794,9 +696,9 @@ XMAS_ELF_NODISCARD uint32_t xmas_elf_version_needs(const uint8_t *input, size_t 
  * there is exactly one. A symbol counts if it has a value, or is absolute or thread-local, and a type that linkers
  * use: also one that is not defined and has a value. The symbol is found only if other files can use it: its binding
  * is global, weak or unique, and its visibility the default or protected. If no symbol is found, that is no error.
- * Each call counts the symbols of the dynamic segment anew; for many names `xmas_elf_gnu_look_ups` is faster, which
- * knows no versions. Errors, in the order of the tests: XMAS_ELF_TEXT_UTF_8, XMAS_ELF_LINK_NO_DYNAMIC,
- * XMAS_ELF_DATA_RANGE, XMAS_ELF_NOT_MULTIPLE, XMAS_ELF_LINK_NO_ENTRY, XMAS_ELF_LINK_ADDRESS, XMAS_ELF_SHORT_DATA,
+ * Each call counts the symbols of the dynamic segment anew; for many names `xmas_elf_look_ups` is faster, which knows
+ * no versions. Errors, in the order of the tests: XMAS_ELF_TEXT_UTF_8, XMAS_ELF_LINK_NO_DYNAMIC, XMAS_ELF_DATA_RANGE,
+ * XMAS_ELF_NOT_MULTIPLE, XMAS_ELF_LINK_NO_ENTRY, XMAS_ELF_LINK_ADDRESS, XMAS_ELF_SHORT_DATA,
  * XMAS_ELF_LINK_SHORT_TABLE, XMAS_ELF_LINK_BLOOM_COUNT, XMAS_ELF_LINK_CHAIN_INDEX, XMAS_ELF_LINK_CHAIN_DATA,
  * XMAS_ELF_LINK_SYMBOL_INDEX, XMAS_ELF_HASH_DATA, XMAS_ELF_CHAIN_INDEX, XMAS_ELF_SYMBOL_INDEX, XMAS_ELF_CHAIN_SUM,
  * XMAS_ELF_HASH_CYCLE, XMAS_ELF_LINK_SHORT_VERSION, XMAS_ELF_LINK_VERSION_COUNT, XMAS_ELF_TEXT_START,
@@ -805,100 +707,40 @@ XMAS_ELF_NODISCARD uint32_t xmas_elf_find_symbol(const uint8_t *input, size_t in
     const xmas_elf_header_t *header, const uint8_t *name, size_t name_size, const uint8_t *version,
     size_t version_size, xmas_elf_found_symbol_t *out) XMAS_ELF_NOEXCEPT;
 
-/* Looks a name up in the hash table that is a section of type SHT_HASH, among the symbols of the section that it is
- * linked to: the first symbol on the chain of the name, defined or not. If no symbol is found, that is no error. In a
- * table that does not pass `xmas_elf_check_hash`, a look-up may return an error or miss a symbol; it reads no more
- * chain entries than the table has. Names are those in section `.dynstr`, and of symbols of a section of type
- * SHT_SYMTAB in `.strtab`; in an undamaged file that is the string table that the symbols are linked to. Errors, in
- * the order of the tests: XMAS_ELF_TEXT_UTF_8, XMAS_ELF_SHORT_SECTION_HEADER, XMAS_ELF_UNKNOWN_CLASS,
- * XMAS_ELF_SMALL_ENTRY, XMAS_ELF_INVALID_SH_TYPE, XMAS_ELF_DATA_RANGE, XMAS_ELF_NOT_MULTIPLE, XMAS_ELF_NOTE_32,
- * XMAS_ELF_SHORT_DATA, XMAS_ELF_OTHER_DATA, XMAS_ELF_HASH_DATA, XMAS_ELF_CHAIN_INDEX, XMAS_ELF_SYMBOL_INDEX,
- * XMAS_ELF_CHAIN_SUM, XMAS_ELF_HASH_CYCLE. */
-XMAS_ELF_NODISCARD uint32_t xmas_elf_look_up(const uint8_t *input, size_t input_size, const xmas_elf_header_t *header,
-    uint64_t section, const uint8_t *name, size_t name_size, xmas_elf_look_up_t *out) XMAS_ELF_NOEXCEPT;
-
-/* Looks many names up in one call, each a range of the bytes `names`: as many as there are ranges, and as `out` has
- * room for. Each result is that of `xmas_elf_look_up` for the name; XMAS_ELF_DATA_RANGE is for a range that passes
- * the end of `names`. The table and its symbols are read once, so this is faster for many names. `names` may be
- * another file, and the ranges those of the names of its symbols. Errors of a record, in the order of the tests:
- * XMAS_ELF_DATA_RANGE, XMAS_ELF_TEXT_UTF_8, XMAS_ELF_SHORT_SECTION_HEADER, XMAS_ELF_UNKNOWN_CLASS,
- * XMAS_ELF_SMALL_ENTRY, XMAS_ELF_INVALID_SH_TYPE, XMAS_ELF_NOT_MULTIPLE, XMAS_ELF_NOTE_32, XMAS_ELF_SHORT_DATA,
- * XMAS_ELF_OTHER_DATA, XMAS_ELF_HASH_DATA, XMAS_ELF_CHAIN_INDEX, XMAS_ELF_SYMBOL_INDEX, XMAS_ELF_CHAIN_SUM,
- * XMAS_ELF_HASH_CYCLE. */
-void xmas_elf_look_ups(const uint8_t *input, size_t input_size, const xmas_elf_header_t *header, uint64_t section,
-    const uint8_t *names, size_t names_size, const xmas_elf_range_t *ranges, size_t ranges_count,
-    xmas_elf_answer_t *out, size_t out_count) XMAS_ELF_NOEXCEPT;
-
-/* Finds the hash table that is a section of type SHT_HASH, and the symbols of the section of type SHT_DYNSYM that it
- * is linked to, once for many calls of `xmas_elf_hash_look_up_of`. If the string table `.dynstr` can't be read, the
- * call is OK, no symbol has a name, and `strings_status` is the reason. Errors, in the order of the tests:
- * XMAS_ELF_SHORT_SECTION_HEADER, XMAS_ELF_UNKNOWN_CLASS, XMAS_ELF_SMALL_ENTRY, XMAS_ELF_INVALID_SH_TYPE,
- * XMAS_ELF_DATA_RANGE, XMAS_ELF_NOT_MULTIPLE, XMAS_ELF_NOTE_32, XMAS_ELF_SHORT_DATA, XMAS_ELF_OTHER_DATA. */
-XMAS_ELF_NODISCARD uint32_t xmas_elf_hash_open(const uint8_t *input, size_t input_size,
-    const xmas_elf_header_t *header, uint64_t section, xmas_elf_gnu_table_t *out) XMAS_ELF_NOEXCEPT;
-
-/* Looks a name up in a table that `xmas_elf_hash_open` found, as `xmas_elf_look_up` does in its section. Any table
- * may be given: each call compares its ranges with the input, and does not read the count of its symbols.
- * `xmas_elf_symbol_of` gives the symbol, by the `symbols` of the table. Errors, in the order of the tests:
- * XMAS_ELF_TEXT_UTF_8, XMAS_ELF_DATA_RANGE, XMAS_ELF_SHORT_DATA, XMAS_ELF_NOT_MULTIPLE, XMAS_ELF_HASH_DATA,
- * XMAS_ELF_CHAIN_INDEX, XMAS_ELF_SYMBOL_INDEX, XMAS_ELF_CHAIN_SUM, XMAS_ELF_HASH_CYCLE. */
-XMAS_ELF_NODISCARD uint32_t xmas_elf_hash_look_up_of(const uint8_t *input, size_t input_size,
-    const xmas_elf_gnu_table_t *table, const uint8_t *name, size_t name_size, xmas_elf_look_up_t *out)
-    XMAS_ELF_NOEXCEPT;
-
-/* Checks a hash table of type SHT_HASH. If it is OK, look-ups return no error for the table, and each finds a symbol
- * if one that is not local has the name. Call it once before many look-ups. A table that was made to be slow takes a
- * few nanoseconds times the product of its buckets and chains. Errors, in the order of the tests:
- * XMAS_ELF_SHORT_SECTION_HEADER, XMAS_ELF_UNKNOWN_CLASS, XMAS_ELF_SMALL_ENTRY, XMAS_ELF_INVALID_SH_TYPE,
- * XMAS_ELF_DATA_RANGE, XMAS_ELF_NOT_MULTIPLE, XMAS_ELF_NOTE_32, XMAS_ELF_SHORT_DATA, XMAS_ELF_OTHER_DATA,
+/* Looks many names up in a hash table that `xmas_elf_hash_open` found, each a range of the bytes `names`: as many as
+ * there are ranges, and as `out` has room for. Each result is the first symbol on the chain of the name, defined or
+ * not; GNU's table holds the symbols from its first on that are defined and not local. If no symbol is found, that is
+ * no error. In a table that does not pass `xmas_elf_check_hash`, a look-up may return an error or miss a symbol; it
+ * reads no more chain entries than the table has. XMAS_ELF_DATA_RANGE is for a range that passes the end of `names`.
+ * Any table may be given: the call compares its ranges with the input. `xmas_elf_symbols` gives a symbol by its
+ * index, for the `symbols` of the table. `names` may be another file, and the ranges those of the names of its
+ * symbols. Errors of a record, in the order of the tests: XMAS_ELF_DATA_RANGE, XMAS_ELF_TEXT_UTF_8,
+ * XMAS_ELF_SHORT_DATA, XMAS_ELF_LINK_SHORT_TABLE, XMAS_ELF_LINK_BLOOM_COUNT, XMAS_ELF_NOT_MULTIPLE,
  * XMAS_ELF_HASH_DATA, XMAS_ELF_CHAIN_INDEX, XMAS_ELF_SYMBOL_INDEX, XMAS_ELF_CHAIN_SUM, XMAS_ELF_HASH_CYCLE,
- * XMAS_ELF_HASH_MISSING. */
-XMAS_ELF_NODISCARD uint32_t xmas_elf_check_hash(const uint8_t *input, size_t input_size,
-    const xmas_elf_header_t *header, uint64_t section) XMAS_ELF_NOEXCEPT;
-
-/* Looks a name up in GNU's hash table, a section of type 0x6ffffff6 (SHT_GNU_HASH), which holds the symbols from its
- * first on that are defined and not local; else as `xmas_elf_look_up`. Errors, in the order of the tests:
- * XMAS_ELF_TEXT_UTF_8, XMAS_ELF_SHORT_SECTION_HEADER, XMAS_ELF_UNKNOWN_CLASS, XMAS_ELF_SMALL_ENTRY,
- * XMAS_ELF_OTHER_DATA, XMAS_ELF_DATA_RANGE, XMAS_ELF_LINK_SHORT_TABLE, XMAS_ELF_LINK_BLOOM_COUNT,
- * XMAS_ELF_INVALID_SH_TYPE, XMAS_ELF_NOT_MULTIPLE, XMAS_ELF_NOTE_32, XMAS_ELF_SHORT_DATA, XMAS_ELF_LINK_CHAIN_INDEX,
- * XMAS_ELF_LINK_SYMBOL_INDEX, XMAS_ELF_LINK_CHAIN_DATA. */
-XMAS_ELF_NODISCARD uint32_t xmas_elf_gnu_look_up(const uint8_t *input, size_t input_size,
-    const xmas_elf_header_t *header, uint64_t section, const uint8_t *name, size_t name_size, xmas_elf_look_up_t *out)
-    XMAS_ELF_NOEXCEPT;
-
-/* Looks many names up in GNU's hash table in one call, as `xmas_elf_look_ups` does. Errors of a record, in the order
- * of the tests: XMAS_ELF_DATA_RANGE, XMAS_ELF_TEXT_UTF_8, XMAS_ELF_SHORT_SECTION_HEADER, XMAS_ELF_UNKNOWN_CLASS,
- * XMAS_ELF_SMALL_ENTRY, XMAS_ELF_OTHER_DATA, XMAS_ELF_LINK_SHORT_TABLE, XMAS_ELF_LINK_BLOOM_COUNT,
- * XMAS_ELF_INVALID_SH_TYPE, XMAS_ELF_NOT_MULTIPLE, XMAS_ELF_NOTE_32, XMAS_ELF_SHORT_DATA, XMAS_ELF_LINK_CHAIN_INDEX,
- * XMAS_ELF_LINK_SYMBOL_INDEX, XMAS_ELF_LINK_CHAIN_DATA. */
-void xmas_elf_gnu_look_ups(const uint8_t *input, size_t input_size, const xmas_elf_header_t *header, uint64_t section,
+ * XMAS_ELF_LINK_CHAIN_INDEX, XMAS_ELF_LINK_SYMBOL_INDEX, XMAS_ELF_LINK_CHAIN_DATA. */
+void xmas_elf_look_ups(const uint8_t *input, size_t input_size, const xmas_elf_hash_table_t *table,
     const uint8_t *names, size_t names_size, const xmas_elf_range_t *ranges, size_t ranges_count,
     xmas_elf_answer_t *out, size_t out_count) XMAS_ELF_NOEXCEPT;
 
-/* Finds GNU's hash table of a section of type 0x6ffffff6 (SHT_GNU_HASH), once for many calls of
- * `xmas_elf_gnu_look_up_of`; else as `xmas_elf_hash_open`. Errors, in the order of the tests:
- * XMAS_ELF_SHORT_SECTION_HEADER, XMAS_ELF_UNKNOWN_CLASS, XMAS_ELF_SMALL_ENTRY, XMAS_ELF_OTHER_DATA,
- * XMAS_ELF_DATA_RANGE, XMAS_ELF_LINK_SHORT_TABLE, XMAS_ELF_LINK_BLOOM_COUNT, XMAS_ELF_INVALID_SH_TYPE,
- * XMAS_ELF_NOT_MULTIPLE, XMAS_ELF_NOTE_32, XMAS_ELF_SHORT_DATA. */
-XMAS_ELF_NODISCARD uint32_t xmas_elf_gnu_open(const uint8_t *input, size_t input_size,
-    const xmas_elf_header_t *header, uint64_t section, xmas_elf_gnu_table_t *out) XMAS_ELF_NOEXCEPT;
+/* Finds the hash table that is a section of type SHT_HASH or 0x6ffffff6 (SHT_GNU_HASH), and the symbols of the
+ * section that it is linked to, as `xmas_elf_symbols_open` finds them: once for many look-ups. Its kind is the type
+ * of the section. If the string table of the symbols can't be read, the call is OK, no symbol has a name, and
+ * `strings_status` is the reason. Errors, in the order of the tests: XMAS_ELF_SHORT_SECTION_HEADER,
+ * XMAS_ELF_UNKNOWN_CLASS, XMAS_ELF_SMALL_ENTRY, XMAS_ELF_INVALID_SH_TYPE, XMAS_ELF_DATA_RANGE, XMAS_ELF_NOT_MULTIPLE,
+ * XMAS_ELF_NOTE_32, XMAS_ELF_SHORT_DATA, XMAS_ELF_LINK_SHORT_TABLE, XMAS_ELF_LINK_BLOOM_COUNT, XMAS_ELF_OTHER_DATA. */
+XMAS_ELF_NODISCARD uint32_t xmas_elf_hash_open(const uint8_t *input, size_t input_size,
+    const xmas_elf_header_t *header, uint64_t section, xmas_elf_hash_table_t *out) XMAS_ELF_NOEXCEPT;
 
-/* Looks a name up in a table that `xmas_elf_gnu_open` found, as `xmas_elf_gnu_look_up` does in its section; else as
- * `xmas_elf_hash_look_up_of`. Errors, in the order of the tests: XMAS_ELF_TEXT_UTF_8, XMAS_ELF_DATA_RANGE,
- * XMAS_ELF_LINK_SHORT_TABLE, XMAS_ELF_LINK_BLOOM_COUNT, XMAS_ELF_NOT_MULTIPLE, XMAS_ELF_LINK_CHAIN_INDEX,
- * XMAS_ELF_LINK_SYMBOL_INDEX, XMAS_ELF_LINK_CHAIN_DATA. */
-XMAS_ELF_NODISCARD uint32_t xmas_elf_gnu_look_up_of(const uint8_t *input, size_t input_size,
-    const xmas_elf_gnu_table_t *table, const uint8_t *name, size_t name_size, xmas_elf_look_up_t *out)
-    XMAS_ELF_NOEXCEPT;
-
-/* Checks GNU's hash table, in one pass over the table and one over the symbols and their names. If it is OK, look-ups
- * return no error for the table, and each finds a symbol if one from the table's first on that is defined and not
- * local has the name. Errors, in the order of the tests: XMAS_ELF_SHORT_SECTION_HEADER, XMAS_ELF_UNKNOWN_CLASS,
- * XMAS_ELF_SMALL_ENTRY, XMAS_ELF_OTHER_DATA, XMAS_ELF_DATA_RANGE, XMAS_ELF_LINK_SHORT_TABLE,
- * XMAS_ELF_LINK_BLOOM_COUNT, XMAS_ELF_INVALID_SH_TYPE, XMAS_ELF_NOT_MULTIPLE, XMAS_ELF_NOTE_32, XMAS_ELF_SHORT_DATA,
- * XMAS_ELF_LINK_CHAIN_INDEX, XMAS_ELF_LINK_SYMBOL_INDEX, XMAS_ELF_LINK_CHAIN_DATA, XMAS_ELF_LINK_MISSING. */
-XMAS_ELF_NODISCARD uint32_t xmas_elf_check_gnu_hash(const uint8_t *input, size_t input_size,
-    const xmas_elf_header_t *header, uint64_t section) XMAS_ELF_NOEXCEPT;
+/* Checks a hash table that `xmas_elf_hash_open` found. If it is OK, look-ups return no error for the table, and each
+ * finds a symbol if one that is not local has the name; in GNU's table one from its first on that is defined. Call it
+ * once before many look-ups. GNU's table takes one pass over the table and one over the symbols and their names; a
+ * table of the other kind that was made to be slow takes a few nanoseconds times the product of its buckets and
+ * chains. Errors, in the order of the tests: XMAS_ELF_DATA_RANGE, XMAS_ELF_SHORT_DATA, XMAS_ELF_LINK_SHORT_TABLE,
+ * XMAS_ELF_LINK_BLOOM_COUNT, XMAS_ELF_NOT_MULTIPLE, XMAS_ELF_HASH_DATA, XMAS_ELF_CHAIN_INDEX, XMAS_ELF_SYMBOL_INDEX,
+ * XMAS_ELF_CHAIN_SUM, XMAS_ELF_HASH_CYCLE, XMAS_ELF_LINK_CHAIN_INDEX, XMAS_ELF_LINK_SYMBOL_INDEX,
+ * XMAS_ELF_LINK_CHAIN_DATA, XMAS_ELF_HASH_MISSING, XMAS_ELF_LINK_MISSING. */
+XMAS_ELF_NODISCARD uint32_t xmas_elf_check_hash(const uint8_t *input, size_t input_size,
+    const xmas_elf_hash_table_t *table) XMAS_ELF_NOEXCEPT;
 
 /* Writes the text of a status to the front of `out`, as much as fits, and returns the size of the whole text in
  * bytes. The text is ASCII without a zero byte at its end. A status that is no error, such as 0, has an empty text. */

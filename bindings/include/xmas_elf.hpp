@@ -54,7 +54,9 @@ public:
         std::uint64_t count = 0;
         xmas_elf_name_t names{};
         xmas_elf_version_t versions{};
-        const bool is_named = call(xmas_elf_dynamic_symbol_names, std::uint64_t{found.index}, &names, std::size_t{1}, &count) == XMAS_ELF_OK;
+        xmas_elf_symbol_table_t table{};
+        const bool is_named = call(xmas_elf_dynamic_symbols_open, &table) == XMAS_ELF_OK
+            && xmas_elf_symbol_names(bytes().data(), bytes().size(), &table, found.index, &names, 1, &count) == XMAS_ELF_OK;
         const bool has_version = call(xmas_elf_dynamic_symbol_versions, std::uint64_t{found.index}, &versions, std::size_t{1}, &count) == XMAS_ELF_OK;
         symbol one = symbol_of(found.symbol, found.index, is_named ? &names : nullptr);
         if (has_version) one.version = version_of(versions);
@@ -65,7 +67,8 @@ public:
     std::vector<std::string_view> needed() const
     {
         std::vector<std::string_view> found;
-        for (const xmas_elf_name_t &name : all<xmas_elf_name_t>(xmas_elf_needed)) {
+        const std::uint64_t needed_tag = 1;
+        for (const xmas_elf_name_t &name : all<xmas_elf_name_t>(xmas_elf_dynamic_texts, needed_tag)) {
             check(name.status);
             found.push_back(text(name.range));
         }
@@ -81,11 +84,13 @@ public:
     /// The text that the first dynamic entry with a tag names.
     std::optional<std::string_view> dynamic_text(std::uint64_t tag) const
     {
-        xmas_elf_range_t range{};
-        const std::uint32_t status = call(xmas_elf_dynamic_text, tag, &range);
-        if (status == XMAS_ELF_NOT_FOUND || status == XMAS_ELF_LINK_NO_DYNAMIC) return std::nullopt;
+        xmas_elf_name_t name{};
+        std::uint64_t count = 0;
+        const std::uint32_t status = call(xmas_elf_dynamic_texts, tag, std::uint64_t{0}, &name, std::size_t{1}, &count);
+        if (status == XMAS_ELF_NO_RECORD || status == XMAS_ELF_LINK_NO_DYNAMIC) return std::nullopt;
         check(status);
-        return text(range);
+        check(name.status);
+        return text(name.range);
     }
     /// The versions that the file defines (DT_VERDEF), that of the file itself included.
     std::vector<version> version_definitions() const { return versions(xmas_elf_version_definitions); }
@@ -125,13 +130,13 @@ private:
     static const std::uint8_t *raw(std::string_view text) noexcept { return reinterpret_cast<const std::uint8_t *>(text.data()); }
 
     /// All records of a call that begins anew each time; none if the file has no such list.
-    template <class Record, class Call> std::vector<Record> all(Call function) const
+    template <class Record, class Call, class... Arguments> std::vector<Record> all(Call function, Arguments... arguments) const
     {
         std::vector<Record> records;
         for (std::size_t room = 64;; room *= 4) {
             records.resize(room);
             std::uint64_t count = 0;
-            const std::uint32_t status = call(function, std::uint64_t{0}, records.data(), records.size(), &count);
+            const std::uint32_t status = call(function, arguments..., std::uint64_t{0}, records.data(), records.size(), &count);
             if (status == XMAS_ELF_NO_RECORD || status == XMAS_ELF_LINK_NO_DYNAMIC || status == XMAS_ELF_NOT_FOUND) return {};
             check(status);
             records.resize(static_cast<std::size_t>(count));
@@ -163,6 +168,18 @@ private:
         one.index = index;
         if (name != nullptr && name->status == XMAS_ELF_OK) one.name = text(name->range);
         return one;
+    }
+    /// The next symbols of a table that a call found, with their names; none after the last.
+    void add_symbols(const xmas_elf_symbol_table_t &table, std::uint64_t first, std::vector<symbol> &out) const
+    {
+        xmas_elf_symbol_t records[64];
+        xmas_elf_name_t names[64];
+        std::uint64_t count = 0;
+        const std::uint32_t status = xmas_elf_symbols(bytes_.data(), bytes_.size(), &table, first, records, 64, &count);
+        if (status == XMAS_ELF_NO_RECORD) return;
+        check(status);
+        check(xmas_elf_symbol_names(bytes_.data(), bytes_.size(), &table, first, names, 64, &count));
+        for (std::size_t i = 0; i < count; i++) out.push_back(symbol_of(records[i], first + i, &names[i]));
     }
     void add_notes(xmas_elf_range_t rest, std::uint64_t align, std::vector<note> &found) const
     {
@@ -216,15 +233,12 @@ public:
     /// The symbols; none if the section isn't a symbol table. Throws where the table is damaged.
     auto symbols() const
     {
-        const auto fill = [owner = file_, index = index_](std::uint64_t first, std::vector<symbol> &out) {
-            xmas_elf_symbol_t records[64];
-            xmas_elf_name_t names[64];
-            std::uint64_t count = 0;
-            const std::uint32_t status = owner->call(xmas_elf_symbols, index, first, records, std::size_t{64}, &count);
-            if (status == XMAS_ELF_NO_RECORD || status == XMAS_ELF_OTHER_DATA || status == XMAS_ELF_INVALID_SH_TYPE) return;
+        xmas_elf_symbol_table_t table{};
+        const std::uint32_t status = file_->call(xmas_elf_symbols_open, index_, &table);
+        const auto fill = [owner = file_, table, status](std::uint64_t first, std::vector<symbol> &out) {
+            if (status == XMAS_ELF_OTHER_DATA || status == XMAS_ELF_INVALID_SH_TYPE) return;
             check(status);
-            check(owner->call(xmas_elf_symbol_names, index, first, names, std::size_t{64}, &count));
-            for (std::size_t i = 0; i < count; i++) out.push_back(owner->symbol_of(records[i], first + i, &names[i]));
+            owner->add_symbols(table, first, out);
         };
         return items<symbol, decltype(fill)>(fill);
     }
@@ -331,14 +345,15 @@ inline auto file::dynamic_symbols() const
 {
     const auto fill = [this](std::uint64_t first, std::vector<symbol> &out) {
         if (first != 0) return;
-        const auto records = all<xmas_elf_symbol_t>(xmas_elf_dynamic_symbols);
-        const auto names = all<xmas_elf_name_t>(xmas_elf_dynamic_symbol_names);
+        xmas_elf_symbol_table_t table{};
+        const std::uint32_t status = call(xmas_elf_dynamic_symbols_open, &table);
+        if (status == XMAS_ELF_LINK_NO_DYNAMIC) return;
+        check(status);
+        std::size_t had;
+        do add_symbols(table, had = out.size(), out);
+        while (out.size() > had);
         const auto found = all<xmas_elf_version_t>(xmas_elf_dynamic_symbol_versions);
-        out.reserve(records.size());
-        for (std::size_t i = 0; i < records.size(); i++) {
-            out.push_back(symbol_of(records[i], i, i < names.size() ? &names[i] : nullptr));
-            if (i < found.size()) out.back().version = version_of(found[i]);
-        }
+        for (std::size_t i = 0; i < out.size() && i < found.size(); i++) out[i].version = version_of(found[i]);
     };
     return items<symbol, decltype(fill)>(fill);
 }

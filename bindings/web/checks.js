@@ -27,7 +27,7 @@ async function check(table, module, source) {
   try {
     await client.ask("load", { file: source, module });
     await client.ask("header");
-    table.said = await client.ask("checkHash", { section: table.section.index, gnu: table.gnu });
+    table.said = await client.ask("checkHash", { section: table.section.index });
   } catch (error) {
     table.said = { failed: error.message };
   }

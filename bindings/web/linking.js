@@ -168,7 +168,7 @@ function lookUpForm(file, client, table) {
   const name = element("input", { type: "text", spellcheck: "false", autocomplete: "off", placeholder: "a whole name, as malloc" });
   const submit = async (event) => {
     event.preventDefault();
-    const given = { section: table.section.index, symbols: table.section.header.link, gnu: table.gnu, name: name.value };
+    const given = { section: table.section.index, symbols: table.section.header.link, name: name.value };
     const said = await client.ask("lookUp", given);
     result.replaceChildren(...[lookUpSaid(file, said)].flat());
   };

@@ -4,9 +4,9 @@ import * as names from "./names.js";
 import { partsOf } from "./parts.js";
 
 // For each type of section the export that answers its records, and the table of tables that it belongs to.
-const RECORD_CALLS = { [names.SYMTAB]: ["symbol", "symbol"], [names.DYNSYM]: ["symbol", "symbol"],
-  [names.RELA]: ["relocation", "relocation"], [names.REL]: ["relocation", "relocation"],
-  [names.RELR]: ["packed_relocations", "relocation"], [names.DYNAMIC]: ["dynamic", "dynamic"] };
+const RECORD_CALLS = { [names.SYMTAB]: ["symbols", "symbol"], [names.DYNSYM]: ["symbols", "symbol"],
+  [names.RELA]: ["relocations", "relocation"], [names.REL]: ["relocations", "relocation"],
+  [names.RELR]: ["packed_relocations", "relocation"], [names.DYNAMIC]: ["dynamics", "dynamic"] };
 
 /** Past so many notes no further section or segment is asked for them. */
 const MOST_NOTES = 20000;

@@ -14,7 +14,8 @@ export const LONGEST_NAME = 65536;
 
 const PAGE = 65536;
 const WIDEST = Math.max(...Object.values(RECORDS).map((record) => record.size));
-const ROOMS = { header: WIDEST, added: WIDEST, part: WIDEST, out: BATCH * WIDEST, count: 8, message: LONGEST_MESSAGE, name: LONGEST_NAME };
+const ROOMS = { header: WIDEST, added: WIDEST, part: WIDEST, table: WIDEST, ranges: WIDEST, out: BATCH * WIDEST, count: 8,
+  message: LONGEST_MESSAGE, names: LONGEST_NAME };
 
 /** The file is larger than the memory that the browser gives the module. */
 export class DoesNotFit extends Error {}
@@ -98,10 +99,7 @@ export class Reader {
 
   /** The header of the file, which the calls that follow take. */
   open() {
-    const opened = this.one("open");
-    const { out, header } = this.places;
-    if (opened.record) new Uint8Array(this.memory.buffer).copyWithin(header, out, out + RECORDS.header.size);
-    return opened;
+    return this.kept("open", "header");
   }
 
   /** Adds section headers, each with a value for the members of these fields, in the place of those added before. */
@@ -127,10 +125,27 @@ export class Reader {
     else this.view().setUint16(place, number, isLittle);
   }
 
-  /** Looks a name, which is bytes, up by a hash table: `look_up` or `gnu_look_up`. */
-  lookUp(call, section, name) {
-    new Uint8Array(this.memory.buffer).set(name, this.places.name);
-    return this.one(call, { section, name_size: name.length });
+  /** A table that an opening call finds, of symbols or a hash table: the calls that follow take it. */
+  find(name, given) {
+    return this.kept(name, "table", given);
+  }
+
+  kept(name, room, given) {
+    const found = this.one(name, given);
+    const { out, [room]: place } = this.places;
+    if (found.record) new Uint8Array(this.memory.buffer).copyWithin(place, out, out + outOf(name).size);
+    return found;
+  }
+
+  /** Looks a name, which is bytes, up by the hash table in a section. */
+  lookUp(section, name) {
+    const found = this.find("hash_open", { section });
+    if (!found.record) return found;
+    new Uint8Array(this.memory.buffer).set(name, this.places.names);
+    this.write("range", this.places.ranges, { offset: 0, size: name.length });
+    this.call("look_ups", { names_size: name.length, ranges_count: 1, out_count: 1 });
+    const record = this.value(outOf("look_ups"), this.places.out);
+    return record.status === STATUS.OK ? { status: record.status, record } : { status: record.status };
   }
 
   /** The text of a status. */

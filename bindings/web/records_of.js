@@ -3,13 +3,19 @@ import { BATCH, STATUS } from "./reader.js";
 import { rangeText, refusal, textAt } from "./survey.js";
 import { symbolVersions } from "./versions_of.js";
 
+/** How many symbols the section has, and why it has none, where it is refused. */
+function countSymbols(reader, section) {
+  const { status, record } = section === null ? reader.find("dynamic_symbols_open") : reader.find("symbols_open", { section });
+  return { count: Number(record?.count ?? 0), refused: refusal(reader, status) };
+}
+
 /**
  * How many records the section has, and why it has none, where it is refused. An index is refused with NO_RECORD from
- * the number of records on, so that doubling and halving finds the number. A call takes it as `index`, or as `first`
- * of many.
+ * the number of records on, so that doubling and halving finds the number of those that are no symbols.
  */
 export function count(reader, { call, section }) {
-  const at = (index) => reader.call(call, { section, index, first: index, out_count: 1 });
+  if (call === "symbols") return countSymbols(reader, section);
+  const at = (first) => reader.call(call, { section, first, out_count: 1 });
   const first = at(0);
   if (first !== STATUS.OK) return { count: 0, refused: first === STATUS.NO_RECORD ? null : refusal(reader, first) };
   const has = (index) => at(index) === STATUS.OK;
@@ -30,20 +36,17 @@ function between(there, gone, has) {
 
 /** How many symbols the dynamic segment has: what its entries and hash tables say, with no section header. */
 export function countDynamicSymbols(reader) {
-  const { status, record } = reader.one("dynamic_symbol_count");
-  return { count: Number(record ?? 0), refused: refusal(reader, status) };
+  return countSymbols(reader, null);
 }
 
 /** Symbols from an index on: those of a section, or of the dynamic segment where `section` is null. */
 export function symbolsFrom(reader, { section, first }, room) {
-  return section === null ? reader.many("dynamic_symbols", { first }, room).records
-    : reader.many("symbols", { section, first }, room).records;
+  return countSymbols(reader, section).refused ? [] : reader.many("symbols", { first }, room).records;
 }
 
 /** The names of these symbols, each with a status. */
 export function symbolNamesFrom(reader, { section, first }, room) {
-  return section === null ? reader.many("dynamic_symbol_names", { first }, room).records
-    : reader.many("symbol_names", { section, first }, room).records;
+  return countSymbols(reader, section).refused ? [] : reader.many("symbol_names", { first }, room).records;
 }
 
 /** Symbols with their names, and with their versions where they are those of the dynamic segment. */
@@ -67,14 +70,10 @@ export function symbolAt(reader, section, index, versioned = false) {
 
 /** Relocations, each with the symbol that it names in the section `symbols`. */
 export function relocationRows(reader, { section, symbols, first, size }) {
-  const rows = [];
-  for (let index = first; index < first + size; index += 1) {
-    const { record } = reader.one("relocation", { section, index });
-    if (!record) break;
+  return reader.many("relocations", { section, first }, size).records.map((record, at) => {
     const named = record.symbol && symbols !== null ? symbolAt(reader, symbols, record.symbol) : null;
-    rows.push({ index, ...record, named, unnamed: record.symbol && !named ? whyNot(reader, symbols, record) : null });
-  }
-  return rows;
+    return { index: first + at, ...record, named, unnamed: record.symbol && !named ? whyNot(reader, symbols, record) : null };
+  });
 }
 
 /** The addresses of packed relative relocations (RELR). */
@@ -84,7 +83,8 @@ export function packedRows(reader, { section, first, size }) {
 }
 
 function whyNot(reader, section, record) {
-  return section === null ? null : refusal(reader, reader.call("symbol", { section, index: record.symbol }));
+  if (section === null) return null;
+  return countSymbols(reader, section).refused ?? refusal(reader, reader.call("symbols", { first: record.symbol, out_count: 1 }));
 }
 
 /**
@@ -92,27 +92,23 @@ function whyNot(reader, section, record) {
  * for each library needed and each of `tags` that an entry has; or `refused` where there are no entries.
  */
 export function dynamicTexts(reader, { needed, tags }) {
-  const libraries = reader.many("needed", { first: 0 });
+  const libraries = reader.many("dynamic_texts", { tag: needed, first: 0 });
   if (libraries.status !== STATUS.OK && libraries.status !== STATUS.NO_RECORD) return { rows: [], refused: refusal(reader, libraries.status) };
   const said = ({ status, range }) => (status === STATUS.OK ? { text: rangeText(reader, range) } : { refused: refusal(reader, status) });
   const rows = libraries.records.map((name) => ({ tag: needed, ...said(name) }));
   for (const tag of tags) {
-    const { status, record } = reader.one("dynamic_text", { tag });
-    if (status !== STATUS.NOT_FOUND) rows.push({ tag, ...said({ status, range: record }) });
+    const { status, records: [text] } = reader.many("dynamic_texts", { tag, first: 0 }, 1);
+    if (status !== STATUS.NO_RECORD) rows.push({ tag, ...said(text ?? { status }) });
   }
   return { rows, refused: null };
 }
 
 /** Dynamic entries, each with the text that its value is an index of, where its tag is one of `texts`. */
 export function dynamicRows(reader, { section, strings, texts, first, size }) {
-  const rows = [];
-  for (let index = first; index < first + size; index += 1) {
-    const { record } = reader.one("dynamic", { section, index });
-    if (!record) break;
+  return reader.many("dynamics", { section, first }, size).records.map((record, at) => {
     const isText = strings !== null && texts.includes(record.tag);
-    rows.push({ index, ...record, ...(isText ? textAt(reader, strings, record.value) : {}) });
-  }
-  return rows;
+    return { index: first + at, ...record, ...(isText ? textAt(reader, strings, record.value) : {}) };
+  });
 }
 
 /** The names and descriptions of notes, of which at most `most` bytes each. */
@@ -122,8 +118,8 @@ export function noteRows(reader, { notes, most }) {
 }
 
 /** What a hash table says of a name, with the symbol that it finds in the section `symbols`. */
-export function lookUp(reader, { section, symbols, gnu, name }) {
-  const { status, record } = reader.lookUp(gnu ? "gnu_look_up" : "look_up", section, new TextEncoder().encode(name));
+export function lookUp(reader, { section, symbols, name }) {
+  const { status, record } = reader.lookUp(section, new TextEncoder().encode(name));
   if (!record) return { refused: refusal(reader, status) };
   return { ...record, symbol: record.found ? symbolAt(reader, symbols, record.index) : null };
 }

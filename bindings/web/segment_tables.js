@@ -34,7 +34,7 @@ function named(reader, values, fileClass) {
   const isRel = values.get(PLTREL) === REL;
   const tables = TABLES.filter(([, at, size]) => values.has(at) && values.get(size)).map(([name, at, size, type]) =>
     ({ name, type: name === "DT_JMPREL" && isRel ? names.REL : type, address: values.get(at), size: values.get(size) }));
-  const count = reader.one("dynamic_symbol_count").record;
+  const count = reader.find("dynamic_symbols_open").record?.count;
   if (!count || !values.has(names.SYMTAB_TAG)) return tables;
   const size = count * BigInt(fieldsOf("symbol", fileClass).size);
   return [...tables, { name: "DT_SYMTAB", type: names.DYNSYM, address: values.get(names.SYMTAB_TAG), size }];

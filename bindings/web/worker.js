@@ -39,8 +39,9 @@ async function roomFor(module, size) {
 }
 
 /** What a hash table's own check says: it may take long, so that the page asks a worker of its own. */
-function checkHash({ section, gnu }) {
-  const status = reader.call(gnu ? "check_gnu_hash" : "check_hash", { section });
+function checkHash({ section }) {
+  const found = reader.find("hash_open", { section });
+  const status = found.record ? reader.call("check_hash") : found.status;
   return { status, message: reader.message(status) };
 }
 

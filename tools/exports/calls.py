@@ -22,7 +22,7 @@ pub(crate) struct Asked<'a> {
     pub(crate) header: Header,
     pub(crate) part: Range,
     pub(crate) table: SymbolTable,
-    pub(crate) hash: GnuTable,
+    pub(crate) hash: FoundTable,
     pub(crate) name: &'a [u8],
     pub(crate) section: u64,
     pub(crate) index: u64,
@@ -42,7 +42,7 @@ def value(parameter):
 
 def place_of(parameter):
     """The record that is handed to a parameter."""
-    return {"header": "header", "symbol_table": "table", "gnu_table": "hash"}.get(parameter.type, "part")
+    return {"header": "header", "symbol_table": "table", "hash_table": "hash"}.get(parameter.type, "part")
 
 
 def c_argument(parameter, place, c_type):

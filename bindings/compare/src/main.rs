@@ -128,7 +128,8 @@ fn compare_look_ups<Elf: FileHeader<Endian = Endianness>>(
         }
     }
     let mut many = vec![Answer::default(); ranges.len()];
-    ours.look_ups(&bytes, &ranges, &mut many);
+    let asked = ours.look_ups(&bytes, &ranges, &mut many);
+    answers.same("names looked up by one call", asked.ok(), Some(ranges.len()));
     for (range, answer) in ranges.iter().zip(&many) {
         let name = &bytes[range.offset as usize..(range.offset + range.size) as usize];
         let found = answer.index().ok().flatten().map(|index| index as usize);

@@ -335,25 +335,6 @@ _document(
 NOTE = Struct("@QQQQQQI0Q")
 
 
-class LookUpRecord(NamedTuple):
-    """The result of a look-up."""
-
-    found: int
-    index: int  # type: ignore[assignment]
-    looked_at: int
-
-
-_document(
-    LookUpRecord,
-    found="1 where a symbol is found, and else 0.",
-    index="The index of the symbol, or 0.",
-    looked_at="The number of chain entries that the look-up read.",
-)
-
-
-LOOK_UP = Struct("@III0I")
-
-
 class AnswerRecord(NamedTuple):
     """The result of one look-up of many."""
 
@@ -375,9 +356,9 @@ _document(
 ANSWER = Struct("@IIII0I")
 
 
-class GnuTableRecord(NamedTuple):
-    """A hash table of a section with its symbols, found once: the numbers that `xmas_elf_gnu_open` fills, and that
-    `xmas_elf_gnu_look_up_of` takes back; and those of `xmas_elf_hash_open` for `xmas_elf_hash_look_up_of`."""
+class HashTableRecord(NamedTuple):
+    """A hash table of a section with its symbols, found once: the numbers that `xmas_elf_hash_open` fills, and that
+    other calls take back."""
 
     table_offset: int
     table_size: int
@@ -389,10 +370,11 @@ class GnuTableRecord(NamedTuple):
     symbols_strings_status: int
     symbols_file_class: int
     symbols_encoding: int
+    kind: int
 
 
 _document(
-    GnuTableRecord,
+    HashTableRecord,
     table_offset="The bytes of the hash table. The offset of the first byte, in bytes from the start of the input.",
     table_size="The bytes of the hash table. The number of bytes.",
     symbols_symbols_offset=
@@ -418,10 +400,11 @@ _document(
     symbols_encoding=
         "Its symbols, with the string table in which look-ups compare their names. 2: big-endian; any other "
         "number is read as little-endian (EI_DATA).",
+    kind="The type of the section: 0x6ffffff6 (SHT_GNU_HASH) for GNU's table, any other number for the gABI's.",
 )
 
 
-GNU_TABLE = Struct("@QQQQQQQIHH0Q")
+HASH_TABLE = Struct("@QQQQQQQIHHI0Q")
 
 
 class VersionRecord(NamedTuple):
@@ -524,49 +507,30 @@ EXPORTS: Dict[str, Tuple[Any, Tuple[Any, ...]]] = {
     "xmas_elf_find_section": (c_uint32, (c_void_p, c_size_t, c_void_p, c_void_p, c_size_t, c_void_p,)),
     "xmas_elf_find_section_index": (c_uint32, (c_void_p, c_size_t, c_void_p, c_void_p, c_size_t, c_void_p,)),
     "xmas_elf_section_data": (c_uint32, (c_void_p, c_size_t, c_void_p, c_uint64, c_void_p,)),
-    "xmas_elf_section_name": (c_uint32, (c_void_p, c_size_t, c_void_p, c_uint64, c_void_p,)),
     "xmas_elf_section_names": (c_uint32, (c_void_p, c_size_t, c_void_p, c_uint64, c_void_p, c_size_t, c_void_p,)),
     "xmas_elf_names": (c_uint32, (c_void_p, c_size_t, c_void_p, c_void_p,)),
     "xmas_elf_text": (c_uint32, (c_void_p, c_size_t, c_void_p, c_uint64, c_void_p,)),
-    "xmas_elf_section_text": (c_uint32, (c_void_p, c_size_t, c_void_p, c_uint64, c_uint64, c_void_p,)),
     "xmas_elf_segment": (c_uint32, (c_void_p, c_size_t, c_void_p, c_uint32, c_void_p,)),
     "xmas_elf_check_segment": (c_uint32, (c_void_p, c_size_t, c_void_p, c_uint32,)),
     "xmas_elf_segments": (c_uint32, (c_void_p, c_size_t, c_void_p, c_uint64, c_void_p, c_size_t, c_void_p,)),
     "xmas_elf_segment_data": (c_uint32, (c_void_p, c_size_t, c_void_p, c_uint32, c_void_p,)),
-    "xmas_elf_symbol": (c_uint32, (c_void_p, c_size_t, c_void_p, c_uint64, c_uint64, c_void_p,)),
-    "xmas_elf_symbols": (c_uint32, (c_void_p, c_size_t, c_void_p, c_uint64, c_uint64, c_void_p, c_size_t, c_void_p,)),
-    "xmas_elf_symbol_names": (c_uint32, (c_void_p, c_size_t, c_void_p, c_uint64, c_uint64, c_void_p, c_size_t, c_void_p,)),
+    "xmas_elf_symbols": (c_uint32, (c_void_p, c_size_t, c_void_p, c_uint64, c_void_p, c_size_t, c_void_p,)),
+    "xmas_elf_symbol_names": (c_uint32, (c_void_p, c_size_t, c_void_p, c_uint64, c_void_p, c_size_t, c_void_p,)),
     "xmas_elf_symbols_open": (c_uint32, (c_void_p, c_size_t, c_void_p, c_uint64, c_void_p,)),
-    "xmas_elf_symbol_of": (c_uint32, (c_void_p, c_size_t, c_void_p, c_uint64, c_void_p,)),
-    "xmas_elf_symbol_name_of": (c_uint32, (c_void_p, c_size_t, c_void_p, c_uint64, c_void_p,)),
-    "xmas_elf_relocation": (c_uint32, (c_void_p, c_size_t, c_void_p, c_uint64, c_uint64, c_void_p,)),
     "xmas_elf_relocations": (c_uint32, (c_void_p, c_size_t, c_void_p, c_uint64, c_uint64, c_void_p, c_size_t, c_void_p,)),
     "xmas_elf_packed_relocations": (c_uint32, (c_void_p, c_size_t, c_void_p, c_uint64, c_uint64, c_void_p, c_size_t, c_void_p,)),
-    "xmas_elf_dynamic": (c_uint32, (c_void_p, c_size_t, c_void_p, c_uint64, c_uint64, c_void_p,)),
     "xmas_elf_dynamics": (c_uint32, (c_void_p, c_size_t, c_void_p, c_uint64, c_uint64, c_void_p, c_size_t, c_void_p,)),
     "xmas_elf_note": (c_uint32, (c_void_p, c_size_t, c_void_p, c_void_p, c_uint64, c_void_p,)),
-    "xmas_elf_build_id": (c_uint32, (c_void_p, c_size_t, c_void_p, c_void_p,)),
     "xmas_elf_bytes_at": (c_uint32, (c_void_p, c_size_t, c_void_p, c_uint64, c_uint64, c_void_p,)),
-    "xmas_elf_dynamic_text": (c_uint32, (c_void_p, c_size_t, c_void_p, c_uint64, c_void_p,)),
-    "xmas_elf_needed": (c_uint32, (c_void_p, c_size_t, c_void_p, c_uint64, c_void_p, c_size_t, c_void_p,)),
-    "xmas_elf_dynamic_symbol_count": (c_uint32, (c_void_p, c_size_t, c_void_p, c_void_p,)),
-    "xmas_elf_dynamic_symbols": (c_uint32, (c_void_p, c_size_t, c_void_p, c_uint64, c_void_p, c_size_t, c_void_p,)),
-    "xmas_elf_dynamic_symbol_names": (c_uint32, (c_void_p, c_size_t, c_void_p, c_uint64, c_void_p, c_size_t, c_void_p,)),
+    "xmas_elf_dynamic_texts": (c_uint32, (c_void_p, c_size_t, c_void_p, c_uint64, c_uint64, c_void_p, c_size_t, c_void_p,)),
     "xmas_elf_dynamic_symbols_open": (c_uint32, (c_void_p, c_size_t, c_void_p, c_void_p,)),
     "xmas_elf_dynamic_symbol_versions": (c_uint32, (c_void_p, c_size_t, c_void_p, c_uint64, c_void_p, c_size_t, c_void_p,)),
     "xmas_elf_version_definitions": (c_uint32, (c_void_p, c_size_t, c_void_p, c_uint64, c_void_p, c_size_t, c_void_p,)),
     "xmas_elf_version_needs": (c_uint32, (c_void_p, c_size_t, c_void_p, c_uint64, c_void_p, c_size_t, c_void_p,)),
     "xmas_elf_find_symbol": (c_uint32, (c_void_p, c_size_t, c_void_p, c_void_p, c_size_t, c_void_p, c_size_t, c_void_p,)),
-    "xmas_elf_look_up": (c_uint32, (c_void_p, c_size_t, c_void_p, c_uint64, c_void_p, c_size_t, c_void_p,)),
-    "xmas_elf_look_ups": (None, (c_void_p, c_size_t, c_void_p, c_uint64, c_void_p, c_size_t, c_void_p, c_size_t, c_void_p, c_size_t,)),
+    "xmas_elf_look_ups": (None, (c_void_p, c_size_t, c_void_p, c_void_p, c_size_t, c_void_p, c_size_t, c_void_p, c_size_t,)),
     "xmas_elf_hash_open": (c_uint32, (c_void_p, c_size_t, c_void_p, c_uint64, c_void_p,)),
-    "xmas_elf_hash_look_up_of": (c_uint32, (c_void_p, c_size_t, c_void_p, c_void_p, c_size_t, c_void_p,)),
-    "xmas_elf_check_hash": (c_uint32, (c_void_p, c_size_t, c_void_p, c_uint64,)),
-    "xmas_elf_gnu_look_up": (c_uint32, (c_void_p, c_size_t, c_void_p, c_uint64, c_void_p, c_size_t, c_void_p,)),
-    "xmas_elf_gnu_look_ups": (None, (c_void_p, c_size_t, c_void_p, c_uint64, c_void_p, c_size_t, c_void_p, c_size_t, c_void_p, c_size_t,)),
-    "xmas_elf_gnu_open": (c_uint32, (c_void_p, c_size_t, c_void_p, c_uint64, c_void_p,)),
-    "xmas_elf_gnu_look_up_of": (c_uint32, (c_void_p, c_size_t, c_void_p, c_void_p, c_size_t, c_void_p,)),
-    "xmas_elf_check_gnu_hash": (c_uint32, (c_void_p, c_size_t, c_void_p, c_uint64,)),
+    "xmas_elf_check_hash": (c_uint32, (c_void_p, c_size_t, c_void_p,)),
     "xmas_elf_message": (c_size_t, (c_uint32, c_void_p, c_size_t,)),
 }
 

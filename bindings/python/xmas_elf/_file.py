@@ -2,7 +2,6 @@
 from __future__ import annotations
 
 import os
-from ctypes import create_string_buffer
 from functools import cached_property
 from itertools import chain
 from struct import Struct
@@ -16,9 +15,9 @@ from ._overview import Overview, overview_of
 from ._parts import Dynamic, Header, Note, Relocation, Section, Segment, Symbol
 from ._parts import section_of, segment_of, symbols_of
 from ._reading import Reading
-from ._rows import NUMBER, Row, batches, rows
+from ._rows import Row, batches, one, rows
 from ._versions import Version, versions
-from .constants import DT, DT_NULL, DT_RPATH, DT_RUNPATH, DT_SONAME, ELFOSABI, EM, ET, NT_GNU_BUILD_ID, PT_DYNAMIC, PT_NOTE
+from .constants import DT, DT_NEEDED, DT_NULL, DT_RPATH, DT_RUNPATH, DT_SONAME, ELFOSABI, EM, ET, NT_GNU_BUILD_ID, PT_DYNAMIC, PT_NOTE
 from .constants import SHT_DYNAMIC, SHT_DYNSYM, SHT_NOTE, SHT_REL, SHT_RELA, SHT_SYMTAB
 
 # A name that is an error only for the type of its section is read from the name table.
@@ -114,9 +113,8 @@ class ElfFile(Reading):
         if unsigned(wanted) >= self.num_sections():
             raise ElfError(Status.NO_RECORD)
         fields = self._asked("xmas_elf_section", declared.SECTION, wanted)
-        name = create_string_buffer(declared.RANGE.size)
-        status = library.xmas_elf_section_name(*self._input, wanted, name)
-        return self._section(wanted, fields, declared.RANGE.unpack(name), status)
+        offset, size, status = one("xmas_elf_section_names", declared.NAME, *self._input, wanted)
+        return self._section(wanted, fields, (offset, size), status)
 
     def _section(self, index: int, fields: Row, name: Row, status: int) -> Section:
         if not status:
@@ -160,9 +158,9 @@ class ElfFile(Reading):
     def dynamic_symbols(self) -> Iterator[Symbol]:
         """The symbols of the dynamic segment with their names (DT_SYMTAB), as many as its hash tables count: GNU's alone
         doesn't count symbols after the last exported one. None if there is no such segment. It needs no sections."""
-        room = self._dynamic_count
-        if room is not None:
-            yield from symbols_of(self._view, "dynamic_symbol", *self._input, room=room)
+        table = self._dynamic_table
+        if table is not None:
+            yield from symbols_of(self, table)
 
     def relocations(self) -> Iterator[Relocation]:
         """The relocations of all tables, in the order of the sections. The index of a symbol is one of the symbol table
@@ -173,8 +171,12 @@ class ElfFile(Reading):
 
     def dynamic_symbol_versions(self) -> Iterator[Version]:
         """The versions of the symbols of the dynamic segment, in the order of `dynamic_symbols`; none if they have none."""
-        room = self._dynamic_count
-        return versions(self, "xmas_elf_dynamic_symbol_versions", room) if room is not None else iter(())
+        table = self._dynamic_table
+        if table is None:
+            return iter(())
+        # Each call counts the symbols anew, so give room for all. No symbol takes fewer than 16 bytes of the input.
+        count = declared.SymbolTableRecord._make(declared.SYMBOL_TABLE.unpack(table)).count
+        return versions(self, "xmas_elf_dynamic_symbol_versions", max(1, min(count, len(self._view) // 16)))
 
     def versioned_symbols(self) -> Iterator[Tuple[Symbol, Optional[Version]]]:
         """The symbols of the dynamic segment, each with its version; None for each if they have none."""
@@ -237,7 +239,7 @@ class ElfFile(Reading):
     def needed(self) -> List[str]:
         """The names of the shared objects that the file needs (DT_NEEDED). It needs no sections."""
         try:
-            return [self._named(*name) for name in rows("xmas_elf_needed", declared.NAME, *self._input)]
+            return [self._named(*name) for name in rows("xmas_elf_dynamic_texts", declared.NAME, *self._input, DT_NEEDED)]
         except ElfError as error:
             if error.status == Status.LINK_NO_DYNAMIC:
                 return []
@@ -300,7 +302,7 @@ class ElfFile(Reading):
     def _not_served(self) -> Iterator[Symbol]:
         """The symbols that a look-up in the dynamic segment doesn't find; all if it can't be read."""
         try:
-            dynamic = self._dynamic_count is not None
+            dynamic = self._dynamic_table is not None
         except ElfError:
             dynamic = False
         for table in self._sections_of(SHT_SYMTAB, SHT_DYNSYM):
@@ -316,23 +318,21 @@ class ElfFile(Reading):
     def _dynamic_text(self, tag: int) -> Optional[str]:
         """The text that the first dynamic entry with a tag names."""
         try:
-            return self._text_in(self._asked("xmas_elf_dynamic_text", declared.RANGE, tag))
+            return self._named(*one("xmas_elf_dynamic_texts", declared.NAME, *self._input, tag, 0))
         except ElfError as error:
-            if error.status in (Status.NOT_FOUND, Status.LINK_NO_DYNAMIC):
+            if error.status in (Status.NO_RECORD, Status.LINK_NO_DYNAMIC):
                 return None
             raise
 
     @property
-    def _dynamic_count(self) -> Optional[int]:
-        """Room for the symbols of the dynamic segment, all at once since each call counts anew; None without a segment."""
+    def _dynamic_table(self) -> Any:
+        """The symbols of the dynamic segment, found once; None without a segment."""
         try:
-            (count,) = self._asked("xmas_elf_dynamic_symbol_count", NUMBER)
+            return self._table("xmas_elf_dynamic_symbols_open")
         except ElfError as error:
             if error.status == Status.LINK_NO_DYNAMIC:
                 return None
             raise
-        # No symbol takes fewer than 16 bytes of the input.
-        return max(1, min(int(count), len(self._view) // 16))
 
     @property
     def _all(self) -> int:

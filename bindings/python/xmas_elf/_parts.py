@@ -9,7 +9,7 @@ from . import _declarations as declared
 from ._archive import ElfError, check, library
 from ._declarations import Status, _document
 from ._numbers import unsigned
-from ._rows import NUMBER, ROOM, Row, batches, rows
+from ._rows import NUMBER, Row, batches, one, rows
 from .constants import DT, PF, PF_R, PF_W, PF_X, PT, SHF, SHN, SHN_LORESERVE, SHN_UNDEF, SHT, SHT_RELR, STB, STT, STV
 
 _Record = TypeVar("_Record", bound=Tuple[Any, ...])
@@ -115,10 +115,10 @@ def _symbols_of_batch(view: memoryview, records: Iterator[Row], names: Iterator[
     ]
 
 
-def symbols_of(view: memoryview, export: str, *arguments: Any, room: int = ROOM) -> Iterator[Symbol]:
-    """The symbols of a table with their names: `xmas_elf_EXPORTs` gives them, and `xmas_elf_EXPORT_names` the names."""
-    records = batches(f"xmas_elf_{export}s", declared.SYMBOL, *arguments, room=room)
-    names = batches(f"xmas_elf_{export}_names", declared.NAME, *arguments, room=room)
+def symbols_of(file: Any, table: Any) -> Iterator[Symbol]:
+    """The symbols of a table that the archive found, with their names."""
+    records = batches("xmas_elf_symbols", declared.SYMBOL, *file._input[:2], table)
+    names, view = batches("xmas_elf_symbol_names", declared.NAME, *file._input[:2], table), file._view
     return chain.from_iterable(_symbols_of_batch(view, *both) for both in zip(records, names))
 
 
@@ -152,19 +152,18 @@ class Section(declared.SectionRecord):
 
     def text(self, index: int) -> str:
         """The text that begins at an index of a string table, in bytes."""
-        return self.file._text_in(self.file._asked("xmas_elf_section_text", declared.RANGE, self.index, unsigned(index)))
+        return self.file._text(self.file._asked("xmas_elf_section_data", declared.RANGE, self.index), unsigned(index))
 
     def symbols(self) -> Iterator[Symbol]:
         """The symbols with their names, from index 0 on. An error if the section isn't a symbol table."""
-        return symbols_of(self.file._view, "symbol", *self.file._input, self.index)
+        return symbols_of(self.file, self.file._table("xmas_elf_symbols_open", self.index))
 
     def symbol(self, index: int) -> Symbol:
         """The symbol at an index."""
-        symbol = Symbol(None, 0, *self.file._asked("xmas_elf_symbol", declared.SYMBOL, self.index, unsigned(index)))
-        try:
-            return symbol._replace(name=self.file.section(self.link).text(symbol.name_index))
-        except ElfError as error:
-            return symbol._replace(name_status=int(error.status))
+        table = self.file._table("xmas_elf_symbols_open", self.index)
+        fields = one("xmas_elf_symbols", declared.SYMBOL, *self.file._input[:2], table, unsigned(index))
+        offset, size, status = one("xmas_elf_symbol_names", declared.NAME, *self.file._input[:2], table, index)
+        return Symbol(None if status else self.file._text_in((offset, size)), status, *fields)
 
     def relocations(self) -> Iterator[Relocation]:
         """The relocations. An error if the section has none by its type."""

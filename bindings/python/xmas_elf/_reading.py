@@ -35,6 +35,12 @@ class Reading:
         check(getattr(library, export)(*self._input, *arguments, out))
         return layout.unpack(out)
 
+    def _table(self, export: str, *arguments: Any) -> Any:
+        """The symbols that a call finds: numbers that other calls take back."""
+        table = create_string_buffer(declared.SYMBOL_TABLE.size)
+        check(getattr(library, export)(*self._input, *arguments, table))
+        return table
+
     def _slice(self, export: str, *arguments: Any) -> memoryview:
         """The bytes whose range a call returns."""
         offset, size = self._asked(export, declared.RANGE, *arguments)

@@ -31,6 +31,13 @@ def batches(export: str, layout: Struct, *arguments: Any, room: int = ROOM) -> I
         first += filled.value
 
 
+def one(export: str, layout: Struct, *arguments: Any) -> Row:
+    """The record of a table at an index, which is the last argument."""
+    record, filled = create_string_buffer(layout.size), c_uint64()
+    check(getattr(library, export)(*arguments, record, 1, byref(filled)))
+    return layout.unpack(record)
+
+
 def rows(export: str, layout: Struct, *arguments: Any, room: int = ROOM) -> Iterator[Row]:
     """The records of a table from index 0 on."""
     return chain.from_iterable(batches(export, layout, *arguments, room=room))

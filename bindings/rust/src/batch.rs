@@ -2,6 +2,12 @@
 
 use crate::Error;
 
+// The first record of a call for one.
+pub(crate) fn one<T: Copy + Default>(ask: impl FnOnce(&mut [T]) -> Result<u64, Error>) -> Result<T, Error> {
+    let mut records = [T::default()];
+    ask(&mut records).map(|_| records[0])
+}
+
 // The records of one call, and which of them is next.
 #[derive(Clone, Debug)]
 pub(crate) struct Batch<T, const N: usize> {

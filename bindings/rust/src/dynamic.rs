@@ -1,7 +1,7 @@
 //! What the dynamic segment says: needed libraries, symbols and versions. None of it needs section headers.
 
-use crate::batch::Batch;
-use crate::constants::{DT_NULL, DT_RPATH, DT_RUNPATH, DT_SONAME, PT_DYNAMIC, SHT_DYNAMIC};
+use crate::batch::{one, Batch};
+use crate::constants::{DT_NEEDED, DT_NULL, DT_RPATH, DT_RUNPATH, DT_SONAME, PT_DYNAMIC, SHT_DYNAMIC};
 use crate::{ffi, Dynamic, ElfFile, Entry, Error, Name, SymbolTable, SymbolVersion, Version};
 use core::fmt;
 use core::ops::Deref;
@@ -18,8 +18,8 @@ impl<'a> ElfFile<'a> {
     /// The names of the libraries that the file needs, in the order of the dynamic entries (DT_NEEDED); none if it has no
     /// dynamic segment.
     pub fn needed(&self) -> Result<impl Iterator<Item = Result<&'a str, Error>> + '_, Error> {
-        begun(ffi::needed(self.input, &self.header, 0, &mut []))?;
-        let names = Batch::<Name, 64>::items(|first, out| ffi::needed(self.input, &self.header, first, out));
+        begun(ffi::dynamic_texts(self.input, &self.header, DT_NEEDED, 0, &mut []))?;
+        let names = Batch::<Name, 64>::items(|first, out| ffi::dynamic_texts(self.input, &self.header, DT_NEEDED, first, out));
         Ok(names.map(|name| self.name_of(&name)))
     }
 
@@ -39,9 +39,9 @@ impl<'a> ElfFile<'a> {
 
     // The text that the first dynamic entry with a tag names, if there is one.
     fn dynamic_text(&self, tag: u64) -> Result<Option<&'a str>, Error> {
-        match ffi::dynamic_text(self.input, &self.header, tag) {
-            Ok(range) => Ok(Some(self.text(range))),
-            Err(Error::NotFound | Error::LinkNoDynamic) => Ok(None),
+        match one(|out| ffi::dynamic_texts(self.input, &self.header, tag, 0, out)) {
+            Ok(name) => self.name_of(&name).map(Some),
+            Err(Error::NoRecord | Error::LinkNoDynamic) => Ok(None),
             Err(error) => Err(error),
         }
     }
@@ -82,20 +82,20 @@ impl<'a> ElfFile<'a> {
     /// How many symbols the dynamic segment has, by the hash tables that it names: GNU's alone does not count symbols
     /// after the last exported one.
     pub fn dynamic_symbol_count(&self) -> Result<u64, Error> {
-        ffi::dynamic_symbol_count(self.input, &self.header)
+        self.dynamic_symbol_table().map(|table| table.count)
     }
 
     /// Puts the symbols of the dynamic segment from an index on to the front of `out`, as many as it has room for or all
-    /// that follow, and says how many. An error if there is none at that index. Each call counts the symbols anew, so
-    /// give room for all.
+    /// that follow, and says how many. An error if there is none at that index. Each call counts the symbols anew:
+    /// for many calls find them once, with [`ElfFile::dynamic_symbol_table`].
     pub fn dynamic_symbols_from(&self, first: u64, out: &mut [Entry]) -> Result<usize, Error> {
-        ffi::dynamic_symbols(self.input, &self.header, first, out).map(|count| count as usize)
+        ffi::symbols(self.input, &self.dynamic_symbol_table()?, first, out).map(|count| count as usize)
     }
 
     /// Puts where the names of the symbols of the dynamic segment from an index on stand to the front of `out`, as many
     /// as `dynamic_symbols_from` gives, and says how many.
     pub fn dynamic_symbol_names_from(&self, first: u64, out: &mut [Name]) -> Result<usize, Error> {
-        ffi::dynamic_symbol_names(self.input, &self.header, first, out).map(|count| count as usize)
+        ffi::symbol_names(self.input, &self.dynamic_symbol_table()?, first, out).map(|count| count as usize)
     }
 
     /// The symbols of the dynamic segment, found once for many calls of [`ElfFile::symbol_of`].
@@ -111,13 +111,11 @@ impl<'a> ElfFile<'a> {
         if said.found == 0 {
             return Ok(None);
         }
-        let (mut names, mut versions) = ([Name::default()], [Version::default()]);
         let index = u64::from(said.index);
-        let named = ffi::dynamic_symbol_names(self.input, &self.header, index, &mut names);
-        let versioned = ffi::dynamic_symbol_versions(self.input, &self.header, index, &mut versions);
+        let named = self.dynamic_symbol_table().and_then(|table| one(|out| ffi::symbol_names(self.input, &table, index, out)));
         Ok(Some(DynamicSymbol {
-            name: named.and_then(|_| names[0].range()).map(|range| self.bytes(range)),
-            version: version_in(self, versioned.map(|_| versions[0])),
+            name: named.and_then(|name| name.range()).map(|range| self.bytes(range)),
+            version: version_in(self, one(|out| ffi::dynamic_symbol_versions(self.input, &self.header, index, out))),
             index,
             entry: said.symbol,
         }))
@@ -227,14 +225,14 @@ fn version_in<'a>(file: &ElfFile<'a>, version: Result<Version, Error>) -> Result
     }
 }
 
-// Each call of the archive counts the symbols anew, so many are asked for at once.
+// Each call for versions counts the symbols anew, so many are asked for at once.
 const ROOM: usize = 128;
 
 /// The symbols of the dynamic segment in order, which it asks the archive for by many at once.
 #[derive(Clone)]
 pub struct DynamicSymbols<'f, 'a> {
     file: &'f ElfFile<'a>,
-    count: u64,
+    table: SymbolTable,
     entries: Batch<Entry, ROOM>,
     names: Batch<Name, ROOM>,
     // Why the symbols have no versions.
@@ -244,10 +242,10 @@ pub struct DynamicSymbols<'f, 'a> {
 
 impl<'f, 'a> DynamicSymbols<'f, 'a> {
     fn new(file: &'f ElfFile<'a>) -> Result<DynamicSymbols<'f, 'a>, Error> {
-        begun(ffi::dynamic_symbols(file.input, &file.header, 0, &mut []))?;
-        let count = file.dynamic_symbol_count().unwrap_or(0);
+        let found = file.dynamic_symbol_table();
+        begun(found.map(|table| table.count))?;
         let unversioned = ffi::dynamic_symbol_versions(file.input, &file.header, 0, &mut []).err();
-        Ok(DynamicSymbols { file, count, entries: Batch::new(), names: Batch::new(), unversioned, versions: Batch::new() })
+        Ok(DynamicSymbols { file, table: found.unwrap_or_default(), entries: Batch::new(), names: Batch::new(), unversioned, versions: Batch::new() })
     }
 
     fn next_version(&mut self) -> Result<Version, Error> {
@@ -273,14 +271,14 @@ impl<'a> Iterator for DynamicSymbols<'_, 'a> {
 
     #[inline]
     fn next(&mut self) -> Option<DynamicSymbol<'a>> {
-        let file = self.file;
-        let (index, entry) = self.entries.next(|first, out| ffi::dynamic_symbols(file.input, &file.header, first, out))?;
-        let (_, name) = self.names.next(|first, out| ffi::dynamic_symbol_names(file.input, &file.header, first, out))?;
+        let (file, table) = (self.file, self.table);
+        let (index, entry) = self.entries.next(|first, out| ffi::symbols(file.input, &table, first, out))?;
+        let (_, name) = self.names.next(|first, out| ffi::symbol_names(file.input, &table, first, out))?;
         let version = version_in(file, self.next_version());
         Some(DynamicSymbol { name: name.range().map(|range| file.bytes(range)), version, index, entry })
     }
 
     fn size_hint(&self) -> (usize, Option<usize>) {
-        self.entries.left(self.count)
+        self.entries.left(self.table.count)
     }
 }

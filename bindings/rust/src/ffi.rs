@@ -4,7 +4,7 @@
 //! writes the records that it is passed to write, of a slice at most as many as it has, and is defined whatever they
 //! contain. All of these are references of the call, of the types that the archive declares.
 
-use crate::records::{Answer, Counts, Dynamic, Entry, FoundSymbol, GnuTable, Header, LookUp, Name, NoteRange, ProgramHeader, Range, Relocation, SectionHeader, SymbolTable, Version};
+use crate::records::{Answer, Counts, Dynamic, Entry, FoundSymbol, FoundTable, Header, Name, NoteRange, ProgramHeader, Range, Relocation, SectionHeader, SymbolTable, Version};
 use crate::Error;
 
 fn answered<T>(status: u32, value: T) -> Result<T, Error> {
@@ -30,14 +30,10 @@ extern "C" {
         name_len: usize, out: *mut u64) -> u32;
     fn xmas_elf_section_data(input: *const u8, input_len: usize, header: *const Header, index: u64,
         out: *mut Range) -> u32;
-    fn xmas_elf_section_name(input: *const u8, input_len: usize, header: *const Header, index: u64,
-        out: *mut Range) -> u32;
     fn xmas_elf_section_names(input: *const u8, input_len: usize, header: *const Header, first: u64, out: *mut Name,
         out_len: usize, count: *mut u64) -> u32;
     fn xmas_elf_names(input: *const u8, input_len: usize, header: *const Header, out: *mut Range) -> u32;
     fn xmas_elf_text(input: *const u8, input_len: usize, part: *const Range, index: u64, out: *mut Range) -> u32;
-    fn xmas_elf_section_text(input: *const u8, input_len: usize, header: *const Header, section: u64, index: u64,
-        out: *mut Range) -> u32;
     fn xmas_elf_segment(input: *const u8, input_len: usize, header: *const Header, index: u32,
         out: *mut ProgramHeader) -> u32;
     fn xmas_elf_check_segment(input: *const u8, input_len: usize, header: *const Header, index: u32) -> u32;
@@ -45,41 +41,23 @@ extern "C" {
         out: *mut ProgramHeader, out_len: usize, count: *mut u64) -> u32;
     fn xmas_elf_segment_data(input: *const u8, input_len: usize, header: *const Header, index: u32,
         out: *mut Range) -> u32;
-    fn xmas_elf_symbol(input: *const u8, input_len: usize, header: *const Header, section: u64, index: u64,
-        out: *mut Entry) -> u32;
-    fn xmas_elf_symbols(input: *const u8, input_len: usize, header: *const Header, section: u64, first: u64,
-        out: *mut Entry, out_len: usize, count: *mut u64) -> u32;
-    fn xmas_elf_symbol_names(input: *const u8, input_len: usize, header: *const Header, section: u64, first: u64,
+    fn xmas_elf_symbols(input: *const u8, input_len: usize, table: *const SymbolTable, first: u64, out: *mut Entry,
+        out_len: usize, count: *mut u64) -> u32;
+    fn xmas_elf_symbol_names(input: *const u8, input_len: usize, table: *const SymbolTable, first: u64,
         out: *mut Name, out_len: usize, count: *mut u64) -> u32;
     fn xmas_elf_symbols_open(input: *const u8, input_len: usize, header: *const Header, section: u64,
         out: *mut SymbolTable) -> u32;
-    fn xmas_elf_symbol_of(input: *const u8, input_len: usize, table: *const SymbolTable, index: u64,
-        out: *mut Entry) -> u32;
-    fn xmas_elf_symbol_name_of(input: *const u8, input_len: usize, table: *const SymbolTable, index: u64,
-        out: *mut Range) -> u32;
-    fn xmas_elf_relocation(input: *const u8, input_len: usize, header: *const Header, section: u64, index: u64,
-        out: *mut Relocation) -> u32;
     fn xmas_elf_relocations(input: *const u8, input_len: usize, header: *const Header, section: u64, first: u64,
         out: *mut Relocation, out_len: usize, count: *mut u64) -> u32;
     fn xmas_elf_packed_relocations(input: *const u8, input_len: usize, header: *const Header, section: u64,
         first: u64, out: *mut u64, out_len: usize, count: *mut u64) -> u32;
-    fn xmas_elf_dynamic(input: *const u8, input_len: usize, header: *const Header, section: u64, index: u64,
-        out: *mut Dynamic) -> u32;
     fn xmas_elf_dynamics(input: *const u8, input_len: usize, header: *const Header, section: u64, first: u64,
         out: *mut Dynamic, out_len: usize, count: *mut u64) -> u32;
     fn xmas_elf_note(input: *const u8, input_len: usize, header: *const Header, part: *const Range, align: u64,
         out: *mut NoteRange) -> u32;
-    fn xmas_elf_build_id(input: *const u8, input_len: usize, header: *const Header, out: *mut Range) -> u32;
     fn xmas_elf_bytes_at(input: *const u8, input_len: usize, header: *const Header, address: u64, count: u64,
         out: *mut Range) -> u32;
-    fn xmas_elf_dynamic_text(input: *const u8, input_len: usize, header: *const Header, tag: u64,
-        out: *mut Range) -> u32;
-    fn xmas_elf_needed(input: *const u8, input_len: usize, header: *const Header, first: u64, out: *mut Name,
-        out_len: usize, count: *mut u64) -> u32;
-    fn xmas_elf_dynamic_symbol_count(input: *const u8, input_len: usize, header: *const Header, out: *mut u64) -> u32;
-    fn xmas_elf_dynamic_symbols(input: *const u8, input_len: usize, header: *const Header, first: u64,
-        out: *mut Entry, out_len: usize, count: *mut u64) -> u32;
-    fn xmas_elf_dynamic_symbol_names(input: *const u8, input_len: usize, header: *const Header, first: u64,
+    fn xmas_elf_dynamic_texts(input: *const u8, input_len: usize, header: *const Header, tag: u64, first: u64,
         out: *mut Name, out_len: usize, count: *mut u64) -> u32;
     fn xmas_elf_dynamic_symbols_open(input: *const u8, input_len: usize, header: *const Header,
         out: *mut SymbolTable) -> u32;
@@ -91,25 +69,11 @@ extern "C" {
         out: *mut Version, out_len: usize, count: *mut u64) -> u32;
     fn xmas_elf_find_symbol(input: *const u8, input_len: usize, header: *const Header, name: *const u8,
         name_len: usize, version: *const u8, version_len: usize, out: *mut FoundSymbol) -> u32;
-    fn xmas_elf_look_up(input: *const u8, input_len: usize, header: *const Header, section: u64, name: *const u8,
-        name_len: usize, out: *mut LookUp) -> u32;
-    fn xmas_elf_look_ups(input: *const u8, input_len: usize, header: *const Header, section: u64, names: *const u8,
+    fn xmas_elf_look_ups(input: *const u8, input_len: usize, table: *const FoundTable, names: *const u8,
         names_len: usize, ranges: *const Range, ranges_len: usize, out: *mut Answer, out_len: usize);
     fn xmas_elf_hash_open(input: *const u8, input_len: usize, header: *const Header, section: u64,
-        out: *mut GnuTable) -> u32;
-    fn xmas_elf_hash_look_up_of(input: *const u8, input_len: usize, table: *const GnuTable, name: *const u8,
-        name_len: usize, out: *mut LookUp) -> u32;
-    fn xmas_elf_check_hash(input: *const u8, input_len: usize, header: *const Header, section: u64) -> u32;
-    fn xmas_elf_gnu_look_up(input: *const u8, input_len: usize, header: *const Header, section: u64, name: *const u8,
-        name_len: usize, out: *mut LookUp) -> u32;
-    fn xmas_elf_gnu_look_ups(input: *const u8, input_len: usize, header: *const Header, section: u64,
-        names: *const u8, names_len: usize, ranges: *const Range, ranges_len: usize, out: *mut Answer,
-        out_len: usize);
-    fn xmas_elf_gnu_open(input: *const u8, input_len: usize, header: *const Header, section: u64,
-        out: *mut GnuTable) -> u32;
-    fn xmas_elf_gnu_look_up_of(input: *const u8, input_len: usize, table: *const GnuTable, name: *const u8,
-        name_len: usize, out: *mut LookUp) -> u32;
-    fn xmas_elf_check_gnu_hash(input: *const u8, input_len: usize, header: *const Header, section: u64) -> u32;
+        out: *mut FoundTable) -> u32;
+    fn xmas_elf_check_hash(input: *const u8, input_len: usize, table: *const FoundTable) -> u32;
     fn xmas_elf_message(status: u32, out: *mut u8, out_len: usize) -> usize;
 }
 
@@ -186,7 +150,8 @@ pub(crate) fn find_section(input: &[u8], header: &Header, name: &[u8]) -> Result
     answered(status, out)
 }
 
-/// The index of the first section with a name: that of the section that `find_section` gives. Errors: `NotFound`.
+/// The index of the first section with a name: that of the section that `find_section` gives, which takes less time.
+/// Errors: `NotFound`.
 pub(crate) fn find_section_index(input: &[u8], header: &Header, name: &[u8]) -> Result<u64, Error> {
     let mut out = u64::default();
     // SAFETY: see the head of this file.
@@ -206,22 +171,12 @@ pub(crate) fn section_data(input: &[u8], header: &Header, index: u64) -> Result<
     answered(status, out)
 }
 
-/// The range of a section's name, without the zero byte that ends it. It is UTF-8. `NullName` is for type SHT_NULL,
-/// which section 0 has, `InvalidShType` for a type that this reader does not know, such as 19 (SHT_RELR); `names` and
-/// `text` give the names of these too. Errors, in the order of the tests: `ShortSectionHeader`, `UnknownClass`,
-/// `SmallEntry`, `InvalidShType`, `NullName`, `ReservedIndex`, `ShortSectionOffset`, `TextStart`, `TextEnd`,
-/// `TextUtf8`.
-pub(crate) fn section_name(input: &[u8], header: &Header, index: u64) -> Result<Range, Error> {
-    let mut out = Range::default();
-    // SAFETY: see the head of this file.
-    let status = unsafe { xmas_elf_section_name(input.as_ptr(), input.len(), header, index, &mut out) };
-    answered(status, out)
-}
-
-/// The ranges of the names of sections from index `first` on, each with a status of its own, as `section_name`
-/// returns them. The call gives as many names as `sections` gives headers. Errors: `NoRecord`. Errors of a record, in
-/// the order of the tests: `InvalidShType`, `NullName`, `ReservedIndex`, `ShortSectionHeader`, `ShortSectionOffset`,
-/// `TextStart`, `TextEnd`, `TextUtf8`.
+/// The ranges of the names of sections from index `first` on, each with a status of its own, without the zero bytes
+/// that end them. They are UTF-8. `NullName` is for type SHT_NULL, which section 0 has, `InvalidShType` for a type
+/// that this reader does not know, such as 19 (SHT_RELR); `names` and `text` give the names of these too. The call
+/// gives as many names as `sections` gives headers. Errors: `NoRecord`. Errors of a record, in the order of the
+/// tests: `InvalidShType`, `NullName`, `ReservedIndex`, `ShortSectionHeader`, `ShortSectionOffset`, `TextStart`,
+/// `TextEnd`, `TextUtf8`.
 pub(crate) fn section_names(input: &[u8], header: &Header, first: u64, out: &mut [Name]) -> Result<u64, Error> {
     let mut count = u64::default();
     // SAFETY: see the head of this file.
@@ -246,18 +201,6 @@ pub(crate) fn text(input: &[u8], part: &Range, index: u64) -> Result<Range, Erro
     let mut out = Range::default();
     // SAFETY: see the head of this file.
     let status = unsafe { xmas_elf_text(input.as_ptr(), input.len(), part, index, &mut out) };
-    answered(status, out)
-}
-
-/// The range of the text that begins `index` bytes after the start of a section's data and ends before the next zero
-/// byte of the data: the name of a symbol is the text at its `name` in the section `link` of its own section. The
-/// call does not test that the section is of type SHT_STRTAB. Errors, in the order of the tests:
-/// `ShortSectionHeader`, `UnknownClass`, `SmallEntry`, `InvalidShType`, `NullData`, `DataRange`, `TextStart`,
-/// `TextEnd`, `TextUtf8`.
-pub(crate) fn section_text(input: &[u8], header: &Header, section: u64, index: u64) -> Result<Range, Error> {
-    let mut out = Range::default();
-    // SAFETY: see the head of this file.
-    let status = unsafe { xmas_elf_section_text(input.as_ptr(), input.len(), header, section, index, &mut out) };
     answered(status, out)
 }
 
@@ -302,47 +245,35 @@ pub(crate) fn segment_data(input: &[u8], header: &Header, index: u32) -> Result<
     answered(status, out)
 }
 
-/// The symbol at an index of a section of type SHT_SYMTAB or SHT_DYNSYM. The name is a text of the string table that
-/// is the section `link`. For a section of another type the status is an error, mostly `OtherData`. Errors, in the
-/// order of the tests: `ShortSectionHeader`, `UnknownClass`, `SmallEntry`, `InvalidShType`, `DataRange`,
-/// `NotMultiple`, `Note32`, `ShortData`, `OtherData`, `NoRecord`.
-pub(crate) fn symbol(input: &[u8], header: &Header, section: u64, index: u64) -> Result<Entry, Error> {
-    let mut out = Entry::default();
-    // SAFETY: see the head of this file.
-    let status = unsafe { xmas_elf_symbol(input.as_ptr(), input.len(), header, section, index, &mut out) };
-    answered(status, out)
-}
-
-/// The symbols from index `first` on of a section. Errors, in the order of the tests: `ShortSectionHeader`,
-/// `UnknownClass`, `SmallEntry`, `InvalidShType`, `DataRange`, `NotMultiple`, `Note32`, `ShortData`, `OtherData`,
-/// `NoRecord`.
-pub(crate) fn symbols(input: &[u8], header: &Header, section: u64, first: u64,
-    out: &mut [Entry]) -> Result<u64, Error> {
+/// The symbols from index `first` on of a table that `symbols_open` or `dynamic_symbols_open` found. Any table may be
+/// given: each call compares its range with the input, and its count is not read. `DataRange` is for symbols that do
+/// not lie in the input. Errors, in the order of the tests: `DataRange`, `NotMultiple`, `NoRecord`.
+pub(crate) fn symbols(input: &[u8], table: &SymbolTable, first: u64, out: &mut [Entry]) -> Result<u64, Error> {
     let mut count = u64::default();
     // SAFETY: see the head of this file.
-    let status = unsafe { xmas_elf_symbols(input.as_ptr(), input.len(), header, section, first, out.as_mut_ptr(),
-        out.len(), &mut count) };
+    let status = unsafe { xmas_elf_symbols(input.as_ptr(), input.len(), table, first, out.as_mut_ptr(), out.len(),
+        &mut count) };
     answered(status, count)
 }
 
 /// The ranges of the names of these symbols, each with a status of its own: the texts at each symbol's `name` in the
-/// string table that the section is linked to. The call gives as many names as `symbols` gives symbols. Errors, in
-/// the order of the tests: `ShortSectionHeader`, `UnknownClass`, `SmallEntry`, `InvalidShType`, `DataRange`,
-/// `NotMultiple`, `Note32`, `ShortData`, `OtherData`, `NoRecord`. Errors of a record, in the order of the tests:
-/// `ShortSectionHeader`, `InvalidShType`, `NullData`, `DataRange`, `TextStart`, `TextEnd`, `TextUtf8`.
-pub(crate) fn symbol_names(input: &[u8], header: &Header, section: u64, first: u64,
-    out: &mut [Name]) -> Result<u64, Error> {
+/// string table. The call gives as many names as `symbols` gives symbols. If `strings_status` of the table is not 0,
+/// it is the status of each name; `DataRange` is for a string table that does not lie in the input. Errors, in the
+/// order of the tests: `DataRange`, `NotMultiple`, `NoRecord`. Errors of a record, in the order of the tests:
+/// `DataRange`, `TextStart`, `TextEnd`, `TextUtf8`.
+pub(crate) fn symbol_names(input: &[u8], table: &SymbolTable, first: u64, out: &mut [Name]) -> Result<u64, Error> {
     let mut count = u64::default();
     // SAFETY: see the head of this file.
-    let status = unsafe { xmas_elf_symbol_names(input.as_ptr(), input.len(), header, section, first, out.as_mut_ptr(),
+    let status = unsafe { xmas_elf_symbol_names(input.as_ptr(), input.len(), table, first, out.as_mut_ptr(),
         out.len(), &mut count) };
     answered(status, count)
 }
 
 /// Finds the symbols of a section of type SHT_SYMTAB or SHT_DYNSYM, and the string table that it is linked to, once
-/// for many calls of `symbol_of` and `symbol_name_of`. If the string table can't be read, the call is OK, and
-/// `strings_status` is the reason. Errors, in the order of the tests: `ShortSectionHeader`, `UnknownClass`,
-/// `SmallEntry`, `InvalidShType`, `DataRange`, `NotMultiple`, `Note32`, `ShortData`, `OtherData`.
+/// for many calls of `symbols` and `symbol_names`. For a section of another type the status is an error, mostly
+/// `OtherData`. If the string table can't be read, the call is OK, and `strings_status` is the reason. Errors, in the
+/// order of the tests: `ShortSectionHeader`, `UnknownClass`, `SmallEntry`, `InvalidShType`, `DataRange`,
+/// `NotMultiple`, `Note32`, `ShortData`, `OtherData`.
 pub(crate) fn symbols_open(input: &[u8], header: &Header, section: u64) -> Result<SymbolTable, Error> {
     let mut out = SymbolTable::default();
     // SAFETY: see the head of this file.
@@ -350,40 +281,9 @@ pub(crate) fn symbols_open(input: &[u8], header: &Header, section: u64) -> Resul
     answered(status, out)
 }
 
-/// The symbol at an index of a table that was found, as `symbol` or `dynamic_symbols` returns it. Any table may be
-/// given: each call compares its range with the input, and `count` is not read. `DataRange` is for symbols that do
-/// not lie in the input. Errors, in the order of the tests: `DataRange`, `NoRecord`.
-pub(crate) fn symbol_of(input: &[u8], table: &SymbolTable, index: u64) -> Result<Entry, Error> {
-    let mut out = Entry::default();
-    // SAFETY: see the head of this file.
-    let status = unsafe { xmas_elf_symbol_of(input.as_ptr(), input.len(), table, index, &mut out) };
-    answered(status, out)
-}
-
-/// The range of the name of the symbol at an index of a table that was found, as `symbol_names` or
-/// `dynamic_symbol_names` returns it. Any table may be given. After the errors of `symbol_of` the status is
-/// `strings_status`, if that is not 0, and then `DataRange` for a string table that does not lie in the input.
-/// Errors, in the order of the tests: `DataRange`, `NoRecord`, `TextStart`, `TextEnd`, `TextUtf8`.
-pub(crate) fn symbol_name_of(input: &[u8], table: &SymbolTable, index: u64) -> Result<Range, Error> {
-    let mut out = Range::default();
-    // SAFETY: see the head of this file.
-    let status = unsafe { xmas_elf_symbol_name_of(input.as_ptr(), input.len(), table, index, &mut out) };
-    answered(status, out)
-}
-
-/// The relocation at an index of a section of type SHT_REL or SHT_RELA. For a section of another type the status is
-/// an error, mostly `OtherData`. Errors, in the order of the tests: `ShortSectionHeader`, `UnknownClass`,
+/// The relocations from index `first` on of a section of type SHT_REL or SHT_RELA. For a section of another type the
+/// status is an error, mostly `OtherData`. Errors, in the order of the tests: `ShortSectionHeader`, `UnknownClass`,
 /// `SmallEntry`, `InvalidShType`, `DataRange`, `NotMultiple`, `Note32`, `ShortData`, `OtherData`, `NoRecord`.
-pub(crate) fn relocation(input: &[u8], header: &Header, section: u64, index: u64) -> Result<Relocation, Error> {
-    let mut out = Relocation::default();
-    // SAFETY: see the head of this file.
-    let status = unsafe { xmas_elf_relocation(input.as_ptr(), input.len(), header, section, index, &mut out) };
-    answered(status, out)
-}
-
-/// The relocations from index `first` on of a section. Errors, in the order of the tests: `ShortSectionHeader`,
-/// `UnknownClass`, `SmallEntry`, `InvalidShType`, `DataRange`, `NotMultiple`, `Note32`, `ShortData`, `OtherData`,
-/// `NoRecord`.
 pub(crate) fn relocations(input: &[u8], header: &Header, section: u64, first: u64,
     out: &mut [Relocation]) -> Result<u64, Error> {
     let mut count = u64::default();
@@ -406,20 +306,10 @@ pub(crate) fn packed_relocations(input: &[u8], header: &Header, section: u64, fi
     answered(status, count)
 }
 
-/// The dynamic entry at an index of a section of type SHT_DYNAMIC, also after the entry with tag 0. For a section of
-/// another type the status is an error, mostly `OtherData`. Errors, in the order of the tests: `ShortSectionHeader`,
-/// `UnknownClass`, `SmallEntry`, `InvalidShType`, `DataRange`, `NotMultiple`, `Note32`, `ShortData`, `OtherData`,
-/// `NoRecord`.
-pub(crate) fn dynamic(input: &[u8], header: &Header, section: u64, index: u64) -> Result<Dynamic, Error> {
-    let mut out = Dynamic::default();
-    // SAFETY: see the head of this file.
-    let status = unsafe { xmas_elf_dynamic(input.as_ptr(), input.len(), header, section, index, &mut out) };
-    answered(status, out)
-}
-
-/// The dynamic entries from index `first` on of a section, also those after the entry with tag 0. Errors, in the
-/// order of the tests: `ShortSectionHeader`, `UnknownClass`, `SmallEntry`, `InvalidShType`, `DataRange`,
-/// `NotMultiple`, `Note32`, `ShortData`, `OtherData`, `NoRecord`.
+/// The dynamic entries from index `first` on of a section of type SHT_DYNAMIC, also those after the entry with tag 0.
+/// For a section of another type the status is an error, mostly `OtherData`. Errors, in the order of the tests:
+/// `ShortSectionHeader`, `UnknownClass`, `SmallEntry`, `InvalidShType`, `DataRange`, `NotMultiple`, `Note32`,
+/// `ShortData`, `OtherData`, `NoRecord`.
 pub(crate) fn dynamics(input: &[u8], header: &Header, section: u64, first: u64,
     out: &mut [Dynamic]) -> Result<u64, Error> {
     let mut count = u64::default();
@@ -430,23 +320,13 @@ pub(crate) fn dynamics(input: &[u8], header: &Header, section: u64, first: u64,
 }
 
 /// The first note of a range, by the alignment of its section or segment (8, and else 4). `NoRecord` is for an empty
-/// range, `LinkShortNote` for one that holds no whole note. Errors, in the order of the tests: `DataRange`,
-/// `NoRecord`, `LinkShortNote`.
+/// range, `LinkShortNote` for one that holds no whole note. The build id of a file is the description of the first
+/// note of type 3 (NT_GNU_BUILD_ID) with name `GNU`, in the sections of type SHT_NOTE or the segments of type
+/// PT_NOTE. Errors, in the order of the tests: `DataRange`, `NoRecord`, `LinkShortNote`.
 pub(crate) fn note(input: &[u8], header: &Header, part: &Range, align: u64) -> Result<NoteRange, Error> {
     let mut out = NoteRange::default();
     // SAFETY: see the head of this file.
     let status = unsafe { xmas_elf_note(input.as_ptr(), input.len(), header, part, align, &mut out) };
-    answered(status, out)
-}
-
-/// The range of the build id, of a file of either class: the description of the first note of section
-/// `.note.gnu.build-id`. `NotFound` is for a file without this section, and for a first note that is not of type 3
-/// with name `GNU`. Without section headers, look through the notes of the segments of type 4 (PT_NOTE). Errors, in
-/// the order of the tests: `NotFound`, `DataRange`, `NoRecord`, `LinkShortNote`.
-pub(crate) fn build_id(input: &[u8], header: &Header) -> Result<Range, Error> {
-    let mut out = Range::default();
-    // SAFETY: see the head of this file.
-    let status = unsafe { xmas_elf_build_id(input.as_ptr(), input.len(), header, &mut out) };
     answered(status, out)
 }
 
@@ -460,76 +340,31 @@ pub(crate) fn bytes_at(input: &[u8], header: &Header, address: u64, count: u64) 
     answered(status, out)
 }
 
-/// The range of the text that the first dynamic entry with a tag names: for tag 14 (DT_SONAME) the name of the
-/// library, for 29 (DT_RUNPATH) and 15 (DT_RPATH) the folders where the dynamic linker looks for libraries. The
-/// entries are those of the first segment of type PT_DYNAMIC before the entry with tag 0, so no section header is
-/// needed. `NotFound` is for a tag that no entry has. Errors, in the order of the tests: `LinkNoDynamic`,
-/// `DataRange`, `NotMultiple`, `NotFound`, `LinkNoEntry`, `LinkAddress`, `TextStart`, `TextEnd`, `TextUtf8`.
-pub(crate) fn dynamic_text(input: &[u8], header: &Header, tag: u64) -> Result<Range, Error> {
-    let mut out = Range::default();
-    // SAFETY: see the head of this file.
-    let status = unsafe { xmas_elf_dynamic_text(input.as_ptr(), input.len(), header, tag, &mut out) };
-    answered(status, out)
-}
-
-/// The ranges of the names of the libraries that the file needs (DT_NEEDED), each with a status of its own, in the
-/// order of the entries of `dynamic_text`. Index `first` counts libraries. Each call reads the entries from the first
-/// on, so give room for all where a file may have many. Errors, in the order of the tests: `LinkNoDynamic`,
-/// `DataRange`, `NotMultiple`, `NoRecord`. Errors of a record, in the order of the tests: `LinkNoEntry`,
-/// `LinkAddress`, `DataRange`, `TextStart`, `TextEnd`, `TextUtf8`.
-pub(crate) fn needed(input: &[u8], header: &Header, first: u64, out: &mut [Name]) -> Result<u64, Error> {
-    let mut count = u64::default();
-    // SAFETY: see the head of this file.
-    let status = unsafe { xmas_elf_needed(input.as_ptr(), input.len(), header, first, out.as_mut_ptr(), out.len(),
-        &mut count) };
-    answered(status, count)
-}
-
-/// The number of symbols of the dynamic segment, which no entry says: the number of chains of the gABI's hash table
-/// (DT_HASH) where the segment names one, and else one more than the last index that GNU's (DT_GNU_HASH) reaches, or
-/// its first index where it reaches none; this one does not count symbols after the last exported one. No section
-/// header is needed. Errors, in the order of the tests: `LinkNoDynamic`, `DataRange`, `NotMultiple`, `LinkNoEntry`,
-/// `LinkAddress`, `ShortData`, `LinkShortTable`, `LinkBloomCount`, `LinkChainIndex`, `LinkChainData`,
-/// `LinkSymbolIndex`.
-pub(crate) fn dynamic_symbol_count(input: &[u8], header: &Header) -> Result<u64, Error> {
-    let mut out = u64::default();
-    // SAFETY: see the head of this file.
-    let status = unsafe { xmas_elf_dynamic_symbol_count(input.as_ptr(), input.len(), header, &mut out) };
-    answered(status, out)
-}
-
-/// The symbols of the dynamic segment (DT_SYMTAB) from index `first` on, as many in all as `dynamic_symbol_count`
-/// says. No section header is needed. Each call counts the symbols anew, so give room for all. Errors, in the order
-/// of the tests: `LinkNoDynamic`, `DataRange`, `NotMultiple`, `LinkNoEntry`, `LinkAddress`, `ShortData`,
-/// `LinkShortTable`, `LinkBloomCount`, `LinkChainIndex`, `LinkChainData`, `LinkSymbolIndex`, `NoRecord`.
-pub(crate) fn dynamic_symbols(input: &[u8], header: &Header, first: u64, out: &mut [Entry]) -> Result<u64, Error> {
-    let mut count = u64::default();
-    // SAFETY: see the head of this file.
-    let status = unsafe { xmas_elf_dynamic_symbols(input.as_ptr(), input.len(), header, first, out.as_mut_ptr(),
-        out.len(), &mut count) };
-    answered(status, count)
-}
-
-/// The ranges of the names of these symbols, each with a status of its own: the texts at each symbol's `name` in the
-/// string table of the dynamic segment (DT_STRTAB). The call gives as many names as `dynamic_symbols` gives symbols.
-/// Errors, in the order of the tests: `LinkNoDynamic`, `DataRange`, `NotMultiple`, `LinkNoEntry`, `LinkAddress`,
-/// `ShortData`, `LinkShortTable`, `LinkBloomCount`, `LinkChainIndex`, `LinkChainData`, `LinkSymbolIndex`, `NoRecord`.
-/// Errors of a record, in the order of the tests: `LinkNoEntry`, `LinkAddress`, `DataRange`, `TextStart`, `TextEnd`,
-/// `TextUtf8`.
-pub(crate) fn dynamic_symbol_names(input: &[u8], header: &Header, first: u64,
+/// The ranges of the texts that the dynamic entries with a tag name, from index `first` of them on, each with a
+/// status of its own, in the order of the entries: for tag 1 (DT_NEEDED) the names of the libraries that the file
+/// needs, for 14 (DT_SONAME) the name of the library, for 29 (DT_RUNPATH) and 15 (DT_RPATH) the folders where the
+/// dynamic linker looks for libraries. The entries are those of the first segment of type PT_DYNAMIC before the entry
+/// with tag 0, so no section header is needed. `NoRecord` is for a tag that no more entries have. Each call reads the
+/// entries from the first on, so give room for all where a file may have many. Errors, in the order of the tests:
+/// `LinkNoDynamic`, `DataRange`, `NotMultiple`, `NoRecord`. Errors of a record, in the order of the tests:
+/// `LinkNoEntry`, `LinkAddress`, `DataRange`, `TextStart`, `TextEnd`, `TextUtf8`.
+pub(crate) fn dynamic_texts(input: &[u8], header: &Header, tag: u64, first: u64,
     out: &mut [Name]) -> Result<u64, Error> {
     let mut count = u64::default();
     // SAFETY: see the head of this file.
-    let status = unsafe { xmas_elf_dynamic_symbol_names(input.as_ptr(), input.len(), header, first, out.as_mut_ptr(),
+    let status = unsafe { xmas_elf_dynamic_texts(input.as_ptr(), input.len(), header, tag, first, out.as_mut_ptr(),
         out.len(), &mut count) };
     answered(status, count)
 }
 
-/// Finds the symbols of the dynamic segment and the string table of their names, as `dynamic_symbols` and
-/// `dynamic_symbol_names` do, once for many calls of `symbol_of` and `symbol_name_of`. It needs no section headers.
-/// If the string table can't be read, the call is OK, and `strings_status` is the reason. Errors, in the order of the
-/// tests: `LinkNoDynamic`, `DataRange`, `NotMultiple`, `LinkNoEntry`, `LinkAddress`, `ShortData`, `LinkShortTable`,
-/// `LinkBloomCount`, `LinkChainIndex`, `LinkChainData`, `LinkSymbolIndex`.
+/// Finds the symbols of the dynamic segment (DT_SYMTAB) and the string table of their names (DT_STRTAB), once for
+/// many calls of `symbols` and `symbol_names`. No section header is needed. The count of the table is one that no
+/// entry says: the number of chains of the gABI's hash table (DT_HASH) where the segment names one, and else one more
+/// than the last index that GNU's (DT_GNU_HASH) reaches, or its first index where it reaches none; this one does not
+/// count symbols after the last exported one. If the string table can't be read, the call is OK, and `strings_status`
+/// is the reason. Errors, in the order of the tests: `LinkNoDynamic`, `DataRange`, `NotMultiple`, `LinkNoEntry`,
+/// `LinkAddress`, `ShortData`, `LinkShortTable`, `LinkBloomCount`, `LinkChainIndex`, `LinkChainData`,
+/// `LinkSymbolIndex`.
 pub(crate) fn dynamic_symbols_open(input: &[u8], header: &Header) -> Result<SymbolTable, Error> {
     let mut out = SymbolTable::default();
     // SAFETY: see the head of this file.
@@ -539,12 +374,12 @@ pub(crate) fn dynamic_symbols_open(input: &[u8], header: &Header) -> Result<Symb
 
 /// The versions of the symbols of the dynamic segment (DT_VERSYM) from index `first` on, each with a status of its
 /// own: the first definition with the symbol's number but for the one that names the file, and else the first need
-/// with it. The call gives as many versions as `dynamic_symbols` gives symbols. `NotFound` is for a file whose
-/// symbols have no versions. Each call counts the symbols anew, so give room for all. Errors, in the order of the
-/// tests: `LinkNoDynamic`, `DataRange`, `NotMultiple`, `LinkNoEntry`, `LinkAddress`, `ShortData`, `LinkShortTable`,
-/// `LinkBloomCount`, `LinkChainIndex`, `LinkChainData`, `LinkSymbolIndex`, `NotFound`, `NoRecord`. Errors of a
-/// record, in the order of the tests: `LinkShortVersion`, `LinkVersionCount`, `LinkNoEntry`, `LinkAddress`,
-/// `DataRange`, `TextStart`, `TextEnd`, `TextUtf8`.
+/// with it. The call gives as many versions as the table of `dynamic_symbols_open` has symbols. `NotFound` is for a
+/// file whose symbols have no versions. Each call counts the symbols anew, so give room for all. Errors, in the order
+/// of the tests: `LinkNoDynamic`, `DataRange`, `NotMultiple`, `LinkNoEntry`, `LinkAddress`, `ShortData`,
+/// `LinkShortTable`, `LinkBloomCount`, `LinkChainIndex`, `LinkChainData`, `LinkSymbolIndex`, `NotFound`, `NoRecord`.
+/// Errors of a record, in the order of the tests: `LinkShortVersion`, `LinkVersionCount`, `LinkNoEntry`,
+/// `LinkAddress`, `DataRange`, `TextStart`, `TextEnd`, `TextUtf8`.
 pub(crate) fn dynamic_symbol_versions(input: &[u8], header: &Header, first: u64,
     out: &mut [Version]) -> Result<u64, Error> {
     let mut count = u64::default();
@@ -587,8 +422,8 @@ pub(crate) fn version_needs(input: &[u8], header: &Header, first: u64, out: &mut
 /// if there is exactly one. A symbol counts if it has a value, or is absolute or thread-local, and a type that
 /// linkers use: also one that is not defined and has a value. The symbol is found only if other files can use it: its
 /// binding is global, weak or unique, and its visibility the default or protected. If no symbol is found, that is no
-/// error. Each call counts the symbols of the dynamic segment anew; for many names `gnu_look_ups` is faster, which
-/// knows no versions. Errors, in the order of the tests: `TextUtf8`, `LinkNoDynamic`, `DataRange`, `NotMultiple`,
+/// error. Each call counts the symbols of the dynamic segment anew; for many names `look_ups` is faster, which knows
+/// no versions. Errors, in the order of the tests: `TextUtf8`, `LinkNoDynamic`, `DataRange`, `NotMultiple`,
 /// `LinkNoEntry`, `LinkAddress`, `ShortData`, `LinkShortTable`, `LinkBloomCount`, `LinkChainIndex`, `LinkChainData`,
 /// `LinkSymbolIndex`, `HashData`, `ChainIndex`, `SymbolIndex`, `ChainSum`, `HashCycle`, `LinkShortVersion`,
 /// `LinkVersionCount`, `TextStart`, `TextEnd`.
@@ -600,123 +435,45 @@ pub(crate) fn find_symbol(input: &[u8], header: &Header, name: &[u8], version: &
     answered(status, out)
 }
 
-/// Looks a name up in the hash table that is a section of type SHT_HASH, among the symbols of the section that it is
-/// linked to: the first symbol on the chain of the name, defined or not. If no symbol is found, that is no error. In
-/// a table that does not pass `check_hash`, a look-up may return an error or miss a symbol; it reads no more chain
-/// entries than the table has. Names are those in section `.dynstr`, and of symbols of a section of type SHT_SYMTAB
-/// in `.strtab`; in an undamaged file that is the string table that the symbols are linked to. Errors, in the order
-/// of the tests: `TextUtf8`, `ShortSectionHeader`, `UnknownClass`, `SmallEntry`, `InvalidShType`, `DataRange`,
-/// `NotMultiple`, `Note32`, `ShortData`, `OtherData`, `HashData`, `ChainIndex`, `SymbolIndex`, `ChainSum`,
-/// `HashCycle`.
-pub(crate) fn look_up(input: &[u8], header: &Header, section: u64, name: &[u8]) -> Result<LookUp, Error> {
-    let mut out = LookUp::default();
+/// Looks many names up in a hash table that `hash_open` found, each a range of the bytes `names`: as many as there
+/// are ranges, and as `out` has room for. Each result is the first symbol on the chain of the name, defined or not;
+/// GNU's table holds the symbols from its first on that are defined and not local. If no symbol is found, that is no
+/// error. In a table that does not pass `check_hash`, a look-up may return an error or miss a symbol; it reads no
+/// more chain entries than the table has. `DataRange` is for a range that passes the end of `names`. Any table may be
+/// given: the call compares its ranges with the input. `symbols` gives a symbol by its index, for the `symbols` of
+/// the table. `names` may be another file, and the ranges those of the names of its symbols. Errors of a record, in
+/// the order of the tests: `DataRange`, `TextUtf8`, `ShortData`, `LinkShortTable`, `LinkBloomCount`, `NotMultiple`,
+/// `HashData`, `ChainIndex`, `SymbolIndex`, `ChainSum`, `HashCycle`, `LinkChainIndex`, `LinkSymbolIndex`,
+/// `LinkChainData`.
+pub(crate) fn look_ups(input: &[u8], table: &FoundTable, names: &[u8], ranges: &[Range], out: &mut [Answer]) {
     // SAFETY: see the head of this file.
-    let status = unsafe { xmas_elf_look_up(input.as_ptr(), input.len(), header, section, name.as_ptr(), name.len(),
-        &mut out) };
-    answered(status, out)
+    unsafe { xmas_elf_look_ups(input.as_ptr(), input.len(), table, names.as_ptr(), names.len(), ranges.as_ptr(),
+        ranges.len(), out.as_mut_ptr(), out.len()) }
 }
 
-/// Looks many names up in one call, each a range of the bytes `names`: as many as there are ranges, and as `out` has
-/// room for. Each result is that of `look_up` for the name; `DataRange` is for a range that passes the end of
-/// `names`. The table and its symbols are read once, so this is faster for many names. `names` may be another file,
-/// and the ranges those of the names of its symbols. Errors of a record, in the order of the tests: `DataRange`,
-/// `TextUtf8`, `ShortSectionHeader`, `UnknownClass`, `SmallEntry`, `InvalidShType`, `NotMultiple`, `Note32`,
-/// `ShortData`, `OtherData`, `HashData`, `ChainIndex`, `SymbolIndex`, `ChainSum`, `HashCycle`.
-pub(crate) fn look_ups(input: &[u8], header: &Header, section: u64, names: &[u8], ranges: &[Range],
-    out: &mut [Answer]) {
-    // SAFETY: see the head of this file.
-    unsafe { xmas_elf_look_ups(input.as_ptr(), input.len(), header, section, names.as_ptr(), names.len(),
-        ranges.as_ptr(), ranges.len(), out.as_mut_ptr(), out.len()) }
-}
-
-/// Finds the hash table that is a section of type SHT_HASH, and the symbols of the section of type SHT_DYNSYM that it
-/// is linked to, once for many calls of `hash_look_up_of`. If the string table `.dynstr` can't be read, the call is
-/// OK, no symbol has a name, and `strings_status` is the reason. Errors, in the order of the tests:
-/// `ShortSectionHeader`, `UnknownClass`, `SmallEntry`, `InvalidShType`, `DataRange`, `NotMultiple`, `Note32`,
-/// `ShortData`, `OtherData`.
-pub(crate) fn hash_open(input: &[u8], header: &Header, section: u64) -> Result<GnuTable, Error> {
-    let mut out = GnuTable::default();
+/// Finds the hash table that is a section of type SHT_HASH or 0x6ffffff6 (SHT_GNU_HASH), and the symbols of the
+/// section that it is linked to, as `symbols_open` finds them: once for many look-ups. Its kind is the type of the
+/// section. If the string table of the symbols can't be read, the call is OK, no symbol has a name, and
+/// `strings_status` is the reason. Errors, in the order of the tests: `ShortSectionHeader`, `UnknownClass`,
+/// `SmallEntry`, `InvalidShType`, `DataRange`, `NotMultiple`, `Note32`, `ShortData`, `LinkShortTable`,
+/// `LinkBloomCount`, `OtherData`.
+pub(crate) fn hash_open(input: &[u8], header: &Header, section: u64) -> Result<FoundTable, Error> {
+    let mut out = FoundTable::default();
     // SAFETY: see the head of this file.
     let status = unsafe { xmas_elf_hash_open(input.as_ptr(), input.len(), header, section, &mut out) };
     answered(status, out)
 }
 
-/// Looks a name up in a table that `hash_open` found, as `look_up` does in its section. Any table may be given: each
-/// call compares its ranges with the input, and does not read the count of its symbols. `symbol_of` gives the symbol,
-/// by the `symbols` of the table. Errors, in the order of the tests: `TextUtf8`, `DataRange`, `ShortData`,
-/// `NotMultiple`, `HashData`, `ChainIndex`, `SymbolIndex`, `ChainSum`, `HashCycle`.
-pub(crate) fn hash_look_up_of(input: &[u8], table: &GnuTable, name: &[u8]) -> Result<LookUp, Error> {
-    let mut out = LookUp::default();
+/// Checks a hash table that `hash_open` found. If it is OK, look-ups return no error for the table, and each finds a
+/// symbol if one that is not local has the name; in GNU's table one from its first on that is defined. Call it once
+/// before many look-ups. GNU's table takes one pass over the table and one over the symbols and their names; a table
+/// of the other kind that was made to be slow takes a few nanoseconds times the product of its buckets and chains.
+/// Errors, in the order of the tests: `DataRange`, `ShortData`, `LinkShortTable`, `LinkBloomCount`, `NotMultiple`,
+/// `HashData`, `ChainIndex`, `SymbolIndex`, `ChainSum`, `HashCycle`, `LinkChainIndex`, `LinkSymbolIndex`,
+/// `LinkChainData`, `HashMissing`, `LinkMissing`.
+pub(crate) fn check_hash(input: &[u8], table: &FoundTable) -> Result<(), Error> {
     // SAFETY: see the head of this file.
-    let status = unsafe { xmas_elf_hash_look_up_of(input.as_ptr(), input.len(), table, name.as_ptr(), name.len(), &mut
-        out) };
-    answered(status, out)
-}
-
-/// Checks a hash table of type SHT_HASH. If it is OK, look-ups return no error for the table, and each finds a symbol
-/// if one that is not local has the name. Call it once before many look-ups. A table that was made to be slow takes a
-/// few nanoseconds times the product of its buckets and chains. Errors, in the order of the tests:
-/// `ShortSectionHeader`, `UnknownClass`, `SmallEntry`, `InvalidShType`, `DataRange`, `NotMultiple`, `Note32`,
-/// `ShortData`, `OtherData`, `HashData`, `ChainIndex`, `SymbolIndex`, `ChainSum`, `HashCycle`, `HashMissing`.
-pub(crate) fn check_hash(input: &[u8], header: &Header, section: u64) -> Result<(), Error> {
-    // SAFETY: see the head of this file.
-    let status = unsafe { xmas_elf_check_hash(input.as_ptr(), input.len(), header, section) };
-    answered(status, ())
-}
-
-/// Looks a name up in GNU's hash table, a section of type 0x6ffffff6 (SHT_GNU_HASH), which holds the symbols from its
-/// first on that are defined and not local; else as `look_up`. Errors, in the order of the tests: `TextUtf8`,
-/// `ShortSectionHeader`, `UnknownClass`, `SmallEntry`, `OtherData`, `DataRange`, `LinkShortTable`, `LinkBloomCount`,
-/// `InvalidShType`, `NotMultiple`, `Note32`, `ShortData`, `LinkChainIndex`, `LinkSymbolIndex`, `LinkChainData`.
-pub(crate) fn gnu_look_up(input: &[u8], header: &Header, section: u64, name: &[u8]) -> Result<LookUp, Error> {
-    let mut out = LookUp::default();
-    // SAFETY: see the head of this file.
-    let status = unsafe { xmas_elf_gnu_look_up(input.as_ptr(), input.len(), header, section, name.as_ptr(),
-        name.len(), &mut out) };
-    answered(status, out)
-}
-
-/// Looks many names up in GNU's hash table in one call, as `look_ups` does. Errors of a record, in the order of the
-/// tests: `DataRange`, `TextUtf8`, `ShortSectionHeader`, `UnknownClass`, `SmallEntry`, `OtherData`, `LinkShortTable`,
-/// `LinkBloomCount`, `InvalidShType`, `NotMultiple`, `Note32`, `ShortData`, `LinkChainIndex`, `LinkSymbolIndex`,
-/// `LinkChainData`.
-pub(crate) fn gnu_look_ups(input: &[u8], header: &Header, section: u64, names: &[u8], ranges: &[Range],
-    out: &mut [Answer]) {
-    // SAFETY: see the head of this file.
-    unsafe { xmas_elf_gnu_look_ups(input.as_ptr(), input.len(), header, section, names.as_ptr(), names.len(),
-        ranges.as_ptr(), ranges.len(), out.as_mut_ptr(), out.len()) }
-}
-
-/// Finds GNU's hash table of a section of type 0x6ffffff6 (SHT_GNU_HASH), once for many calls of `gnu_look_up_of`;
-/// else as `hash_open`. Errors, in the order of the tests: `ShortSectionHeader`, `UnknownClass`, `SmallEntry`,
-/// `OtherData`, `DataRange`, `LinkShortTable`, `LinkBloomCount`, `InvalidShType`, `NotMultiple`, `Note32`,
-/// `ShortData`.
-pub(crate) fn gnu_open(input: &[u8], header: &Header, section: u64) -> Result<GnuTable, Error> {
-    let mut out = GnuTable::default();
-    // SAFETY: see the head of this file.
-    let status = unsafe { xmas_elf_gnu_open(input.as_ptr(), input.len(), header, section, &mut out) };
-    answered(status, out)
-}
-
-/// Looks a name up in a table that `gnu_open` found, as `gnu_look_up` does in its section; else as `hash_look_up_of`.
-/// Errors, in the order of the tests: `TextUtf8`, `DataRange`, `LinkShortTable`, `LinkBloomCount`, `NotMultiple`,
-/// `LinkChainIndex`, `LinkSymbolIndex`, `LinkChainData`.
-pub(crate) fn gnu_look_up_of(input: &[u8], table: &GnuTable, name: &[u8]) -> Result<LookUp, Error> {
-    let mut out = LookUp::default();
-    // SAFETY: see the head of this file.
-    let status = unsafe { xmas_elf_gnu_look_up_of(input.as_ptr(), input.len(), table, name.as_ptr(), name.len(), &mut
-        out) };
-    answered(status, out)
-}
-
-/// Checks GNU's hash table, in one pass over the table and one over the symbols and their names. If it is OK,
-/// look-ups return no error for the table, and each finds a symbol if one from the table's first on that is defined
-/// and not local has the name. Errors, in the order of the tests: `ShortSectionHeader`, `UnknownClass`, `SmallEntry`,
-/// `OtherData`, `DataRange`, `LinkShortTable`, `LinkBloomCount`, `InvalidShType`, `NotMultiple`, `Note32`,
-/// `ShortData`, `LinkChainIndex`, `LinkSymbolIndex`, `LinkChainData`, `LinkMissing`.
-pub(crate) fn check_gnu_hash(input: &[u8], header: &Header, section: u64) -> Result<(), Error> {
-    // SAFETY: see the head of this file.
-    let status = unsafe { xmas_elf_check_gnu_hash(input.as_ptr(), input.len(), header, section) };
+    let status = unsafe { xmas_elf_check_hash(input.as_ptr(), input.len(), table) };
     answered(status, ())
 }
 

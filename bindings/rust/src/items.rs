@@ -1,6 +1,6 @@
 //! Sections and segments, each with the file that it belongs to.
 
-use crate::batch::Batch;
+use crate::batch::{one, Batch};
 use crate::ffi;
 use crate::constants::SHT_RELR;
 use crate::{ByteRange, Dynamic, ElfFile, Entry, Error, HashTable, Name, Notes, ProgramHeader, Relocation, SectionHeader, Symbol, SymbolTable, Symbols};
@@ -46,15 +46,8 @@ impl<'f, 'a> Section<'f, 'a> {
 
     /// The name of the section, whatever its type.
     pub fn name(&self) -> Result<&'a str, Error> {
-        let range = match ffi::section_name(self.file.input, &self.file.header, self.index) {
-            // It is an error only for the type.
-            Err(Error::NullName | Error::InvalidShType) => {
-                let names = ffi::names(self.file.input, &self.file.header)?;
-                ffi::text(self.file.input, &names, u64::from(self.header.name))?
-            }
-            named => named?,
-        };
-        Ok(self.file.text(range))
+        let names = ffi::names(self.file.input, &self.file.header)?;
+        Ok(self.file.text(ffi::text(self.file.input, &names, u64::from(self.header.name))?))
     }
 
     /// The data of the section. An error for type Null and for types that neither the reader nor this crate knows; for type
@@ -77,24 +70,24 @@ impl<'f, 'a> Section<'f, 'a> {
 
     /// The symbols of the section, from index 0 on; none where it holds others.
     pub fn symbols(&self) -> Symbols<'f, 'a> {
-        Symbols::new(self.file, self.index, u64::from(self.header.link))
+        Symbols::new(self.file, self.index)
     }
 
     /// The symbol at an index; an error if the section has none there.
     pub fn symbol(&self, index: u64) -> Result<Symbol<'a>, Error> {
-        Symbol::at(self.file, self.index, u64::from(self.header.link), index)
+        Symbol::of_table(self.file, &self.symbol_table()?, index)
     }
 
     /// Puts the symbols from an index on to the front of `out`, as many as it has room for or all that follow, and
     /// says how many. An error if there is none at that index. It costs less than the iterator.
     pub fn symbols_from(&self, first: u64, out: &mut [Entry]) -> Result<usize, Error> {
-        ffi::symbols(self.file.input, &self.file.header, self.index, first, out).map(|count| count as usize)
+        ffi::symbols(self.file.input, &self.symbol_table()?, first, out).map(|count| count as usize)
     }
 
     /// Puts where the names of the symbols from an index on stand to the front of `out`, as many as `symbols_from` gives,
     /// and says how many. It costs less than a call of `name` for each.
     pub fn symbol_names_from(&self, first: u64, out: &mut [Name]) -> Result<usize, Error> {
-        ffi::symbol_names(self.file.input, &self.file.header, self.index, first, out).map(|count| count as usize)
+        ffi::symbol_names(self.file.input, &self.symbol_table()?, first, out).map(|count| count as usize)
     }
 
     /// The symbols of the section, found once for many calls of [`ElfFile::symbol_of`] and [`ElfFile::symbol_name_of`].
@@ -115,7 +108,7 @@ impl<'f, 'a> Section<'f, 'a> {
 
     /// The relocation at an index; an error if the section has none there.
     pub fn relocation(&self, index: u64) -> Result<Relocation, Error> {
-        ffi::relocation(self.file.input, &self.file.header, self.index, index)
+        one(|out| ffi::relocations(self.file.input, &self.file.header, self.index, index, out))
     }
 
     /// Puts the relocations from an index on to the front of `out`, as many as it has room for or all that follow, and
@@ -138,7 +131,7 @@ impl<'f, 'a> Section<'f, 'a> {
 
     /// The dynamic entry at an index; an error if the section has none there.
     pub fn dynamic_entry(&self, index: u64) -> Result<Dynamic, Error> {
-        ffi::dynamic(self.file.input, &self.file.header, self.index, index)
+        one(|out| ffi::dynamics(self.file.input, &self.file.header, self.index, index, out))
     }
 
     /// Puts the dynamic entries from an index on to the front of `out`, as many as it has room for or all that follow,
@@ -149,7 +142,7 @@ impl<'f, 'a> Section<'f, 'a> {
 
     /// The text that begins at an index of the data of the section, in bytes, as of a string table.
     pub fn text(&self, index: u64) -> Result<&'a str, Error> {
-        Ok(self.file.text(ffi::section_text(self.file.input, &self.file.header, self.index, index)?))
+        Ok(self.file.text(ffi::text(self.file.input, &ffi::section_data(self.file.input, &self.file.header, self.index)?, index)?))
     }
 
     /// The notes that the data of the section is.

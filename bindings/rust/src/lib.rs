@@ -56,13 +56,16 @@ mod symbols;
 mod tests;
 mod versions;
 
+use batch::one;
+
 pub use error::Error;
-pub use hash::{HashTable, SysvTable};
+pub use hash::HashTable;
 pub use items::{Section, Sections, Segment, Segments};
 pub use message::Message;
 pub use notes::{Note, Notes};
 pub use records::Range as ByteRange;
-pub use records::{Answer, Dynamic, Entry, GnuTable, Header, LookUp, Name, ProgramHeader, Relocation, SectionHeader, SymbolTable, Version};
+pub use ranges::LookUp;
+pub use records::{Answer, Dynamic, Entry, Header, Name, ProgramHeader, Relocation, SectionHeader, SymbolTable, Version};
 #[cfg(feature = "alloc")]
 pub use symbol_map::SymbolMap;
 pub use dynamic::{DynamicSymbol, DynamicSymbols};
@@ -189,23 +192,12 @@ impl<'a> ElfFile<'a> {
     /// The symbol at an index of a table that [`Section::symbol_table`] or [`ElfFile::dynamic_symbol_table`] found in this
     /// file. It costs less than [`Section::symbol`], which finds the table in each call.
     pub fn symbol_of(&self, table: &SymbolTable, index: u64) -> Result<Entry, Error> {
-        ffi::symbol_of(self.input, table, index)
+        one(|out| ffi::symbols(self.input, table, index, out))
     }
 
     /// The name of the symbol at an index of such a table.
     pub fn symbol_name_of(&self, table: &SymbolTable, index: u64) -> Result<&'a str, Error> {
-        Ok(self.text(ffi::symbol_name_of(self.input, table, index)?))
-    }
-
-    /// What a look-up for a name says, in a table that [`HashTable::sysv_table`] found in this file. It costs less than
-    /// [`HashTable::look_up_counted`], which finds the table in each call.
-    pub fn hash_look_up_of(&self, table: &SysvTable, name: &str) -> Result<LookUp, Error> {
-        ffi::hash_look_up_of(self.input, &table.0, name.as_bytes())
-    }
-
-    /// The same in a table that [`HashTable::gnu_table`] found in this file.
-    pub fn gnu_look_up_of(&self, table: &GnuTable, name: &str) -> Result<LookUp, Error> {
-        ffi::gnu_look_up_of(self.input, table, name.as_bytes())
+        self.name_of(&one(|out| ffi::symbol_names(self.input, table, index, out))?)
     }
 
     /// The bytes that the file has for so many addresses from one on: those of the first loaded segment that has

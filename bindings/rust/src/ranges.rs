@@ -1,6 +1,17 @@
 //! What the structs of the archive contain: ranges, and the names and look-ups that have a status of their own.
 
-use crate::{Answer, ByteRange, Error, LookUp, Name, SymbolTable};
+use crate::{Answer, ByteRange, Error, Name, SymbolTable};
+
+/// The result of a look-up.
+#[derive(Clone, Copy, Debug, Default, PartialEq, Eq)]
+pub struct LookUp {
+    /// 1 where a symbol is found, and else 0.
+    pub found: u32,
+    /// The index of the symbol, or 0.
+    pub index: u32,
+    /// The number of chain entries that the look-up read.
+    pub looked_at: u32,
+}
 
 impl From<core::ops::Range<usize>> for ByteRange {
     fn from(range: core::ops::Range<usize>) -> ByteRange {

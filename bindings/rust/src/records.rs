@@ -199,18 +199,6 @@ pub(crate) struct NoteRange {
     pub(crate) type_: u32,
 }
 
-/// The result of a look-up.
-#[repr(C)]
-#[derive(Clone, Copy, Debug, Default, PartialEq, Eq)]
-pub struct LookUp {
-    /// 1 where a symbol is found, and else 0.
-    pub found: u32,
-    /// The index of the symbol, or 0.
-    pub index: u32,
-    /// The number of chain entries that the look-up read.
-    pub looked_at: u32,
-}
-
 /// The result of one look-up of many.
 #[repr(C)]
 #[derive(Clone, Copy, Debug, Default, PartialEq, Eq)]
@@ -225,15 +213,17 @@ pub struct Answer {
     pub(crate) looked_at: u32,
 }
 
-/// A hash table of a section with its symbols, found once: the numbers that `gnu_open` fills, and that
-/// `gnu_look_up_of` takes back; and those of `hash_open` for `hash_look_up_of`.
+/// A hash table of a section with its symbols, found once: the numbers that `hash_open` fills, and that other calls
+/// take back.
 #[repr(C)]
 #[derive(Clone, Copy, Debug, Default, PartialEq, Eq)]
-pub struct GnuTable {
+pub(crate) struct FoundTable {
     /// The bytes of the hash table.
     pub(crate) table: Range,
     /// Its symbols, with the string table in which look-ups compare their names.
     pub(crate) symbols: SymbolTable,
+    /// The type of the section: 0x6ffffff6 (SHT_GNU_HASH) for GNU's table, any other number for the gABI's.
+    pub(crate) kind: u32,
 }
 
 /// The version of a symbol, or one that a file defines or needs (LSB, "Symbol Versioning").

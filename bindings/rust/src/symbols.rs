@@ -1,16 +1,14 @@
 //! The symbols of a section.
 
 use crate::batch::Batch;
-use crate::ffi;
-#[cfg(feature = "alloc")]
-use crate::{ranges::checked, SymbolTable};
-use crate::{ByteRange, ElfFile, Entry, Error};
+use crate::ranges::checked;
+use crate::{ffi, ByteRange, ElfFile, Entry, Error, SymbolTable};
 use core::fmt;
 use core::ops::Deref;
 
-// The data of a string table.
-fn strings_of<'a>(file: &ElfFile<'a>, section: u64) -> Result<&'a [u8], Error> {
-    Ok(file.bytes(ffi::section_data(file.input, &file.header, section)?))
+// The bytes of the string table of symbols that were found.
+fn strings_of<'a>(file: &ElfFile<'a>, table: &SymbolTable) -> Result<&'a [u8], Error> {
+    checked(table.strings_status).map(|()| file.bytes(table.strings))
 }
 
 /// A symbol; its numbers are its own.
@@ -36,17 +34,9 @@ impl Deref for Symbol<'_> {
 }
 
 impl<'a> Symbol<'a> {
-    // The symbol at an index of a section whose string table is the section `link`.
-    pub(crate) fn at(file: &ElfFile<'a>, section: u64, link: u64, index: u64) -> Result<Symbol<'a>, Error> {
-        let entry = ffi::symbol(file.input, &file.header, section, index)?;
-        Ok(Symbol { strings: strings_of(file, link), index, entry })
-    }
-
     // The symbol at an index of a table.
-    #[cfg(feature = "alloc")]
     pub(crate) fn of_table(file: &ElfFile<'a>, table: &SymbolTable, index: u64) -> Result<Symbol<'a>, Error> {
-        let entry = ffi::symbol_of(file.input, table, index)?;
-        Ok(Symbol { strings: checked(table.strings_status).map(|()| file.bytes(table.strings)), index, entry })
+        Ok(Symbol { strings: strings_of(file, table), index, entry: file.symbol_of(table, index)? })
     }
 
     /// The index of the symbol in its table.
@@ -77,16 +67,16 @@ impl<'a> Symbol<'a> {
 #[derive(Clone)]
 pub struct Symbols<'f, 'a> {
     file: &'f ElfFile<'a>,
-    section: u64,
-    count: u64,
+    table: SymbolTable,
     strings: Result<&'a [u8], Error>,
     batch: Batch<Entry, 64>,
 }
 
 impl<'f, 'a> Symbols<'f, 'a> {
-    pub(crate) fn new(file: &'f ElfFile<'a>, section: u64, link: u64) -> Symbols<'f, 'a> {
-        let count = ffi::symbols_open(file.input, &file.header, section).map_or(0, |table| table.count);
-        Symbols { file, section, count, strings: strings_of(file, link), batch: Batch::new() }
+    pub(crate) fn new(file: &'f ElfFile<'a>, section: u64) -> Symbols<'f, 'a> {
+        // A section with other data has none.
+        let table = ffi::symbols_open(file.input, &file.header, section).unwrap_or_default();
+        Symbols { file, table, strings: strings_of(file, &table), batch: Batch::new() }
     }
 }
 
@@ -103,12 +93,12 @@ impl<'a> Iterator for Symbols<'_, 'a> {
 
     #[inline]
     fn next(&mut self) -> Option<Symbol<'a>> {
-        let (file, section) = (self.file, self.section);
-        let (index, entry) = self.batch.next(|first, out| ffi::symbols(file.input, &file.header, section, first, out))?;
+        let (file, table) = (self.file, &self.table);
+        let (index, entry) = self.batch.next(|first, out| ffi::symbols(file.input, table, first, out))?;
         Some(Symbol { strings: self.strings, index, entry })
     }
 
     fn size_hint(&self) -> (usize, Option<usize>) {
-        self.batch.left(self.count)
+        self.batch.left(self.table.count)
     }
 }

@@ -2,7 +2,7 @@
 
 use crate::calls::{every, Asked};
 use crate::constants::*;
-use crate::records::{Answer, Dynamic, Entry, FoundSymbol, GnuTable, Header, Name, ProgramHeader, Range, Relocation, SectionHeader, SymbolTable, Version};
+use crate::records::{Answer, Dynamic, Entry, FoundSymbol, FoundTable, Header, Name, ProgramHeader, Range, Relocation, SectionHeader, SymbolTable, Version};
 use crate::{ffi, Error};
 extern crate std;
 use std::string::ToString;
@@ -51,10 +51,9 @@ fn sections_and_names() {
     assert_eq!(ffi::find_section_index(&input, &header, b"\xff"), Err(Error::NotFound));
     assert_eq!(ffi::find_section_index(&input, &header, b""), Err(Error::NotFound));
     assert_eq!(ffi::section_data(&input, &header, index), Ok(Range { offset: dynamic.offset, size: dynamic.size }));
-    let name = ffi::section_name(&input, &header, index).expect("a name");
-    assert_eq!(name.bytes_in(&input), b".dynamic");
     let table = ffi::names(&input, &header).expect("a name table");
-    assert_eq!(ffi::text(&input, &table, u64::from(dynamic.name)), Ok(name));
+    let name = ffi::text(&input, &table, u64::from(dynamic.name)).expect("a name");
+    assert_eq!(name.bytes_in(&input), b".dynamic");
     let (mut headers, mut names) = ([SectionHeader::default(); 2], [Name::default(); 2]);
     assert_eq!(ffi::sections(&input, &header, index, &mut headers[..1]), Ok(1));
     assert_eq!(ffi::section_names(&input, &header, index, &mut names[..1]), Ok(1));
@@ -86,30 +85,30 @@ fn records_of_sections() {
     let input = whole();
     let header = ffi::open(&input).expect("an ELF file");
     let (symbols, symbols_header) = section_of_type(&input, &header, SHT_DYNSYM);
+    let table = ffi::symbols_open(&input, &header, symbols).expect("symbols");
     let (mut entries, mut names) = ([Entry::default(); 2], [Name::default(); 2]);
-    assert_eq!(ffi::symbols(&input, &header, symbols, 1, &mut entries[..1]), Ok(1));
-    assert_eq!(ffi::symbol(&input, &header, symbols, 1), Ok(entries[0]));
-    assert_eq!(ffi::symbol_names(&input, &header, symbols, 1, &mut names[..1]), Ok(1));
+    assert_eq!(ffi::symbols(&input, &table, 1, &mut entries[..1]), Ok(1));
+    assert_eq!(ffi::symbol_names(&input, &table, 1, &mut names[..1]), Ok(1));
+    assert_eq!((entries[1], names[1]), (Entry::default(), Name::default()));
     let strings = ffi::section_data(&input, &header, u64::from(symbols_header.link)).expect("a string table");
     assert_eq!(names[0].range(), ffi::text(&input, &strings, u64::from(entries[0].name)));
-    assert_eq!(ffi::section_text(&input, &header, symbols_header.link.into(), entries[0].name.into()), names[0].range());
     let relocations = section_of_type(&input, &header, SHT_RELA).0;
-    assert_eq!(ffi::relocation(&input, &header, relocations, 0).map(|one| one.has_addend), Ok(1));
-    let mut many = [Relocation::default(); 2];
+    let (mut first, mut many) = ([Relocation::default(); 2], [Relocation::default(); 2]);
+    assert_eq!(ffi::relocations(&input, &header, relocations, 0, &mut first), Ok(2));
     assert_eq!(ffi::relocations(&input, &header, relocations, 1, &mut many[..1]), Ok(1));
-    assert_eq!((Ok(many[0]), many[1]), (ffi::relocation(&input, &header, relocations, 1), Relocation::default()));
+    assert_eq!((first[0].has_addend, many), (1, [first[1], Relocation::default()]));
     assert_eq!(ffi::packed_relocations(&input, &header, relocations, 0, &mut [0; 2]), Err(Error::OtherData));
     let dynamic = section_of_type(&input, &header, SHT_DYNAMIC).0;
-    assert_eq!(ffi::dynamic(&input, &header, dynamic, 0).map(|one| one.tag), Ok(DT_NEEDED));
-    assert_eq!(ffi::dynamic(&input, &header, symbols, 0), Err(Error::OtherData));
-    let mut tags = [Dynamic::default(); 2];
+    let (mut entry, mut tags) = ([Dynamic::default(); 2], [Dynamic::default(); 2]);
+    assert_eq!(ffi::dynamics(&input, &header, dynamic, 0, &mut entry), Ok(2));
+    assert_eq!(ffi::dynamics(&input, &header, symbols, 0, &mut tags), Err(Error::OtherData));
     assert_eq!(ffi::dynamics(&input, &header, dynamic, 1, &mut tags[..1]), Ok(1));
-    assert_eq!((Ok(tags[0]), tags[1]), (ffi::dynamic(&input, &header, dynamic, 1), Dynamic::default()));
-    let notes = ffi::find_section(&input, &header, b".note.gnu.build-id").expect("a build id");
+    assert_eq!((entry[0].tag, tags), (DT_NEEDED, [entry[1], Dynamic::default()]));
+    let notes = ffi::find_section_index(&input, &header, b".note.gnu.build-id").expect("a build id");
+    let notes = ffi::section(&input, &header, notes).expect("a section");
     let part = Range { offset: notes.offset, size: notes.size };
     let note = ffi::note(&input, &header, &part, notes.align).expect("a note");
     assert_eq!((note.type_, note.rest.size), (NT_GNU_BUILD_ID, 0));
-    assert_eq!(ffi::build_id(&input, &header), Ok(note.desc));
 }
 
 #[test]
@@ -120,7 +119,7 @@ fn symbols_of_a_table() {
     let table = section.symbol_table().expect("symbols");
     assert!(!table.is_empty() && table.strings_status == 0);
     for (index, symbol) in section.symbols().enumerate() {
-        assert_eq!(file.symbol_of(&table, index as u64), ffi::symbol(&input, file.header(), section.index(), index as u64));
+        assert_eq!(file.symbol_of(&table, index as u64), Ok(*symbol));
         assert_eq!(file.symbol_name_of(&table, index as u64), symbol.name());
     }
     assert_eq!(file.symbol_of(&table, table.len()), Err(Error::NoRecord));
@@ -140,18 +139,19 @@ fn texts_of_the_dynamic_segment() {
     let header = ffi::open(&input).expect("an ELF file");
     let (dynamic, section) = section_of_type(&input, &header, SHT_DYNAMIC);
     let mut names = [Name::default(); 8];
-    let count = ffi::needed(&input, &header, 0, &mut names).expect("the test needs libraries");
-    let tags = (0..).map_while(|index| ffi::dynamic(&input, &header, dynamic, index).ok());
-    let named: Vec<_> = tags.take_while(|one| one.tag != DT_NULL).filter(|one| one.tag == DT_NEEDED).collect();
+    let count = ffi::dynamic_texts(&input, &header, DT_NEEDED, 0, &mut names).expect("the test needs libraries");
+    let mut tags = [Dynamic::default(); 64];
+    assert!(ffi::dynamics(&input, &header, dynamic, 0, &mut tags).is_ok());
+    let named: Vec<_> = tags.iter().take_while(|one| one.tag != DT_NULL).filter(|one| one.tag == DT_NEEDED).collect();
+    let strings = ffi::section_data(&input, &header, section.link.into()).expect("a string table");
     assert!(count == named.len() as u64 && count < 8);
     for (name, tag) in names.iter().zip(&named) {
-        assert_eq!(name.range(), ffi::section_text(&input, &header, section.link.into(), tag.value));
+        assert_eq!(name.range(), ffi::text(&input, &strings, tag.value));
     }
-    assert_eq!(ffi::dynamic_text(&input, &header, DT_NEEDED), names[0].range());
-    assert_eq!(ffi::dynamic_text(&input, &header, DT_NULL), Err(Error::NotFound));
-    assert_eq!(ffi::needed(&input, &header, count, &mut names), Err(Error::NoRecord));
+    assert_eq!(ffi::dynamic_texts(&input, &header, DT_NULL, 0, &mut names), Err(Error::NoRecord));
+    assert_eq!(ffi::dynamic_texts(&input, &header, DT_NEEDED, count, &mut names), Err(Error::NoRecord));
     let mut second = [Name::default(); 8];
-    assert_eq!(ffi::needed(&input, &header, 1, &mut second), if count > 1 { Ok(count - 1) } else { Err(Error::NoRecord) });
+    assert_eq!(ffi::dynamic_texts(&input, &header, DT_NEEDED, 1, &mut second), if count > 1 { Ok(count - 1) } else { Err(Error::NoRecord) });
     assert!(count < 2 || second[0] == names[1]);
 }
 
@@ -160,33 +160,28 @@ fn symbols_of_the_dynamic_segment() {
     let mut input = whole();
     let header = ffi::open(&input).expect("an ELF file");
     let section = section_of_type(&input, &header, SHT_DYNSYM).0;
-    let count = ffi::dynamic_symbol_count(&input, &header).expect("a hash table") as usize;
+    let whole = ffi::symbols_open(&input, &header, section).expect("symbols");
+    let count = ffi::dynamic_symbols_open(&input, &header).expect("a hash table").count as usize;
     assert!(count > 0);
     let (mut entries, mut names) = (std::vec![Entry::default(); count + 1], std::vec![Name::default(); count + 1]);
     let (mut wanted, mut wanted_names) = (entries.clone(), names.clone());
-    assert!(ffi::symbols(&input, &header, section, 0, &mut wanted[..count]).is_ok_and(|filled| filled == count as u64));
-    assert!(ffi::symbol_names(&input, &header, section, 0, &mut wanted_names[..count]).is_ok());
+    assert!(ffi::symbols(&input, &whole, 0, &mut wanted[..count]).is_ok_and(|filled| filled == count as u64));
+    assert!(ffi::symbol_names(&input, &whole, 0, &mut wanted_names[..count]).is_ok());
     // The header that the calls are handed next names no sections, nor do the bytes.
     input[40..48].fill(0);
     let cut = ffi::open(&input).expect("an ELF file");
     assert_eq!(ffi::section(&input, &cut, section).map(|one| one.type_).ok().filter(|kind| *kind == SHT_DYNSYM), None);
-    assert_eq!(ffi::dynamic_symbol_count(&input, &cut), Ok(count as u64));
-    assert_eq!(ffi::dynamic_symbols(&input, &cut, 0, &mut entries), Ok(count as u64));
-    assert_eq!(ffi::dynamic_symbol_names(&input, &cut, 0, &mut names), Ok(count as u64));
-    assert!(entries == wanted && names == wanted_names);
-    let (mut last, mut last_name) = ([Entry::default(); 2], [Name::default(); 2]);
-    assert_eq!(ffi::dynamic_symbols(&input, &cut, count as u64 - 1, &mut last), Ok(1));
-    assert_eq!(ffi::dynamic_symbol_names(&input, &cut, count as u64 - 1, &mut last_name), Ok(1));
-    assert_eq!((last, last_name), ([wanted[count - 1], Entry::default()], [wanted_names[count - 1], Name::default()]));
-    assert_eq!(ffi::dynamic_symbols(&input, &cut, count as u64, &mut last), Err(Error::NoRecord));
-    assert_eq!(ffi::dynamic_symbol_names(&input, &cut, count as u64, &mut last_name), Err(Error::NoRecord));
     let table = ffi::dynamic_symbols_open(&input, &cut).expect("symbols");
     assert_eq!((table.count, table.strings_status), (count as u64, 0));
-    for (index, (symbol, name)) in (0..).zip(wanted.iter().zip(&wanted_names)).take(count) {
-        assert_eq!(ffi::symbol_of(&input, &table, index), Ok(*symbol));
-        assert_eq!(ffi::symbol_name_of(&input, &table, index), name.range());
-    }
-    assert_eq!(ffi::symbol_of(&input, &table, count as u64), Err(Error::NoRecord));
+    assert_eq!(ffi::symbols(&input, &table, 0, &mut entries), Ok(count as u64));
+    assert_eq!(ffi::symbol_names(&input, &table, 0, &mut names), Ok(count as u64));
+    assert!(entries == wanted && names == wanted_names);
+    let (mut last, mut last_name) = ([Entry::default(); 2], [Name::default(); 2]);
+    assert_eq!(ffi::symbols(&input, &table, count as u64 - 1, &mut last), Ok(1));
+    assert_eq!(ffi::symbol_names(&input, &table, count as u64 - 1, &mut last_name), Ok(1));
+    assert_eq!((last, last_name), ([wanted[count - 1], Entry::default()], [wanted_names[count - 1], Name::default()]));
+    assert_eq!(ffi::symbols(&input, &table, count as u64, &mut last), Err(Error::NoRecord));
+    assert_eq!(ffi::symbol_names(&input, &table, count as u64, &mut last_name), Err(Error::NoRecord));
     assert_eq!(ffi::dynamic_symbols_open(&[], &cut), Err(Error::LinkNoDynamic));
     assert_eq!(crate::ElfFile::new(&input).and_then(|file| file.dynamic_symbol_table()), Ok(table));
 }
@@ -197,7 +192,7 @@ fn versions_of_symbols() {
     let header = ffi::open(&input).expect("an ELF file");
     let table = section_of_type(&input, &header, 0x6fff_ffff).1; // SHT_GNU_versym
     let raw = |index: usize| u16::from_le_bytes([0, 1].map(|byte| input[table.offset as usize + 2 * index + byte]));
-    let count = ffi::dynamic_symbol_count(&input, &header).expect("a hash table") as usize;
+    let count = ffi::dynamic_symbols_open(&input, &header).expect("a hash table").count as usize;
     let wanted: Vec<_> = (0..count).map(|index| (u32::from(raw(index) % 0x8000), u32::from(raw(index) / 0x8000))).collect();
     // The header that the calls are handed next names no sections, nor do the bytes.
     input[40..48].fill(0);
@@ -216,7 +211,7 @@ fn versions_of_symbols() {
         assert_eq!((one.name, one.file, one.hash, one.kind), (borne.name, borne.file, borne.hash, borne.kind));
     }
     let mut names = [Name::default(); 16];
-    let libraries = ffi::needed(&input, &cut, 0, &mut names).expect("the test needs libraries") as usize;
+    let libraries = ffi::dynamic_texts(&input, &cut, DT_NEEDED, 0, &mut names).expect("the test needs libraries") as usize;
     let named = |file: Range| names[..libraries].iter().any(|name| name.range().is_ok_and(|range| range.text_in(&input) == file.text_in(&input)));
     assert!(needs[..need_count].iter().all(|one| named(one.file)));
     assert_eq!(ffi::version_needs(&input, &cut, need_count as u64, &mut needs), Err(Error::NoRecord));
@@ -245,10 +240,11 @@ fn symbols_by_names_and_versions() {
     assert_eq!((newest.found, older.found), (1, 1));
     assert_eq!((version_at(newest.index), version_at(older.index)), (("GLIBC_2.14", 0), ("GLIBC_2.2.5", 1)));
     assert_eq!((found(b"GLIBC_2.14"), found(b"GLIBC_2.15")), (newest, FoundSymbol::default()));
+    let table = ffi::dynamic_symbols_open(&input, &header).expect("symbols");
     for one in [newest, older] {
         let (mut symbols, mut names) = ([Entry::default()], [Name::default()]);
-        assert_eq!(ffi::dynamic_symbols(&input, &header, one.index.into(), &mut symbols), Ok(1));
-        assert_eq!(ffi::dynamic_symbol_names(&input, &header, one.index.into(), &mut names), Ok(1));
+        assert_eq!(ffi::symbols(&input, &table, one.index.into(), &mut symbols), Ok(1));
+        assert_eq!(ffi::symbol_names(&input, &table, one.index.into(), &mut names), Ok(1));
         assert_eq!((symbols[0], names[0].range().map(|range| range.text_in(&input))), (one.symbol, Ok("memcpy")));
     }
     assert_eq!(ffi::find_symbol(&input, &header, b"no_such_name", b""), Ok(FoundSymbol::default()));
@@ -264,74 +260,73 @@ fn symbols_by_names_and_versions() {
     assert_eq!(file.find_symbol("no_such_name", None), Ok(None));
 }
 
+// What a look-up for one name says.
+fn look_up(input: &[u8], table: &FoundTable, name: &[u8]) -> Result<crate::LookUp, Error> {
+    let mut answers = [Answer::default(); 2];
+    ffi::look_ups(input, table, name, &[Range { offset: 0, size: name.len() as u64 }], &mut answers);
+    assert_eq!(answers[1], Answer::default());
+    answers[0].look_up()
+}
+
 #[test]
 fn look_ups() {
     let input = whole();
     let header = ffi::open(&input).expect("an ELF file");
-    let table = section_of_type(&input, &header, SHT_GNU_HASH).0;
-    assert_eq!(ffi::check_gnu_hash(&input, &header, table), Ok(()));
-    let said = ffi::gnu_look_up(&input, &header, table, b"no_such_name").expect("not refused");
+    let section = section_of_type(&input, &header, SHT_GNU_HASH).0;
+    let table = ffi::hash_open(&input, &header, section).expect("a hash table");
+    assert_eq!((table.kind, ffi::check_hash(&input, &table)), (SHT_GNU_HASH, Ok(())));
+    let symbols = section_of_type(&input, &header, SHT_DYNSYM).0;
+    assert_eq!(table.symbols, ffi::symbols_open(&input, &header, symbols).expect("symbols"));
+    let mut names = std::vec![Name::default(); table.symbols.count as usize];
+    assert_eq!(ffi::symbol_names(&input, &table.symbols, 0, &mut names), Ok(table.symbols.count));
+    for said in names.iter().filter_map(|name| look_up(&input, &table, name.range().ok()?.bytes_in(&input)).ok()) {
+        assert!(said.found == 0 || said.index > 0 && u64::from(said.index) < table.symbols.count);
+    }
+    let said = look_up(&input, &table, b"no_such_name").expect("not refused");
     assert_eq!((said.found, said.index), (0, 0));
     let names = b"no_such_name\xff";
     let ranges = [Range { offset: 0, size: 12 }, Range { offset: 12, size: 1 }, Range { offset: 13, size: 1 }];
     let mut answers = [Answer::default(); 3];
-    ffi::gnu_look_ups(&input, &header, table, names, &ranges, &mut answers);
+    ffi::look_ups(&input, &table, names, &ranges, &mut answers);
     assert_eq!(answers.map(|one| one.look_up()), [Ok(said), Err(Error::TextUtf8), Err(Error::DataRange)]);
-    // The linker makes no table of this kind: the declarations of both kinds are the same.
-    assert_eq!(ffi::check_hash(&input, &header, table), Err(Error::OtherData));
-    assert_eq!(ffi::look_up(&input, &header, table, b"main"), Err(Error::OtherData));
-    ffi::look_ups(&input, &header, table, names, &ranges, &mut answers);
-    assert_eq!(answers.map(|one| one.index()), [Err(Error::OtherData), Err(Error::TextUtf8), Err(Error::DataRange)]);
-}
-
-#[test]
-fn look_ups_of_a_table() {
-    let input = whole();
-    let header = ffi::open(&input).expect("an ELF file");
-    let section = section_of_type(&input, &header, SHT_GNU_HASH).0;
-    let table = ffi::gnu_open(&input, &header, section).expect("a hash table");
-    let symbols = section_of_type(&input, &header, SHT_DYNSYM).0;
-    assert_eq!(table.symbols, ffi::symbols_open(&input, &header, symbols).expect("symbols"));
-    for name in (0..table.symbols.count).filter_map(|index| ffi::symbol_name_of(&input, &table.symbols, index).ok()) {
-        let name = name.bytes_in(&input);
-        assert_eq!(ffi::gnu_look_up_of(&input, &table, name), ffi::gnu_look_up(&input, &header, section, name));
-    }
-    assert_eq!(ffi::gnu_look_up_of(&input, &table, b"\xff"), Err(Error::TextUtf8));
-    assert_eq!(ffi::gnu_open(&input, &header, symbols), Err(Error::OtherData));
+    assert_eq!(ffi::hash_open(&input, &header, symbols), Err(Error::OtherData));
     // Tables that no call found.
     let far = Range { offset: u64::MAX, size: 24 };
-    assert_eq!(ffi::gnu_look_up_of(&input, &GnuTable { table: far, ..table }, b"main"), Err(Error::DataRange));
+    assert_eq!(look_up(&input, &FoundTable { table: far, ..table }, b"main"), Err(Error::DataRange));
     let short = Range { size: 15, ..table.table };
-    assert_eq!(ffi::gnu_look_up_of(&input, &GnuTable { table: short, ..table }, b"main"), Err(Error::LinkShortTable));
+    assert_eq!(look_up(&input, &FoundTable { table: short, ..table }, b"main"), Err(Error::LinkShortTable));
+    assert_eq!(ffi::check_hash(&input, &FoundTable { table: short, ..table }), Err(Error::LinkShortTable));
     let apart = SymbolTable { symbols: Range { size: 25, ..table.symbols.symbols }, ..table.symbols };
-    assert_eq!(ffi::gnu_look_up_of(&input, &GnuTable { symbols: apart, ..table }, b"main"), Err(Error::NotMultiple));
+    assert_eq!(look_up(&input, &FoundTable { symbols: apart, ..table }, b"main"), Err(Error::NotMultiple));
 }
 
 #[test]
-fn look_ups_of_a_table_of_the_standard() {
+fn look_ups_in_a_table_of_the_standard() {
     let input = whole();
     let header = ffi::open(&input).expect("an ELF file");
     let section = section_of_type(&input, &header, SHT_GNU_HASH).0;
-    // The linker makes no table of this kind.
-    assert_eq!(ffi::hash_open(&input, &header, section), Err(Error::OtherData));
-    // So here is one behind the file, with the symbols in a single chain.
-    let found = ffi::gnu_open(&input, &header, section).expect("a hash table");
+    let found = ffi::hash_open(&input, &header, section).expect("a hash table");
+    // The linker makes no table of this kind, so here is one behind the file, with the symbols in a single chain.
     let count = found.symbols.count as u32;
     let words = [1, count, 1, 0].into_iter().chain((1..count).map(|index| (index + 1) % count));
     let longer: Vec<u8> = input.iter().copied().chain(words.flat_map(u32::to_le_bytes)).collect();
-    let table = GnuTable { table: Range { offset: input.len() as u64, size: (longer.len() - input.len()) as u64 }, ..found };
-    let name_of = |index: u32| ffi::symbol_name_of(&longer, &table.symbols, index.into()).map(|name| name.bytes_in(&longer));
+    let range = Range { offset: input.len() as u64, size: (longer.len() - input.len()) as u64 };
+    let table = FoundTable { table: range, kind: SHT_HASH, ..found };
+    assert_eq!(ffi::check_hash(&longer, &table), Ok(()));
+    let mut names = std::vec![Name::default(); count as usize];
+    assert_eq!(ffi::symbol_names(&longer, &table.symbols, 0, &mut names), Ok(count.into()));
+    let name_of = |index: u32| names[index as usize].range().map(|name| name.bytes_in(&longer));
     for name in (1..count).filter_map(|index| name_of(index).ok()) {
-        let said = ffi::hash_look_up_of(&longer, &table, name).expect("not refused");
+        let said = look_up(&longer, &table, name).expect("not refused");
         assert_eq!((said.found, name_of(said.index)), (1, Ok(name)));
     }
-    assert_eq!(ffi::hash_look_up_of(&longer, &table, b"no_such_name").map(|said| (said.found, said.looked_at)), Ok((0, count - 1)));
-    assert_eq!(ffi::hash_look_up_of(&longer, &table, b"\xff"), Err(Error::TextUtf8));
-    assert_eq!(ffi::hash_look_up_of(&input, &table, b"main"), Err(Error::DataRange));
+    assert_eq!(look_up(&longer, &table, b"no_such_name").map(|said| (said.found, said.looked_at)), Ok((0, count - 1)));
+    assert_eq!(look_up(&longer, &table, b"\xff"), Err(Error::TextUtf8));
+    assert_eq!(look_up(&input, &table, b"main"), Err(Error::DataRange));
     let short = Range { size: 11, ..table.table };
-    assert_eq!(ffi::hash_look_up_of(&longer, &GnuTable { table: short, ..table }, b"main"), Err(Error::ShortData));
+    assert_eq!(look_up(&longer, &FoundTable { table: short, ..table }, b"main"), Err(Error::ShortData));
     let cut = Range { size: table.table.size - 4, ..table.table };
-    assert_eq!(ffi::hash_look_up_of(&longer, &GnuTable { table: cut, ..table }, b"no_such_name"), Err(Error::HashData));
+    assert_eq!(look_up(&longer, &FoundTable { table: cut, ..table }, b"no_such_name"), Err(Error::HashData));
 }
 
 #[test]
@@ -339,8 +334,8 @@ fn empty_slices() {
     let header = ffi::open(&whole()).expect("an ELF file");
     assert_eq!(ffi::open(&[]), Err(Error::ShortPart1));
     assert_eq!(ffi::section(&[], &header, 0), Err(Error::ShortSectionHeader));
-    assert_eq!(ffi::find_section(&[], &header, &[]), Err(Error::NotFound));
-    ffi::gnu_look_ups(&[], &header, 0, &[], &[], &mut []);
+    assert_eq!(ffi::find_section_index(&[], &header, &[]), Err(Error::NotFound));
+    ffi::look_ups(&[], &FoundTable::default(), &[], &[], &mut []);
     assert_eq!(ffi::message(203, &mut []), "Nothing has this name".len());
 }
 
@@ -352,7 +347,7 @@ fn each_call_answers_what_is_listed() {
     let whole = whole();
     let header = ffi::open(&whole).expect("an ELF file");
     let table = ffi::symbols_open(&whole, &header, section_of_type(&whole, &header, SHT_DYNSYM).0).expect("symbols");
-    let hash = ffi::gnu_open(&whole, &header, section_of_type(&whole, &header, SHT_GNU_HASH).0).expect("a hash table");
+    let hash = ffi::hash_open(&whole, &header, section_of_type(&whole, &header, SHT_GNU_HASH).0).expect("a hash table");
     let (mut calls, mut read) = (0, 0);
     for (input, name) in [(&*whole, &b"main"[..]), (&[], &[])].into_iter().chain(damaged.iter().map(|file| (&**file, &b".text"[..]))) {
         let header = ffi::open(input).unwrap_or(header);

@@ -9,21 +9,21 @@ use Rattle.elf_base.specs.declared.error.ElfError.{ElfError}
 use Rattle.elf_base.specs.declared.error.ElfError.TheVariants.{TextUtf8}
 use Rattle.xmas_elf.specs.Ranges.{range_of}
 use Rattle.elf_c.specs.LookUps.{AreAnswered, IfUtf8, IsForRange, IsNamed, answered}
-use Rattle.elf_c.specs.declared.hash.LookUp.{LookUp}
+use Rattle.elf_c.specs.declared.look_ups.LookUp.{LookUp}
 use Rattle.elf_c.specs.declared.look_ups.Answer.{Answer}
 use Rattle.elf_c.specs.declared.names.Range.{Range}
 use Rattle.elf_c.specs.declared.status.Refusal.{Refusal}
 use Rattle.elf_c.specs.declared.status.Refusal.TheVariants.{Elf}
 use Rattle.elf_c.proofs.Batches.{put_elsewhere, put_there}
 
-pub ok_is_no_error : {A : Type 0} (value : A) (why : Refusal) → Ok value ≡ Err why → ⊥
+ok_is_no_error : {A : Type 0} (value : A) (why : Refusal) → Ok value ≡ Err why → ⊥
 ok_is_no_error value why same = cc
 
 -- two errors of the same result are equal
 same_refusal : {A : Type 0} (one other : Refusal) (answer : Result A Refusal) → answer ≡ Err one → answer ≡ Err other → one ≡ other
 same_refusal one other answer is also = cc
 
-pub again : {A B : Type 0} (one other : Refusal) (found : Result A Refusal) (answer : Result B Refusal) → found ≡ Err one → found ≡ Err other → answer ≡ Err one → answer ≡ Err other
+again : {A B : Type 0} (one other : Refusal) (found : Result A Refusal) (answer : Result B Refusal) → found ≡ Err one → found ≡ Err other → answer ≡ Err one → answer ≡ Err other
 again one other found answer is also says = says ∙ ap (λ r. Err r) (same_refusal one other found is also)
 
 -- if a name was found, the result satisfies P for it; otherwise the result is the error
@@ -98,7 +98,3 @@ answered_so P Q names ranges old new to is = record {
     by_range : (range : Range) (answer : Result LookUp Refusal) (bytes : Result (List ℕ) ElfError) → MatchResult bytes (λ name. P name answer) (λ error. answer ≡ Err (Elf error)) → MatchResult bytes (λ name. Q name answer) (λ error. answer ≡ Err (Elf error))
     by_range range answer (Ok name) is = to name answer is
     by_range range answer (Err error) is = is
-
--- a property by the found value is a property by the value that it equals
-pub by_found : {A : Type 0} (P : A → List ℕ → Result LookUp Refusal → Type 0) (found known : A) (names : List ℕ) (ranges : List Range) (old new : List Answer) → found ≡ known → AreAnswered (IfUtf8 (P known)) names ranges old new → AreAnswered (IfUtf8 (P found)) names ranges old new
-by_found P found known names ranges old new same is = subst (λ x. AreAnswered (IfUtf8 (P x)) names ranges old new) (sym same) is

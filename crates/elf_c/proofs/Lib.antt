@@ -2,10 +2,8 @@ pub mod FoundSections
 pub mod Looking
 pub mod Answering
 pub mod Batches
-pub mod Tables
 pub mod InOrder
-pub mod NeededNames
-pub mod DynamicSymbols
+pub mod DynamicTexts
 pub mod Statuses
 pub mod Opened
 pub mod StoredNames
@@ -15,4 +13,4 @@ pub mod OpenedSymbols
 pub mod OpenedTables
 pub mod OpenedDynamics
 pub mod OpenedFound
-pub mod OpenedWithin
+pub mod LookedUp

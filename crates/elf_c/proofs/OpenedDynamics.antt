@@ -1,6 +1,7 @@
 -- The symbols by a record are those of the dynamic segment that it was read from.
-use Rattle.std.proofs.Common.{◌≡◌, ◌<◌, ◌≤◌, ◌==◌, ◌+◌, ◌-◌, ◌*◌, ◌/◌, ◌↔◌, ℕ, Bool, true, false, List, [], length, drop, take, Option, None, Some, Result, Ok, Err, IfOk, IsOk, eqb-true, nat_lt, le-ltb, lit<, if◌then◌else◌, refl, sym, ap, subst, ◌∙◌, arith}
-use Rattle.std.proofs.Math.Nat.{mul-div_cancel}
+use Rattle.std.proofs.Common.{◌≡◌, ◌<◌, ◌≤◌, ◌==◌, ◌+◌, ◌-◌, ◌*◌, ◌/◌, ◌%◌, ◌↔◌, ℕ, Bool, true, false, List, [], length, drop, take, Option, None, Some, Result, Ok, Err, IfOk, IsOk, eq-eqb, eqb-true, nat_lt, lit<, if◌then◌else◌, refl, sym, ap, subst, ◌∙◌, arith}
+use Rattle.std.proofs.Math.Nat.{mul-div_cancel, mul-mod_left}
+use Rattle.std.proofs.Math.Path.{fun_ext}
 use Rattle.std.specs.Option.{ok_or}
 use Rattle.elf_base.proofs.lemmas.RecordLemmas.{length-records}
 use Rattle.elf_base.specs.FileHeader.{file_class, file_order}
@@ -8,7 +9,7 @@ use Rattle.elf_base.specs.Refusal.{and_then}
 use Rattle.elf_base.specs.Table.{records}
 use Rattle.elf_base.specs.declared.bytes.Order.{Order}
 use Rattle.elf_base.specs.declared.error.ElfError.{ElfError}
-use Rattle.elf_base.specs.declared.error.ElfError.TheVariants.{DataRange, NullData}
+use Rattle.elf_base.specs.declared.error.ElfError.TheVariants.{DataRange, NotMultiple, NullData}
 use Rattle.elf_linking.proofs.LoadedBytes.{first_segment_at, part_by}
 use Rattle.elf_linking.proofs.SymbolCounts.{symbol_count_once}
 use Rattle.elf_linking.specs.DynamicView.{AreSymbols, IsSymbolCount, as_link_error, dynamic_entries_of, number_with}
@@ -22,23 +23,23 @@ use Rattle.elf_records.specs.declared.program.Type as the_type
 use Rattle.elf_records.specs.declared.program.Type.TheVariants.{Null}
 use Rattle.xmas_elf.specs.ProgramHeader.{IsSegmentData, program_fields, segment_data_of, segment_type}
 use Rattle.xmas_elf.specs.Ranges.{range_of}
-use Rattle.xmas_elf.specs.Symbol.{SymbolFields, dyn_entry_32, dyn_entry_32_fields, dyn_entry_64, dyn_entry_64_fields, entry_32, entry_32_fields, entry_64, entry_64_fields, symbol_32, symbol_64}
+use Rattle.xmas_elf.specs.Symbol.{SymbolFields, dyn_entry_32, dyn_entry_32_fields, dyn_entry_64, dyn_entry_64_fields}
 use Rattle.xmas_elf.specs.Types.{ElfFile, ProgramHeader, ProgramHeader64}
 use Rattle.elf_c.specs.Addresses.{range_at_address, range_in_segment}
 use Rattle.elf_c.specs.DynamicSymbols.{AreDynamicSymbols, AreSymbolsBy, IsCountBy, IsDynamicCount, IsSegmentTable, dynamic_symbol_at, dynamic_symbol_name, linked_symbol_in, segment_table, strings_by, symbol_size, table_at_address, table_by, table_in_range}
-use Rattle.elf_c.specs.DynamicTexts.{linked_name, range_in_strings, strings_range}
+use Rattle.elf_c.specs.DynamicTexts.{linked_name, range_in_strings, strings_range, table_range}
 use Rattle.elf_c.specs.Records.{LiesIn, found_in, name_answer, range_at, text_range}
 use Rattle.elf_c.specs.Status.{and_so, refusal_number}
-use Rattle.elf_c.specs.SymbolTables.{name_by, symbol_among, symbol_by}
+use Rattle.elf_c.specs.SymbolTables.{LieWithin, name_by, symbol_among, symbol_by}
 use Rattle.elf_c.specs.Symbols.{symbol_record}
 use Rattle.elf_c.specs.declared.names.Range.{Range}
 use Rattle.elf_c.specs.declared.status.Refusal.{Refusal}
-use Rattle.elf_c.specs.declared.status.Refusal.TheVariants.{Link}
+use Rattle.elf_c.specs.declared.status.Refusal.TheVariants.{Elf, Link}
 use Rattle.elf_c.specs.declared.symbol_tables.SymbolTable.{SymbolTable}
 use Rattle.elf_c.proofs.GivenRanges.{address_lies}
-use Rattle.elf_c.proofs.OpenedSymbols.{found_as, found_below}
+use Rattle.elf_c.proofs.OpenedSymbols.{found_below}
 use Rattle.elf_c.proofs.Statuses.{refusal_above}
-use Rattle.elf_c.proofs.StoredNames.{part_within}
+use Rattle.elf_c.proofs.StoredNames.{in_range_of, part_within}
 
 -- the data of a segment are bytes of the file
 data_kept : (file : ElfFile) (segment : ProgramHeader64) (kept : List ℕ) → segment_data_of file segment ≡ Ok kept → IsSegmentData file segment kept
@@ -77,9 +78,6 @@ record AreAt (file : ElfFile) (address count : ℕ) (range : Range) : Type 0 whe
   pub at : bytes_at_of file address count ≡ Ok bytes
   pub in_range : range_of file.input.now range.offset range.size ≡ Ok bytes
   pub long : length bytes ≡ count
-
-in_range_of : (input : List ℕ) (start count : ℕ) → start + count ≤ length input → range_of input start count ≡ Ok (take count (drop start input))
-in_range_of input start count fits = ap (λ (b : Bool). if b then Err DataRange else Ok (take count (drop start input))) (le-ltb (length input) (start + count) fits)
 
 are_at : (file : ElfFile) (address count : ℕ) (range : Range) → range_at_address file address count ≡ Ok range → AreAt file address count range
 unfolding bytes_at_of
@@ -121,17 +119,14 @@ are_at file address count range is = by_segment (segment_at_of file address coun
     by_segment None at same = absurd (cc)
     by_segment (Some program) at same = by_data program (segment_data_of file (program_fields program)) at refl same
 
--- the symbol at an index of bytes, for values that are the same
-module _ {T : Type 0} (value wanted : SymbolFields → T) (same : (fields : SymbolFields) → value fields ≡ wanted fields) (order : Order) (bytes : List ℕ) (index : ℕ) where
-  as_linked : (narrow : Bool) → (if narrow then found_in (λ e. value (entry_32_fields e)) (records 16 (entry_32 order) bytes) index
-      else found_in (λ e. value (entry_64_fields e)) (records 24 (entry_64 order) bytes) index)
-      ≡ (if narrow then found_in (λ e. wanted (dyn_entry_32_fields e)) (records 16 (dyn_entry_32 order) bytes) index
-      else found_in (λ e. wanted (dyn_entry_64_fields e)) (records 24 (dyn_entry_64 order) bytes) index)
-  unfolding entry_32_fields entry_64_fields dyn_entry_32_fields dyn_entry_64_fields
-  as_linked true =
-      found_as 16 (entry_32 order) (dyn_entry_32 order) (λ e. value (entry_32_fields e)) (λ e. wanted (dyn_entry_32_fields e)) (λ part. same (symbol_32 order part)) bytes index
-  as_linked false =
-      found_as 24 (entry_64 order) (dyn_entry_64 order) (λ e. value (entry_64_fields e)) (λ e. wanted (dyn_entry_64_fields e)) (λ part. same (symbol_64 order part)) bytes index
+-- the symbol at an index of bytes that are a number of symbols
+as_whole : {T : Type 0} (value : SymbolFields → T) (order : Order) (bytes : List ℕ) (count index : ℕ) (narrow : Bool) → length bytes ≡ count * (if narrow then 16 else 24) → symbol_among value narrow order bytes index
+    ≡ (if narrow then found_in (λ e. value (dyn_entry_32_fields e)) (records 16 (dyn_entry_32 order) bytes) index
+    else found_in (λ e. value (dyn_entry_64_fields e)) (records 24 (dyn_entry_64 order) bytes) index)
+as_whole value order bytes count index true long =
+    ap (λ (b : Bool). if b then found_in (λ e. value (dyn_entry_32_fields e)) (records 16 (dyn_entry_32 order) bytes) index else Err (Elf NotMultiple)) (eq-eqb _ _ (ap (λ n. n % 16) long ∙ mul-mod_left count 16))
+as_whole value order bytes count index false long =
+    ap (λ (b : Bool). if b then found_in (λ e. value (dyn_entry_64_fields e)) (records 24 (dyn_entry_64 order) bytes) index else Err (Elf NotMultiple)) (eq-eqb _ _ (ap (λ n. n % 24) long ∙ mul-mod_left count 24))
 
 -- there are as many symbols as the bytes are long
 counted_in : (order : Order) (bytes : List ℕ) (count index : ℕ) (narrow : Bool) → length bytes ≡ count * (if narrow then 16 else 24) → IsOk (if narrow then found_in (λ e. symbol_record (dyn_entry_32_fields e)) (records 16 (dyn_entry_32 order) bytes) index
@@ -214,8 +209,9 @@ opened_value : {T : Type 0} (file : ElfFile) (table : SymbolTable) (value : Symb
 opened_value file table value wanted are index same =
     let own = segment_table file (strings_range file are.entries) are.count are.range in
     subst (λ t. symbol_by (value t) file.input.now t index ≡ linked_symbol_in wanted file are.bytes index) (sym are.made)
-    (ap (λ r. and_so r (λ bytes. symbol_among (value own) (file_class file.header) (file_order file.header) bytes index)) are.in_range
-    ∙ as_linked (value own) wanted same (file_order file.header) are.bytes index (file_class file.header == 1))
+    (ap (λ r. and_so r (λ bytes. symbol_among (value own) (file_class file.header == 1) (file_order file.header) bytes index)) are.in_range
+    ∙ ap (λ v. symbol_among v (file_class file.header == 1) (file_order file.header) are.bytes index) (fun_ext same)
+    ∙ as_whole wanted (file_order file.header) are.bytes are.count index (file_class file.header == 1) are.long)
 
 -- the symbols, their names and their number are those of the dynamic segment
 pub opened_symbols : (file : ElfFile) (table : SymbolTable) → IsSegmentTable file (Ok table) → (bytes : Result (List ℕ) LinkError) → AreDynamicSymbols file bytes → (index : ℕ) → symbol_by symbol_record file.input.now table index ≡ dynamic_symbol_at symbol_record file bytes index
@@ -244,6 +240,24 @@ opened_count file table is index =
     subst (λ r. IsOk r ↔ (index < table.count)) (sym (opened_value file table (λ t. symbol_record) symbol_record opened index (λ fields. refl)))
     (subst (λ n. IsOk (linked_symbol_in symbol_record file opened.bytes index) ↔ (index < n)) (sym (ap (λ t. t.count) opened.made))
     (counted_in (file_order file.header) opened.bytes opened.count index (file_class file.header == 1) opened.long))
+
+linked_lies : (input : List ℕ) (found : Result Range Refusal) → IfOk found (LiesIn input) → LiesIn input (linked_name found).range
+linked_lies input (Ok range) lies = lies
+linked_lies input (Err why) lies = let none : 0 + 0 ≤ length input = omega arith in none
+
+-- the ranges lie in the input
+pub segment_within : (file : ElfFile) (table : SymbolTable) → IsSegmentTable file (Ok table) → LieWithin file.input.now table
+segment_within file table is =
+    let opened = are_opened file table is in
+    subst (LieWithin file.input.now) (sym opened.made) (
+      (part_within file.input.now opened.range.offset opened.range.size opened.bytes opened.in_range).0,
+      linked_lies file.input.now (strings_range file opened.entries) (strings_lie _ _),
+    )
+  where
+    strings_lie : (address size : Option ℕ) → IfOk (table_range file address size) (LiesIn file.input.now)
+    strings_lie (Some address) (Some size) = address_lies file address size
+    strings_lie (Some address) None = tt
+    strings_lie None size = tt
 
 -- the result by the entries of the file
 pub no_entries : (file : ElfFile) (error : LinkError) → dynamic_entries_of file ≡ Err error → IsSegmentTable file (Err (Link error))

@@ -135,7 +135,7 @@ module _ (file : ElfFile) (table : SymbolTable) (made : IsSegmentTable file (Ok 
       (subst (λ symbols. found_in (λ e. symbol_record (symbols.fields e)) symbols.items said.index ≡ Ok said.symbol) are.symbols_are found)
 
 -- a name that is no text finds nothing
-if_text : {A : Type 0} (P : List ℕ → Result A Refusal → Type 0) (name : List ℕ) (value : A) → IfUtf8 P name (Ok value) → P name (Ok value)
+pub if_text : {A : Type 0} (P : List ℕ → Result A Refusal → Type 0) (name : List ℕ) (value : A) → IfUtf8 P name (Ok value) → P name (Ok value)
 if_text P name value is = by_test (is_utf8 name) refl
   where
     by_test : (b : Bool) → is_utf8 name ≡ b → P name (Ok value)

@@ -1,12 +1,12 @@
 -- The symbols by a record are those of the section that it was read from.
-use Rattle.std.proofs.Common.{◌≡◌, ◌≢◌, ◌<◌, ◌==◌, ◌%◌, ◌/◌, ◌↔◌, ℕ, zero, suc, not, nat_lt, Bool, true, false, List, [], ◌∷◌, length, drop, take, Option, None, Some, Result, Ok, Err, IfErr, IfOk, IsOk, eq-eqb, if◌then◌else◌, refl, sym, ap, subst, ◌∙◌, arith}
+use Rattle.std.proofs.Common.{◌≡◌, ◌<◌, ◌==◌, ◌%◌, ◌/◌, ◌↔◌, ◌⊎◌, inl, inr, ℕ, zero, suc, not, nat_lt, Bool, true, false, List, [], ◌∷◌, length, drop, take, Result, Ok, Err, IfOk, IsOk, MatchResult, if◌then◌else◌, refl, sym, ap, subst, ◌∙◌, arith}
+use Rattle.std.proofs.Math.Path.{fun_ext}
 use Rattle.std.proofs.lemmas.Bool.{eqb-true}
-use Rattle.std.specs.Prelude.{slice_get}
 use Rattle.elf_base.specs.FileHeader.{file_class, file_order, order_of}
 use Rattle.elf_base.specs.Message.{error_number}
 use Rattle.elf_base.specs.Number.{number}
 use Rattle.elf_base.specs.Refusal.{and_then, unless}
-use Rattle.elf_base.specs.Table.{first_records, records}
+use Rattle.elf_base.specs.Table.{first_records, records, table_items}
 use Rattle.elf_base.specs.declared.bytes.Order.{Order}
 use Rattle.elf_base.specs.declared.error.ElfError.{ElfError}
 use Rattle.elf_base.specs.declared.error.ElfError.TheVariants.{Note32, NotMultiple, ShortData, UnknownClass}
@@ -18,19 +18,21 @@ use Rattle.xmas_elf.proofs.FirstNamed.{went_on}
 use Rattle.xmas_elf.specs.Ranges.{range_of}
 use Rattle.xmas_elf.specs.SectionContent.{content_in, content_of_section, has_no_bytes, section_content_of}
 use Rattle.xmas_elf.specs.SectionHeader.{section_fields, section_of, section_type}
-use Rattle.xmas_elf.specs.Symbol.{SymbolFields, dyn_entry_32, dyn_entry_32_fields, dyn_entry_64, dyn_entry_64_fields, entry_32, entry_32_fields, entry_64, entry_64_fields, symbol_32, symbol_64}
+use Rattle.xmas_elf.specs.Symbol.{SymbolFields, dyn_entry_32, dyn_entry_32_fields, dyn_entry_64, dyn_entry_64_fields, entry_32, entry_32_fields, entry_64, entry_64_fields}
 use Rattle.xmas_elf.specs.declared.ElfFile.{ElfFile}
 use Rattle.xmas_elf.specs.declared.sections.section_header.SectionHeader.{SectionHeader}
-use Rattle.elf_c.specs.Records.{found_in, name_answer, range_at, taken_for, text_range}
-use Rattle.elf_c.specs.Status.{GivesBy, and_so, refusal_number}
-use Rattle.elf_c.specs.SymbolTables.{count_in, name_by, range_or_status, symbol_among, symbol_by, table_if, table_of_section, table_with}
+use Rattle.elf_c.specs.Records.{found_in, name_answer, range_at, text_range}
+use Rattle.elf_c.specs.Status.{and_so}
+use Rattle.elf_c.specs.SymbolTables.{AreSymbolsBy, AreSymbolsIn, LieWithin, count_in, name_by, symbol_among, symbol_by, table_if, table_of_section, table_with}
 use Rattle.elf_c.specs.Symbols.{linked_range, symbol_at, symbol_in, symbol_name, symbol_name_at, symbol_record}
-use Rattle.elf_c.specs.declared.names.Name.{Name}
 use Rattle.elf_c.specs.declared.names.Range.{Range}
 use Rattle.elf_c.specs.declared.status.Refusal.{Refusal}
+use Rattle.elf_c.specs.declared.status.Refusal.TheVariants.{Elf}
+use Rattle.elf_c.specs.declared.symbol_tables.AnySymbols.{AnySymbols}
+use Rattle.elf_c.specs.declared.symbol_tables.AnySymbols.TheVariants.{Narrow, Wide}
 use Rattle.elf_c.specs.declared.symbol_tables.SymbolTable.{SymbolTable}
-use Rattle.elf_c.specs.declared.symbols.Symbol.{Symbol}
 use Rattle.elf_c.proofs.Statuses.{error_above}
+use Rattle.elf_c.proofs.StoredNames.{answer_lies, found_lies, part_within}
 
 -- records that are decoded to the same values
 module _ {A B T : Type 0} (size : ℕ) (f : List ℕ → A) (h : List ℕ → B) (v : A → T) (w : B → T) (same : (part : List ℕ) → v (f part) ≡ w (h part)) where
@@ -149,61 +151,87 @@ section_read file header content count is counted = content_read file header con
     filled : empty ≡ content → ⊥
     filled none = no_count (subst (λ c. count_in c ≡ Ok count) (sym none) counted)
 
--- the symbol at an index of such contents, for values that are the same
-module _ {T : Type 0} (value wanted : SymbolFields → T) (same : (fields : SymbolFields) → value fields ≡ wanted fields) (class : ℕ) (order : Order) (bytes : List ℕ) (index : ℕ) where
+-- what a record of a section was read from
+pub record AreOpened (file : ElfFile) (section : ℕ) (table : SymbolTable) : Type 0 where
+  pub header : SectionHeader
+  pub content : Content
+  pub count : ℕ
+  pub at : section_of file section ≡ Ok header
+  pub holds : section_content_of file header ≡ Ok content
+  pub counted : count_in content ≡ Ok count
+  pub made : table_with file header count ≡ table
+  pub read : AreReadIn file header content
+
+pub are_opened : (file : ElfFile) (section : ℕ) (table : SymbolTable) → table_of_section file section ≡ Ok table → AreOpened file section table
+are_opened file section table made = by_section (section_of file section) refl made
+  where
+    by_count : (header : SectionHeader) (content : Content) (count : Result ℕ Refusal) → section_of file section ≡ Ok header → section_content_of file header ≡ Ok content → count_in content ≡ count → table_if file header count ≡ Ok table → AreOpened file section table
+    by_count header content (Err why) at holds counted is = absurd (cc)
+    by_count header content (Ok count) at holds counted is = record {
+      header = header;
+      content = content;
+      count = count;
+      at = at;
+      holds = holds;
+      counted = counted;
+      made = cc;
+      read = section_read file header content count holds counted;
+    }
+
+    by_content : (header : SectionHeader) (content : Result Content ElfError) → section_of file section ≡ Ok header → section_content_of file header ≡ content → and_so content (λ c. table_if file header (count_in c)) ≡ Ok table → AreOpened file section table
+    by_content header (Err error) at holds is = absurd (cc)
+    by_content header (Ok content) at holds is = by_count header content (count_in content) at holds refl is
+
+    by_section : (found : Result SectionHeader ElfError) → section_of file section ≡ found → and_so found (λ header. and_so (section_content_of file header) (λ c. table_if file header (count_in c))) ≡ Ok table → AreOpened file section table
+    by_section (Err error) at is = absurd (cc)
+    by_section (Ok header) at is = by_content header (section_content_of file header) at refl is
+
+-- the symbol at an index of such contents
+module _ {T : Type 0} (value : SymbolFields → T) (class : ℕ) (order : Order) (bytes : List ℕ) (index : ℕ) where
   abbrev narrow : Result T Refusal
-  narrow = found_in (λ e. value (entry_32_fields e)) (records 16 (entry_32 order) bytes) index
+  narrow = found_in (λ e. value (dyn_entry_32_fields e)) (records 16 (dyn_entry_32 order) bytes) index
 
   abbrev wide : Result T Refusal
-  wide = found_in (λ e. value (entry_64_fields e)) (records 24 (entry_64 order) bytes) index
+  wide = found_in (λ e. value (dyn_entry_64_fields e)) (records 24 (dyn_entry_64 order) bytes) index
 
-  among_32 : (class == 1) ≡ true → symbol_among value class order bytes index ≡ narrow
-  among_32 is = ap (λ (b : Bool). if b then narrow else wide) is
+  among_32 : (class == 1) ≡ true → (length bytes % 16 == 0) ≡ true → symbol_among value (class == 1) order bytes index ≡ narrow
+  among_32 is whole = ap (λ (b : Bool). symbol_among value b order bytes index) is ∙ ap (λ (b : Bool). if b then narrow else Err (Elf NotMultiple)) whole
 
-  among_64 : (class == 1) ≡ false → symbol_among value class order bytes index ≡ wide
-  among_64 is = ap (λ (b : Bool). if b then narrow else wide) is
+  among_64 : (class == 1) ≡ false → (length bytes % 24 == 0) ≡ true → symbol_among value (class == 1) order bytes index ≡ wide
+  among_64 is whole = ap (λ (b : Bool). symbol_among value b order bytes index) is ∙ ap (λ (b : Bool). if b then wide else Err (Elf NotMultiple)) whole
 
-  pub among_read : (content : Content) (count : ℕ) → count_in content ≡ Ok count → AreRead class order bytes content → symbol_among value class order bytes index ≡ symbol_at wanted index content
+  pub among_read : (content : Content) (count : ℕ) → count_in content ≡ Ok count → AreRead class order bytes content → symbol_among value (class == 1) order bytes index ≡ symbol_at value index content
   unfolding entry_32_fields entry_64_fields dyn_entry_32_fields dyn_entry_64_fields
-  among_read (table_of symbols_32 own all) count counted are = among_32 are.0
-      ∙ found_as 16 (entry_32 order) (entry_32 order) (λ e. value (entry_32_fields e)) (λ e. wanted (entry_32_fields e)) (λ part. same (symbol_32 order part)) bytes index
-      ∙ ap (λ b. found_in (λ e. wanted (entry_32_fields e)) (records 16 (entry_32 order) b) index) (sym are.2)
-      ∙ ap (λ o. found_in (λ e. wanted (entry_32_fields e)) (records 16 (entry_32 o) all) index) (sym are.1)
-  among_read (table_of symbols_64 own all) count counted are = among_64 are.0
-      ∙ found_as 24 (entry_64 order) (entry_64 order) (λ e. value (entry_64_fields e)) (λ e. wanted (entry_64_fields e)) (λ part. same (symbol_64 order part)) bytes index
-      ∙ ap (λ b. found_in (λ e. wanted (entry_64_fields e)) (records 24 (entry_64 order) b) index) (sym are.2)
-      ∙ ap (λ o. found_in (λ e. wanted (entry_64_fields e)) (records 24 (entry_64 o) all) index) (sym are.1)
-  among_read (table_of dyn_symbols_32 own all) count counted are = among_32 are.0
-      ∙ found_as 16 (entry_32 order) (dyn_entry_32 order) (λ e. value (entry_32_fields e)) (λ e. wanted (dyn_entry_32_fields e)) (λ part. same (symbol_32 order part)) bytes index
-      ∙ ap (λ b. found_in (λ e. wanted (dyn_entry_32_fields e)) (records 16 (dyn_entry_32 order) b) index) (sym are.2)
-      ∙ ap (λ o. found_in (λ e. wanted (dyn_entry_32_fields e)) (records 16 (dyn_entry_32 o) all) index) (sym are.1)
-  among_read (table_of dyn_symbols_64 own all) count counted are = among_64 are.0
-      ∙ found_as 24 (entry_64 order) (dyn_entry_64 order) (λ e. value (entry_64_fields e)) (λ e. wanted (dyn_entry_64_fields e)) (λ part. same (symbol_64 order part)) bytes index
-      ∙ ap (λ b. found_in (λ e. wanted (dyn_entry_64_fields e)) (records 24 (dyn_entry_64 order) b) index) (sym are.2)
-      ∙ ap (λ o. found_in (λ e. wanted (dyn_entry_64_fields e)) (records 24 (dyn_entry_64 o) all) index) (sym are.1)
+  among_read (table_of symbols_32 own all) count counted are = among_32 are.0 are.3
+      ∙ found_as 16 (dyn_entry_32 order) (entry_32 order) (λ e. value (dyn_entry_32_fields e)) (λ e. value (entry_32_fields e)) (λ part. refl) bytes index
+      ∙ ap (λ b. found_in (λ e. value (entry_32_fields e)) (records 16 (entry_32 order) b) index) (sym are.2)
+      ∙ ap (λ o. found_in (λ e. value (entry_32_fields e)) (records 16 (entry_32 o) all) index) (sym are.1)
+  among_read (table_of symbols_64 own all) count counted are = among_64 are.0 are.3
+      ∙ found_as 24 (dyn_entry_64 order) (entry_64 order) (λ e. value (dyn_entry_64_fields e)) (λ e. value (entry_64_fields e)) (λ part. refl) bytes index
+      ∙ ap (λ b. found_in (λ e. value (entry_64_fields e)) (records 24 (entry_64 order) b) index) (sym are.2)
+      ∙ ap (λ o. found_in (λ e. value (entry_64_fields e)) (records 24 (entry_64 o) all) index) (sym are.1)
+  among_read (table_of dyn_symbols_32 own all) count counted are = among_32 are.0 are.3
+      ∙ ap (λ b. found_in (λ e. value (dyn_entry_32_fields e)) (records 16 (dyn_entry_32 order) b) index) (sym are.2)
+      ∙ ap (λ o. found_in (λ e. value (dyn_entry_32_fields e)) (records 16 (dyn_entry_32 o) all) index) (sym are.1)
+  among_read (table_of dyn_symbols_64 own all) count counted are = among_64 are.0 are.3
+      ∙ ap (λ b. found_in (λ e. value (dyn_entry_64_fields e)) (records 24 (dyn_entry_64 order) b) index) (sym are.2)
+      ∙ ap (λ o. found_in (λ e. value (dyn_entry_64_fields e)) (records 24 (dyn_entry_64 o) all) index) (sym are.1)
   among_read _ count counted are = absurd (cc)
 
 -- the symbols by the record of a section are those of its contents, for values by the record that are those by the
 -- section
-module _ {T : Type 0} (file : ElfFile) (value : SymbolTable → SymbolFields → T) (wanted : SectionHeader → SymbolFields → T)
-    (same : (header : SectionHeader) (count : ℕ) (fields : SymbolFields) → value (table_with file header count) fields ≡ wanted header fields) where
-  by_count : (table : SymbolTable) (index : ℕ) (header : SectionHeader) (content : Content) (count : Result ℕ Refusal) → section_content_of file header ≡ Ok content → count_in content ≡ count → table_if file header count ≡ Ok table → symbol_by (value table) file.input.now table index ≡ symbol_at (wanted header) index content
-  by_count table index header content (Err why) is counted made = absurd (cc)
-  by_count table index header content (Ok count) is counted made =
-      let own : table_with file header count ≡ table = cc in
-      let read = section_read file header content count is counted in
-      let found : symbol_by (value (table_with file header count)) file.input.now (table_with file header count) index ≡ symbol_at (wanted header) index content =
-      ap (λ r. and_so r (λ bytes. symbol_among (value (table_with file header count)) (file_class file.header) (file_order file.header) bytes index)) read.in_range
-      ∙ among_read (value (table_with file header count)) (wanted header) (same header count) (file_class file.header) (file_order file.header) read.bytes index content count counted read.are_read in
-      subst (λ t. symbol_by (value t) file.input.now t index ≡ symbol_at (wanted header) index content) own found
-
-  by_content : (table : SymbolTable) (index : ℕ) (header : SectionHeader) (content : Result Content ElfError) → section_content_of file header ≡ content → and_so content (λ c. table_if file header (count_in c)) ≡ Ok table → symbol_by (value table) file.input.now table index ≡ and_so content (symbol_at (wanted header) index)
-  by_content table index header (Err error) is made = absurd (cc)
-  by_content table index header (Ok content) is made = by_count table index header content (count_in content) is refl made
-
-  by_section : (table : SymbolTable) (index : ℕ) (found : Result SectionHeader ElfError) → and_so found (λ header. and_so (section_content_of file header) (λ c. table_if file header (count_in c))) ≡ Ok table → symbol_by (value table) file.input.now table index ≡ and_so found (λ header. and_so (section_content_of file header) (symbol_at (wanted header) index))
-  by_section table index (Err error) made = absurd (cc)
-  by_section table index (Ok header) made = by_content table index header (section_content_of file header) refl made
+opened_value : {T : Type 0} (file : ElfFile) (section : ℕ) (table : SymbolTable) (value : SymbolTable → SymbolFields → T) (wanted : SectionHeader → SymbolFields → T) → ((header : SectionHeader) (count : ℕ) (fields : SymbolFields) → value (table_with file header count) fields ≡ wanted header fields) → table_of_section file section ≡ Ok table → (index : ℕ) → symbol_by (value table) file.input.now table index ≡ and_so (section_of file section) (λ header. and_so (section_content_of file header) (symbol_at (wanted header) index))
+opened_value file section table value wanted same made index =
+    let are = are_opened file section table made in
+    let own = table_with file are.header are.count in
+    let narrow = file_class file.header == 1 in
+    let order = file_order file.header in
+    subst (λ t. symbol_by (value t) file.input.now t index ≡ and_so (section_of file section) (λ header. and_so (section_content_of file header) (symbol_at (wanted header) index))) are.made
+    (ap (λ r. and_so r (λ bytes. symbol_among (value own) narrow order bytes index)) are.read.in_range
+    ∙ ap (λ v. symbol_among v narrow order are.read.bytes index) (fun_ext (same are.header are.count))
+    ∙ among_read (wanted are.header) (file_class file.header) order are.read.bytes index are.content are.count are.counted are.read.are_read
+    ∙ sym (ap (λ r. and_so r (λ header. and_so (section_content_of file header) (symbol_at (wanted header) index))) are.at
+    ∙ ap (λ r. and_so r (symbol_at (wanted are.header) index)) are.holds))
 
 then_so : {A B C : Type 0} (r : Result A ElfError) (f : A → Result B ElfError) (g : B → Result C Refusal) → and_so r (λ a. and_so (f a) g) ≡ and_so (and_then r f) g
 then_so (Ok value) f g = refl
@@ -212,7 +240,7 @@ then_so (Err error) f g = refl
 -- the symbols are those of the section
 pub opened_symbols : (file : ElfFile) (section : ℕ) (table : SymbolTable) → table_of_section file section ≡ Ok table → (index : ℕ) → symbol_by symbol_record file.input.now table index ≡ and_so (and_then (section_of file section) (section_content_of file)) (symbol_in index)
 opened_symbols file section table made index =
-    by_section file (λ t. symbol_record) (λ header. symbol_record) (λ header count fields. refl) table index (section_of file section) made
+    opened_value file section table (λ t. symbol_record) (λ header. symbol_record) (λ header count fields. refl) made index
     ∙ then_so (section_of file section) (section_content_of file) (symbol_in index)
 
 -- the names are those of the symbols of the section
@@ -226,113 +254,107 @@ same_name input (Err error) name = by_test (error_number error == 0) refl
 
 pub opened_names : (file : ElfFile) (section : ℕ) (table : SymbolTable) → table_of_section file section ≡ Ok table → (index : ℕ) → symbol_by (name_by file.input.now table) file.input.now table index ≡ symbol_name_at file section index
 opened_names file section table made index =
-    by_section file (name_by file.input.now) (λ header. symbol_name file.input.now (linked_range file header))
-    (λ header count fields. same_name file.input.now (linked_range file header) fields.name) table index (section_of file section) made
+    opened_value file section table (name_by file.input.now) (λ header. symbol_name file.input.now (linked_range file header))
+    (λ header count fields. same_name file.input.now (linked_range file header) fields.name) made index
 
 -- there are as many as the record says
-module _ (file : ElfFile) (table : SymbolTable) (index : ℕ) where
-  counted_in : (content : Content) (count : ℕ) → count_in content ≡ Ok count → IsOk (symbol_in index content) ↔ (index < count)
-  counted_in (table_of symbols_32 order bytes) count is =
-      let same : length (records 16 (entry_32 order) bytes) ≡ count = cc in subst (λ n. IsOk (symbol_in index (table_of symbols_32 order bytes)) ↔ (index < n)) same (found_below (λ e. symbol_record (entry_32_fields e)) (records 16 (entry_32 order) bytes) index)
-  counted_in (table_of symbols_64 order bytes) count is =
-      let same : length (records 24 (entry_64 order) bytes) ≡ count = cc in subst (λ n. IsOk (symbol_in index (table_of symbols_64 order bytes)) ↔ (index < n)) same (found_below (λ e. symbol_record (entry_64_fields e)) (records 24 (entry_64 order) bytes) index)
-  counted_in (table_of dyn_symbols_32 order bytes) count is =
-      let same : length (records 16 (dyn_entry_32 order) bytes) ≡ count = cc in subst (λ n. IsOk (symbol_in index (table_of dyn_symbols_32 order bytes)) ↔ (index < n)) same (found_below (λ e. symbol_record (dyn_entry_32_fields e)) (records 16 (dyn_entry_32 order) bytes) index)
-  counted_in (table_of dyn_symbols_64 order bytes) count is =
-      let same : length (records 24 (dyn_entry_64 order) bytes) ≡ count = cc in subst (λ n. IsOk (symbol_in index (table_of dyn_symbols_64 order bytes)) ↔ (index < n)) same (found_below (λ e. symbol_record (dyn_entry_64_fields e)) (records 24 (dyn_entry_64 order) bytes) index)
-  counted_in _ count is = absurd (cc)
+counted_in : (index : ℕ) (content : Content) (count : ℕ) → count_in content ≡ Ok count → IsOk (symbol_in index content) ↔ (index < count)
+counted_in index (table_of symbols_32 order bytes) count is =
+    let same : length (records 16 (entry_32 order) bytes) ≡ count = cc in subst (λ n. IsOk (symbol_in index (table_of symbols_32 order bytes)) ↔ (index < n)) same (found_below (λ e. symbol_record (entry_32_fields e)) (records 16 (entry_32 order) bytes) index)
+counted_in index (table_of symbols_64 order bytes) count is =
+    let same : length (records 24 (entry_64 order) bytes) ≡ count = cc in subst (λ n. IsOk (symbol_in index (table_of symbols_64 order bytes)) ↔ (index < n)) same (found_below (λ e. symbol_record (entry_64_fields e)) (records 24 (entry_64 order) bytes) index)
+counted_in index (table_of dyn_symbols_32 order bytes) count is =
+    let same : length (records 16 (dyn_entry_32 order) bytes) ≡ count = cc in subst (λ n. IsOk (symbol_in index (table_of dyn_symbols_32 order bytes)) ↔ (index < n)) same (found_below (λ e. symbol_record (dyn_entry_32_fields e)) (records 16 (dyn_entry_32 order) bytes) index)
+counted_in index (table_of dyn_symbols_64 order bytes) count is =
+    let same : length (records 24 (dyn_entry_64 order) bytes) ≡ count = cc in subst (λ n. IsOk (symbol_in index (table_of dyn_symbols_64 order bytes)) ↔ (index < n)) same (found_below (λ e. symbol_record (dyn_entry_64_fields e)) (records 24 (dyn_entry_64 order) bytes) index)
+counted_in index _ count is = absurd (cc)
 
-  count_made : (header : SectionHeader) (content : Content) (count : Result ℕ Refusal) → count_in content ≡ count → table_if file header count ≡ Ok table → IsOk (symbol_in index content) ↔ (index < table.count)
-  count_made header content (Err why) is made = absurd (cc)
-  count_made header content (Ok count) is made =
-      let own : table_with file header count ≡ table = cc in
-      subst (λ t. IsOk (symbol_in index content) ↔ (index < t.count)) own (counted_in content count is)
+pub opened_count : (file : ElfFile) (section : ℕ) (table : SymbolTable) → table_of_section file section ≡ Ok table → (index : ℕ) → IsOk (symbol_by symbol_record file.input.now table index) ↔ (index < table.count)
+opened_count file section table made index =
+    let are = are_opened file section table made in
+    let there : and_so (and_then (section_of file section) (section_content_of file)) (symbol_in index) ≡ symbol_in index are.content =
+    ap (λ r. and_so (and_then r (section_content_of file)) (symbol_in index)) are.at ∙ ap (λ r. and_so r (symbol_in index)) are.holds in
+    subst (λ r. IsOk r ↔ (index < table.count)) (sym (opened_symbols file section table made index ∙ there))
+    (subst (λ n. IsOk (symbol_in index are.content) ↔ (index < n)) (ap (λ t. t.count) are.made) (counted_in index are.content are.count are.counted))
 
-  count_content : (header : SectionHeader) (content : Result Content ElfError) → and_so content (λ c. table_if file header (count_in c)) ≡ Ok table → IsOk (and_so content (symbol_in index)) ↔ (index < table.count)
-  count_content header (Err error) made = absurd (cc)
-  count_content header (Ok content) made = count_made header content (count_in content) refl made
+-- the ranges lie in the input
+pub section_within : (file : ElfFile) (section : ℕ) (table : SymbolTable) → table_of_section file section ≡ Ok table → LieWithin file.input.now table
+section_within file section table made =
+    let are = are_opened file section table made in
+    subst (LieWithin file.input.now) are.made (
+      (part_within file.input.now (section_fields are.header).offset (section_fields are.header).size are.read.bytes are.read.in_range).0,
+      answer_lies file.input.now (linked_range file are.header) (found_lies file (section_of file (section_fields are.header).link)),
+    )
 
-  count_section : (found : Result SectionHeader ElfError) → and_so found (λ header. and_so (section_content_of file header) (λ c. table_if file header (count_in c))) ≡ Ok table → IsOk (and_so (and_then found (section_content_of file)) (symbol_in index)) ↔ (index < table.count)
-  count_section (Err error) made = absurd (cc)
-  count_section (Ok header) made = count_content header (section_content_of file header) made
+-- the values of the symbols of a table that a record was read as
+abbrev pub value_at : {T : Type 0} → (SymbolFields → T) → Result AnySymbols Refusal → ℕ → Result T Refusal
+value_at value (Ok (Narrow all)) index = found_in (λ e. value (dyn_entry_32_fields e)) (table_items all) index
+value_at value (Ok (Wide all)) index = found_in (λ e. value (dyn_entry_64_fields e)) (table_items all) index
+value_at value (Err why) index = Err why
 
-  pub opened_count : (section : ℕ) → table_of_section file section ≡ Ok table → IsOk (symbol_by symbol_record file.input.now table index) ↔ (index < table.count)
-  opened_count section made = subst (λ r. IsOk r ↔ (index < table.count)) (sym (opened_symbols file section table made index)) (count_section (section_of file section) made)
+module _ {T : Type 0} (value : SymbolFields → T) (input : List ℕ) (table : SymbolTable) (answer : Result AnySymbols Refusal) where
+  value_in : (own : Bool) (order : Order) (bytes : List ℕ) (found : Result AnySymbols Refusal) (index : ℕ) → AreSymbolsIn own order bytes found → symbol_among value own order bytes index ≡ value_at value found index
+  value_in true order bytes (Ok (Narrow all)) index is =
+      ap (λ (b : Bool). if b then found_in (λ e. value (dyn_entry_32_fields e)) (records 16 (dyn_entry_32 order) bytes) index else Err (Elf NotMultiple)) is.0
+      ∙ ap (λ items. found_in (λ e. value (dyn_entry_32_fields e)) items index) (sym is.1)
+  value_in true order bytes (Err why) index is =
+      ap (λ (b : Bool). if b then found_in (λ e. value (dyn_entry_32_fields e)) (records 16 (dyn_entry_32 order) bytes) index else Err (Elf NotMultiple)) is.0
+      ∙ ap (λ w. Err w) (sym is.1)
+  value_in false order bytes (Ok (Wide all)) index is =
+      ap (λ (b : Bool). if b then found_in (λ e. value (dyn_entry_64_fields e)) (records 24 (dyn_entry_64 order) bytes) index else Err (Elf NotMultiple)) is.0
+      ∙ ap (λ items. found_in (λ e. value (dyn_entry_64_fields e)) items index) (sym is.1)
+  value_in false order bytes (Err why) index is =
+      ap (λ (b : Bool). if b then found_in (λ e. value (dyn_entry_64_fields e)) (records 24 (dyn_entry_64 order) bytes) index else Err (Elf NotMultiple)) is.0
+      ∙ ap (λ w. Err w) (sym is.1)
+  value_in true order bytes (Ok (Wide all)) index is = absurd is
+  value_in false order bytes (Ok (Narrow all)) index is = absurd is
 
--- a value of the numbers of a symbol
-abbrev of_ok : {A T : Type 0} → (A → T) → Result A Refusal → Result T Refusal
-of_ok value (Ok one) = Ok (value one)
-of_ok value (Err why) = Err why
-
-module _ {T : Type 0} (value : Symbol → T) where
-  found_value : {A : Type 0} (numbers : A → Symbol) (items : List A) (index : ℕ) → found_in (λ one. value (numbers one)) items index ≡ of_ok value (found_in numbers items index)
-  found_value {A} numbers items index = by_item (slice_get items index)
+  pub symbols_value : AreSymbolsBy input table answer → (index : ℕ) → symbol_by value input table index ≡ value_at value answer index
+  symbols_value is index = by_range (range_of input table.symbols.offset table.symbols.size) is
     where
-      by_item : (item : Option A) → taken_for (λ one. value (numbers one)) item ≡ of_ok value (taken_for numbers item)
-      by_item None = refl
-      by_item (Some one) = refl
+      by_range : (found : Result (List ℕ) ElfError) → MatchResult found (λ bytes. AreSymbolsIn (table.class == 1) (order_of table.encoding) bytes answer) (λ error. answer ≡ Err (Elf error))
+          → and_so found (λ bytes. symbol_among value (table.class == 1) (order_of table.encoding) bytes index) ≡ value_at value answer index
+      by_range (Ok bytes) here = value_in (table.class == 1) (order_of table.encoding) bytes answer index here
+      by_range (Err error) here = ap (λ r. value_at value r index) (sym here)
 
-  among_value : (class : ℕ) (order : Order) (bytes : List ℕ) (index : ℕ) → symbol_among (λ fields. value (symbol_record fields)) class order bytes index ≡ of_ok value (symbol_among symbol_record class order bytes index)
-  among_value class order bytes index = by_class_ (class == 1)
-    where
-      by_class_ : (narrow : Bool) → (if narrow then found_in (λ e. value (symbol_record (entry_32_fields e))) (records 16 (entry_32 order) bytes) index
-          else found_in (λ e. value (symbol_record (entry_64_fields e))) (records 24 (entry_64 order) bytes) index)
-          ≡ of_ok value (if narrow then found_in (λ e. symbol_record (entry_32_fields e)) (records 16 (entry_32 order) bytes) index
-          else found_in (λ e. symbol_record (entry_64_fields e)) (records 24 (entry_64 order) bytes) index)
-      by_class_ true = found_value (λ e. symbol_record (entry_32_fields e)) (records 16 (entry_32 order) bytes) index
-      by_class_ false = found_value (λ e. symbol_record (entry_64_fields e)) (records 24 (entry_64 order) bytes) index
+-- the symbols by the record of a section can be read
+whole_if : (own : Bool) (order : Order) (bytes : List ℕ) (found : Result AnySymbols Refusal) → (length bytes % (if own then 16 else 24) == 0) ≡ true → AreSymbolsIn own order bytes found → IsOk found
+whole_if own order bytes (Ok symbols) whole is = refl
+whole_if true order bytes (Err why) whole is = absurd (let no : true ≡ false = sym whole ∙ is.0 in cc)
+whole_if false order bytes (Err why) whole is = absurd (let no : true ≡ false = sym whole ∙ is.0 in cc)
 
-  by_value : (input : List ℕ) (table : SymbolTable) (index : ℕ) → symbol_by (λ fields. value (symbol_record fields)) input table index ≡ of_ok value (symbol_by symbol_record input table index)
-  by_value input table index = by_range (range_of input table.symbols.offset table.symbols.size)
-    where
-      by_range : (range : Result (List ℕ) ElfError) → and_so range (λ bytes. symbol_among (λ fields. value (symbol_record fields)) table.class (order_of table.encoding) bytes index) ≡ of_ok value (and_so range (λ bytes. symbol_among symbol_record table.class (order_of table.encoding) bytes index))
-      by_range (Ok bytes) = among_value table.class (order_of table.encoding) bytes index
-      by_range (Err error) = refl
-
--- the name of a symbol that was found, or the error
-abbrev name_for : List ℕ → SymbolTable → Symbol → Name
-name_for input table symbol = if table.strings_status == 0
-    then name_answer (text_range input table.strings symbol.name)
-    else record { range = range_at 0 0; status = table.strings_status }
-
-named_by : (input : List ℕ) (table : SymbolTable) (index : ℕ) → symbol_by (name_by input table) input table index ≡ of_ok (name_for input table) (symbol_by symbol_record input table index)
-named_by input table index = by_value (name_for input table) input table index
-
-pub name_refused : (input : List ℕ) (table : SymbolTable) (index : ℕ) (why : Refusal) → symbol_by symbol_record input table index ≡ Err why → range_or_status (symbol_by (name_by input table) input table index) ≡ Err (refusal_number why)
-name_refused input table index why is = ap range_or_status (named_by input table index ∙ ap (of_ok (name_for input table)) is)
-
-pub name_unread : (input : List ℕ) (table : SymbolTable) (index : ℕ) (symbol : Symbol) → symbol_by symbol_record input table index ≡ Ok symbol → table.strings_status ≢ 0 → range_or_status (symbol_by (name_by input table) input table index) ≡ Err table.strings_status
-name_unread input table index symbol is some = ap range_or_status (named_by input table index ∙ ap (of_ok (name_for input table)) is) ∙ by_status (table.strings_status == 0) refl
+pub opened_reads : (file : ElfFile) (section : ℕ) (table : SymbolTable) → table_of_section file section ≡ Ok table → (found : Result AnySymbols Refusal) → AreSymbolsBy file.input.now table found → IsOk found
+opened_reads file section table made found is =
+    let are = are_opened file section table made in
+    let here = subst (λ t. AreSymbolsBy file.input.now t found) (sym are.made) is in
+    let read : AreSymbolsIn (file_class file.header == 1) (file_order file.header) are.read.bytes found =
+    subst (λ r. MatchResult r (λ bytes. AreSymbolsIn (file_class file.header == 1) (file_order file.header) bytes found) (λ error. found ≡ Err (Elf error))) are.read.in_range here in
+    whole_if (file_class file.header == 1) (file_order file.header) are.read.bytes found (whole_of (file_class file.header) (file_order file.header) are.read.bytes are.content are.count are.counted are.read.are_read) read
   where
-    by_status : (b : Bool) → (table.strings_status == 0) ≡ b → range_or_status (Ok (if b then name_answer (text_range input table.strings symbol.name) else record { range = range_at 0 0; status = table.strings_status })) ≡ Err table.strings_status
-    by_status true none = absurd (some (eqb-true _ _ none))
-    by_status false none = ap (λ (b : Bool). if b then Ok (range_at 0 0) else Err table.strings_status) none
+    by_own : (own narrow : Bool) (bytes : List ℕ) → own ≡ narrow → (length bytes % (if narrow then 16 else 24) == 0) ≡ true → (length bytes % (if own then 16 else 24) == 0) ≡ true
+    by_own own narrow bytes same whole = subst (λ (b : Bool). (length bytes % (if b then 16 else 24) == 0) ≡ true) (sym same) whole
 
--- the range of a text, or the number of its error
-abbrev numbered : Result Range ElfError → Result Range ℕ
-numbered (Ok range) = Ok range
-numbered (Err error) = Err (error_number error)
+    whole_of : (class : ℕ) (order : Order) (bytes : List ℕ) (content : Content) (count : ℕ) → count_in content ≡ Ok count → AreRead class order bytes content → (length bytes % (if class == 1 then 16 else 24) == 0) ≡ true
+    whole_of class order bytes (table_of symbols_32 own all) count counted are = by_own (class == 1) true bytes are.0 are.3
+    whole_of class order bytes (table_of symbols_64 own all) count counted are = by_own (class == 1) false bytes are.0 are.3
+    whole_of class order bytes (table_of dyn_symbols_32 own all) count counted are = by_own (class == 1) true bytes are.0 are.3
+    whole_of class order bytes (table_of dyn_symbols_64 own all) count counted are = by_own (class == 1) false bytes are.0 are.3
+    whole_of class order bytes _ count counted are = absurd (cc)
 
-answer_numbered : (answer : Result Range ElfError) → range_or_status (Ok (name_answer answer)) ≡ numbered answer
-answer_numbered (Ok range) = refl
-answer_numbered (Err error) = by_test (error_number error == 0) refl
+-- the class and the byte order are those of the file
+pub same_numbers : (file : ElfFile) (section : ℕ) (table : SymbolTable) → table_of_section file section ≡ Ok table → (table.class ≡ file_class file.header) × (order_of table.encoding ≡ file_order file.header)
+same_numbers file section table made = let are = are_opened file section table made in
+    (sym (ap (λ t. t.class) are.made), sym (ap (λ t. order_of t.encoding) are.made))
+
+-- the class of a file with such symbols is 1 or 2
+pub class_known : (file : ElfFile) (section : ℕ) (table : SymbolTable) → table_of_section file section ≡ Ok table → (file_class file.header ≡ 1) ⊎ (file_class file.header ≡ 2)
+class_known file section table made =
+    let are = are_opened file section table made in
+    by_content (file_class file.header) (file_order file.header) are.read.bytes are.content are.count are.counted are.read.are_read
   where
-    by_test : (b : Bool) → (error_number error == 0) ≡ b → (if b then Ok (range_at 0 0) else Err (error_number error)) ≡ Err (error_number error)
-    by_test true is = absurd (let above = error_above error in let none = eqb-true (error_number error) 0 is in omega (arith, above, none))
-    by_test false is = refl
-
-pub name_read : (input : List ℕ) (table : SymbolTable) (index : ℕ) (symbol : Symbol) (answer : Result Range ElfError) → symbol_by symbol_record input table index ≡ Ok symbol → table.strings_status ≡ 0 → answer ≡ text_range input table.strings symbol.name → range_or_status (symbol_by (name_by input table) input table index) ≡ numbered answer
-name_read input table index symbol answer is none text =
-    ap range_or_status (named_by input table index ∙ ap (of_ok (name_for input table)) is)
-    ∙ ap (λ (b : Bool). range_or_status (Ok (if b then name_answer (text_range input table.strings symbol.name) else record { range = range_at 0 0; status = table.strings_status }))) (eq-eqb _ _ none)
-    ∙ ap (λ r. range_or_status (Ok (name_answer r))) (sym text)
-    ∙ answer_numbered answer
-
--- the record of a call with status 0 has the property of the value
-pub given_numbered : {T : Type 0} (P : T → Type 0) (answer : Result T ℕ) (old : T) (status : ℕ) (new : T) → IfOk answer P → IfErr answer (λ number. 0 < number) → GivesBy (λ number. number) answer old status new → status ≡ 0 → P new
-given_numbered P (Ok value) old status new has above gave none = subst P (sym gave.1) has
-given_numbered P (Err why) old status new has above gave none = absurd (omega (arith, gave.0, none, above))
-
-pub ok_of : {T : Type 0} (answer known : Result T ℕ) → answer ≡ known → IfOk answer (λ value. known ≡ Ok value)
-ok_of (Ok value) known is = sym is
-ok_of (Err why) known is = tt
+    by_content : (class : ℕ) (order : Order) (bytes : List ℕ) (content : Content) (count : ℕ) → count_in content ≡ Ok count → AreRead class order bytes content → (class ≡ 1) ⊎ (class ≡ 2)
+    by_content class order bytes (table_of symbols_32 own all) count counted are = inl (eqb-true _ _ are.0)
+    by_content class order bytes (table_of symbols_64 own all) count counted are = inr (eqb-true _ _ are.4)
+    by_content class order bytes (table_of dyn_symbols_32 own all) count counted are = inl (eqb-true _ _ are.0)
+    by_content class order bytes (table_of dyn_symbols_64 own all) count counted are = inr (eqb-true _ _ are.4)
+    by_content class order bytes _ count counted are = absurd (cc)

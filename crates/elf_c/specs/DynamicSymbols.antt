@@ -12,7 +12,6 @@ use Rattle.elf_linking.specs.declared.view.tags.TheConstants.{DT_SYMTAB}
 use Rattle.xmas_elf.specs.Symbol.{SymbolFields, dyn_entry_32, dyn_entry_32_fields, dyn_entry_64, dyn_entry_64_fields}
 use Rattle.xmas_elf.specs.declared.ElfFile.{ElfFile}
 use Rattle.elf_c.specs.Addresses.{range_at_address}
-use Rattle.elf_c.specs.Batch.{Fills}
 use Rattle.elf_c.specs.DynamicTexts.{linked_name, range_in_strings, strings_range}
 use Rattle.elf_c.specs.Records.{found_in}
 use Rattle.elf_c.specs.declared.names.Name.{Name}
@@ -54,11 +53,6 @@ linked_symbol_in value file bytes index = let order = file_order file.header in
 abbrev pub dynamic_symbol_at : {T : Type 0} → (SymbolFields → T) → ElfFile → Result (List ℕ) LinkError → ℕ → Result T Refusal
 dynamic_symbol_at value file (Ok bytes) index = linked_symbol_in value file bytes index
 dynamic_symbol_at value file (Err error) index = Err (Link error)
-
--- the result of a call for the values of many symbols of the dynamic segment
-abbrev pub FillsFromDynamic : {T : Type 0} → (SymbolFields → T) → ElfFile → ℕ → List T → Result ℕ Refusal → List T → Type 0
-FillsFromDynamic value file first old answer new = (bytes : Result (List ℕ) LinkError)
-    × AreDynamicSymbols file bytes × Fills (dynamic_symbol_at value file bytes) first old answer new
 
 -- the input range of the string table of the entries, or why there is none
 abbrev pub strings_by : ElfFile → Result (List (Dynamic ℕ)) LinkError → Result Range Refusal

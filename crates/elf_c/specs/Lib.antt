@@ -8,14 +8,11 @@ pub mod PackedRelocations
 pub mod Dynamics
 pub mod FirstNote
 pub mod Texts
-pub mod BuildId
 pub mod Addresses
 pub mod DynamicTexts
 pub mod DynamicSymbols
 pub mod Batch
 pub mod HashTables
-pub mod Lookup
 pub mod LookUps
-pub mod OpenedTables
 pub mod Versions
 pub mod FoundSymbols

@@ -1,15 +1,83 @@
--- Many look-ups in one call, each for the name in a range of some bytes (this project's own).
-use Rattle.std.specs.Prelude.{◌≡◌, ◌<◌, ◌≤◌, ℕ, List, length, slice_get, Some, Result, Ok, Err, IsOkAnd, MatchResult}
+-- Look-ups in a hash table that was found, many in one call, and its check (gABI, "Hash Table"; the convention of GNU
+-- binutils and glibc; that many are asked at once is this project's own).
+use Rattle.std.specs.Prelude.{◌≡◌, ◌<◌, ◌≤◌, ℕ, List, length, slice_get, Option, None, Some, Result, Ok, Err, IsOkAnd, MatchResult}
 use Rattle.std.specs.Borrow.{Bor}
 use Rattle.std.specs.Str.{IsUtf8}
 use Rattle.elf_base.specs.declared.error.ElfError.TheVariants.{TextUtf8}
+use Rattle.elf_linking.specs.AnyTable.{FindsAllBy, IsCheckBy, IsCountBy, IsGoodBy, LooksBy as LooksAmong}
+use Rattle.elf_linking.specs.declared.any_table.AnyTable.{AnyTable}
+use Rattle.elf_linking.specs.declared.error.LinkError.{LinkError}
 use Rattle.xmas_elf.specs.Ranges.{range_of}
+use Rattle.xmas_elf.specs.Symbol.{Symbols, dyn_entry_32_fields, dyn_entry_64_fields}
+use Rattle.xmas_elf.specs.Symbols.{named_symbols}
+use Rattle.xmas_elf.specs.Types.{DynEntry32, DynEntry64}
+use Rattle.elf_c.specs.HashTables.{ArePartsBy}
 use Rattle.elf_c.specs.Status.{refusal_number}
-use Rattle.elf_c.specs.declared.hash.LookUp.{LookUp}
+use Rattle.elf_c.specs.declared.hash_tables.HashParts.{HashParts}
+use Rattle.elf_c.specs.declared.hash_tables.OpenedTable.{OpenedTable}
 use Rattle.elf_c.specs.declared.look_ups.Answer.{Answer}
+use Rattle.elf_c.specs.declared.look_ups.LookUp.{LookUp}
 use Rattle.elf_c.specs.declared.names.Range.{Range}
 use Rattle.elf_c.specs.declared.status.Refusal.{Refusal}
-use Rattle.elf_c.specs.declared.status.Refusal.TheVariants.{Elf}
+use Rattle.elf_c.specs.declared.status.Refusal.TheVariants.{Elf, Link}
+use Rattle.elf_c.specs.declared.symbol_tables.AnySymbols.{AnySymbols}
+use Rattle.elf_c.specs.declared.symbol_tables.AnySymbols.TheVariants.{Narrow, Wide}
+
+-- the numbers of the symbol that a look-up finds, if any: its index, and the number of entries that it visited
+abbrev pub looked_up : {E : Type 0} → Option (ℕ × E) → ℕ → LookUp
+looked_up None count = record { found = 0; index = 0; looked_at = count }
+looked_up (Some entry) count = record { found = 1; index = entry.0; looked_at = count }
+
+-- the result of a look-up as numbers
+abbrev pub look_up_answer : {E : Type 0} → Result (Option (ℕ × E)) LinkError → ℕ → Result LookUp Refusal
+look_up_answer (Ok found) count = Ok (looked_up found count)
+look_up_answer (Err error) count = Err (Link error)
+
+-- the result is that of a look-up for the name among symbols, which visits no more entries than the table
+-- allows, and than there are symbols; in a good table it finds what it must
+abbrev pub IsLookUp : {E : Type 0} → AnyTable → List ℕ → Symbols E → Result LookUp Refusal → Type 0
+IsLookUp {E} table name symbols answer = (found : Result (Option (ℕ × E)) LinkError) × (count : ℕ)
+    × LooksAmong (λ e. symbols.text e ≡ Some name) table symbols.items name found count
+    × IsCountBy table count × (count ≤ length symbols.items)
+    × (IsGoodBy table symbols → FindsAllBy table symbols name (λ e. symbols.text e ≡ Some name) found)
+    × (answer ≡ look_up_answer found count)
+
+-- the result of a check, as a call gives it
+abbrev pub check_answer : Result (Unit {0}) LinkError → Result (Unit {0}) Refusal
+check_answer (Ok _) = Ok tt
+check_answer (Err error) = Err (Link error)
+
+-- the result is that of the check of the table with symbols
+abbrev pub IsChecked : {E : Type 0} → AnyTable → Symbols E → Result (Unit {0}) Refusal → Type 0
+IsChecked table symbols answer =
+    (verdict : Result (Unit {0}) LinkError) × IsCheckBy table symbols verdict × (answer ≡ check_answer verdict)
+
+-- the result satisfies P for the symbols of a table of either class, with their names in a string table
+abbrev pub OfSymbols : {A : Type 0} → ((E : Type 0) → Symbols E → A → Type 0) → List ℕ → AnySymbols → A → Type 0
+OfSymbols P strings (Narrow table) = P DynEntry32 (named_symbols dyn_entry_32_fields strings table)
+OfSymbols P strings (Wide table) = P DynEntry64 (named_symbols dyn_entry_64_fields strings table)
+
+-- the result is that of a look-up for the name in a hash table among its symbols
+abbrev pub LooksIn : HashParts → List ℕ → Result LookUp Refusal → Type 0
+LooksIn parts name = OfSymbols (λ E symbols. IsLookUp parts.table name symbols) parts.strings.now parts.symbols
+
+-- the same, or the error if there is no table
+abbrev pub LooksIfRead : Result HashParts Refusal → List ℕ → Result LookUp Refusal → Type 0
+LooksIfRead found name answer = MatchResult found (λ parts. LooksIn parts name answer) (λ why. answer ≡ Err why)
+
+-- the result is that of a look-up for the name by a record
+abbrev pub LooksBy : List ℕ → OpenedTable → List ℕ → Result LookUp Refusal → Type 0
+LooksBy input opened name answer =
+    (found : Result HashParts Refusal) × ArePartsBy input opened found × LooksIfRead found name answer
+
+-- the result is that of the check of a hash table with its symbols
+abbrev pub ChecksIn : HashParts → Result (Unit {0}) Refusal → Type 0
+ChecksIn parts = OfSymbols (λ E symbols. IsChecked parts.table symbols) parts.strings.now parts.symbols
+
+-- the result is that of the check by a record
+abbrev pub ChecksBy : List ℕ → OpenedTable → Result (Unit {0}) Refusal → Type 0
+ChecksBy input opened answer = (found : Result HashParts Refusal) × ArePartsBy input opened found
+    × MatchResult found (λ parts. ChecksIn parts answer) (λ why. answer ≡ Err why)
 
 -- the record for the result of a look-up: its numbers, or the number of its error and zeros
 abbrev pub answered : Result LookUp Refusal → Answer

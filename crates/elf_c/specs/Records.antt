@@ -10,7 +10,7 @@ use Rattle.elf_records.specs.ProgramNumbers.{ph_type_number}
 use Rattle.elf_records.specs.SectionNumbers.{is_sh_type}
 use Rattle.elf_records.specs.declared.sections.ShType.TheVariants.{Null}
 use Rattle.xmas_elf.specs.First.{IsFirstAt, NoneBelow}
-use Rattle.xmas_elf.specs.SectionHeader.{program_count_of, section_count_of, section_fields, section_list, section_of, section_type}
+use Rattle.xmas_elf.specs.SectionHeader.{program_count_of, section_count_of, section_fields, section_list, section_type}
 use Rattle.xmas_elf.specs.NameTable.{HasName, names_section_of, section_named}
 use Rattle.xmas_elf.specs.Ranges.{range_of}
 use Rattle.xmas_elf.specs.SectionData.{section_data_of}
@@ -106,11 +106,6 @@ segment_range file segment = and_then (segment_data_of file segment)
 abbrev pub text_range : List ℕ → Range → ℕ → Result Range ElfError
 text_range input part index = and_then (range_of input part.offset part.size) (λ bytes.
     and_then (text_of bytes index) (λ text. Ok (range_at (part.offset + index) (length text))))
-
--- the range of the text at an index of the data of a section, or why there is none
-abbrev pub section_text_of : ElfFile → ℕ → ℕ → Result Range ElfError
-section_text_of file section index = and_then (and_then (section_of file section) (section_range file))
-    (λ part. text_range file.input.now part index)
 
 -- the range of the name table, or why there is none: from the offset of its section to the end of the input
 abbrev pub names_range : ElfFile → Result Range ElfError

@@ -4,6 +4,7 @@ use Rattle.elf_base.specs.Refusal.{and_then}
 use Rattle.elf_base.specs.Table.{records}
 use Rattle.elf_base.specs.declared.error.ElfError.{ElfError}
 use Rattle.xmas_elf.specs.Content.{Content, dyn_symbols_32, dyn_symbols_64, symbols_32, symbols_64, table_of}
+use Rattle.xmas_elf.specs.ReportHash.{content_at}
 use Rattle.xmas_elf.specs.SectionContent.{section_content_of}
 use Rattle.xmas_elf.specs.SectionHeader.{section_fields, section_of}
 use Rattle.xmas_elf.specs.Symbol.{SymbolFields, dyn_entry_32, dyn_entry_32_fields, dyn_entry_64, dyn_entry_64_fields, entry_32, entry_32_fields, entry_64, entry_64_fields}
@@ -43,6 +44,11 @@ symbol_at value index _ = Err OtherData
 -- the numbers of the symbol at an index of the contents of a section
 abbrev pub symbol_in : ℕ → Content → Result Symbol Refusal
 symbol_in index content = symbol_at symbol_record index content
+
+-- the contents of the section that the section at an index links to (sh_link), or why they can't be read
+abbrev pub linked_content : ElfFile → ℕ → Result Content ElfError
+linked_content file index =
+    and_then (section_of file index) (λ header. content_at file (section_fields header).link)
 
 -- the range of the string table that a section links to, or why it can't be read (sh_link)
 abbrev pub linked_range : ElfFile → SectionHeader → Result Range ElfError

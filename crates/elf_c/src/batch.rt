@@ -2,10 +2,12 @@
 
 ghost use Rattle.std.specs.Prelude.{◌≡◌, ◌<◌, ℕ, List, Ok, Result, drop, length};
 ghost use Rattle.std.specs.Iterator.{YieldsFirst};
+ghost use Rattle.elf_base.specs.Table.{table_items};
 ghost use Rattle.elf_c.specs.Batch.{Fills};
 ghost use Rattle.elf_c.specs.Records.{found_in};
 
 use crate::status::Refusal;
+use xmas_elf::bytes::{Record, Table};
 
 /// Items in order, with a record to store for each.
 pub(crate) trait Records: Drop {
@@ -29,6 +31,47 @@ pub(crate) trait Records: Drop {
     fn record(&self, index: usize) -> Self::Record
         requires { index < length (items self.now) }
         ensures { found_in (record_of self.now) (items self.now) index ≡ Ok result };
+}
+
+/// A record of a table, which is stored as numbers.
+pub(crate) trait Numbers: Record {
+    /// The numbers.
+    type Stored: Copy;
+
+    /// The numbers of a record.
+    ghost numbers_of: { Self → Self.Stored };
+
+    fn numbers(&self) -> Self::Stored
+        ensures { result ≡ numbers_of self.now };
+}
+
+/// The records of a table, to be stored as numbers.
+#[derive(Drop)]
+pub(crate) struct Rows<'a, T: Record> {
+    pub(crate) table: Table<'a, T>,
+}
+
+impl<T: Numbers> Records for Rows<'_, T> {
+    type Item = T;
+
+    type Record = T::Stored;
+
+    ghost items = { λ rows. table_items rows.table };
+
+    ghost record_of = { λ _ item. T.numbers_of item };
+
+    #[inline(always)]
+    fn count(&self) -> usize {
+        self.table.len()
+    }
+
+    #[inline(always)]
+    fn record(&self, index: usize) -> T::Stored {
+        match self.table.get(index) {
+            Some(item) => item.numbers(),
+            None => unreachable!(),
+        }
+    }
 }
 
 // Stores the records of the items from index `first` on in `out`, and returns their number. It owns

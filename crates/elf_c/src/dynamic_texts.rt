@@ -3,10 +3,10 @@
 
 ghost use Rattle.std.specs.Prelude.{◌≡◌, ℕ, IfOk, Result};
 ghost use Rattle.elf_c.specs.Batch.{Fills};
-ghost use Rattle.elf_c.specs.DynamicTexts.{dynamic_text_of, linked_name, needed_at, needed_names};
-ghost use Rattle.elf_c.specs.DynamicTexts.{range_in_strings, strings_range};
+ghost use Rattle.elf_c.specs.DynamicTexts.{dynamic_text_at, linked_name, range_in_strings};
+ghost use Rattle.elf_c.specs.DynamicTexts.{strings_range, texts_with};
 ghost use Rattle.elf_c.specs.Parsed.{file_of};
-ghost use Rattle.elf_c.specs.Records.{AllLieIn, LiesIn};
+ghost use Rattle.elf_c.specs.Records.{AllLieIn};
 ghost use Rattle.elf_c.specs.Status.{GivesHere};
 ghost use Rattle.elf_c.specs.declared.status.Refusal.{Refusal};
 ghost use Rattle.elf_linking.specs.DynamicView.{entries_left, view_entries};
@@ -17,7 +17,7 @@ use crate::file::Parsed;
 use crate::names::{Name, Range, text_in};
 use crate::status::{Numbered, OK, Refusal, give};
 use elf_linking::LinkError;
-use elf_linking::view::{DT_NEEDED, DT_STRSZ, DT_STRTAB, DynamicEntries, DynamicView};
+use elf_linking::view::{DT_STRSZ, DT_STRTAB, DynamicEntries, DynamicView};
 use xmas_elf::ElfFile;
 
 // The range of the string table of the dynamic segment.
@@ -36,43 +36,9 @@ pub(crate) fn text_by(
     strings: Result<Range, Refusal>,
     place: u64,
 ) -> Result<Range, Refusal>
-    ensures exact { result ≡ range_in_strings input.now strings place }
-    ensures within { IfOk result (LiesIn input.now) }
+    ensures { result ≡ range_in_strings input.now strings place }
 {
     Ok(text_in(input, &strings?, place)?)
-}
-
-// The range of the text at the offset in the first entry with a tag.
-fn text_with(file: &ElfFile<'_>, tag: u64) -> Result<Range, Refusal>
-    ensures exact { result ≡ dynamic_text_of file.now tag }
-    ensures within { IfOk result (LiesIn file.now.input.now) }
-{
-    let view = DynamicView::read(file)?;
-    match view.entry(tag) {
-        Some(place) => text_by(file.input, strings_of(file, &view), place),
-        None => Err(Refusal::NotFound),
-    }
-}
-
-/// The input range of the text at the offset in the first entry of the dynamic segment with this
-/// tag: the name of the library for tag 14 (DT_SONAME), the library search path for tag 29
-/// (DT_RUNPATH), and that of older files for tag 15 (DT_RPATH). It needs no section headers.
-///
-/// Errors: those of `DynamicView::read`; `NotFound` if no entry has the tag; `NoEntry` if there is
-/// no entry DT_STRTAB or DT_STRSZ; those of `xmas_elf_bytes_at` for the string table; those of
-/// `bytes::text_at`.
-#[unsafe(no_mangle)]
-pub extern "C" fn xmas_elf_dynamic_text(
-    input: &[u8],
-    header: &Parsed,
-    tag: u64,
-    out: &mut Range,
-) -> u32
-    ensures exact { GivesHere (dynamic_text_of (file_of input.entry header.now) tag)
-        out.old result out.new }
-    ensures within { result ≡ 0 → LiesIn input.now out.new }
-{
-    give(text_with(&header.file(input), tag), out)
 }
 
 // The record for the range of a name, or for its error.
@@ -88,65 +54,73 @@ pub(crate) fn name_of(answer: Result<Range, Refusal>) -> Name
     }
 }
 
-// The names of the needed libraries in the remaining entries.
+// The texts at the offsets in the remaining entries with a tag.
 #[derive(Drop)]
-struct NeededNames<'a> {
+struct Texts<'a> {
+    tag: u64,
     entries: DynamicEntries<'a>,
     strings: Result<Range, Refusal>,
     input: &'a [u8],
 }
 
-impl Sequence for NeededNames<'_> {
+impl Sequence for Texts<'_> {
     type Record = Name;
 
-    ghost left = { λ names.
-        needed_names names.input.now names.strings (entries_left names.entries) };
+    ghost left = { λ texts.
+        texts_with texts.tag texts.input.now texts.strings (entries_left texts.entries) };
 
-    #[tactic(auto, using(crate::proofs::NeededNames::names_none, crate::proofs::NeededNames::names_first, crate::proofs::NeededNames::names_other))]
+    #[tactic(auto, using(crate::proofs::DynamicTexts::texts_none, crate::proofs::DynamicTexts::texts_first, crate::proofs::DynamicTexts::texts_other))]
     fn next(&mut self) -> Option<Name> {
         loop {
             let entry = self.entries.next()?;
-            if entry.raw_tag() == DT_NEEDED {
+            if entry.raw_tag() == self.tag {
                 return Some(name_of(text_by(self.input, self.strings, entry.raw_val())));
             }
         }
     }
 }
 
-// Stores the names of the needed libraries from an index on in `out`, and returns their number.
-fn fill_needed(file: &ElfFile<'_>, first: u64, out: &mut [Name]) -> Result<u64, Refusal>
-    ensures exact { Fills (needed_at file.now) first out.old result out.new }
+// Stores the texts of the entries with a tag from an index on in `out`, and returns their number.
+fn fill_texts(file: &ElfFile<'_>, tag: u64, first: u64, out: &mut [Name]) -> Result<u64, Refusal>
+    ensures exact { Fills (dynamic_text_at file.now tag) first out.old result out.new }
     ensures within { IfOk result (λ count. AllLieIn file.now.input.now count out.new) }
 {
     let view = DynamicView::read(file)?;
-    let names = NeededNames {
+    let texts = Texts {
+        tag,
         entries: view.entries(),
         strings: strings_of(file, &view),
         input: file.input,
     };
-    fill_in_order(names, first, out)
+    fill_in_order(texts, first, out)
 }
 
-/// The input ranges of the names of the needed libraries (DT_NEEDED) from index `first` on, in the
-/// order of the entries of the dynamic segment, each with its own status: as many as fit in `out`,
-/// or all. `count` is set to their number; the rest of `out` is unchanged. It needs no section
-/// headers.
+/// The input ranges of the texts at the offsets in the entries of the dynamic segment with this tag,
+/// from index `first` of them on, in the order of the entries, each with its own status: as many as
+/// fit in `out`, or all. `count` is set to their number; the rest of `out` is unchanged. It needs no
+/// section headers.
 ///
-/// Errors of a name: those of `xmas_elf_dynamic_text`, from `NoEntry` on. Errors of the call: those
-/// of `DynamicView::read`; `NoRecord` if there are no more than `first` needed libraries; `out` and
+/// For tag 1 (DT_NEEDED) they are the names of the needed libraries, for tag 14 (DT_SONAME) that of the
+/// library, for tag 29 (DT_RUNPATH) the library search path, and for tag 15 (DT_RPATH) that of older
+/// files.
+///
+/// Errors of a text: `NoEntry` if there is no entry DT_STRTAB or DT_STRSZ; those of
+/// `xmas_elf_bytes_at` for the string table; those of `bytes::text_at`. Errors of the call: those of
+/// `DynamicView::read`; `NoRecord` if there are no more than `first` entries with the tag; `out` and
 /// `count` are then unchanged.
 #[unsafe(no_mangle)]
-pub extern "C" fn xmas_elf_needed(
+pub extern "C" fn xmas_elf_dynamic_texts(
     input: &[u8],
     header: &Parsed,
+    tag: u64,
     first: u64,
     out: &mut [Name],
     count: &mut u64,
 ) -> u32
     ensures exact { (answer : Result ℕ Refusal)
-        × Fills (needed_at (file_of input.entry header.now)) first out.old answer out.new
+        × Fills (dynamic_text_at (file_of input.entry header.now) tag) first out.old answer out.new
         × GivesHere answer count.old result count.new }
     ensures within { result ≡ 0 → AllLieIn input.now count.new out.new }
 {
-    give(fill_needed(&header.file(input), first, out), count)
+    give(fill_texts(&header.file(input), tag, first, out), count)
 }

@@ -9,19 +9,16 @@
 
 pub mod addresses;
 mod batch;
-pub mod build_id;
 pub mod dynamic;
 pub mod dynamic_symbols;
 pub mod dynamic_texts;
 pub mod file;
 pub mod found_symbols;
-pub mod hash;
-mod hash_tables;
+pub mod hash_tables;
 pub mod look_ups;
 pub mod message;
 pub mod names;
 pub mod notes;
-pub mod opened_tables;
 pub mod packed_relocations;
 pub mod relocations;
 pub mod sections;

@@ -1,13 +1,35 @@
-//! Many look-ups in one call (this project's own).
+//! Look-ups in a hash table that was found, many in one call, and its check (gABI, "Hash Table"; the
+//! convention of GNU binutils and glibc).
 
-ghost use Rattle.std.specs.Prelude.{◌≡◌, Err, IsOkAnd};
-ghost use Rattle.elf_c.specs.LookUps.{AreAnswered, IfUtf8, IsForRange, IsNamed, answered};
+ghost use Rattle.std.specs.Prelude.{◌≡◌, ◌<◌, ℕ, Err, IsOk, IsOkAnd, MatchResult, Result, Some};
+ghost use Rattle.std.specs.Prelude.{length, slice_get, true};
+ghost use Rattle.elf_c.specs.LookUps.{AreAnswered, ChecksBy, ChecksIn, IfUtf8, IsChecked};
+ghost use Rattle.elf_c.specs.LookUps.{IsForRange, IsLookUp, IsNamed, LooksBy, LooksIfRead, LooksIn};
+ghost use Rattle.elf_c.specs.LookUps.{answered, look_up_answer, looked_up};
+ghost use Rattle.elf_c.specs.Status.{GivesHere};
+ghost use Rattle.elf_c.specs.SymbolTables.{symbol_by};
+ghost use Rattle.elf_c.specs.Symbols.{symbol_record};
+ghost use Rattle.elf_c.specs.declared.look_ups.Answer.{Answer};
+ghost use Rattle.elf_c.specs.declared.status.Refusal.{Refusal};
+ghost use Rattle.xmas_elf.specs.SymbolTable.{table_symbols};
 
-use crate::hash::LookUp;
+use crate::hash_tables::{HashParts, OpenedTable, parts_by};
 use crate::names::{Range, bytes_in};
-use crate::status::{Numbered, OK, Refusal};
+use crate::status::{Numbered, OK, Refusal, give};
+use crate::symbol_tables::AnySymbols;
 use elf_base::ElfError;
+use elf_linking::{AnyTable, LinkError};
 use std::str::from_utf8;
+use xmas_elf::bytes::Record;
+use xmas_elf::symbol_table::{Entry, SymbolTable};
+
+/// The result of a look-up, as numbers.
+#[derive(Clone, Copy, Debug)]
+pub(crate) struct LookUp {
+    found: u32,
+    index: u32,
+    looked_at: u32,
+}
 
 /// The result of one of many look-ups, as numbers.
 #[repr(C)]
@@ -23,10 +45,31 @@ pub struct Answer {
     pub looked_at: u32,
 }
 
+impl LookUp {
+    // The numbers of the symbol that a look-up found, if any.
+    #[inline(always)]
+    fn of<E: Copy>(found: Option<(u32, E)>, looked_at: u32) -> LookUp
+        ensures { result ≡ looked_up found looked_at }
+    {
+        match found {
+            Some((index, _entry)) => LookUp {
+                found: 1,
+                index,
+                looked_at,
+            },
+            None => LookUp {
+                found: 0,
+                index: 0,
+                looked_at,
+            },
+        }
+    }
+}
+
 impl Answer {
     // The record for the result of a look-up.
     #[inline(always)]
-    pub(crate) fn of(answer: Result<LookUp, Refusal>) -> Answer
+    fn of(answer: Result<LookUp, Refusal>) -> Answer
         ensures { result ≡ answered answer }
     {
         match answer {
@@ -46,9 +89,53 @@ impl Answer {
     }
 }
 
+// The result of a look-up, as numbers.
+#[inline(always)]
+fn said<E: Copy>(
+    found: Result<Option<(u32, E)>, LinkError>,
+    looked_at: u32,
+) -> Result<LookUp, Refusal>
+    ensures { result ≡ look_up_answer found looked_at }
+{
+    Ok(LookUp::of(found?, looked_at))
+}
+
+// Looks a name up among symbols.
+fn look_up<E: Entry + Record>(
+    table: &AnyTable<'_>,
+    name: &str,
+    symbols: &SymbolTable<'_, E>,
+) -> Result<LookUp, Refusal>
+    ensures { IsLookUp table.now name.now (table_symbols symbols.now) result }
+{
+    let (found, looked_at) = table.lookup_counted(
+        name,
+        symbols,
+        |_| -> bool
+            ensures { result ≡ true }
+        { true },
+    );
+    said(found, looked_at)
+}
+
+// Looks a name up in a hash table among its symbols.
+fn look_up_in(parts: &HashParts<'_>, name: &str) -> Result<LookUp, Refusal>
+    ensures { LooksIn parts.now name.now result }
+{
+    let (table, strings) = (&parts.table, parts.strings);
+    match parts.symbols {
+        AnySymbols::Narrow(symbols) => {
+            look_up(table, name, &SymbolTable::with_strings(symbols, strings))
+        }
+        AnySymbols::Wide(symbols) => {
+            look_up(table, name, &SymbolTable::with_strings(symbols, strings))
+        }
+    }
+}
+
 // The name in a range of `names`.
 #[inline(always)]
-pub(crate) fn name_at<'a>(names: &'a [u8], range: &Range) -> Result<&'a str, Refusal>
+fn name_at<'a>(names: &'a [u8], range: &Range) -> Result<&'a str, Refusal>
     ensures { IsForRange (IfUtf8 IsNamed) names.now range.now result }
 {
     match from_utf8(bytes_in(names, range)?) {
@@ -57,23 +144,115 @@ pub(crate) fn name_at<'a>(names: &'a [u8], range: &Range) -> Result<&'a str, Ref
     }
 }
 
-// `refusal`, unless the name itself cannot be read.
-fn refuse(names: &[u8], range: &Range, refusal: Refusal) -> Result<LookUp, Refusal>
-    ensures { IsForRange (IfUtf8 (λ _ answer. answer ≡ Err refusal)) names.now range.now result }
+// Looks a name up, or returns the error if there is no table.
+#[inline(always)]
+fn look_up_if_read(found: &Result<HashParts<'_>, Refusal>, name: &str) -> Result<LookUp, Refusal>
+    ensures { LooksIfRead found.now name.now result }
 {
-    match name_at(names, range) {
-        Ok(_) => Err(refusal),
-        Err(unread) => Err(unread),
+    match found {
+        Ok(parts) => look_up_in(parts, name),
+        Err(refusal) => Err(*refusal),
     }
 }
 
-// Stores the error for each of the look-ups.
-pub(crate) fn refuse_all(names: &[u8], ranges: &[Range], refusal: Refusal, out: &mut [Answer])
-    ensures { AreAnswered (IfUtf8 (λ _ answer. answer ≡ Err refusal))
-        names.now ranges.now out.old out.new }
+// Looks up the name in a range of `names`.
+fn look_up_at(
+    found: &Result<HashParts<'_>, Refusal>,
+    names: &[u8],
+    range: &Range,
+) -> Result<LookUp, Refusal>
+    ensures { IsForRange (IfUtf8 (LooksIfRead found.now)) names.now range.now result }
+{
+    match name_at(names, range) {
+        Ok(name) => look_up_if_read(found, name),
+        Err(refusal) => Err(refusal),
+    }
+}
+
+// Stores the results of look-ups, each for the name in a range of `names`.
+fn look_ups(
+    found: &Result<HashParts<'_>, Refusal>,
+    names: &[u8],
+    ranges: &[Range],
+    out: &mut [Answer],
+)
+    ensures { AreAnswered (IfUtf8 (LooksIfRead found.now)) names.now ranges.now out.old out.new }
 {
     let count = ranges.len().min(out.len());
     for place in 0..count {
-        out[place] = Answer::of(refuse(names, &ranges[place], refusal));
+        out[place] = Answer::of(look_up_at(found, names, &ranges[place]));
     }
+}
+
+/// Many look-ups by the record of `xmas_elf_hash_open` for the same bytes, each for the name in a
+/// range of `names`: as many as there are ranges, and as fit in `out`. Each result is that of
+/// `AnyTable::lookup_counted` with a test that passes every symbol. Any record may be given, as its
+/// ranges are compared with the input in each call; the count of its symbols is not read.
+///
+/// Errors of a look-up: `DataRange` if the range passes the end of `names`; `TextUtf8` if the name is
+/// not UTF-8; `DataRange` if the table extends past the end of the input; those of `HashTable::read`
+/// or `GnuHashTable::read`; `DataRange` if the symbols extend past the end of the input;
+/// `NotMultiple` if they are not a whole number of them; `DataRange` if the string table extends past
+/// the end of the input; those of the look-up, of which there are none if `xmas_elf_check_hash`
+/// returns OK.
+#[unsafe(no_mangle)]
+pub extern "C" fn xmas_elf_look_ups(
+    input: &[u8],
+    table: &OpenedTable,
+    names: &[u8],
+    ranges: &[Range],
+    out: &mut [Answer],
+)
+    ensures exact { AreAnswered (IfUtf8 (LooksBy input.now table.now))
+        names.now ranges.now out.old out.new }
+    ensures found { (k : ℕ) (one : Answer) → k < length ranges.now
+        → slice_get out.new k ≡ Some one → one.found ≡ 1
+        → IsOk (symbol_by symbol_record input.now table.now.symbols one.index) }
+{
+    look_ups(&parts_by(input, table), names, ranges, out);
+}
+
+// Checks a table with symbols.
+fn check<E: Entry + Record>(
+    table: &AnyTable<'_>,
+    symbols: &SymbolTable<'_, E>,
+) -> Result<(), Refusal>
+    ensures { IsChecked table.now (table_symbols symbols.now) result }
+{
+    table.check(symbols)?;
+    Ok(())
+}
+
+// Checks a hash table with its symbols.
+fn check_in(parts: &HashParts<'_>) -> Result<(), Refusal>
+    ensures { ChecksIn parts.now result }
+{
+    let (table, strings) = (&parts.table, parts.strings);
+    match parts.symbols {
+        AnySymbols::Narrow(symbols) => check(table, &SymbolTable::with_strings(symbols, strings)),
+        AnySymbols::Wide(symbols) => check(table, &SymbolTable::with_strings(symbols, strings)),
+    }
+}
+
+// Checks the hash table of a record.
+fn check_by(input: &[u8], opened: &OpenedTable) -> Result<(), Refusal>
+    ensures { ChecksBy input.now opened.now result }
+{
+    match parts_by(input, opened) {
+        Ok(parts) => check_in(&parts),
+        Err(refusal) => Err(refusal),
+    }
+}
+
+/// Whether look-ups by the record of `xmas_elf_hash_open` for the same bytes find each symbol that
+/// they should: the result of `AnyTable::check`, which states the cost. Any record may be given.
+///
+/// Errors: those of `xmas_elf_look_ups` for the table, the symbols and the string table; those of the
+/// check.
+#[unsafe(no_mangle)]
+pub extern "C" fn xmas_elf_check_hash(input: &[u8], table: &OpenedTable) -> u32
+    ensures { (answer : Result (Unit {0}) Refusal)
+        × ChecksBy input.now table.now answer × GivesHere answer tt result tt }
+{
+    give(check_by(input, table), &mut ())
 }

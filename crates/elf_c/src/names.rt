@@ -2,20 +2,18 @@
 
 ghost use Rattle.std.specs.Prelude.{◌≡◌, ◌+◌, ◌≤◌, ℕ, IfOk, Result, length};
 ghost use Rattle.elf_base.specs.Lent.{Answers};
-ghost use Rattle.elf_base.specs.Refusal.{and_then};
 ghost use Rattle.elf_c.specs.Batch.{Fills};
 ghost use Rattle.elf_c.specs.Parsed.{file_of};
 ghost use Rattle.elf_c.specs.Records.{AllLieIn, LiesIn, found_in, name_answer, name_range};
-ghost use Rattle.elf_c.specs.Records.{name_range_by, names_range, section_text_of, text_range};
+ghost use Rattle.elf_c.specs.Records.{name_range_by, names_range, text_range};
 ghost use Rattle.elf_c.specs.Status.{Gives, GivesHere};
 ghost use Rattle.elf_c.specs.declared.status.Refusal.{Refusal};
 ghost use Rattle.xmas_elf.specs.Ranges.{range_of};
-ghost use Rattle.xmas_elf.specs.SectionHeader.{section_list, section_of};
+ghost use Rattle.xmas_elf.specs.SectionHeader.{section_list};
 ghost use Rattle.xmas_elf.specs.SectionTable.{table_sections};
 
 use crate::batch::{Records, fill};
 use crate::file::Parsed;
-use crate::sections::section_range_at;
 use crate::status::{Numbered, OK, Refusal, give};
 use elf_base::ElfError;
 use elf_base::bytes::text_at;
@@ -139,39 +137,12 @@ fn name_of(
     names: Result<Range, ElfError>,
     section: &SectionHeader,
 ) -> Result<Range, ElfError>
-    ensures exact { result ≡ name_range_by input.now names section.now }
-    ensures within { IfOk result (LiesIn input.now) }
+    ensures { result ≡ name_range_by input.now names section.now }
 {
     match section.get_type()? {
         ShType::Null => Err(ElfError::NullName),
         _ => text_in(input, &names?, u64::from(section.name())),
     }
-}
-
-// The range of the name of the section at an index.
-#[inline(always)]
-fn name_at(file: &ElfFile<'_>, index: u64) -> Result<Range, ElfError>
-    ensures exact { result ≡ and_then (section_of file.now index) (name_range file.now) }
-    ensures within { IfOk result (LiesIn file.now.input.now) }
-{
-    let section = file.section_header_at(index)?;
-    name_of(file.input, names_in(file), &section)
-}
-
-/// The input range of the name of the section at an index. The errors are those of
-/// `ElfFile::section_header_at` and `SectionHeader::get_name`.
-#[unsafe(no_mangle)]
-pub extern "C" fn xmas_elf_section_name(
-    input: &[u8],
-    header: &Parsed,
-    index: u64,
-    out: &mut Range,
-) -> u32
-    ensures exact { Gives (and_then (section_of (file_of input.entry header.now) index)
-        (name_range (file_of input.entry header.now))) out.old result out.new }
-    ensures within { result ≡ 0 → LiesIn input.now out.new }
-{
-    give(name_at(&header.file(input), index), out)
 }
 
 // The sections of a table, and the range of the table of their names.
@@ -206,11 +177,11 @@ impl Records for SectionNames<'_, '_> {
     }
 }
 
-/// The ranges of the names of the sections from index `first` on, each as in
-/// `xmas_elf_section_name` and with its own status: as many as fit in `out`, or all. `count` is set
-/// to their number; the rest of `out` is unchanged. The sections are those of `xmas_elf_sections`.
+/// The ranges of the names of the sections from index `first` on, each with its own status: as many as
+/// fit in `out`, or all. `count` is set to their number; the rest of `out` is unchanged. The sections
+/// are those of `xmas_elf_sections`.
 ///
-/// Error: `NoRecord` if there is no section at `first`;
+/// The errors of a name are those of `SectionHeader::get_name`. Error of the call: `NoRecord` if there is no section at `first`;
 /// `out` and `count` are then unchanged.
 #[unsafe(no_mangle)]
 pub extern "C" fn xmas_elf_section_names(
@@ -234,32 +205,4 @@ pub extern "C" fn xmas_elf_section_names(
         input,
     };
     give(fill(names, first, out), count)
-}
-
-// The range of the text at an index of the data of a section.
-#[inline(always)]
-fn text_of_section(file: &ElfFile<'_>, section: u64, index: u64) -> Result<Range, ElfError>
-    ensures exact { result ≡ section_text_of file.now section index }
-    ensures within { IfOk result (LiesIn file.now.input.now) }
-{
-    text_in(file.input, &section_range_at(file, section)?, index)
-}
-
-/// The input range of the text at byte `index` of the data of the section at index `section`, such
-/// as a symbol's name in the section that the section of symbols links to (sh_link).
-///
-/// Errors: those of `xmas_elf_section_data`; those of `bytes::text_at`.
-#[unsafe(no_mangle)]
-pub extern "C" fn xmas_elf_section_text(
-    input: &[u8],
-    header: &Parsed,
-    section: u64,
-    index: u64,
-    out: &mut Range,
-) -> u32
-    ensures exact { Gives (section_text_of (file_of input.entry header.now) section index)
-        out.old result out.new }
-    ensures within { result ≡ 0 → LiesIn input.now out.new }
-{
-    give(text_of_section(&header.file(input), section, index), out)
 }

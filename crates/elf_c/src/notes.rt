@@ -43,12 +43,7 @@ fn next_step(align: u64, place: u64) -> u64
 }
 
 // The note at the start of these bytes, which begin at `start` in the input.
-pub(crate) fn first_note(
-    bytes: &[u8],
-    start: u64,
-    order: Order,
-    align: u64,
-) -> Result<NoteRange, Refusal>
+fn first_note(bytes: &[u8], start: u64, order: Order, align: u64) -> Result<NoteRange, Refusal>
     requires { start + length bytes.now < 2 ^ 64 }
     ensures exact { result ≡ note_at start align order bytes.now }
     ensures within { (end : ℕ) → start + length bytes.now ≤ end → IfOk result (EndsBy end) }

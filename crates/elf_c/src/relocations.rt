@@ -2,10 +2,8 @@
 
 ghost use Rattle.std.specs.Prelude.{◌≡◌, ℕ, Result};
 ghost use Rattle.elf_base.specs.Refusal.{and_then};
-ghost use Rattle.elf_base.specs.Table.{table_items};
 ghost use Rattle.elf_c.specs.Batch.{Fills};
 ghost use Rattle.elf_c.specs.Parsed.{file_of};
-ghost use Rattle.elf_c.specs.Records.{found_in};
 ghost use Rattle.elf_c.specs.Relocations.{rel_record, rela_record, relocation_in};
 ghost use Rattle.elf_c.specs.Status.{GivesHere, and_so};
 ghost use Rattle.elf_c.specs.declared.status.Refusal.{Refusal};
@@ -13,12 +11,11 @@ ghost use Rattle.elf_records.specs.Relocations.{symbol_in_32, symbol_in_64, type
 ghost use Rattle.xmas_elf.specs.SectionContent.{section_content_of};
 ghost use Rattle.xmas_elf.specs.SectionHeader.{section_of};
 
-use crate::batch::{Records, fill};
+use crate::batch::{Numbers, Rows, fill};
 use crate::file::Parsed;
 use crate::status::{Refusal, give};
 use elf_base::{P32, P64};
 use xmas_elf::ElfFile;
-use xmas_elf::bytes::{Record, Table};
 use xmas_elf::sections::{Rel, Rela, SectionData};
 
 /// A relocation, as numbers.
@@ -37,17 +34,9 @@ pub struct Relocation {
     pub has_addend: u32,
 }
 
-// A relocation of one class, with or without an addend.
-trait Relocates: Record {
-    ghost use Rattle.elf_c.specs.declared.relocations.Relocation.{Relocation};
+impl Numbers for Rela<P32> {
+    type Stored = Relocation;
 
-    ghost numbers_of: { Self → Relocation };
-
-    fn numbers(&self) -> Relocation
-        ensures { result ≡ numbers_of self.now };
-}
-
-impl Relocates for Rela<P32> {
     ghost numbers_of = { rela_record symbol_in_32 type_in_32 };
 
     #[inline(always)]
@@ -62,7 +51,9 @@ impl Relocates for Rela<P32> {
     }
 }
 
-impl Relocates for Rela<P64> {
+impl Numbers for Rela<P64> {
+    type Stored = Relocation;
+
     ghost numbers_of = { rela_record symbol_in_64 type_in_64 };
 
     #[inline(always)]
@@ -77,7 +68,9 @@ impl Relocates for Rela<P64> {
     }
 }
 
-impl Relocates for Rel<P32> {
+impl Numbers for Rel<P32> {
+    type Stored = Relocation;
+
     ghost numbers_of = { rel_record symbol_in_32 type_in_32 };
 
     #[inline(always)]
@@ -92,7 +85,9 @@ impl Relocates for Rel<P32> {
     }
 }
 
-impl Relocates for Rel<P64> {
+impl Numbers for Rel<P64> {
+    type Stored = Relocation;
+
     ghost numbers_of = { rel_record symbol_in_64 type_in_64 };
 
     #[inline(always)]
@@ -103,81 +98,6 @@ impl Relocates for Rel<P64> {
             symbol: self.get_symbol_table_index(),
             type_: self.get_type(),
             has_addend: 0,
-        }
-    }
-}
-
-// The numbers of the relocation at an index of a table.
-#[inline(always)]
-fn relocation_at<T: Relocates>(table: &Table<'_, T>, index: u64) -> Result<Relocation, Refusal>
-    ensures { result ≡ found_in T.numbers_of (table_items table.now) index }
-{
-    match table.get(index as usize) {
-        Some(relocation) => Ok(relocation.numbers()),
-        None => Err(Refusal::NoRecord),
-    }
-}
-
-// The numbers of the relocation at an index of a section.
-#[inline(always)]
-fn relocation_of(file: &ElfFile<'_>, section: u64, index: u64) -> Result<Relocation, Refusal>
-    ensures { result ≡ and_so (and_then (section_of file.now section) (section_content_of file.now))
-        (relocation_in index) }
-{
-    match file.section_header_at(section)?.get_data(file)? {
-        SectionData::Rela32(table) => relocation_at(&table, index),
-        SectionData::Rela64(table) => relocation_at(&table, index),
-        SectionData::Rel32(table) => relocation_at(&table, index),
-        SectionData::Rel64(table) => relocation_at(&table, index),
-        _ => Err(Refusal::OtherData),
-    }
-}
-
-/// The relocation at index `index` of the section at index `section`.
-/// An addend of class 32 is a 32-bit number.
-///
-/// Errors: those of `ElfFile::section_header_at` and `SectionHeader::get_data`; `OtherData` if the
-/// section does not contain relocations; `NoRecord` if it has no relocation at that index.
-#[unsafe(no_mangle)]
-pub extern "C" fn xmas_elf_relocation(
-    input: &[u8],
-    header: &Parsed,
-    section: u64,
-    index: u64,
-    out: &mut Relocation,
-) -> u32
-    ensures { GivesHere (and_so (and_then (section_of (file_of input.entry header.now) section)
-        (section_content_of (file_of input.entry header.now))) (relocation_in index))
-        out.old result out.new }
-{
-    give(relocation_of(&header.file(input), section, index), out)
-}
-
-// The relocations of a table.
-#[derive(Drop)]
-struct Relocations<'a, T: Record> {
-    table: Table<'a, T>,
-}
-
-impl<T: Relocates> Records for Relocations<'_, T> {
-    type Item = T;
-
-    type Record = Relocation;
-
-    ghost items = { λ relocations. table_items relocations.table };
-
-    ghost record_of = { λ _ relocation. T.numbers_of relocation };
-
-    #[inline(always)]
-    fn count(&self) -> usize {
-        self.table.len()
-    }
-
-    #[inline(always)]
-    fn record(&self, index: usize) -> Relocation {
-        match self.table.get(index) {
-            Some(relocation) => relocation.numbers(),
-            None => unreachable!(),
         }
     }
 }
@@ -193,19 +113,21 @@ fn fill_from_section(
         (section_content_of file.now)) (relocation_in index)) first out.old result out.new }
 {
     match file.section_header_at(section)?.get_data(file)? {
-        SectionData::Rela32(table) => fill(Relocations { table }, first, out),
-        SectionData::Rela64(table) => fill(Relocations { table }, first, out),
-        SectionData::Rel32(table) => fill(Relocations { table }, first, out),
-        SectionData::Rel64(table) => fill(Relocations { table }, first, out),
+        SectionData::Rela32(table) => fill(Rows { table }, first, out),
+        SectionData::Rela64(table) => fill(Rows { table }, first, out),
+        SectionData::Rel32(table) => fill(Rows { table }, first, out),
+        SectionData::Rel64(table) => fill(Rows { table }, first, out),
         _ => Err(Refusal::OtherData),
     }
 }
 
-/// The relocations from index `first` on of the section at an index, each as in
-/// `xmas_elf_relocation`: as many as fit in `out`, or all. `count` is set to their number; the rest
-/// of `out` is unchanged.
+/// The relocations from index `first` on of the section at an index: as many as fit in `out`, or all.
+/// `count` is set to their number; the rest of `out` is unchanged. An addend of class 32 is a 32-bit
+/// number.
 ///
-/// The errors are those of `xmas_elf_relocation` at `first`; `out` and `count` are then unchanged.
+/// Errors: those of `ElfFile::section_header_at` and `SectionHeader::get_data`; `OtherData` if the
+/// section does not contain relocations; `NoRecord` if it has no more than `first`; `out` and `count`
+/// are then unchanged.
 #[unsafe(no_mangle)]
 pub extern "C" fn xmas_elf_relocations(
     input: &[u8],

@@ -1,28 +1,31 @@
 //! The symbols of a section, found once and then read by their index (gABI, "Symbol Table").
 
-ghost use Rattle.std.specs.Prelude.{◌≡◌, ◌<◌, ◌↔◌, ℕ, IfErr, IfOk, IsOk, Ok};
+ghost use Rattle.std.specs.Prelude.{◌≡◌, ◌<◌, ◌↔◌, ◌==◌, ℕ, IsOk, Ok, Result};
 ghost use Rattle.elf_base.specs.FileHeader.{order_of};
 ghost use Rattle.elf_base.specs.Refusal.{and_then};
-ghost use Rattle.elf_base.specs.Table.{records};
+ghost use Rattle.elf_base.specs.Table.{table_items};
+ghost use Rattle.elf_c.specs.Batch.{Fills};
 ghost use Rattle.elf_c.specs.Parsed.{file_of};
-ghost use Rattle.elf_c.specs.Records.{LiesIn, found_in};
-ghost use Rattle.elf_c.specs.Status.{GivesBy, GivesHere, and_so};
-ghost use Rattle.elf_c.specs.SymbolTables.{LieWithin, count_in, name_by, range_or_status};
-ghost use Rattle.elf_c.specs.SymbolTables.{symbol_by, table_of_section};
+ghost use Rattle.elf_c.specs.Records.{AllLieIn, found_in};
+ghost use Rattle.elf_c.specs.Status.{GivesHere, and_so};
+ghost use Rattle.elf_c.specs.SymbolTables.{AreSymbolsBy, AreSymbolsIn, LieWithin, count_in};
+ghost use Rattle.elf_c.specs.SymbolTables.{name_by, name_in, symbol_by, table_of_section};
 ghost use Rattle.elf_c.specs.Symbols.{symbol_in, symbol_name_at, symbol_record};
+ghost use Rattle.elf_c.specs.declared.status.Refusal.{Refusal};
 ghost use Rattle.xmas_elf.specs.SectionContent.{section_content, section_content_of};
 ghost use Rattle.xmas_elf.specs.SectionHeader.{section_of};
 
+use crate::batch::{Records, fill};
 use crate::file::Parsed;
 use crate::names::{Name, Range, bytes_in, text_in};
 use crate::sections::section_range_at;
-use crate::status::{Numbered, Refusal, give};
+use crate::status::{OK, Refusal, give};
 use crate::symbols::Symbol;
 use elf_base::bytes::Order;
 use xmas_elf::ElfFile;
-use xmas_elf::bytes::Record;
+use xmas_elf::bytes::{Record, Table};
 use xmas_elf::sections::SectionData;
-use xmas_elf::symbol_table::{Entry, Entry32, Entry64};
+use xmas_elf::symbol_table::{DynEntry32, DynEntry64, Entry};
 
 /// Symbols found once, of a section or of the dynamic segment: numbers that other calls take back.
 #[repr(C)]
@@ -56,7 +59,7 @@ fn count_in(held: &SectionData<'_>) -> Result<u64, Refusal>
 }
 
 // The symbols of the section at an index, as numbers.
-fn table_of_section(file: &ElfFile<'_>, section: u64) -> Result<SymbolTable, Refusal>
+pub(crate) fn table_of_section(file: &ElfFile<'_>, section: u64) -> Result<SymbolTable, Refusal>
     ensures { result ≡ table_of_section file.now section }
 {
     let header = file.section_header_at(section)?;
@@ -76,7 +79,7 @@ fn table_of_section(file: &ElfFile<'_>, section: u64) -> Result<SymbolTable, Ref
 }
 
 /// The symbols of the section at an index, and the data of the section that it links to (sh_link),
-/// which contains their names: found once, for `xmas_elf_symbol_of` and `xmas_elf_symbol_name_of`. Both
+/// which contains their names: found once, for `xmas_elf_symbols` and `xmas_elf_symbol_names`. Both
 /// ranges lie in the input.
 ///
 /// Errors: those of `ElfFile::section_header_at` and `SectionHeader::get_data`; `OtherData` if the
@@ -104,29 +107,13 @@ pub extern "C" fn xmas_elf_symbols_open(
     give(table_of_section(&header.file(input), section), out)
 }
 
-// The symbol at an index of the symbols in bytes.
-#[inline(always)]
-fn entry_at<E: Entry + Record>(bytes: &[u8], order: Order, index: u64) -> Result<E, Refusal>
-    ensures { result ≡ found_in (λ e. e) (records E.SIZE (E.value order) bytes.now) index }
-{
-    if index >= (bytes.len() / E::SIZE) as u64 {
-        return Err(Refusal::NoRecord);
-    }
-    let start = index as usize * E::SIZE;
-    Ok(E::decode(&bytes[start..start + E::SIZE], order))
-}
-
-// The numbers of the symbol at an index of the symbols in bytes.
-#[inline(always)]
-fn symbol_among<E: Entry + Record>(
-    bytes: &[u8],
-    order: Order,
-    index: u64,
-) -> Result<Symbol, Refusal>
-    ensures { result ≡ found_in (λ e. symbol_record (E.fields e))
-        (records E.SIZE (E.value order) bytes.now) index }
-{
-    Ok(Symbol::of(&entry_at::<E>(bytes, order, index)?))
+/// The symbols of a table, in the layout of its class.
+#[derive(Clone, Copy)]
+pub(crate) enum AnySymbols<'a> {
+    /// Of class 32.
+    Narrow(Table<'a, DynEntry32>),
+    /// Of class 64.
+    Wide(Table<'a, DynEntry64>),
 }
 
 // The byte order of a number for it.
@@ -141,83 +128,168 @@ pub(crate) fn order_of(encoding: u16) -> Order
     }
 }
 
-// The symbol at an index of the range in a record.
-#[inline(always)]
-fn symbol_by(input: &[u8], table: &SymbolTable, index: u64) -> Result<Symbol, Refusal>
-    ensures { result ≡ symbol_by symbol_record input.now table.now index }
+// The symbols in bytes, in the layout of class 32 or else of class 64.
+fn symbols_in<'a>(narrow: bool, bytes: &'a [u8], order: Order) -> Result<AnySymbols<'a>, Refusal>
+    ensures { AreSymbolsIn narrow order bytes.now result }
+{
+    match narrow {
+        true => Ok(AnySymbols::Narrow(Table::new(bytes, order)?)),
+        false => Ok(AnySymbols::Wide(Table::new(bytes, order)?)),
+    }
+}
+
+// The symbols in the range of a record.
+pub(crate) fn symbols_by<'a>(
+    input: &'a [u8],
+    table: &SymbolTable,
+) -> Result<AnySymbols<'a>, Refusal>
+    ensures { AreSymbolsBy input.now table.now result }
 {
     let bytes = bytes_in(input, &table.symbols)?;
-    let order = order_of(table.encoding);
-    if table.class == 1 {
-        symbol_among::<Entry32>(bytes, order, index)
-    } else {
-        symbol_among::<Entry64>(bytes, order, index)
+    symbols_in(table.class == 1, bytes, order_of(table.encoding))
+}
+
+// Stores the symbols of a record from an index on in `out`, and returns their number.
+fn fill_symbols(
+    input: &[u8],
+    table: &SymbolTable,
+    first: u64,
+    out: &mut [Symbol],
+) -> Result<u64, Refusal>
+    ensures { Fills (symbol_by symbol_record input.now table.now) first out.old result out.new }
+{
+    match symbols_by(input, table) {
+        Ok(AnySymbols::Narrow(symbols)) => fill(symbols, first, out),
+        Ok(AnySymbols::Wide(symbols)) => fill(symbols, first, out),
+        Err(refusal) => Err(refusal),
     }
 }
 
-/// The symbol at an index, by the record of `xmas_elf_symbols_open` for the same bytes: that of
-/// `xmas_elf_symbol`; by that of `xmas_elf_dynamic_symbols_open` that of `xmas_elf_dynamic_symbols`.
-/// Any record may be given, as its range of symbols is compared with the input in each call; `count`
-/// is not read.
+/// The symbols from index `first` on, by the record of `xmas_elf_symbols_open` or
+/// `xmas_elf_dynamic_symbols_open` for the same bytes: as many as fit in `out`, or all. `count` is set
+/// to their number; the rest of `out` is unchanged. Any record may be given, as its range of symbols
+/// is compared with the input in each call; its count is not read.
 ///
-/// Errors: `DataRange` if the symbols extend past the end of the input; `NoRecord` if there is no
-/// symbol at that index.
+/// Errors: `DataRange` if the symbols extend past the end of the input; `NotMultiple` if they are not
+/// a whole number of them; `NoRecord` if there are no more than `first`; `out` and `count` are then
+/// unchanged.
 #[unsafe(no_mangle)]
-pub extern "C" fn xmas_elf_symbol_of(
+pub extern "C" fn xmas_elf_symbols(
     input: &[u8],
     table: &SymbolTable,
-    index: u64,
-    out: &mut Symbol,
+    first: u64,
+    out: &mut [Symbol],
+    count: &mut u64,
 ) -> u32
-    ensures { GivesHere (symbol_by symbol_record input.now table.now index)
-        out.old result out.new }
+    ensures { (answer : Result ℕ Refusal)
+        × Fills (symbol_by symbol_record input.now table.now) first out.old answer out.new
+        × GivesHere answer count.old result count.new }
 {
-    give(symbol_by(input, table, index), out)
+    give(fill_symbols(input, table, first, out), count)
 }
 
-// The range of the name of the symbol at an index, or the number of the error.
-#[tactic(auto, using(crate::proofs::OpenedSymbols::name_refused, crate::proofs::OpenedSymbols::name_unread, crate::proofs::OpenedSymbols::name_read, crate::proofs::Statuses::refusal_above, crate::proofs::Statuses::error_above))]
+// The symbols of a record, for their names.
+#[derive(Drop)]
+struct SymbolNames<'a, E: Record> {
+    symbols: Table<'a, E>,
+    table: SymbolTable,
+    input: &'a [u8],
+}
+
+impl<E: Entry + Record> Records for SymbolNames<'_, E> {
+    type Item = E;
+
+    type Record = Name;
+
+    ghost items = { λ names. table_items names.symbols };
+
+    ghost record_of = { λ names entry. name_by names.input.now names.table (E.fields entry) };
+
+    #[inline(always)]
+    fn count(&self) -> usize {
+        self.symbols.len()
+    }
+
+    #[inline(always)]
+    fn record(&self, index: usize) -> Name {
+        match self.symbols.get(index) {
+            Some(entry) => name_by(self.input, &self.table, entry.name()),
+            None => unreachable!(),
+        }
+    }
+}
+
+// The range of a name at an offset in the string table of a record, with its status.
 #[inline(always)]
-fn name_by(input: &[u8], table: &SymbolTable, index: u64) -> Result<Range, u32>
-    ensures exact { result
-        ≡ range_or_status (symbol_by (name_by input.now table.now) input.now table.now index) }
-    ensures within { IfOk result (LiesIn input.now) }
-    ensures above { IfErr result (λ number. 0 < number) }
+fn name_by(input: &[u8], table: &SymbolTable, name: u32) -> Name
+    ensures { result ≡ name_in input.now table.now name }
 {
-    let symbol = match symbol_by(input, table, index) {
-        Ok(symbol) => symbol,
-        Err(why) => return Err(why.number()),
-    };
-    if table.strings_status != 0 {
-        return Err(table.strings_status);
-    }
-    match text_in(input, &table.strings, u64::from(symbol.name)) {
-        Ok(range) => Ok(range),
-        Err(error) => Err(error.number()),
+    if table.strings_status == OK {
+        Name::of(text_in(input, &table.strings, u64::from(name)))
+    } else {
+        Name {
+            range: Range { offset: 0, size: 0 },
+            status: table.strings_status,
+        }
     }
 }
 
-/// The input range of the name of the symbol at an index, by the record of `xmas_elf_symbols_open`
-/// for the same bytes: the name that `xmas_elf_symbol_names` has there; by that of
-/// `xmas_elf_dynamic_symbols_open` the one of `xmas_elf_dynamic_symbol_names`. Any record may be
-/// given: its ranges are compared with the input in each call.
-///
-/// Errors: those of `xmas_elf_symbol_of`; `strings_status` if it is not 0; `DataRange` if the string
-/// table extends past the end of the input; those of `bytes::text_at`.
-#[unsafe(no_mangle)]
-pub extern "C" fn xmas_elf_symbol_name_of(
+// Stores the names of the symbols of a table from an index on in `out`, and returns their number.
+fn fill_names_of<E: Entry + Record>(
     input: &[u8],
     table: &SymbolTable,
-    index: u64,
-    out: &mut Range,
-) -> u32
-    ensures exact { GivesBy (λ number. number)
-        (range_or_status (symbol_by (name_by input.now table.now) input.now table.now index))
-        out.old result out.new }
-    ensures found { result ≡ 0
-        → range_or_status (symbol_by (name_by input.now table.now) input.now table.now index)
-        ≡ Ok out.new }
-    ensures within { result ≡ 0 → LiesIn input.now out.new }
+    symbols: Table<'_, E>,
+    first: u64,
+    out: &mut [Name],
+) -> Result<u64, Refusal>
+    ensures { Fills (found_in (λ e. name_by input.now table.now (E.fields e))
+        (table_items symbols.entry)) first out.old result out.new }
 {
-    give(name_by(input, table, index), out)
+    let names = SymbolNames {
+        symbols,
+        table: *table,
+        input,
+    };
+    fill(names, first, out)
+}
+
+// Stores the names of the symbols of a record from an index on in `out`, and returns their number.
+fn fill_names(
+    input: &[u8],
+    table: &SymbolTable,
+    first: u64,
+    out: &mut [Name],
+) -> Result<u64, Refusal>
+    ensures { Fills (symbol_by (name_by input.now table.now) input.now table.now)
+        first out.old result out.new }
+{
+    match symbols_by(input, table) {
+        Ok(AnySymbols::Narrow(symbols)) => fill_names_of(input, table, symbols, first, out),
+        Ok(AnySymbols::Wide(symbols)) => fill_names_of(input, table, symbols, first, out),
+        Err(refusal) => Err(refusal),
+    }
+}
+
+/// The input ranges of the names of the symbols from index `first` on, each with its own status: as
+/// many as fit in `out`, or all. `count` is set to their number; the rest of `out` is unchanged.
+///
+/// The symbols are those of `xmas_elf_symbols` for the same record. Each name is the text at the
+/// symbol's `name` in the string table. Errors of a name: `strings_status` if it is not 0;
+/// `DataRange` if the string table extends past the end of the input; those of `bytes::text_at`. The
+/// errors of the call are those of `xmas_elf_symbols`; `out` and `count` are then unchanged.
+#[unsafe(no_mangle)]
+pub extern "C" fn xmas_elf_symbol_names(
+    input: &[u8],
+    table: &SymbolTable,
+    first: u64,
+    out: &mut [Name],
+    count: &mut u64,
+) -> u32
+    ensures exact { (answer : Result ℕ Refusal)
+        × Fills (symbol_by (name_by input.now table.now) input.now table.now)
+        first out.old answer out.new
+        × GivesHere answer count.old result count.new }
+    ensures within { result ≡ 0 → AllLieIn input.now count.new out.new }
+{
+    give(fill_names(input, table, first, out), count)
 }

@@ -6,8 +6,7 @@ use Rattle.elf_c.specs.SymbolTables.{LieWithin, name_by, symbol_by}
 use Rattle.elf_c.specs.Symbols.{symbol_record}
 use Rattle.elf_c.proofs.GivenRanges.{given_in}
 use Rattle.elf_c.proofs.OpenedFound.{opened_found}
-use Rattle.elf_c.proofs.OpenedDynamics.{opened_count, opened_names, opened_number, opened_symbols}
-use Rattle.elf_c.proofs.OpenedWithin.{segment_within}
+use Rattle.elf_c.proofs.OpenedDynamics.{opened_count, opened_names, opened_number, opened_symbols, segment_within}
 use Rattle.elf_c.proofs.dynamic_symbols.xmas_elf_dynamic_symbols_open.Goals as goal
 
 pub returns-clause-exact : goal.returns-clause-exact

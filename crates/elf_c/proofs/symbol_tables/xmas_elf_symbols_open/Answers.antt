@@ -7,8 +7,7 @@ use Rattle.elf_c.specs.Status.{and_so}
 use Rattle.elf_c.specs.SymbolTables.{LieWithin, name_by, symbol_by, table_of_section}
 use Rattle.elf_c.specs.Symbols.{symbol_in, symbol_name_at, symbol_record}
 use Rattle.elf_c.proofs.GivenRanges.{given_in}
-use Rattle.elf_c.proofs.OpenedSymbols.{opened_count, opened_names, opened_symbols}
-use Rattle.elf_c.proofs.OpenedWithin.{section_within}
+use Rattle.elf_c.proofs.OpenedSymbols.{opened_count, opened_names, opened_symbols, section_within}
 use Rattle.elf_c.proofs.symbol_tables.xmas_elf_symbols_open.Goals as goal
 
 pub returns-clause-symbols : goal.returns-clause-symbols
@@ -27,7 +26,7 @@ pub returns-clause-counted : goal.returns-clause-counted
 returns-clause-counted c = λ none index. given_in
     (λ f t. IsOk (symbol_by symbol_record f.input.now t index) ↔ (index < t.count))
     (λ f r. r ≡ table_of_section f c.args.section) c.file.result (file_of c.args.input c.args.header.now) c.table_of_section.result c.args.out.now c.give.result c.give.new.out
-    (λ table made. opened_count c.file.result table index c.args.section (sym made)) c.file.ensures c.table_of_section.ensures c.give.ensures none
+    (λ table made. opened_count c.file.result c.args.section table (sym made) index) c.file.ensures c.table_of_section.ensures c.give.ensures none
 
 pub returns-clause-within : goal.returns-clause-within
 returns-clause-within c = λ none. given_in

@@ -1,6 +1,0 @@
-use Rattle.elf_c.proofs.StoredNames.{linked_name_lies, stored_lie}
-use Rattle.elf_c.proofs.dynamic_symbols.names.Goals as goal
-
-pub returns-clause-within : goal.returns-clause-within
-returns-clause-within g c = stored_lie c.args.input.now _ _ c.args.first c.args.out.now c.fill.result c.fill.new.out c.fill.ensures
-    (λ e. linked_name_lies c.args.input.now c.args.strings _)

@@ -1,7 +1,0 @@
-use Rattle.elf_linking.specs.DynamicView.{entries_left}
-use Rattle.elf_c.proofs.StoredNames.{stored_needed_lie}
-use Rattle.elf_c.proofs.dynamic_texts.fill_needed.Goals as goal
-
-pub returns-clause-within : goal.returns-clause-within
-returns-clause-within c = stored_needed_lie c.args.file.now.input.now c.strings_of.result (entries_left c.entries.result)
-    c.args.first c.args.out.now c.fill_in_order.result c.fill_in_order.new.out c.fill_in_order.ensures

@@ -1,7 +1,0 @@
-use Rattle.elf_c.specs.Parsed.{file_of}
-use Rattle.elf_c.proofs.GivenRanges.{given_range}
-use Rattle.elf_c.proofs.names.xmas_elf_names.Goals as goal
-
-pub returns-clause-within : goal.returns-clause-within
-returns-clause-within c = given_range c.file.result (file_of c.args.input c.args.header.now) c.names_in.result c.args.out.now c.give.result c.give.new.out
-    c.file.ensures c.names_in.ensures.within c.give.ensures
