@@ -1,0 +1,43 @@
+//! Addresses and pages (gABI, "Program Loading").
+
+ghost use Rattle.std.specs.Prelude.{◌≡◌, ◌+◌, ◌<◌, ◌^◌, nat_lt};
+ghost use Rattle.elf_loading.specs.Pages.{down, up};
+
+// The last address up to `address` at which a page begins.
+#[tactic(auto, unfolding(crate::specs::Pages::down))]
+#[inline(always)]
+pub(crate) fn down(page: u64, address: u64) -> u64
+    requires { 0 < page }
+    ensures { result ≡ down page address }
+{
+    let inside = address % page;
+    address - inside
+}
+
+// The first address from `address` on at which a page begins.
+#[tactic(auto, using(crate::proofs::Rounded::up_at, crate::proofs::Rounded::up_in))]
+#[inline(always)]
+pub(crate) fn up(page: u64, address: u64) -> u64
+    requires page { 0 < page }
+    requires fits { up page address < 2 ^ 64 }
+    ensures { result ≡ up page address }
+{
+    if address % page == 0 {
+        return address;
+    }
+    address - address % page + page
+}
+
+// Whether the pages of `size` bytes from `address` on extend past a limit.
+#[tactic(auto, using(crate::proofs::Rounded::past_all, crate::proofs::Rounded::past_is))]
+#[inline(always)]
+pub(crate) fn is_past(page: u64, limit: u64, address: u64, size: u64) -> bool
+    requires { 0 < page }
+    ensures { result ≡ nat_lt limit (up page (address + size)) }
+{
+    let last = down(page, limit);
+    if address > last {
+        return true;
+    }
+    size > last - address
+}
