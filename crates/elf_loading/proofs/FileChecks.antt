@@ -1,5 +1,5 @@
 -- What holds of a file that is not refused.
-use Rattle.std.proofs.Common.{◌≡◌, ℕ, ◌+◌, ◌-◌, ◌==◌, ◌<◌, ◌≤◌, ◌&&◌, ◌||◌, not, nat_lt, nat_le, slice_index, if◌then◌else◌, Bool, true, false, List, [], ◌∷◌, length, Option, Some, None, ok_or, Result, Ok, Err, refl, sym, ap, ◌∙◌, subst, arith}
+use Rattle.std.proofs.Common.{◌≡◌, ℕ, ◌+◌, ◌-◌, ◌^◌, ◌==◌, ◌<◌, ◌≤◌, ◌&&◌, ◌||◌, not, nat_lt, nat_le, slice_index, if◌then◌else◌, Bool, true, false, List, [], ◌∷◌, length, Option, Some, None, ok_or, Result, Ok, Err, refl, sym, ap, ◌∙◌, subst, arith}
 use Rattle.std.proofs.lemmas.Bool.{and_parts, eqb-true, eq-eqb, leb-true, ltb-false, or_parts}
 use Rattle.std.specs.List.{list_all}
 use Rattle.elf_base.specs.Refusal.{and_then, unless}
@@ -14,7 +14,8 @@ use Rattle.elf_loading.specs.Segments.{interpreter_of, loads_of, relro_of}
 use Rattle.elf_loading.specs.Spans.{ends_at, first_start, last_end}
 use Rattle.elf_loading.specs.Mappings.{FollowEachOther, mappings_of}
 use Rattle.elf_loading.specs.declared.mapping.Loader.{Loader}
-use Rattle.elf_loading.proofs.Follows.{follow}
+use Rattle.elf_loading.specs.declared.mapping.Loader.TheVariants.{Kernel}
+use Rattle.elf_loading.proofs.Follows.{follow, follow_order}
 use Rattle.elf_loading.specs.declared.error.LoadError.{LoadError}
 use Rattle.elf_loading.specs.declared.error.LoadError.TheVariants as error
 use Rattle.elf_loading.proofs.Apart.{AreApart, checks_apart, checks_end, end_after}
@@ -33,11 +34,11 @@ pub record Passes (file : ElfFile) (page limit end : ℕ) : Type 0 where
   pub loads : check_loads page limit (length file.input.now) None (loads_of file) ≡ Ok (Some end)
   pub rest : NoneApplies (segment_rows file page)
 
-covered_by : (page limit bound address : ℕ) (b : Bool) (load : ProgramHeader64) → limit ≤ bound → address ≤ bound → load_end page load ≤ limit → (if b then load_end page load else address) ≤ bound
+covered_by : (page limit bound address : ℕ) (b : Bool) (load : ProgramHeader64) → limit < bound → address < bound → load_end page load ≤ limit → (if b then load_end page load else address) < bound
 covered_by page limit bound address true load le at fits = omega arith
 covered_by page limit bound address false load le at fits = at
 
-covered_le : (page limit bound address : ℕ) (loads : List ProgramHeader64) → list_all (fits_below page limit) loads ≡ true → limit ≤ bound → address ≤ bound → covered_to page address loads ≤ bound
+covered_le : (page limit bound address : ℕ) (loads : List ProgramHeader64) → list_all (fits_below page limit) loads ≡ true → limit < bound → address < bound → covered_to page address loads < bound
 covered_le page limit bound address [] fits le at = at
 covered_le page limit bound address (load ∷ loads) fits le at =
     let both = and_parts (fits_below page limit load) (list_all (fits_below page limit) loads) fits in
@@ -68,27 +69,27 @@ path_ends input segment why path refused =
     by_error _ zero_there some inside never = never
 
 module _ (file : ElfFile) (page limit end : ℕ) where
-  by_rest : (found : ℕ) (answer : Result (Unit {0}) LoadError) → unless (segment_rows file page) tt ≡ answer → and_then answer (λ passed. Ok found) ≡ Ok end → NoneApplies (segment_rows file page) × (found ≡ end)
-  by_rest found (Ok passed) rest is = ((unless_ok (segment_rows file page) tt passed rest).0, cc)
+  by_rest : (found : ℕ) (answer : Result (Unit {0}) LoadError) → unless (segment_rows file page) (tt {0}) ≡ answer → and_then answer (λ passed. Ok found) ≡ Ok end → NoneApplies (segment_rows file page) × (found ≡ end)
+  by_rest found (Ok passed) rest is = ((unless_ok (segment_rows file page) (tt {0}) passed rest).0, cc)
   by_rest found (Err error) rest is = absurd (cc)
 
-  by_last : (last : Option ℕ) → check_loads page limit (length file.input.now) None (loads_of file) ≡ Ok last → and_then (ok_or last error.NoLoad) (λ found. and_then (unless (segment_rows file page) tt) (λ passed. Ok found)) ≡ Ok end → Passes file page limit end
+  by_last : (last : Option ℕ) → check_loads page limit (length file.input.now) None (loads_of file) ≡ Ok last → and_then (ok_or last error.NoLoad) (λ found. and_then (unless (segment_rows file page) (tt {0})) (λ passed. Ok found)) ≡ Ok end → Passes file page limit end
   by_last (Some found) loads is =
-      let (none, same) = by_rest found (unless (segment_rows file page) tt) refl is in
+      let (none, same) = by_rest found (unless (segment_rows file page) (tt {0})) refl is in
       record { loads = subst (λ n. check_loads page limit (length file.input.now) None (loads_of file) ≡ Ok (Some n)) same loads; rest = none }
   by_last None loads is = absurd (cc)
 
-  by_loads : (answer : Result (Option ℕ) LoadError) → check_loads page limit (length file.input.now) None (loads_of file) ≡ answer → and_then answer (λ last. and_then (ok_or last error.NoLoad) (λ found. and_then (unless (segment_rows file page) tt) (λ passed. Ok found))) ≡ Ok end → Passes file page limit end
+  by_loads : (answer : Result (Option ℕ) LoadError) → check_loads page limit (length file.input.now) None (loads_of file) ≡ answer → and_then answer (λ last. and_then (ok_or last error.NoLoad) (λ found. and_then (unless (segment_rows file page) (tt {0})) (λ passed. Ok found))) ≡ Ok end → Passes file page limit end
   by_loads (Ok last) loads is = by_last last loads is
   by_loads (Err error) loads is = absurd (cc)
 
-  by_header : (answer : Result (Unit {0}) LoadError) → and_then answer (λ done. and_then (check_loads page limit (length file.input.now) None (loads_of file)) (λ last. and_then (ok_or last error.NoLoad) (λ found. and_then (unless (segment_rows file page) tt) (λ passed. Ok found)))) ≡ Ok end → Passes file page limit end
+  by_header : (answer : Result (Unit {0}) LoadError) → and_then answer (λ done. and_then (check_loads page limit (length file.input.now) None (loads_of file)) (λ last. and_then (ok_or last error.NoLoad) (λ found. and_then (unless (segment_rows file page) (tt {0})) (λ passed. Ok found)))) ≡ Ok end → Passes file page limit end
   by_header (Ok done) is = by_loads (check_loads page limit (length file.input.now) None (loads_of file)) refl is
   by_header (Err error) is = absurd (cc)
 
   pub passes : check_file file page limit ≡ Ok end → Passes file page limit end
   unfolding check_file
-  passes is = by_header (unless (header_rows file page) tt) is
+  passes is = by_header (unless (header_rows file page) (tt {0})) is
 
   pub passes_fit : ends_at (check_file file page limit) end ≡ true → list_all (fits_below page limit) (loads_of file) ≡ true
   passes_fit is = loads_fit page limit (length file.input.now) None (Some end) (loads_of file) (passes (ends_ok (check_file file page limit) end is)).loads
@@ -107,7 +108,7 @@ module _ (file : ElfFile) (page limit end : ℕ) where
   passes_end is = by_end (loads_of file) (checks_end page limit (length file.input.now) None (Some end) (loads_of file) (passes (ends_ok (check_file file page limit) end is)).loads)
 
   -- what is read-only after relocation ends at an address
-  pub passes_relro : (bound : ℕ) (relro : ProgramHeader64) → ends_at (check_file file page limit) end ≡ true → relro_of file ≡ Some relro → limit ≤ bound → relro.virtual_addr ≤ bound → down page (relro.virtual_addr + relro.mem_size) ≤ bound
+  pub passes_relro : (bound : ℕ) (relro : ProgramHeader64) → ends_at (check_file file page limit) end ≡ true → relro_of file ≡ Some relro → limit < bound → relro.virtual_addr < bound → down page (relro.virtual_addr + relro.mem_size) < bound
   passes_relro bound relro is there le at =
       let pass = passes (ends_ok (check_file file page limit) end is) in
       let covered : is_uncovered page (loads_of file) (Some relro) ≡ false = subst (λ o. is_uncovered page (loads_of file) o ≡ false) there pass.rest.1.1.0 in
@@ -115,6 +116,9 @@ module _ (file : ElfFile) (page limit end : ℕ) where
       let most = covered_le page limit bound (down page relro.virtual_addr) (loads_of file) (passes_fit is) le (omega arith) in
       let least : down page (relro.virtual_addr + relro.mem_size) ≤ covered_to page (down page relro.virtual_addr) (loads_of file) = ltb-false _ _ covered in
       omega arith
+
+  pub passes_relro_fits : (relro : ProgramHeader64) → ends_at (check_file file page limit) end ≡ true → relro_of file ≡ Some relro → limit < 2 ^ 64 → relro.virtual_addr < 2 ^ 64 → down page (relro.virtual_addr + relro.mem_size) < 2 ^ 64
+  passes_relro_fits relro is there le at = passes_relro (2 ^ 64) relro is there le at
 
   pub passes_path : (segment : ProgramHeader64) (why : ElfError) → ends_at (check_file file page limit) end ≡ true → interpreter_of file ≡ Some segment → BytesRefused file.input.now segment.offset why → ⊥
   passes_path segment why is there refused =
@@ -124,3 +128,6 @@ module _ (file : ElfFile) (page limit end : ℕ) where
 
   pub passes_follow : (by : Loader) → 0 < page → ends_at (check_file file page limit) end ≡ true → FollowEachOther (first_start page (loads_of file)) (last_end page 0 (loads_of file)) (mappings_of page by None (loads_of file))
   passes_follow by h is = follow page limit by h (loads_of file) (passes_fit is) (passes_apart is)
+
+  pub passes_order : 0 < page → ends_at (check_file file page limit) end ≡ true → first_start page (loads_of file) ≤ last_end page 0 (loads_of file)
+  passes_order h is = follow_order (first_start page (loads_of file)) (last_end page 0 (loads_of file)) (mappings_of page Kernel None (loads_of file)) (passes_follow Kernel h is)

@@ -79,3 +79,8 @@ module _ (page limit : ℕ) (by : Loader) (h : 0 < page) where
       let both = and_parts (fits_below page limit load) (list_all (fits_below page limit) loads) fits in
       no_gap page (last_end page (load_end page load) loads) by load _
       (two_parts (last_end page (load_end page load) loads) load _ both.0 (follow_from (load_end page load) loads both.1 apart))
+
+pub follow_order : (low high : ℕ) (mappings : List Mapping) → FollowEachOther low high mappings → low ≤ high
+follow_order low high [] is = is
+follow_order low high (mapping ∷ mappings) (first, some, rest) =
+    let later : mapping.end ≤ high = follow_order mapping.end high mappings rest in omega arith

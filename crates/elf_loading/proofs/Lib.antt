@@ -9,3 +9,4 @@ pub mod Held
 pub mod LoadBytes
 pub mod Agree
 pub mod Headlines
+pub mod PartsLeft

@@ -94,7 +94,7 @@ segment_rows file page =
 -- loads, that there is none, or of its other segments
 unfoldable pub check_file : ElfFile → ℕ → ℕ → Result ℕ LoadError
 check_file file page limit =
-    and_then (unless (header_rows file page) tt) (λ done.
+    and_then (unless (header_rows file page) (tt {0})) (λ done.
     and_then (check_loads page limit (length file.input.now) None (loads_of file)) (λ last.
     and_then (ok_or last error.NoLoad) (λ end.
-    and_then (unless (segment_rows file page) tt) (λ passed. Ok end))))
+    and_then (unless (segment_rows file page) (tt {0})) (λ passed. Ok end))))

@@ -151,12 +151,13 @@ impl<'a> LoadPlan<'a> {
             (byte_of self.now.page by (length self.now.file.input.now)
             ((span_of self.now.page (plan_loads self.now)).start + i) (plan_loads self.now))) }
     {
-        let size = self.end - self.start;
+        let span = self.span();
+        let size = span.end - span.start;
         if image.len() as u64 != size {
             return Err(LoadError::ImageSize);
         }
         for (k, byte) in image.iter_mut().enumerate() {
-            *byte = self.number_at(self.start + k as u64, by);
+            *byte = self.number_at(span.start + k as u64, by);
         }
         Ok(())
     }

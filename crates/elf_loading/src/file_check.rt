@@ -15,7 +15,7 @@ ghost use Rattle.xmas_elf.specs.ProgramHeader.{program_header_size};
 
 use crate::LoadError;
 use crate::load_check::{check_loads, holds_address, load_end};
-use crate::pages::down;
+use crate::pages::{down, end_down};
 use crate::segments::{first_interpreter, last_phdr, last_relro, last_tls, loads_of};
 use xmas_elf::ElfFile;
 use xmas_elf::bytes::Record;
@@ -167,8 +167,7 @@ fn is_uncovered(page: u64, limit: u64, file: &ElfFile<'_>) -> bool
         return false;
     };
     let covered = covered_to(page, limit, down(page, relro.virtual_addr), file);
-    let end = u128::from(relro.virtual_addr) + u128::from(relro.mem_size);
-    u128::from(covered) < end - end % u128::from(page)
+    u128::from(covered) < end_down(page, relro.virtual_addr, relro.mem_size)
 }
 
 // Whether the bytes of a template are in the memory of a load.

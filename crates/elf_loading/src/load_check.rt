@@ -155,7 +155,10 @@ pub(crate) fn check_loads(
     let len = file.input.len() as u64;
     let mut before = None;
     for load in loads_of(file) {
-        before = Some(check_load(page, limit, len, before, &load)?);
+        match check_load(page, limit, len, before, &load) {
+            Ok(end) => before = Some(end),
+            Err(error) => return Err(error),
+        }
     }
     Ok(before)
 }

@@ -75,7 +75,7 @@ fn load_from(file: &ElfFile<'_>, index: u32) -> (Option<ProgramHeader64>, u32)
             next_index: index,
         },
     };
-    let load = loads.next();
+    let load = loads.step();
     (load, loads.programs.next_index)
 }
 
@@ -89,15 +89,20 @@ impl Iterator for Mappings<'_> {
 
     ghost remaining = { item_count mappings_left };
 
-    #[tactic(auto, using(crate::proofs::Lists::fits_first, crate::proofs::Lists::fits_rest))]
+    #[tactic(auto, using(crate::proofs::Lists::fits_first, crate::proofs::Lists::fits_rest, crate::proofs::PartsLeft::parts_none, crate::proofs::PartsLeft::parts_first, crate::proofs::PartsLeft::parts_load, crate::proofs::PartsLeft::no_loads))]
     fn next(&mut self) -> Option<Mapping> {
+        let mut parts = self.parts;
         loop {
-            if let Some(mapping) = self.parts.next() {
+            if let Some(mapping) = parts.next() {
+                self.parts = parts;
                 return Some(mapping);
             }
             let (load, next_index) = load_from(&self.file, self.next_index);
-            let load = load?;
-            self.parts = Parts::of(self.page, self.limit, self.by, self.before, &load);
+            let Some(load) = load else {
+                self.parts = parts;
+                return None;
+            };
+            parts = Parts::of(self.page, self.limit, self.by, self.before, &load);
             self.before = Some(load_end(self.page, self.limit, &load));
             self.next_index = next_index;
         }

@@ -7,7 +7,7 @@ ghost use Rattle.elf_loading.specs.Spans.{ends_at, first_start};
 
 use crate::LoadError;
 use crate::file_check::{check_file, first_start};
-use crate::pages::down;
+use crate::pages::{down, end_down};
 use crate::segments::{first_interpreter, last_relro, last_stack, last_tls};
 use crate::span::Span;
 use xmas_elf::ElfFile;
@@ -46,7 +46,7 @@ pub struct Tls {
 
 impl<'a> LoadPlan<'a> {
     ghost use Rattle.std.specs.Prelude.{Err, IfNone, IfSome, MatchOption, MatchResult, None, Some};
-    ghost use Rattle.std.specs.Prelude.{Ok, option_map};
+    ghost use Rattle.std.specs.Prelude.{Ok, option_map, ◌≤◌};
     ghost use Rattle.elf_base.specs.FileHeader.{header_fields};
     ghost use Rattle.elf_base.specs.Text.{EndsInZero};
     ghost use Rattle.elf_base.specs.Lent.{LiesAt};
@@ -80,9 +80,10 @@ impl<'a> LoadPlan<'a> {
     }
 
     /// The addresses from the first page of the first load segment to the last of the last one.
-    #[tactic(auto, using(crate::proofs::FileChecks::passes_end))]
+    #[tactic(auto, using(crate::proofs::FileChecks::passes_end, crate::proofs::FileChecks::passes_order))]
     pub fn span(&self) -> Span
-        ensures { result ≡ span_of self.now.page (plan_loads self.now) }
+        ensures value { result ≡ span_of self.now.page (plan_loads self.now) }
+        ensures order { result.start ≤ result.end }
     {
         Span {
             start: self.start,
@@ -99,14 +100,14 @@ impl<'a> LoadPlan<'a> {
 
     /// The pages that are only readable after relocation: of the last PT_GNU_RELRO, both ends
     /// rounded down to pages. The bytes after the last whole page stay writable.
+    #[tactic(auto, using(crate::proofs::FileChecks::passes_relro_fits))]
     pub fn relro(&self) -> Option<Span>
         ensures { result ≡ plan_relro self.now }
     {
         let relro = last_relro(&self.file)?;
-        let end = u128::from(relro.virtual_addr) + u128::from(relro.mem_size);
         Some(Span {
             start: down(self.page, relro.virtual_addr),
-            end: (end - end % u128::from(self.page)) as u64,
+            end: end_down(self.page, relro.virtual_addr, relro.mem_size) as u64,
         })
     }
 
@@ -140,6 +141,7 @@ impl<'a> LoadPlan<'a> {
 
     /// The path of the program interpreter, which lives as long as the input: the bytes of the first
     /// PT_INTERP up to the first zero.
+    #[tactic(auto, using(crate::proofs::FileChecks::passes_path))]
     pub fn interpreter(&self) -> Option<&'a [u8]>
         ensures missing { IfNone result (interpreter_of self.now.file ≡ None) }
         ensures found { IfSome result (λ path. MatchOption (interpreter_of self.now.file) ⊥

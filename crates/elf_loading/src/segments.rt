@@ -130,15 +130,13 @@ pub(crate) fn loads_of<'b, 'a>(file: &'b ElfFile<'a>) -> Loads<'b, 'a>
     }
 }
 
-impl Iterator for Loads<'_, '_> {
-    type Item = ProgramHeader64;
-
-    ghost next_gives = { YieldsFirst loads_rest };
-
-    ghost remaining = { item_count loads_rest };
-
+impl Loads<'_, '_> {
+    // The next load.
     #[tactic(auto, using(crate::proofs::Lists::load_kept, crate::proofs::Lists::load_skipped, crate::proofs::Lists::load_end))]
-    fn next(&mut self) -> Option<ProgramHeader64> {
+    pub(crate) fn step(&mut self) -> Option<ProgramHeader64>
+        ensures load { YieldsFirst loads_rest self.old result self.new }
+        ensures file { self.new.programs.file ≡ self.old.programs.file }
+    {
         while let Some(program) = self.programs.next() {
             let segment = fields(&program);
             if is_load(&segment) {
@@ -146,5 +144,18 @@ impl Iterator for Loads<'_, '_> {
             }
         }
         None
+    }
+}
+
+impl Iterator for Loads<'_, '_> {
+    type Item = ProgramHeader64;
+
+    ghost next_gives = { YieldsFirst loads_rest };
+
+    ghost remaining = { item_count loads_rest };
+
+    #[inline(always)]
+    fn next(&mut self) -> Option<ProgramHeader64> {
+        self.step()
     }
 }
