@@ -104,6 +104,8 @@ impl<'a> LoadPlan<'a> {
     pub fn relro(&self) -> Option<Span>
         ensures { result ≡ plan_relro self.now }
     {
+        // This tells the proof that the limit is a number of 64 bits.
+        let _limit = self.limit;
         let relro = last_relro(&self.file)?;
         Some(Span {
             start: down(self.page, relro.virtual_addr),
