@@ -1,16 +1,13 @@
 -- The byte at an address is that of the mapping that contains it.
-use Rattle.std.proofs.Common.{◌≡◌, ℕ, ◌+◌, ◌-◌, ◌<◌, ◌≤◌, ◌&&◌, ◌⊎◌, inl, inr, nat_lt, nat_le, not, Bool, true, false, List, [], ◌∷◌, Option, Some, None, unwrap_or, option_map, if◌then◌else◌, refl, sym, ap, ◌∙◌, subst, arith}
-use Rattle.std.proofs.lemmas.Bool.{and_left, and_parts, and_right, le-ltb, lt-leb, ltb-true}
+use Rattle.std.proofs.Common.{◌≡◌, ℕ, ◌-◌, ◌<◌, ◌≤◌, ◌&&◌, ◌⊎◌, inl, inr, nat_lt, nat_le, Bool, true, false, List, [], ◌∷◌, Option, Some, None, unwrap_or, option_map, if◌then◌else◌, refl, sym, ap, ◌∙◌, subst, arith}
+use Rattle.std.proofs.lemmas.Bool.{and_left, and_parts, le-ltb, lt-leb}
 use Rattle.std.specs.List.{AllByRecursion, cons_option, find, list_all}
-use Rattle.elf_records.specs.declared.program.Flags.{Flags}
 use Rattle.xmas_elf.specs.Types.{ProgramHeader64}
-use Rattle.elf_loading.specs.Bytes.{IsByteOf, byte_by, byte_of, is_of_file, is_zeroed, load_byte, offset_at}
+use Rattle.elf_loading.specs.Bytes.{IsByteOf, byte_by, byte_of, is_of_file, load_byte, offset_at}
 use Rattle.elf_loading.specs.LoadCheck.{fits_below, holds_address, load_end, load_start}
-use Rattle.elf_loading.specs.Mappings.{IsMapped, file_mapping, gap_mapping, mapped_end, mapping_if, mappings_of, zero_mapping}
+use Rattle.elf_loading.specs.Mappings.{IsMapped, file_mapping, gap_mapping, mapped_end, mappings_of, zero_mapping}
 use Rattle.elf_loading.specs.Pages.{down}
-use Rattle.elf_loading.specs.declared.bytes.Byte.{Byte}
 use Rattle.elf_loading.specs.declared.bytes.Byte.TheVariants as byte
-use Rattle.elf_loading.specs.declared.mapping.Contents.{Contents}
 use Rattle.elf_loading.specs.declared.mapping.Contents.TheVariants as contents
 use Rattle.elf_loading.specs.declared.mapping.Loader.{Loader}
 use Rattle.elf_loading.specs.declared.mapping.Loader.TheVariants.{Kernel, Glibc}

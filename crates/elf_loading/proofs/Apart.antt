@@ -1,5 +1,5 @@
 -- The loads of a file that is not refused are apart: each begins after the end of the one before it.
-use Rattle.std.proofs.Common.{◌≡◌, ℕ, ◌≤◌, List, [], ◌∷◌, Option, Some, None, unwrap_or, Result, Ok, Err, refl, sym, ap, ◌∙◌, subst, arith}
+use Rattle.std.proofs.Common.{◌≡◌, ℕ, ◌≤◌, List, [], ◌∷◌, Option, Some, unwrap_or, Result, Ok, Err, refl, ◌∙◌}
 use Rattle.elf_base.specs.Refusal.{and_then}
 use Rattle.xmas_elf.specs.Types.{ProgramHeader64}
 use Rattle.elf_loading.specs.LoadCheck.{check_load, check_loads, load_end, load_start}

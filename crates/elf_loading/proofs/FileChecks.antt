@@ -1,5 +1,5 @@
 -- What holds of a file that is not refused.
-use Rattle.std.proofs.Common.{◌≡◌, ℕ, ◌+◌, ◌-◌, ◌^◌, ◌==◌, ◌<◌, ◌≤◌, ◌&&◌, ◌||◌, not, nat_lt, nat_le, slice_index, if◌then◌else◌, Bool, true, false, List, [], ◌∷◌, length, Option, Some, None, ok_or, Result, Ok, Err, refl, sym, ap, ◌∙◌, subst, arith}
+use Rattle.std.proofs.Common.{◌≡◌, ℕ, ◌+◌, ◌-◌, ◌^◌, ◌==◌, ◌<◌, ◌≤◌, ◌||◌, not, nat_lt, nat_le, slice_index, if◌then◌else◌, Bool, true, false, List, [], ◌∷◌, length, Option, Some, None, ok_or, Result, Ok, Err, refl, ap, subst, arith}
 use Rattle.std.proofs.lemmas.Bool.{and_parts, eqb-true, eq-eqb, leb-true, ltb-false, or_parts}
 use Rattle.std.specs.List.{list_all}
 use Rattle.elf_base.specs.Refusal.{and_then, unless}

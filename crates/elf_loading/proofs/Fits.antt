@@ -1,5 +1,5 @@
 -- A load whose pages end at a limit or before it.
-use Rattle.std.proofs.Common.{◌≡◌, ℕ, ◌+◌, ◌≤◌, ◌<◌, ◌&&◌, nat_le, true, arith}
+use Rattle.std.proofs.Common.{◌≡◌, ℕ, ◌+◌, ◌≤◌, ◌<◌, nat_le, true, arith}
 use Rattle.std.proofs.lemmas.Bool.{and_parts, leb-true}
 use Rattle.xmas_elf.specs.Types.{ProgramHeader64}
 use Rattle.elf_loading.specs.LoadCheck.{file_end, fits_below, load_end}

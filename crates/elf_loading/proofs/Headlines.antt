@@ -1,11 +1,10 @@
 -- The bytes at addresses of a file that is not refused.
-use Rattle.std.proofs.Common.{◌≡◌, ℕ, ◌+◌, ◌-◌, ◌<◌, ◌≤◌, true, length, Option, Some, None, ap, ◌∙◌, option_map, arith}
-use Rattle.std.proofs.lemmas.Bool.{and_parts}
-use Rattle.std.specs.List.{AllByRecursion, Contains, find}
+use Rattle.std.proofs.Common.{◌≡◌, ℕ, ◌+◌, ◌-◌, ◌<◌, ◌≤◌, true, length, Some, None, ap, ◌∙◌, option_map, arith}
+use Rattle.std.specs.List.{AllByRecursion, Contains}
 use Rattle.xmas_elf.specs.Types.{ElfFile, ProgramHeader64}
 use Rattle.elf_loading.specs.Bytes.{IsByteOf, byte_of, load_byte}
 use Rattle.elf_loading.specs.FileCheck.{check_file}
-use Rattle.elf_loading.specs.LoadCheck.{fits_below, holds_address, lies_in, load_end, load_start}
+use Rattle.elf_loading.specs.LoadCheck.{fits_below, lies_in, load_end, load_start}
 use Rattle.elf_loading.specs.Mappings.{IsMapped, mappings_of}
 use Rattle.elf_loading.specs.Segments.{loads_of}
 use Rattle.elf_loading.specs.Spans.{ends_at}

@@ -1,9 +1,9 @@
 -- The load whose pages contain an address.
-use Rattle.std.proofs.Common.{◌≡◌, ℕ, zero, suc, ◌+◌, ◌-◌, ◌<◌, ◌≤◌, ◌&&◌, nat_lt, nat_le, not, Bool, true, false, List, [], ◌∷◌, length, Option, Some, None, slice_index_or, if◌then◌else◌, refl, sym, ap, ◌∙◌, subst, arith}
-use Rattle.std.proofs.lemmas.Bool.{and_from, and_left, and_parts, and_right, le-leb, leb-true, le-ltb, lt-ltb, ltb-false, ltb-true}
-use Rattle.std.specs.List.{Contains, find, list_all}
+use Rattle.std.proofs.Common.{◌≡◌, ℕ, zero, suc, ◌+◌, ◌<◌, ◌≤◌, nat_lt, nat_le, true, false, List, [], ◌∷◌, length, Some, slice_index_or, sym, ap, subst, arith}
+use Rattle.std.proofs.lemmas.Bool.{and_from, and_right, le-leb, le-ltb, lt-ltb}
+use Rattle.std.specs.List.{Contains, find}
 use Rattle.xmas_elf.specs.Types.{ProgramHeader64}
-use Rattle.elf_loading.specs.LoadCheck.{fits_below, holds_address, load_end, load_start}
+use Rattle.elf_loading.specs.LoadCheck.{holds_address, load_end, load_start}
 use Rattle.elf_loading.proofs.Apart.{AreApart}
 use Rattle.elf_loading.proofs.Rounded.{down_le, up_ge}
 

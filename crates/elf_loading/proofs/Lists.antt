@@ -1,10 +1,10 @@
 -- Searches of the segments of a file, segment by segment.
-use Rattle.std.proofs.Common.{◌≡◌, ℕ, Bool, true, false, ◌&&◌, ◌<◌, ◌≤◌, List, [], ◌∷◌, map, Option, Some, None, refl, ap, ◌∙◌}
-use Rattle.std.proofs.lemmas.Bool.{and_parts, and_from}
-use Rattle.std.specs.List.{filter, find, last_or, list_all, list_any}
+use Rattle.std.proofs.Common.{◌≡◌, ℕ, Bool, true, false, List, [], ◌∷◌, Option, Some, None, refl, ap, ◌∙◌}
+use Rattle.std.proofs.lemmas.Bool.{and_parts}
+use Rattle.std.specs.List.{find, list_all, list_any}
 use Rattle.xmas_elf.specs.ProgramHeader.{program_fields}
 use Rattle.xmas_elf.specs.Types.{ProgramHeader, ProgramHeader64}
-use Rattle.elf_loading.specs.FileCheck.{covered_to, holder_in, holds_offset, holds_template}
+use Rattle.elf_loading.specs.FileCheck.{covered_to, holder_in, holds_offset}
 use Rattle.elf_loading.specs.LoadCheck.{fits_below, holds_address}
 use Rattle.elf_loading.specs.LoadCheck as check
 use Rattle.elf_loading.specs.Spans.{first_start}

@@ -1,19 +1,16 @@
 -- The bytes at the addresses of a load.
-use Rattle.std.proofs.Common.{◌≡◌, ℕ, zero, suc, ◌+◌, ◌-◌, ◌%◌, ◌<◌, ◌≤◌, ◌==◌, ◌&&◌, nat_lt, nat_le, not, Bool, true, false, List, [], ◌∷◌, length, Option, Some, None, slice_index_or, option_map, if◌then◌else◌, refl, sym, ap, ◌∙◌, subst, arith}
-use Rattle.std.proofs.lemmas.Bool.{and_from, and_left, and_parts, and_right, eqb-true, le-leb, leb-true, le-ltb, lt-leb, lt-ltb, ne_eqb}
-use Rattle.std.specs.List.{Contains, find, list_all}
+use Rattle.std.proofs.Common.{◌≡◌, ℕ, zero, suc, ◌+◌, ◌-◌, ◌%◌, ◌<◌, ◌≤◌, ◌==◌, ◌&&◌, nat_lt, nat_le, not, Bool, true, false, List, [], ◌∷◌, length, slice_index_or, if◌then◌else◌, refl, subst, arith}
+use Rattle.std.proofs.lemmas.Bool.{and_from, and_left, and_parts, and_right, eqb-true, le-leb, leb-true, lt-leb, lt-ltb, ne_eqb}
+use Rattle.std.specs.List.{Contains, list_all}
 use Rattle.xmas_elf.specs.Types.{ProgramHeader64}
-use Rattle.elf_loading.specs.Bytes.{byte_of, is_of_file, is_zeroed, load_byte, offset_at}
-use Rattle.elf_loading.specs.LoadCheck.{file_end, fits_below, holds_address, lies_in, load_end, load_start}
+use Rattle.elf_loading.specs.Bytes.{is_zeroed, load_byte, offset_at}
+use Rattle.elf_loading.specs.LoadCheck.{file_end, lies_in, load_start}
 use Rattle.elf_loading.specs.Mappings.{mapped_end, maps_file}
 use Rattle.elf_loading.specs.Pages.{down}
-use Rattle.elf_loading.specs.declared.bytes.Byte.{Byte}
 use Rattle.elf_loading.specs.declared.bytes.Byte.TheVariants.{File, Zero}
 use Rattle.elf_loading.specs.declared.mapping.Loader.{Loader}
 use Rattle.elf_loading.specs.declared.mapping.Loader.TheVariants.{Kernel, Glibc}
-use Rattle.elf_loading.proofs.Apart.{AreApart}
-use Rattle.elf_loading.proofs.Held.{held}
-use Rattle.elf_loading.proofs.Rounded.{down_le, up_ge}
+use Rattle.elf_loading.proofs.Rounded.{up_ge}
 
 -- a test that each item of a list passes
 item_passes : (test : ProgramHeader64 → Bool) (k : ℕ) (loads : List ProgramHeader64) (load : ProgramHeader64) → list_all test loads ≡ true → k < length loads → slice_index_or loads k load ≡ load → test load ≡ true

@@ -1,5 +1,5 @@
 -- Why a file can't be loaded, as Linux and glibc decide it (this project's own list).
-use Rattle.std.specs.Prelude.{ℕ, ◌+◌, ◌-◌, ◌*◌, ◌==◌, ◌&&◌, ◌||◌, not, min, nat_le, nat_lt, slice_index, Bool, true, false, List, [], ◌∷◌, length, Option, Some, None, is_some, option_map, ok_or, Result, Ok, if◌then◌else◌}
+use Rattle.std.specs.Prelude.{ℕ, ◌+◌, ◌-◌, ◌*◌, ◌==◌, ◌&&◌, ◌||◌, not, min, nat_le, nat_lt, slice_index, Bool, false, List, [], ◌∷◌, length, Option, Some, None, is_some, ok_or, Result, Ok, if◌then◌else◌}
 use Rattle.std.specs.Int.{is_power_of_two}
 use Rattle.std.specs.List.{filter, last_or, list_any}
 use Rattle.elf_base.specs.FileHeader.{file_class, header_fields, type_number}

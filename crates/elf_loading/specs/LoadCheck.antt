@@ -1,5 +1,5 @@
 -- Why a load can't be mapped, as Linux and glibc decide it (this project's own list).
-use Rattle.std.specs.Prelude.{ℕ, ◌+◌, ◌%◌, ◌==◌, ◌&&◌, ◌||◌, not, nat_le, nat_lt, bit_and, Bool, List, [], ◌∷◌, Option, Some, None, is_none, unwrap_or, Result, Ok}
+use Rattle.std.specs.Prelude.{ℕ, ◌+◌, ◌%◌, ◌==◌, ◌&&◌, ◌||◌, not, nat_le, nat_lt, bit_and, Bool, List, [], ◌∷◌, Option, Some, is_none, unwrap_or, Result, Ok}
 use Rattle.std.specs.Int.{is_power_of_two}
 use Rattle.elf_base.specs.Refusal.{and_then, unless}
 use Rattle.xmas_elf.specs.Types.{ProgramHeader64}

@@ -1,5 +1,5 @@
 -- The mappings of a file, as Linux makes them for a program and its interpreter, and glibc for a library.
-use Rattle.std.specs.Prelude.{◌≡◌, ◌≤◌, ◌<◌, ℕ, ◌+◌, ◌-◌, ◌==◌, ◌&&◌, not, nat_le, nat_lt, Bool, true, List, [], ◌∷◌, length, Option, Some, None, slice_get, if◌then◌else◌}
+use Rattle.std.specs.Prelude.{◌≤◌, ◌<◌, ℕ, ◌==◌, not, nat_lt, Bool, true, List, [], ◌∷◌, Option, Some, None, if◌then◌else◌}
 use Rattle.std.specs.List.{cons_option}
 use Rattle.elf_records.specs.declared.program.Flags.{Flags}
 use Rattle.xmas_elf.specs.Types.{ProgramHeader64}

@@ -1,4 +1,4 @@
-use Rattle.std.proofs.Common.{◌≡◌, ◌∙◌, None, sym, subst}
+use Rattle.std.proofs.Common.{◌∙◌, None, sym, subst}
 use Rattle.std.specs.List.{AllByRecursion}
 use Rattle.elf_loading.specs.Bytes.{IsByteOf}
 use Rattle.elf_loading.specs.Mappings.{IsMapped, mappings_of}
