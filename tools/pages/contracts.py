@@ -28,7 +28,7 @@ from pages.writing import parser_of
 REASONS = ROOT / "docs" / "contracts.toml"
 
 # The libraries whose contracts users read, and the crates of callers.
-LIBRARIES = ("elf_base", "elf_records", "xmas_elf", "elf_linking", "elf_addresses")
+LIBRARIES = ("elf_base", "elf_records", "xmas_elf", "elf_linking", "elf_addresses", "elf_loading")
 CALLERS = ("elf_callers", "linking_callers")
 
 # Words of a clause that speak of Ok or Some alone.

@@ -1,0 +1,12 @@
+pub mod Rounded
+pub mod Fits
+pub mod Lists
+pub mod LoadChecks
+pub mod FileChecks
+pub mod Apart
+pub mod Follows
+pub mod Held
+pub mod LoadBytes
+pub mod Agree
+pub mod Headlines
+pub mod PartsLeft

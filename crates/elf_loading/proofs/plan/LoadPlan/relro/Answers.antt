@@ -1,0 +1,11 @@
+use Rattle.std.proofs.Common.{◌+◌, ◌<◌, ◌^◌, sym, arith}
+use Rattle.elf_loading.specs.Pages.{down}
+use Rattle.elf_loading.proofs.FileChecks.{passes_relro_fits}
+use Rattle.elf_loading.proofs.plan.LoadPlan.relro.Goals as goal
+
+pub overflow_cast-result : goal.overflow_cast-result
+overflow_cast-result c =
+    let plan = c.args.self.now in
+    let relro = c.in_ok-relro.relro in
+    let fits : down plan.page (relro.virtual_addr + relro.mem_size) < 2 ^ 64 = passes_relro_fits plan.file plan.page plan.limit plan.end relro plan.checked (sym c.in_ok-relro.ensures) (omega arith) (omega arith) in
+    omega (arith, fits, c.end_down.ensures)

@@ -1,0 +1,12 @@
+pub mod Message
+pub mod Pages
+pub mod Segments
+pub mod LoadCheck
+pub mod FileCheck
+pub mod Loads
+pub mod Spans
+pub mod Plan
+pub mod Mappings
+pub mod Bytes
+pub mod MappingParts
+pub mod MappingsLeft

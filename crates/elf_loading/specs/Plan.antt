@@ -1,0 +1,27 @@
+-- The plan of a load, by what its calls return.
+use Rattle.std.specs.Prelude.{◌≡◌, ℕ, List, Ok, Option, option_map}
+use Rattle.xmas_elf.specs.Types.{ElfFile, ProgramHeader64}
+use Rattle.elf_loading.specs.FileCheck.{check_file}
+use Rattle.elf_loading.specs.Segments.{loads_of, relro_of}
+use Rattle.elf_loading.specs.Spans.{relro_span}
+use Rattle.elf_loading.specs.declared.span.Span.{Span}
+use Rattle.elf_loading.specs.declared.plan.LoadPlan.{LoadPlan}
+
+-- the plan is of this file, with this page size, and the check of the file has ended
+pub record IsPlanOf (file : ElfFile) (page limit : ℕ) (plan : LoadPlan) : Type 0 where
+  pub checked : check_file file page limit ≡ Ok plan.end
+  pub of_file : plan.file ≡ file
+  pub page_is : plan.page ≡ page
+  pub limit_is : plan.limit ≡ limit
+
+-- the loads of a plan
+abbrev pub plan_loads : LoadPlan → List ProgramHeader64
+plan_loads plan = loads_of plan.file
+
+-- the page size of a plan
+abbrev pub plan_page : LoadPlan → ℕ
+plan_page plan = plan.page
+
+-- the pages of a plan that are read-only after relocation
+abbrev pub plan_relro : LoadPlan → Option Span
+plan_relro plan = option_map (relro_span plan.page) (relro_of plan.file)

@@ -1,0 +1,38 @@
+-- The addresses that a plan covers (this project's own).
+use Rattle.std.specs.Prelude.{ℕ, ◌+◌, ◌==◌, ◌&&◌, nat_le, nat_lt, Bool, false, List, [], ◌∷◌, Option, Some, None, Result, Ok, Err}
+use Rattle.xmas_elf.specs.Types.{ProgramHeader64}
+use Rattle.elf_loading.specs.LoadCheck.{load_end, load_start}
+use Rattle.elf_loading.specs.Pages.{down}
+use Rattle.elf_loading.specs.declared.error.LoadError.{LoadError}
+use Rattle.elf_loading.specs.declared.span.Span.{Span}
+
+-- the end of the pages of the last load, or `before` if there is none
+abbrev pub last_end : ℕ → ℕ → List ProgramHeader64 → ℕ
+last_end page before [] = before
+last_end page before (load ∷ loads) = last_end page (load_end page load) loads
+
+-- the start of the pages of the first load
+abbrev pub first_start : ℕ → List ProgramHeader64 → ℕ
+first_start page [] = 0
+first_start page (load ∷ loads) = load_start page load
+
+-- the addresses from the first page of the first load to the last of the last
+abbrev pub span_of : ℕ → List ProgramHeader64 → Span
+span_of page loads = record { start = first_start page loads; end = last_end page 0 loads }
+
+-- the pages of what is read-only after relocation: both ends are rounded down
+abbrev pub relro_span : ℕ → ProgramHeader64 → Span
+relro_span page relro = record {
+  start = down page relro.virtual_addr;
+  end = down page (relro.virtual_addr + relro.mem_size);
+}
+
+-- whether an address is in a range, if there is one
+abbrev pub is_in : Option Span → ℕ → Bool
+is_in (Some span) address = nat_le span.start address && nat_lt address span.end
+is_in None address = false
+
+-- whether a check ended with this number
+abbrev pub ends_at : Result ℕ LoadError → ℕ → Bool
+ends_at (Ok end) wanted = end == wanted
+ends_at (Err error) wanted = false

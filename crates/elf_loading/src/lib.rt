@@ -1,0 +1,25 @@
+//! What memory holds once a file is loaded, as Linux maps programs and glibc libraries.
+//!
+//! `LoadPlan::check_load` decides whether a file would be loaded. Its plan says which pages are
+//! mapped (`mappings`), which byte is at an address (`byte_at`), and the rest that a loader asks for:
+//! the span, what is read-only after relocation, thread-local storage, the stack, the interpreter
+//! and the entry point. No call allocates memory.
+#![tactic(auto)]
+
+mod bytes;
+mod error;
+mod file_check;
+mod load_check;
+mod mapping;
+mod mappings;
+mod pages;
+mod plan;
+mod segments;
+mod span;
+
+pub use crate::bytes::Byte;
+pub use crate::error::LoadError;
+pub use crate::mapping::{Contents, Loader, Mapping};
+pub use crate::mappings::Mappings;
+pub use crate::plan::{LoadPlan, Tls};
+pub use crate::span::Span;

@@ -1,0 +1,135 @@
+//! What a loader maps, and with which permissions.
+
+ghost use Rattle.std.specs.Prelude.{◌≡◌, ◌≤◌, ◌<◌, true};
+ghost use Rattle.std.specs.Iterator.{YieldsFirst};
+ghost use Rattle.elf_loading.specs.LoadCheck.{fits_below};
+ghost use Rattle.elf_loading.specs.MappingParts.{parts_of, parts_rest};
+ghost use Rattle.elf_loading.specs.Mappings.{file_mapping, gap_mapping, mapped_end, mapping_if};
+ghost use Rattle.elf_loading.specs.Mappings.{maps_file, zero_mapping};
+
+use crate::load_check::{file_end, load_end};
+use crate::pages::down;
+use xmas_elf::program::{Flags, ProgramHeader64};
+
+/// Whose way of mapping: they differ in what they leave in the rest of a page.
+#[derive(Clone, Copy, Debug, PartialEq, Eq)]
+pub enum Loader {
+    /// Linux, which maps a program and its interpreter. After the bytes of a load segment that has
+    /// more bytes in memory it writes zeros to the end of the page.
+    Kernel,
+    /// glibc, which maps libraries. It writes zeros only up to the end of the load segment, maps the
+    /// pages between load segments without access, and maps a page of the file for a load segment
+    /// without bytes that begins inside a page.
+    Glibc,
+}
+
+/// What a mapping holds.
+#[derive(Clone, Copy, Debug, PartialEq, Eq)]
+pub enum Contents {
+    /// Pages of the file, from this offset on.
+    File(u64),
+    /// Zeros.
+    Zero,
+    /// Nothing that can be read.
+    NoAccess,
+}
+
+/// Pages that are mapped at once.
+#[derive(Clone, Copy, Debug, PartialEq, Eq)]
+pub struct Mapping {
+    /// The first address, relative to the base.
+    pub start: u64,
+    /// The first address after the pages.
+    pub end: u64,
+    /// The permissions: those of the load segment, and none for `NoAccess`.
+    pub flags: Flags,
+    /// What the pages hold.
+    pub contents: Contents,
+}
+
+// A mapping, unless it is empty.
+#[inline(always)]
+fn mapping_if(start: u64, end: u64, flags: Flags, contents: Contents) -> Option<Mapping>
+    ensures { result ≡ mapping_if start end flags contents }
+{
+    if start >= end {
+        return None;
+    }
+    Some(Mapping {
+        start,
+        end,
+        flags,
+        contents,
+    })
+}
+
+// The end of the pages of the file that a loader maps for a load.
+#[inline(always)]
+pub(crate) fn mapped_end(page: u64, limit: u64, by: Loader, load: &ProgramHeader64) -> u64
+    requires page { 0 < page }
+    requires fits { fits_below page limit load.now ≡ true }
+    ensures { result ≡ mapped_end page by load.now }
+{
+    let mapped = match by {
+        Loader::Kernel => load.file_size != 0,
+        Loader::Glibc => true,
+    };
+    if mapped {
+        return file_end(page, limit, load);
+    }
+    down(page, load.virtual_addr)
+}
+
+// The mappings of a load that are still to be returned.
+#[derive(Clone, Copy, Debug)]
+pub(crate) struct Parts {
+    pub(crate) gap: Option<Mapping>,
+    pub(crate) pages: Option<Mapping>,
+    pub(crate) zeros: Option<Mapping>,
+}
+
+impl Parts {
+    // The mappings of a load, and of the gap before it.
+    #[inline(always)]
+    pub(crate) fn of(
+        page: u64,
+        limit: u64,
+        by: Loader,
+        before: Option<u64>,
+        load: &ProgramHeader64,
+    ) -> Parts
+        requires page { 0 < page }
+        requires fits { fits_below page limit load.now ≡ true }
+        ensures { result ≡ parts_of page by before load.now }
+    {
+        let start = down(page, load.virtual_addr);
+        let middle = mapped_end(page, limit, by, load);
+        let end = load_end(page, limit, load);
+        let gap = match (by, before) {
+            (Loader::Glibc, Some(before)) => {
+                mapping_if(before, start, Flags(0), Contents::NoAccess)
+            }
+            _ => None,
+        };
+        let contents = Contents::File(down(page, load.offset));
+        Parts {
+            gap,
+            pages: mapping_if(start, middle, load.flags, contents),
+            zeros: mapping_if(middle, end, load.flags, Contents::Zero),
+        }
+    }
+
+    // Returns the first of them, and removes it.
+    #[inline(always)]
+    pub(crate) fn next(&mut self) -> Option<Mapping>
+        ensures { YieldsFirst parts_rest self.old result self.new }
+    {
+        if self.gap.is_some() {
+            return self.gap.take();
+        }
+        if self.pages.is_some() {
+            return self.pages.take();
+        }
+        self.zeros.take()
+    }
+}

@@ -1,0 +1,55 @@
+//! Addresses and pages (gABI, "Program Loading").
+
+ghost use Rattle.std.specs.Prelude.{◌≡◌, ◌+◌, ◌<◌, ◌≤◌, ◌^◌, false, nat_lt};
+ghost use Rattle.elf_loading.specs.Pages.{down, up};
+
+// The last address up to `address` at which a page begins.
+#[tactic(auto, unfolding(crate::specs::Pages::down))]
+#[inline(always)]
+pub(crate) fn down(page: u64, address: u64) -> u64
+    requires { 0 < page }
+    ensures { result ≡ down page address }
+{
+    let inside = address % page;
+    address - inside
+}
+
+// The first address from `address` on at which a page begins.
+#[tactic(auto, using(crate::proofs::Rounded::up_at, crate::proofs::Rounded::up_in))]
+#[inline(always)]
+pub(crate) fn up(page: u64, address: u64) -> u64
+    requires page { 0 < page }
+    requires fits { up page address < 2 ^ 64 }
+    ensures { result ≡ up page address }
+{
+    if address % page == 0 {
+        return address;
+    }
+    address - address % page + page
+}
+
+// Whether the pages of `size` bytes from `address` on extend past a limit.
+#[tactic(auto, using(crate::proofs::Rounded::past_all, crate::proofs::Rounded::past_is, crate::proofs::Rounded::down_le))]
+#[inline(always)]
+pub(crate) fn is_past(page: u64, limit: u64, address: u64, size: u64) -> bool
+    requires { 0 < page }
+    ensures past { result ≡ nat_lt limit (up page (address + size)) }
+    ensures within { result ≡ false → address + size ≤ limit }
+{
+    let last = down(page, limit);
+    if address > last {
+        return true;
+    }
+    size > last - address
+}
+
+// The last address up to the end of `size` bytes from `start` on at which a page begins.
+#[tactic(auto, unfolding(crate::specs::Pages::down))]
+#[inline(always)]
+pub(crate) fn end_down(page: u64, start: u64, size: u64) -> u128
+    requires { 0 < page }
+    ensures { result ≡ down page (start + size) }
+{
+    let end = u128::from(start) + u128::from(size);
+    end - end % u128::from(page)
+}

@@ -1,0 +1,159 @@
+//! The plan of a load: what is put where in memory.
+
+ghost use Rattle.std.specs.Prelude.{◌<◌, ◌≡◌, true};
+ghost use Rattle.elf_loading.specs.FileCheck.{check_file};
+ghost use Rattle.elf_loading.specs.Segments.{loads_of};
+ghost use Rattle.elf_loading.specs.Spans.{ends_at, first_start};
+
+use crate::LoadError;
+use crate::file_check::{check_file, first_start};
+use crate::pages::{down, end_down};
+use crate::segments::{first_interpreter, last_relro, last_stack, last_tls};
+use crate::span::Span;
+use xmas_elf::ElfFile;
+use xmas_elf::bytes::bytes_up_to_zero;
+use xmas_elf::program::Flags;
+
+/// What a loader puts into memory for a file that Linux and glibc load.
+///
+/// Addresses are relative to the base: the addresses of the file for a file of type 2 (ET_EXEC); for
+/// type 3 (ET_DYN) a loader adds a number of its choice to each, such that the start of the span is
+/// a multiple of the greatest alignment of the load segments.
+#[derive(Debug, Drop)]
+pub struct LoadPlan<'a> {
+    pub(crate) file: ElfFile<'a>,
+    pub(crate) page: u64,
+    pub(crate) limit: u64,
+    pub(crate) start: u64,
+    pub(crate) end: u64,
+    ghost paged: { 0 < page },
+    ghost checked: { ends_at (check_file file page limit) end ≡ true },
+    ghost begins: { first_start page (loads_of file) ≡ start },
+}
+
+/// The template of thread-local storage (gABI, "Thread-Local Storage").
+#[derive(Clone, Copy, Debug, PartialEq, Eq)]
+pub struct Tls {
+    /// The address of the bytes that the file has.
+    pub address: u64,
+    /// The number of these bytes.
+    pub file_size: u64,
+    /// The size of the storage; zeros follow the bytes of the file.
+    pub mem_size: u64,
+    /// The alignment of the storage, a power of two.
+    pub align: u64,
+}
+
+impl<'a> LoadPlan<'a> {
+    ghost use Rattle.std.specs.Prelude.{Err, IfNone, IfSome, MatchOption, MatchResult, None, Some};
+    ghost use Rattle.std.specs.Prelude.{Ok, option_map, ◌≤◌};
+    ghost use Rattle.elf_base.specs.FileHeader.{header_fields};
+    ghost use Rattle.elf_base.specs.Text.{EndsInZero};
+    ghost use Rattle.elf_base.specs.Lent.{LiesAt};
+    ghost use Rattle.elf_loading.specs.Plan.{IsPlanOf, plan_loads, plan_relro};
+    ghost use Rattle.elf_loading.specs.Segments.{interpreter_of, stack_of, tls_of};
+    ghost use Rattle.elf_loading.specs.Spans.{span_of};
+
+    /// The plan for a file.
+    ///
+    /// `page` is the size of a page, a power of two such as 4096. `limit` is the end of the
+    /// addresses that a loader may use: 2^47 - 4096 for x86-64, 0xffffe000 for 386. The error is the
+    /// first that applies in the order of `LoadError`.
+    #[tactic(auto, using(crate::proofs::FileChecks::ok_ends))]
+    pub fn check_load(file: &ElfFile<'a>, page: u64, limit: u64) -> Result<LoadPlan<'a>, LoadError>
+        requires { 0 < page }
+        ensures { MatchResult result (IsPlanOf file.now page limit)
+            (λ error. check_file file.now page limit ≡ Err error) }
+    {
+        let end = check_file(page, limit, file)?;
+        let start = first_start(page, file);
+        Ok(LoadPlan {
+            file: ElfFile {
+                input: file.input,
+                header: file.header,
+            },
+            page,
+            limit,
+            start,
+            end,
+        })
+    }
+
+    /// The addresses from the first page of the first load segment to the last of the last one.
+    #[tactic(auto, using(crate::proofs::FileChecks::passes_end, crate::proofs::FileChecks::passes_order))]
+    pub fn span(&self) -> Span
+        ensures value { result ≡ span_of self.now.page (plan_loads self.now) }
+        ensures order { result.start ≤ result.end }
+    {
+        Span {
+            start: self.start,
+            end: self.end,
+        }
+    }
+
+    /// The address of the entry point (e_entry).
+    pub fn entry(&self) -> u64
+        ensures { result ≡ (header_fields self.now.file.header.pt2).entry_point }
+    {
+        self.file.header.pt2.entry_point()
+    }
+
+    /// The pages that are only readable after relocation: of the last PT_GNU_RELRO, both ends
+    /// rounded down to pages. The bytes after the last whole page stay writable.
+    #[tactic(auto, using(crate::proofs::FileChecks::passes_relro_fits))]
+    pub fn relro(&self) -> Option<Span>
+        ensures { result ≡ plan_relro self.now }
+    {
+        // This tells the proof that the limit is a number of 64 bits.
+        let _limit = self.limit;
+        let relro = last_relro(&self.file)?;
+        Some(Span {
+            start: down(self.page, relro.virtual_addr),
+            end: end_down(self.page, relro.virtual_addr, relro.mem_size) as u64,
+        })
+    }
+
+    /// The template of thread-local storage: the last PT_TLS that is not empty.
+    pub fn tls(&self) -> Option<Tls>
+        ensures { result ≡ option_map (λ tls. record {
+          address = tls.virtual_addr;
+          file_size = tls.file_size;
+          mem_size = tls.mem_size;
+          align = tls.align;
+        }) (tls_of self.now.file) }
+    {
+        let tls = last_tls(&self.file)?;
+        Some(Tls {
+            address: tls.virtual_addr,
+            file_size: tls.file_size,
+            mem_size: tls.mem_size,
+            align: tls.align,
+        })
+    }
+
+    /// The permissions of the stack: the flags of the last PT_GNU_STACK.
+    ///
+    /// Without one the machine's default holds. In a program for 386 all that is readable is then
+    /// executable, in its libraries too.
+    pub fn stack(&self) -> Option<Flags>
+        ensures { result ≡ option_map (λ stack. stack.flags) (stack_of self.now.file) }
+    {
+        last_stack(&self.file).map(|stack| stack.flags)
+    }
+
+    /// The path of the program interpreter, which lives as long as the input: the bytes of the first
+    /// PT_INTERP up to the first zero.
+    #[tactic(auto, using(crate::proofs::FileChecks::passes_path))]
+    pub fn interpreter(&self) -> Option<&'a [u8]>
+        ensures missing { IfNone result (interpreter_of self.now.file ≡ None) }
+        ensures found { IfSome result (λ path. MatchOption (interpreter_of self.now.file) ⊥
+            (λ segment. EndsInZero self.now.file.input.now segment.offset path.now
+            × LiesAt self.now.file.input segment.offset path)) }
+    {
+        let segment = first_interpreter(&self.file)?;
+        match bytes_up_to_zero(self.file.input, segment.offset as usize) {
+            Ok(path) => Some(path),
+            Err(_) => unreachable!(),
+        }
+    }
+}

@@ -1,0 +1,6 @@
+//! Tests of plans of loads, and callers to be copied.
+#![tactic(auto)]
+
+pub mod callers;
+#[cfg(test)]
+mod tests;

@@ -1,0 +1,9 @@
+//! Expected values are those of readelf and /proc/PID/maps, or worked out by hand from the
+//! definitions, and never taken from the program's output.
+
+mod bytes;
+mod messages;
+mod plans;
+mod refusals;
+mod rows;
+mod want;
