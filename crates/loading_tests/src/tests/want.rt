@@ -3,7 +3,7 @@
 use std::fmt::Debug;
 use std::process::Abort;
 
-/// Wants this answer in a row of a table, which a failure names.
+/// Wants this result in a row of a table, which a failure names.
 pub fn want_at<K: Debug + Drop, T: PartialEq + Debug + Drop>(
     rt: &impl Abort,
     row: K,
