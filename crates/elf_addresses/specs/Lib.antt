@@ -1,4 +1,6 @@
 pub mod Claims
+pub mod Index
+pub mod IndexNumber
 pub mod Candidates
 pub mod SymbolClaims
 pub mod SymbolAt
