@@ -13,7 +13,7 @@ use Rattle.elf_addresses.specs.declared.find.At.{At}
 use Rattle.elf_addresses.specs.declared.symbols.AddressSymbols.{AddressSymbols}
 use Rattle.elf_addresses.proofs.Foremost.{foremost_once}
 use Rattle.elf_addresses.proofs.Order.{nearest_order}
-use Rattle.elf_addresses.proofs.SymbolRanges.{if_some}
+use Rattle.elf_addresses.specs.SymbolRanges.{if_some}
 
 -- a claim is that of the symbol at its index
 pub claim_there : {E : Type 0} → {r : _} → (fields : E → SymbolFields) (symbols : AddressSymbols E r) (within : Option ℕ) (i : ℕ) (claim : Claim) (symbol : E) → claim_of_symbols fields symbols within i ≡ Some claim → Some symbol ≡ slice_get (symbol_items symbols) i → symbol_claim i (fields symbol) ≡ claim

@@ -1,6 +1,5 @@
 pub mod Order
 pub mod Foremost
-pub mod SymbolRanges
 pub mod ClaimsThere
 pub mod Ask
 pub mod Nested

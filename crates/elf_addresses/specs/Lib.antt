@@ -3,5 +3,6 @@ pub mod Index
 pub mod IndexNumber
 pub mod Candidates
 pub mod SymbolClaims
+pub mod SymbolRanges
 pub mod SymbolAt
 pub mod SectionAt

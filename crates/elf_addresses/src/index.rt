@@ -12,7 +12,7 @@ mod order;
 use crate::claim::{Claim, nearer};
 use crate::claims::Claims;
 use crate::index::ask::{last_begun, over, reach};
-use crate::index::build::parts;
+pub(crate) use crate::index::build::parts;
 pub use crate::index::build::{build_index, index_words};
 use crate::index::lasting::are_lasting;
 use crate::index::order::is_worst_first;

@@ -7,7 +7,7 @@ ghost use Rattle.elf_addresses.specs.Candidates.{is_mapping_letter, is_named, is
 ghost use Rattle.elf_addresses.specs.Candidates.{section_index, symbol_rank, type_rank};
 ghost use Rattle.elf_addresses.specs.SymbolClaims.{claim_if, claim_of_symbols, has_claim};
 ghost use Rattle.elf_addresses.specs.SymbolClaims.{range_of_symbols, symbol_count, symbol_items};
-ghost use Rattle.elf_addresses.proofs.SymbolRanges.{own_index, own_range};
+ghost use Rattle.elf_addresses.specs.SymbolRanges.{own_index, own_range};
 
 use crate::claim::Claim;
 use crate::claims::Claims;

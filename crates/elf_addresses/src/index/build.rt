@@ -24,7 +24,7 @@ pub fn index_words<C: Claims>(claims: &C) -> usize
 
 /// Builds an index in words: in the first of them, if there are more than it takes.
 ///
-/// Two passes over the claims, and a sort of the words. It takes no memory. The errors are
+/// Four passes over the claims, and two sorts of words. It takes no memory. The errors are
 /// `ManySymbols`, then `FewWords`; after an error the words are as they were.
 pub fn build_index<C: Claims>(claims: &C, words: &mut [u32]) -> Result<(), IndexError>
     ensures many { 2 ^ 32 ≤ C.count claims.now → result ≡ Err ManySymbols }
