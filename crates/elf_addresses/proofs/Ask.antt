@@ -1,11 +1,10 @@
 -- What an index whose words are in order answers.
-use Rattle.std.proofs.Common.{◌≡◌, ℕ, ◌<◌, ◌≤◌, ◌+◌, ◌-◌, ◌*◌, max, Bool, true, false, ◌==◌, List, length, slice_index, bit_and, nat_le, Option, None, Some, IfSome, MatchOption, is_some, if◌then◌else◌, ◌⊎◌, inl, inr, refl, ap, subst, sym, ◌∙◌, arith, get_or}
-use Rattle.std.specs.List.{AllWithin}
-use Rattle.std.specs.List.Sorted.{IsNonDecreasingBy, IsPartitionedBy, IsPartitionPoint}
-use Rattle.std.proofs.lemmas.Bool.{both_ways, cases_Bool, cases_eq, cases_lt, cases_order, eqb-true, leb-true, leb-false}
+use Rattle.std.proofs.Common.{◌≡◌, ℕ, ◌<◌, ◌≤◌, ◌+◌, ◌-◌, max, Bool, true, false, ◌==◌, List, length, slice_index, bit_and, nat_le, Option, None, Some, IfSome, MatchOption, is_some, if◌then◌else◌, inl, inr, refl, ap, subst, sym, ◌∙◌, arith, get_or}
+use Rattle.std.specs.List.Sorted.{IsPartitionedBy, IsPartitionPoint}
+use Rattle.std.proofs.lemmas.Bool.{cases_Bool, cases_eq, cases_lt, cases_order, eqb-true, leb-true, leb-false}
 use Rattle.std.proofs.lemmas.List.Sorted.{IsNonDecreasingBy-from_default, IsPartitionedBy-leb}
-use Rattle.elf_addresses.specs.Claims.{Among, Covers, IsClaimAt, IsForemost, IsInnermost, IsNearest, IsOpenBelow, NoneAt, begins_nearer, comes_before, first_by}
-use Rattle.elf_addresses.specs.Index.{AreLasting, InBlock, IsKind, IsWorstFirst, OutlastsBlock, StandsAt, end_at}
+use Rattle.elf_addresses.specs.Claims.{Among, Covers, IsClaimAt, IsForemost, IsInnermost, IsNearest, NoneAt, begins_nearer, comes_before, first_by}
+use Rattle.elf_addresses.specs.Index.{AreLasting, InBlock, IsKind, IsWorstFirst, StandsAt, end_at}
 use Rattle.elf_addresses.specs.declared.claim.Claim.{Claim}
 use Rattle.elf_addresses.proofs.Foremost.{foremost_of_both}
 use Rattle.elf_addresses.proofs.Order.{begins_later, comes_before-once, innermost_order, nearer-parts, nearest_order, not_nearer, sized_first}

@@ -1,6 +1,6 @@
 -- An index of the claims of a table, in words, and when it is well built (this project's own).
-use Rattle.std.specs.Prelude.{◌≡◌, ◌≤◌, ◌<◌, ℕ, ◌+◌, ◌-◌, ◌*◌, ◌++◌, max, min, bit_and, Bool, true, false, ◌==◌, ◌&&◌, ◌||◌, not, zero, suc, List, [], ◌∷◌, length, take, drop, slice_index, Option, None, Some, IfSome, is_some, option_map, unwrap_or, if◌then◌else◌}
-use Rattle.elf_addresses.specs.Claims.{Among, Covers, FindsOpenBelow, IsForemost, IsInnermost, comes_before, less_or}
+use Rattle.std.specs.Prelude.{◌≡◌, ◌≤◌, ◌<◌, ℕ, ◌+◌, ◌-◌, ◌++◌, max, bit_and, Bool, true, false, ◌==◌, ◌&&◌, ◌||◌, not, zero, suc, List, [], ◌∷◌, length, take, drop, slice_index, Option, None, Some, if◌then◌else◌}
+use Rattle.elf_addresses.specs.Claims.{Among, comes_before, less_or}
 use Rattle.elf_addresses.specs.declared.claim.Claim.{Claim}
 
 -- a claim is open, or it is sized

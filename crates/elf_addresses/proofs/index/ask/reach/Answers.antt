@@ -1,5 +1,4 @@
 use Rattle.std.proofs.Common.{◌≡◌, ◌+◌, ◌-◌, ◌<◌, true, false, length, is_some, arith}
-use Rattle.elf_addresses.specs.Claims.{Covers, NoneAt}
 use Rattle.elf_addresses.proofs.Ask.{among_at, none_at_first, none_from, none_from_next, none_reached, reached}
 use Rattle.elf_addresses.proofs.index.ask.reach.Goals as goal
 

@@ -1,9 +1,7 @@
-use Rattle.std.proofs.Common.{arith}
 use Rattle.std.proofs.lemmas.Bool.{iff_false}
-use Rattle.std.proofs.lemmas.Nat.{and_le_r}
 use Rattle.elf_addresses.specs.Index.{end_at}
 use Rattle.std.proofs.lemmas.Bool.{cases_lt}
-use Rattle.std.proofs.Common.{◌≤◌, ◌<◌, ◌⊎◌, inl, inr, slice_index}
+use Rattle.std.proofs.Common.{◌≤◌, inl, inr, slice_index}
 use Rattle.elf_addresses.proofs.Ask.{passed_block}
 use Rattle.elf_addresses.proofs.index.ask.step_back.Goals as goal
 

@@ -1,5 +1,5 @@
-use Rattle.std.proofs.Common.{◌≡◌, ◌<◌, ◌≤◌, ◌+◌, true, length, ap, sym, ◌∙◌, arith}
-use Rattle.elf_addresses.specs.Index.{is_kind, listed}
+use Rattle.std.proofs.Common.{◌≡◌, ◌<◌, true, length, ap, sym, ◌∙◌, arith}
+use Rattle.elf_addresses.specs.Index.{is_kind}
 use Rattle.elf_addresses.proofs.Listed.{bit, length_listed-more, room_listed}
 use Rattle.elf_addresses.proofs.Sorted.{list_step}
 use Rattle.elf_addresses.proofs.index.order.list_words.Goals as goal

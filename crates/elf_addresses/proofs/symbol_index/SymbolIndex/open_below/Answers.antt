@@ -1,4 +1,4 @@
-use Rattle.std.proofs.Common.{◌≡◌, ◌≤◌, Some, None, IfSome, Option, subst, sym}
+use Rattle.std.proofs.Common.{◌≡◌, ◌≤◌, Some, None, subst, sym}
 use Rattle.elf_addresses.specs.Claims.{Among, FindsOpenBelow}
 use Rattle.elf_addresses.specs.Index.{IsWellBuilt}
 use Rattle.elf_addresses.specs.SymbolClaims.{claim_of_symbols, range_of_symbols}

@@ -1,4 +1,4 @@
-use Rattle.std.proofs.Common.{◌≡◌, Some, None, IfSome, Option, subst, sym, ap, ◌∙◌}
+use Rattle.std.proofs.Common.{Some, None, IfSome, Option, subst, sym}
 use Rattle.elf_addresses.specs.Claims.{Among, Covers, IsInnermost}
 use Rattle.elf_addresses.specs.Index.{IsWellBuilt}
 use Rattle.elf_addresses.specs.SymbolClaims.{claim_of_symbols, range_of_symbols}
