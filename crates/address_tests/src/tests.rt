@@ -3,6 +3,7 @@
 
 mod candidates;
 mod files;
+mod index;
 mod nearest;
 mod ranges;
 mod rows;

@@ -1,22 +1,19 @@
 -- The claim at an index is that of the symbol there.
-use Rattle.std.proofs.Common.{◌≡◌, ℕ, ◌≤◌, ◌==◌, Bool, true, false, Option, None, Some, MatchOption, slice_get, refl, ap, subst, sym, ◌∙◌, if◌then◌else◌}
+use Rattle.std.proofs.Common.{◌≡◌, ℕ, ◌≤◌, ◌==◌, Bool, true, false, Option, None, Some, IfSome, MatchOption, slice_get, refl, ap, subst, sym, ◌∙◌, if◌then◌else◌}
 use Rattle.std.proofs.lemmas.Bool.{eqb-false, eqb-true}
 use Rattle.std.proofs.lemmas.Option.{option_and_then_some}
 use Rattle.xmas_elf.specs.Symbol.{SymbolFields}
 use Rattle.xmas_elf.specs.Table.{table_items}
 use Rattle.elf_addresses.specs.Candidates.{section_index}
-use Rattle.elf_addresses.specs.Claims.{IsOpenBelow, begins_nearer}
-use Rattle.elf_addresses.specs.SymbolAt.{IsOpenSymbol, TellsAt}
+use Rattle.elf_addresses.specs.Claims.{Among, IsOpenBelow, begins_nearer}
+use Rattle.elf_addresses.specs.SymbolAt.{IsInSection, IsOpenSymbol, TellsAt}
 use Rattle.elf_addresses.specs.SymbolClaims.{claim_if, claim_of_symbols, has_claim, symbol_claim, symbol_items}
 use Rattle.elf_addresses.specs.declared.claim.Claim.{Claim}
 use Rattle.elf_addresses.specs.declared.find.At.{At}
 use Rattle.elf_addresses.specs.declared.symbols.AddressSymbols.{AddressSymbols}
 use Rattle.elf_addresses.proofs.Foremost.{foremost_once}
 use Rattle.elf_addresses.proofs.Order.{nearest_order}
-
-if_some : (b : Bool) (one claim : Claim) → ◌≡◌ {A = Option Claim} (if b then Some one else None) (Some claim) → one ≡ claim
-if_some true one claim is = cc
-if_some false one claim is = absurd (cc)
+use Rattle.elf_addresses.specs.SymbolRanges.{if_some}
 
 -- a claim is that of the symbol at its index
 pub claim_there : {E : Type 0} → {r : _} → (fields : E → SymbolFields) (symbols : AddressSymbols E r) (within : Option ℕ) (i : ℕ) (claim : Claim) (symbol : E) → claim_of_symbols fields symbols within i ≡ Some claim → Some symbol ≡ slice_get (symbol_items symbols) i → symbol_claim i (fields symbol) ≡ claim
@@ -53,3 +50,16 @@ open_symbol {E} {r} fields symbols within address section claim at found below s
       tells = tells;
     }
     picked false h = λ o open_one. eqb-false (section_index (table_items symbols.indices) (fields at.symbol) at.index) section h (once o open_one)
+
+-- a symbol without a size that names addresses, if its section is the one that is asked for
+pub in_section : {E : Type 0} → {r : _} → (fields : E → SymbolFields) (symbols : AddressSymbols E r) (within : Option ℕ) (address section : ℕ) (at : At E) (found : Option (At E)) → Among (claim_of_symbols fields symbols within) (λ claim. (claim.size ≡ 0) × (claim.begin ≤ address)) (symbol_claim at.index (fields at.symbol)) → TellsAt fields symbols address at → found ≡ (if section_index (table_items symbols.indices) (fields at.symbol) at.index == section then Some at else None) → IfSome found (IsInSection fields symbols within address section)
+in_section {E} {r} fields symbols within address section at found among tells is =
+    subst (λ (o : Option (At E)). IfSome o (IsInSection fields symbols within address section)) (sym is) (picked (section_index (table_items symbols.indices) (fields at.symbol) at.index == section) refl)
+  where
+    picked : (b : Bool) → (section_index (table_items symbols.indices) (fields at.symbol) at.index == section) ≡ b → IfSome (if b then Some at else None) (IsInSection fields symbols within address section)
+    picked true h = record {
+      among = among;
+      in_section = eqb-true (section_index (table_items symbols.indices) (fields at.symbol) at.index) section h;
+      tells = tells;
+    }
+    picked false h = tt

@@ -1,3 +1,9 @@
 pub mod Order
 pub mod Foremost
 pub mod ClaimsThere
+pub mod Ask
+pub mod Nested
+pub mod Listed
+pub mod Sorted
+pub mod Lasting
+pub mod Build

@@ -1,7 +1,8 @@
 -- The order of claims: transitive, and total on claims with different indices.
-use Rattle.std.proofs.Common.{◌≡◌, ℕ, ◌<◌, ◌≤◌, Bool, true, false, ◌&&◌, ◌⊎◌, inl, inr, nat_lt, nat_eq, sym, arith}
+use Rattle.std.proofs.Common.{◌≡◌, ℕ, ◌<◌, ◌≤◌, Bool, true, false, ◌&&◌, ◌⊎◌, inl, inr, nat_lt, nat_eq, cond, ◌==◌, sym, ap, ◌∙◌, arith}
 use Rattle.std.proofs.lemmas.Bool.{and_cases, and_from, and_parts, and_right, both_ways, cases_order, eq-eqb, eqb-false, eqb-true, false_from_ne_true, le-ltb, lt-ltb, ltb-false, ltb-true, or_cases, or_from, or_left, or_parts, or_right}
 use Rattle.elf_addresses.specs.Claims.{begins_nearer, comes_before, less_or, openness}
+use Rattle.elf_addresses.specs.Index.{IsKind}
 use Rattle.elf_addresses.specs.declared.claim.Claim.{Claim}
 
 -- an order that is transitive, and total on claims with different indices
@@ -132,3 +133,91 @@ nearer-total a b differ = less_or-total b.begin a.begin (comes_before a b) (come
 
 pub nearest_order : IsOrder begins_nearer
 nearest_order = record { trans = nearer-trans; same = nearer-same; total = nearer-total }
+
+-- what an order by numbers says of two claims of a kind
+pub less_or-more : (m n : ℕ) (x : Bool) → n < m → less_or m n x ≡ false
+less_or-more m n x more = false_from_ne_true (less_or m n x) (λ h. elim (less_or-cases m n x h) [ inl less ↦ omega arith | inr (same, _) ↦ omega arith ])
+
+same_openness : (is_open : Bool) (c d : Claim) → IsKind is_open c → IsKind is_open d → openness d ≡ openness c
+same_openness is_open c d kc kd = let same : (d.size == 0) ≡ (c.size == 0) = kd ∙ sym kc in ap (λ (b : Bool). cond b 1 0) same
+
+-- of two claims of a kind, the one that is further in does not begin earlier
+pub begins_later : (is_open : Bool) (c d : Claim) → IsKind is_open c → IsKind is_open d → comes_before d c ≡ true → c.begin ≤ d.begin
+unfolding comes_before
+begins_later is_open c d kc kd h =
+    let same : openness d ≡ openness c = same_openness is_open c d kc kd in
+    elim (less_or-cases (openness d) (openness c) (by_begin d c) h) [
+      | inl less ↦ absurd (omega (arith, same))
+      | inr (_, rest) ↦ elim (less_or-cases c.begin d.begin (by_size d c) rest) [ inl less ↦ omega arith | inr (eq, _) ↦ omega arith ]
+    ]
+
+-- of two claims of a kind, the one that begins later is further in
+pub later_further_in : (is_open : Bool) (c d : Claim) → IsKind is_open c → IsKind is_open d → c.begin < d.begin → comes_before d c ≡ true
+unfolding comes_before
+later_further_in is_open c d kc kd less =
+    less_or-eq (openness d) (openness c) (by_begin d c) (same_openness is_open c d kc kd) (less_or-lt c.begin d.begin (by_size d c) less)
+
+-- a sized claim comes before an open one
+pub sized_before : (c d : Claim) → IsKind false c → IsKind true d → comes_before c d ≡ true
+unfolding comes_before
+sized_before c d kc kd =
+    let one : openness c ≡ 0 = ap (λ (b : Bool). cond b 1 0) kc in
+    let other : openness d ≡ 1 = ap (λ (b : Bool). cond b 1 0) kd in
+    less_or-lt (openness c) (openness d) (by_begin c d) (omega (arith, one, other))
+
+pub sized_first : (c d : Claim) → IsKind false c → IsKind true d → comes_before d c ≡ false
+sized_first c d kc kd = comes_before-once c d (sized_before c d kc kd)
+
+-- a claim that is not nearer
+pub nearer-parts : (a b : Claim) → begins_nearer a b ≡ false → (a.begin ≤ b.begin) × (a.begin ≡ b.begin → comes_before a b ≡ false)
+unfolding begins_nearer
+nearer-parts a b h =
+    let (less, rest) = or_parts (nat_lt b.begin a.begin) (nat_eq b.begin a.begin && comes_before a b) h in (
+      ltb-false b.begin a.begin less,
+      λ same. elim (and_cases (nat_eq b.begin a.begin) (comes_before a b) rest) [
+        | inl differ ↦ absurd (eqb-false b.begin a.begin differ (sym same))
+        | inr fails ↦ fails
+      ],
+    )
+
+pub not_nearer : (a b : Claim) → a.begin ≤ b.begin → comes_before a b ≡ false → begins_nearer a b ≡ false
+unfolding begins_nearer
+not_nearer a b le fails =
+    or_from (nat_lt b.begin a.begin) (nat_eq b.begin a.begin && comes_before a b) (le-ltb b.begin a.begin le) (and_right (nat_eq b.begin a.begin) (comes_before a b) fails)
+
+-- an order by a number and then by another one, where it fails
+pub less_or-parts : (m n : ℕ) (x : Bool) → less_or m n x ≡ false → (n ≤ m) × (m ≡ n → x ≡ false)
+less_or-parts m n x h =
+    let (less, rest) = or_parts (nat_lt m n) (nat_eq m n && x) h in (
+      ltb-false m n less,
+      λ same. elim (and_cases (nat_eq m n) x rest) [ inl differ ↦ absurd (eqb-false m n differ same) | inr fails ↦ fails ],
+    )
+
+less_or-chain : (l m n : ℕ) (x y z : Bool) → (x ≡ false → y ≡ false → z ≡ false) → less_or l m x ≡ false → less_or m n y ≡ false → less_or l n z ≡ false
+less_or-chain l m n x y z next one other =
+    let (down, last) = less_or-parts l m x one in
+    let (down', last') = less_or-parts m n y other in
+    false_from_ne_true (less_or l n z) (λ h. elim (less_or-cases l n z h) [
+      | inl less ↦ omega arith
+      | inr (same, holds) ↦ both_ways z (next (last (omega arith)) (last' (omega arith))) holds
+    ])
+
+by_index-chain : (a b c : Claim) → by_index a b ≡ false → by_index b c ≡ false → by_index a c ≡ false
+by_index-chain a b c p q =
+    let one : b.index ≤ a.index = ltb-false a.index b.index p in
+    let other : c.index ≤ b.index = ltb-false b.index c.index q in
+    le-ltb a.index c.index (omega arith)
+
+by_rank-chain : (a b c : Claim) → by_rank a b ≡ false → by_rank b c ≡ false → by_rank a c ≡ false
+by_rank-chain a b c = less_or-chain a.rank b.rank c.rank (by_index a b) (by_index b c) (by_index a c) (by_index-chain a b c)
+
+by_size-chain : (a b c : Claim) → by_size a b ≡ false → by_size b c ≡ false → by_size a c ≡ false
+by_size-chain a b c = less_or-chain a.size b.size c.size (by_rank a b) (by_rank b c) (by_rank a c) (by_rank-chain a b c)
+
+by_begin-chain : (a b c : Claim) → by_begin a b ≡ false → by_begin b c ≡ false → by_begin a c ≡ false
+by_begin-chain a b c p q = less_or-chain c.begin b.begin a.begin (by_size b c) (by_size a b) (by_size a c) (λ y x. by_size-chain a b c x y) q p
+
+-- where one claim does not come before another, nor that before a third, the first does not come before the third
+pub comes_before-chain : (a b c : Claim) → comes_before a b ≡ false → comes_before b c ≡ false → comes_before a c ≡ false
+unfolding comes_before
+comes_before-chain a b c = less_or-chain (openness a) (openness b) (openness c) (by_begin a b) (by_begin b c) (by_begin a c) (by_begin-chain a b c)

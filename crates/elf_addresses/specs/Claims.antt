@@ -1,5 +1,5 @@
 -- Ranges of addresses that overlap, and which of them is the innermost at an address (this project's own).
-use Rattle.std.specs.Prelude.{◌≡◌, ◌≤◌, ◌<◌, ◌+◌, ℕ, max, Bool, true, false, ◌&&◌, ◌||◌, ◌==◌, nat_eq, nat_lt, Option, None, Some, MatchOption, if◌then◌else◌}
+use Rattle.std.specs.Prelude.{◌≡◌, ◌≤◌, ◌<◌, ◌+◌, ℕ, max, Bool, false, ◌&&◌, ◌||◌, ◌==◌, nat_eq, nat_lt, Option, None, Some, MatchOption, if◌then◌else◌}
 use Rattle.elf_addresses.specs.declared.claim.Claim.{Claim}
 
 -- the first address after a range; an open claim covers its first address

@@ -1,5 +1,8 @@
 pub mod Claims
+pub mod Index
+pub mod IndexNumber
 pub mod Candidates
 pub mod SymbolClaims
+pub mod SymbolRanges
 pub mod SymbolAt
 pub mod SectionAt

@@ -34,3 +34,12 @@ claim_if fields symbols within index symbol =
 abbrev pub claim_of_symbols : {E : Type 0} → {r : _} → (E → SymbolFields) → AddressSymbols E r → Option ℕ → ℕ → Option Claim
 claim_of_symbols fields symbols within index =
     option_and_then (claim_if fields symbols within index) (slice_get (symbol_items symbols) index)
+
+-- the first address and the size of a symbol; 0 if there is none
+abbrev pub symbol_range : {E : Type 0} → (E → SymbolFields) → Option E → ℕ × ℕ
+symbol_range fields None = (0, 0)
+symbol_range fields (Some symbol) = ((fields symbol).value, (fields symbol).size)
+
+-- those of the symbol at an index, whether or not it names addresses
+abbrev pub range_of_symbols : {E : Type 0} → {r : _} → (E → SymbolFields) → AddressSymbols E r → ℕ → ℕ × ℕ
+range_of_symbols fields symbols index = symbol_range fields (slice_get (symbol_items symbols) index)

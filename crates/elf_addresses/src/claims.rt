@@ -19,6 +19,17 @@ pub trait Claims {
     ghost within: { (claims : Self) (i : ℕ) (claim : Claim)
         → claim_of claims i ≡ Some claim → i < count claims };
 
+    /// The first address and the size at an index: those of the claim, if there is one.
+    ghost range_of: { Self → ℕ → ℕ × ℕ };
+
+    /// A claim has the index that it is found at.
+    ghost own: { (claims : Self) (i : ℕ) (claim : Claim)
+        → claim_of claims i ≡ Some claim → claim.index ≡ i };
+
+    /// The range of a claim is that at its index.
+    ghost ranged: { (claims : Self) (i : ℕ) (claim : Claim)
+        → claim_of claims i ≡ Some claim → range_of claims i ≡ (claim.begin, claim.size) };
+
     /// The number of indices.
     fn count(&self) -> usize
         ensures { result ≡ count self.now };
@@ -27,11 +38,16 @@ pub trait Claims {
     fn claim(&self, index: usize) -> Option<Claim>
         ensures claim { result ≡ claim_of self.now index }
         ensures own { IfSome result (λ claim. claim.index ≡ index) };
+
+    /// The first address and the size at an index: those of the claim, if there is one, and
+    /// otherwise any numbers. This may be faster than `claim`.
+    fn range(&self, index: usize) -> (u64, u64)
+        ensures { result ≡ range_of self.now index };
 }
 
 // The claim at an index, if it covers an address.
 #[inline(always)]
-fn covering<C: Claims>(claims: &C, index: usize, address: u64) -> Option<Claim>
+pub(crate) fn covering<C: Claims>(claims: &C, index: usize, address: u64) -> Option<Claim>
     ensures { MatchOption result
         (NoneAt (C.claim_of claims.now) (λ claim. Covers claim address) index)
         (λ claim. IsClaimAt (C.claim_of claims.now) index claim × Covers claim address
@@ -58,7 +74,7 @@ pub fn innermost<C: Claims>(claims: &C, address: u64) -> Option<Claim>
 
 // The claim at an index, if it begins at an address or below it.
 #[inline(always)]
-fn begun<C: Claims>(claims: &C, index: usize, address: u64) -> Option<Claim>
+pub(crate) fn begun<C: Claims>(claims: &C, index: usize, address: u64) -> Option<Claim>
     ensures { MatchOption result
         (NoneAt (C.claim_of claims.now) (λ claim. claim.begin ≤ address) index)
         (λ claim. IsClaimAt (C.claim_of claims.now) index claim × (claim.begin ≤ address)

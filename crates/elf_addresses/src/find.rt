@@ -74,7 +74,7 @@ pub fn open_below<E: Entry + Record>(
 
 // A symbol, if its section has this index.
 #[inline(always)]
-fn if_in_section<E: Entry + Record>(
+pub(crate) fn if_in_section<E: Entry + Record>(
     symbols: &AddressSymbols<'_, E>,
     at: At<E>,
     section: u32,

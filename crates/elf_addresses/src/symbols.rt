@@ -6,7 +6,8 @@ ghost use Rattle.elf_addresses.specs.Candidates.{binding_rank, has_address, is_m
 ghost use Rattle.elf_addresses.specs.Candidates.{is_mapping_letter, is_named, is_within};
 ghost use Rattle.elf_addresses.specs.Candidates.{section_index, symbol_rank, type_rank};
 ghost use Rattle.elf_addresses.specs.SymbolClaims.{claim_if, claim_of_symbols, has_claim};
-ghost use Rattle.elf_addresses.specs.SymbolClaims.{symbol_count, symbol_items};
+ghost use Rattle.elf_addresses.specs.SymbolClaims.{range_of_symbols, symbol_count, symbol_items};
+ghost use Rattle.elf_addresses.specs.SymbolRanges.{own_index, own_range};
 
 use crate::claim::Claim;
 use crate::claims::Claims;
@@ -109,6 +110,14 @@ impl<E: Entry + Record> Claims for SymbolClaims<'_, '_, E> {
         (slice_get (symbol_items claims.symbols.now) i) claim is
         (λ symbol there _. slice_get_within (symbol_items claims.symbols.now) i symbol there) };
 
+    ghost range_of = { λ claims. range_of_symbols E.fields claims.symbols.now };
+
+    ghost own = { λ claims i claim is.
+        own_index E.fields claims.symbols.now claims.within i claim is };
+
+    ghost ranged = { λ claims i claim is.
+        own_range E.fields claims.symbols.now claims.within i claim is };
+
     #[inline(always)]
     fn count(&self) -> usize {
         self.symbols.table.len()
@@ -126,6 +135,14 @@ impl<E: Entry + Record> Claims for SymbolClaims<'_, '_, E> {
             rank: rank_of(symbol.info()),
             index,
         })
+    }
+
+    #[inline(always)]
+    fn range(&self, index: usize) -> (u64, u64) {
+        match self.symbols.table.get(index) {
+            Some(symbol) => (symbol.value(), symbol.size()),
+            None => (0, 0),
+        }
     }
 }
 

@@ -2,7 +2,7 @@
 
 use crate::tests::rows::{F, Row, symbols, table_bytes};
 use crate::tests::want::want_at;
-use elf_addresses::open_below;
+use elf_addresses::{SymbolIndex, open_below};
 use std::test::Fail;
 
 // Symbols of size 0 at 0x10 and 0x20, in sections 1 and 2; of size 4 at 0x30; and two at 0x40, of
@@ -35,8 +35,15 @@ const ASKED: &[(u64, u32, Option<(usize, u64)>)] = &[
 fn finds_the_open_symbol_below(rt: HostRuntime) -> Result<(), Fail> {
     let bytes = table_bytes(rt.alloc(), ROWS)?;
     let symbols = symbols(&rt, &bytes, &[], 62);
+    let mut words = [0; 6];
+    SymbolIndex::build(&symbols, None, &mut words)?;
+    let index = SymbolIndex::lend(&symbols, None, &words);
     for &(address, section, wanted) in ASKED {
         let found = open_below(&symbols, address, section, None).map(|at| (at.index, at.offset));
+        want_at(&rt, (address, section), found, wanted);
+        let found = index
+            .open_below(address, section)
+            .map(|at| (at.index, at.offset));
         want_at(&rt, (address, section), found, wanted);
     }
     Ok(())

@@ -1,7 +1,7 @@
 //! Tables of symbols that are written out, and what is asked of them.
 
 use crate::tests::want::want_at;
-use elf_addresses::{AddressSymbols, symbol_at};
+use elf_addresses::{AddressSymbols, At, SymbolIndex, symbol_at};
 use std::alloc::{AllocError, Global};
 use std::process::Abort;
 use std::test::Fail;
@@ -48,13 +48,27 @@ pub fn symbols<'a>(
     }
 }
 
-/// Wants these results for a table of a file for x86-64.
+/// The index of a symbol, the offset in it, and whether it has no size.
+pub fn place(found: Option<At<DynEntry64>>) -> Option<(usize, u64, bool)> {
+    found.map(|at| (at.index, at.offset, at.open))
+}
+
+/// Wants these results for a table of a file for x86-64, by a pass over it and by an index.
 pub fn check(rt: &impl Abort, alloc: Global, rows: &[Row], asked: &[Asked]) -> Result<(), Fail> {
     let bytes = table_bytes(alloc, rows)?;
     let symbols = symbols(rt, &bytes, &[], 62);
+    let mut words = vec![in alloc; 0u32; SymbolIndex::words(&symbols, None)]?;
+    SymbolIndex::build(&symbols, None, &mut words)?;
+    let index = SymbolIndex::lend(&symbols, None, &words);
+    want_at(rt, "the index", index.check(), true);
     for &(address, wanted) in asked {
-        let found = symbol_at(&symbols, address, None).map(|at| (at.index, at.offset, at.open));
-        want_at(rt, address, found, wanted);
+        want_at(
+            rt,
+            address,
+            place(symbol_at(&symbols, address, None)),
+            wanted,
+        );
+        want_at(rt, address, place(index.symbol_at(address)), wanted);
     }
     Ok(())
 }

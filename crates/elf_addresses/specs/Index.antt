@@ -1,0 +1,83 @@
+-- An index of the claims of a table, in words, and when it is well built (this project's own).
+use Rattle.std.specs.Prelude.{◌≡◌, ◌≤◌, ◌<◌, ℕ, ◌+◌, ◌-◌, ◌++◌, max, bit_and, Bool, true, false, ◌==◌, ◌&&◌, ◌||◌, not, zero, suc, List, [], ◌∷◌, length, take, drop, slice_index, Option, None, Some, if◌then◌else◌}
+use Rattle.elf_addresses.specs.Claims.{Among, comes_before, less_or}
+use Rattle.elf_addresses.specs.declared.claim.Claim.{Claim}
+
+-- a claim is open, or it is sized
+abbrev pub IsKind : Bool → Claim → Type 0
+IsKind is_open claim = (claim.size == 0) ≡ is_open
+
+-- the claim is the one at the index that the word at a place is
+abbrev pub StandsAt : (ℕ → Option Claim) → List ℕ → ℕ → Claim → Type 0
+StandsAt claim_of words place claim = (place < length words) × (claim_of (slice_index words place) ≡ Some claim)
+
+-- the word at a place is the index of an open claim, or of a sized one
+abbrev pub IsWord : (ℕ → Option Claim) → Bool → List ℕ → ℕ → Type 0
+IsWord claim_of is_open words place = (claim : Claim) × StandsAt claim_of words place claim × IsKind is_open claim
+
+-- the words are the indices of the open claims, or of the sized ones: each is there, and the one that is further in is later
+pub record IsWorstFirst (claim_of : ℕ → Option Claim) (is_open : Bool) (words : List ℕ) : Type 0 where
+  pub each : (place : ℕ) → place < length words → IsWord claim_of is_open words place
+  pub all : (claim : Claim) → Among claim_of (IsKind is_open) claim → (place : ℕ) × StandsAt claim_of words place claim
+  pub order : (j k : ℕ) (c d : Claim) → j < k → StandsAt claim_of words j c → StandsAt claim_of words k d → comes_before d c ≡ true
+
+-- the first address after the range at a place, by the first address and the size at an index
+abbrev pub end_at : (ℕ → ℕ × ℕ) → List ℕ → ℕ → ℕ
+end_at range_of words place = let range = range_of (slice_index words place) in range.0 + max range.1 1
+
+-- a place is in the block that ends before k: the block begins at k without its lowest bit that is 1
+abbrev pub InBlock : ℕ → ℕ → Type 0
+InBlock k place = (bit_and k (k - 1) ≤ place) × (place < k)
+
+-- a place of the block that ends before k, and no place of the block has a range that ends later
+pub record OutlastsBlock (range_of : ℕ → ℕ × ℕ) (words : List ℕ) (k place : ℕ) : Type 0 where
+  pub inside : InBlock k place
+  pub last : (j : ℕ) → InBlock k j → end_at range_of words j ≤ end_at range_of words place
+
+-- for each place, the place in the block up to it whose range ends last
+pub record AreLasting (range_of : ℕ → ℕ × ℕ) (words lasting : List ℕ) : Type 0 where
+  pub count : length lasting ≡ length words
+  pub each : (place : ℕ) → place < length words → OutlastsBlock range_of words (place + 1) (slice_index lasting place)
+
+-- the sized claims in order, the places in each block whose ranges end last, and the open claims in order
+pub record IsWellBuilt (claim_of : ℕ → Option Claim) (range_of : ℕ → ℕ × ℕ) (sized lasting starts : List ℕ) : Type 0 where
+  pub order : IsWorstFirst claim_of false sized
+  pub blocks : AreLasting range_of sized lasting
+  pub rest : IsWorstFirst claim_of true starts
+
+-- whether there is a claim, and it is open or sized as is asked
+abbrev pub is_kind : Bool → Option Claim → Bool
+is_kind is_open None = false
+is_kind is_open (Some claim) = if is_open then claim.size == 0 else not (claim.size == 0)
+
+-- the indices below n of the open claims, or of the sized ones
+abbrev pub listed : (ℕ → Option Claim) → Bool → ℕ → List ℕ
+listed claim_of is_open zero = []
+listed claim_of is_open (suc n) = listed claim_of is_open n ++ (if is_kind is_open (claim_of n) then n ∷ [] else [])
+
+-- the number of words that an index takes: two for each sized claim, and one for each open one
+abbrev pub word_count : (ℕ → Option Claim) → ℕ → ℕ
+word_count claim_of count = length (listed claim_of false count) + length (listed claim_of false count) + length (listed claim_of true count)
+
+-- words begin with a well built index: the sized claims, as many places, and the open claims
+abbrev pub IsBuilt : (ℕ → Option Claim) → (ℕ → ℕ × ℕ) → ℕ → List ℕ → Type 0
+IsBuilt claim_of range_of count words =
+    let sized = length (listed claim_of false count) in
+    IsWellBuilt claim_of range_of (take sized words) (take sized (drop sized words)) (take (length (listed claim_of true count)) (drop sized (drop sized words)))
+
+-- another claim is further in than a claim; no claim comes first
+abbrev pub is_behind : Option Claim → Option Claim → Bool
+is_behind None None = false
+is_behind None (Some other) = true
+is_behind (Some one) None = false
+is_behind (Some one) (Some other) = comes_before other one
+
+-- the order by which words are sorted: by the first addresses at two indices, then by their claims
+abbrev pub is_worse : (ℕ → Option Claim) → (ℕ → ℕ × ℕ) → ℕ → ℕ → Bool
+is_worse claim_of range_of one other = less_or (range_of one).0 (range_of other).0 (is_behind (claim_of one) (claim_of other))
+
+-- the word at a place is the index of a claim of the kind, and it is further in than the claim of the word before it
+abbrev pub in_order_at : (ℕ → Option Claim) → Bool → List ℕ → ℕ → Bool
+in_order_at claim_of is_open words place =
+    is_kind is_open (claim_of (slice_index words place))
+    && (place == 0 || is_behind (claim_of (slice_index words (place - 1))) (claim_of (slice_index words place)))
