@@ -137,7 +137,7 @@ impl<'a> LoadPlan<'a> {
     }
 
     /// Writes the bytes of the span into `image`: byte `i` is that at the start of the span plus
-    /// `i`, and 0 where no load segment has a page.
+    /// `i`, and 0 where no load segment has a page. It reads the program headers again for each byte.
     ///
     /// The error is `ImageSize` if the length of `image` is not that of the span; nothing is written
     /// then.
