@@ -24,8 +24,8 @@ SAMPLE = CRATES / "elfanswers" / "data"
 FIRST = (BOUND / "libfirst.so").read_bytes()
 # What this library alone is bound to, as `readelf -rsW` says of it before its section headers are cut off.
 FIRST_LINES = "".join(f"a.elf {line}\n" for line in (
-    "per_thread@V1 -> a.elf 0x4", "per_thread@V1 -> a.elf 0x4", "shared@V1 -> a.elf 0x16d4", "own@V1 -> a.elf 0x4e3", "own@V1 -> a.elf 0x4e3",
-    "choose@V1 -> a.elf 0x4f5"))
+    "per_thread@V1 -> a.elf 0x4", "per_thread@V1 -> a.elf 0x4", "shared@V1 -> a.elf 0x16d4", "kept@V1 -> a.elf 0x4d7",
+    "own@V1 -> a.elf 0x4e3", "own@V1 -> a.elf 0x4e3", "choose@V1 -> a.elf 0x4f5"))
 
 
 @dataclasses.dataclass(frozen=True)
