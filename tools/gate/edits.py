@@ -128,7 +128,7 @@ class EditedCrate(Crate):
                 beside[edit.beside()].append((edit, self.renamed(edit, number)))
         apart = {edit.label() for some in beside.values() for edit, _ in some}
         placed = [it for it in edits if it.label() not in apart]
-        in_place = {one for it in placed for one in it.functions}
+        in_place = {one for it in placed for one in it.functions if one}
         over = self.texts if whole else self.with_stand_ins(in_place)
         texts = self.changed(placed, over)
         now, of = {it: it for it in self.functions}, {}
