@@ -1,9 +1,6 @@
 //! The relocations that name a symbol, in files of both classes and orders that are written field by
 //! field, and in a small shared object as `readelf -W -r` shows it.
 
-use crate::tests::versions::file::{
-    KINDS, PROGRAMS, set_entry, set_header, set_program, set_segment_end, sizes,
-};
 use crate::tests::want::{open, want, want_at};
 use elf_base::ElfError;
 use elf_base::bytes::Order;
@@ -15,6 +12,9 @@ use std::process::Abort;
 use worked_files::files::with_class;
 use worked_files::linked::small::SMALL;
 use worked_files::places::{Place, set};
+use worked_files::versioned::{
+    KINDS, PROGRAMS, set_entry, set_header, set_program, set_segment_end, sizes,
+};
 use xmas_elf::symbol_table::DynEntry64;
 
 // Where the dynamic entries are, the relocations with and without addends, and those of the

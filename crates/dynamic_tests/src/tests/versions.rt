@@ -1,12 +1,7 @@
 //! Versions of symbols in files of both classes and orders, written field by field from the layouts
 //! of the records.
 
-pub mod file;
-
 use crate::tests::version_parts::parts;
-use crate::tests::versions::file::{
-    ALL, DEFINITIONS, Field, KINDS, NEEDS, NUMBERS_ENTRY, set_fields, set_segment_end, version_file,
-};
 use crate::tests::want::{open, want, want_at};
 use elf_base::ElfError;
 use elf_base::bytes::text_at;
@@ -19,6 +14,9 @@ use linking_callers::callers::versions::{
 use std::process::Abort;
 use worked_files::linked::versions::{NARROW, NARROW_TABLES, WIDE, WIDE_TABLES};
 use worked_files::places::put;
+use worked_files::versioned::{
+    ALL, DEFINITIONS, Field, KINDS, NEEDS, NUMBERS_ENTRY, set_fields, set_segment_end, version_file,
+};
 
 const SHORT: LinkError = LinkError::ShortVersion;
 

@@ -1,7 +1,7 @@
 //! A file with the version tables that its dynamic entries name.
 
-use elf_base::bytes::Order;
-use worked_files::places::{Place, header_32, header_64, program_32, program_64, put, set};
+use crate::places::{Place, header_32, header_64, program_32, program_64, put, set};
+use xmas_elf::bytes::Order;
 
 const LITTLE: Order = Order::Little;
 
