@@ -15,6 +15,7 @@ mod references;
 mod relr;
 mod sections;
 mod shared_object;
+mod symbols;
 mod version_parts;
 mod versions;
 mod view;

@@ -79,6 +79,17 @@ impl<'a, E: Entry + Record> SymbolTable<'a, E> {
         self.table
     }
 
+    /// The string table of the names, or the error for it; `None` if names are not texts of one
+    /// table.
+    pub fn strings(&self) -> Option<Result<&'a [u8], ElfError>>
+        ensures { result ≡ carried_strings self.now }
+    {
+        match &self.names {
+            Names::Strings(found) => Some(*found),
+            Names::File(_) => None,
+        }
+    }
+
     /// The symbol at an index, or `None` past the end of the table.
     #[inline(always)]
     pub fn get(&self, index: usize) -> Option<E>
