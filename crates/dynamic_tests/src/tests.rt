@@ -12,6 +12,7 @@ mod object;
 mod relr;
 mod sections;
 mod shared_object;
+mod symbols;
 mod version_parts;
 mod versions;
 mod view;

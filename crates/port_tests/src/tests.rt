@@ -19,6 +19,7 @@ mod segments;
 mod shared_object;
 mod sizes;
 mod symbol_numbers;
+mod symbol_ranges;
 mod symbol_sections;
 mod symbols;
 mod tables;

@@ -4,7 +4,7 @@ use Rattle.elf_base.specs.Table.{table_data}
 use Rattle.elf_linking.specs.DynamicObject.{no_entries, no_strings, no_symbols, no_table, no_versions}
 use Rattle.elf_linking.specs.DynamicView.{view_entries}
 use Rattle.elf_linking.proofs.DynamicObjects.{versions_by}
-use Rattle.elf_linking.proofs.object.DynamicObject.read.Goals as goal
+use Rattle.elf_linking.proofs.object.DynamicObject.read_for.Goals as goal
 
 pub returns-in_err-view : goal.returns-in_err-view
 returns-in_err-view g c =
