@@ -65,6 +65,8 @@ ORACLES = {
     "recipes": Oracle([], [], (built("elfrecipes"), "readelf", "gcc")),
     "versions": Oracle(SYSTEM, LIBRARIES, (ARCHIVE, "readelf", "cargo")),
     "dlsym": Oracle([], LIBRARIES, (ARCHIVE, "llvm-readelf", "gcc"), ("bindings/python/wheel_backend.py",)),
+    "addresses": Oracle([], ["--libraries", "2", "--addresses", "2000", "--each", "300", *LIBRARIES[:1]],
+        (built("elfaddr"), "gcc")),
     "bindings": Oracle(["--dir", "/usr/bin", "--dir", "/usr/sbin"], ["/usr/bin/readelf", "/usr/bin/python3"],
         (built("elfbind"), "llvm-readelf")),
     "fuzz_bindings": Oracle(["--seed", "1", "--count", "2500"], ["--seed", "1", "--count", "100"],

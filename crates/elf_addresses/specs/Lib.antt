@@ -6,3 +6,6 @@ pub mod SymbolClaims
 pub mod SymbolRanges
 pub mod SymbolAt
 pub mod SectionAt
+pub mod Reached
+pub mod Dladdr
+pub mod DladdrRanges

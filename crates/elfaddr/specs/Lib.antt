@@ -1,0 +1,4 @@
+pub mod Lines
+pub mod Symtab
+pub mod Tables
+pub mod Ends
