@@ -8,8 +8,10 @@ use Rattle.elf_base.specs.declared.error.ElfError.{ElfError}
 use Rattle.elf_base.specs.FileHeader.{file_class, file_order}
 use Rattle.elf_base.specs.Table.{table_data, table_order}
 use Rattle.elf_base.specs.declared.bytes.table.Table.{Table}
-use Rattle.elf_linking.specs.DynamicObject.{AreOfClassFor, IsNameAt, same_class}
-use Rattle.elf_linking.specs.DynamicView.{AreSymbolsFor, as_link_error, counted_symbols_of, text_in_strings}
+use Rattle.elf_linking.specs.DynamicObject.{AreOfClassFor, IsNameAt, IsObjectFor, IsObjectRefusedFor, IsReachedObject, IsReachedRefused, no_part, same_class}
+use Rattle.elf_linking.specs.DynamicView.{AreSymbolsFor, as_link_error, counted_symbols_of, dynamic_entries_of, text_in_strings}
+use Rattle.elf_linking.specs.References.{IsReachedCount}
+use Rattle.elf_linking.specs.declared.object.DynamicObject.{DynamicObject}
 use Rattle.elf_linking.specs.Loaded.{lent}
 use Rattle.elf_linking.specs.VersionTables.{VersionTables, version_tables_of}
 use Rattle.elf_linking.specs.declared.error.LinkError.{LinkError}
@@ -73,3 +75,9 @@ texts_ok text symbol at own part found same texts =
 pub texts_err : {E : Type 0} (text : E → Option (List ℕ)) (symbol : E) (at : Option E) (own : Option (List ℕ)) (error : LinkError) → Some symbol ≡ at → own ≡ text symbol → ((name : List ℕ) → (own ≡ Some name) ↔ ⊥) → AreTexts text (Err error) at
 texts_err text symbol at own error found same texts =
     subst (AreTexts text (Err error)) found (subst (λ t. (name : List ℕ) → (t ≡ Some name) ↔ ⊥) same texts)
+
+-- what is read of a file with as many symbols as are reached
+pub reached : {E : Type 0} → {r : _} → (class size : ℕ) (file : ElfFile) (entries : List (Dynamic ℕ)) (count : ℕ) (found : Result (DynamicObject E r) LinkError) → dynamic_entries_of file ≡ Ok entries → IsReachedCount file entries (Ok count)
+    → MatchResult found (IsObjectFor (Some count) class size file) (IsObjectRefusedFor (Some count) class size file) → MatchResult found (IsReachedObject class size file) (IsReachedRefused class size file)
+reached class size file entries count (Ok object) read counts is = record { entries = entries; count = count; entries_are = read; counted = counts; object_is = is }
+reached class size file entries count (Err error) read counts is = no_part entries count error read counts is

@@ -11,7 +11,7 @@ use Rattle.elf_base.specs.declared.bytes.table.Table.{Table}
 use Rattle.elf_linking.specs.AnyTable.{IsLinkedTable}
 use Rattle.elf_linking.specs.DynamicView.{AreSymbolsFor, LieAsSymbols, LiesAsFileStrings, LiesAsStrings, bytes_in_strings, dynamic_entries_of, strings_by, dynamic_strings_of, text_in_strings, view_entries, view_strings, view_table}
 use Rattle.elf_linking.specs.Find.{DynamicSymbols, dynamic_symbols}
-use Rattle.elf_linking.specs.References.{file_machine}
+use Rattle.elf_linking.specs.References.{IsReachedCount, file_machine}
 use Rattle.elf_linking.specs.VersionTables.{version_tables, version_tables_of}
 use Rattle.elf_linking.specs.declared.any_table.AnyTable.{AnyTable}
 use Rattle.elf_linking.specs.declared.error.LinkError.{LinkError}
@@ -135,6 +135,23 @@ pub data IsObjectRefusedFor (count : Option ℕ) (class size : ℕ) (file : ElfF
 -- the same where the hash table counts the symbols
 abbrev pub IsObjectRefused : ℕ → ℕ → ElfFile → LinkError → Type 0
 IsObjectRefused class size file error = IsObjectRefusedFor None class size file error
+
+-- the object is that of a file with as many symbols as look-ups and relocations reach
+pub record IsReachedObject {E : Type 0} {r : _} (class size : ℕ) (file : ElfFile) (object : DynamicObject E r) : Type 0 where
+  pub entries : List (Dynamic ℕ)
+  pub count : ℕ
+  pub entries_are : dynamic_entries_of file ≡ Ok entries
+  pub counted : IsReachedCount file entries (Ok count)
+  pub object_is : IsObjectFor (Some count) class size file object
+
+-- why there is no such object: the first error, of the entries, of the count, or of what is read then
+pub data IsReachedRefused (class size : ℕ) (file : ElfFile) : LinkError → Type 0 where
+  no_view : (error : LinkError) → dynamic_entries_of file ≡ Err error → IsReachedRefused class size file error
+  no_count : (entries : List (Dynamic ℕ)) (error : LinkError) → dynamic_entries_of file ≡ Ok entries
+      → IsReachedCount file entries (Err error) → IsReachedRefused class size file error
+  no_part : (entries : List (Dynamic ℕ)) (count : ℕ) (error : LinkError) → dynamic_entries_of file ≡ Ok entries
+      → IsReachedCount file entries (Ok count) → IsObjectRefusedFor (Some count) class size file error
+      → IsReachedRefused class size file error
 
 -- the text in a string table at the name of the symbol at an index, or why there is none
 abbrev pub name_of_symbol : {E : Type 0} → (E → SymbolFields) → List ℕ → Option E → Result (List ℕ) LinkError

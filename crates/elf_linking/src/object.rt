@@ -44,6 +44,7 @@ impl<'a, E: LinkedSymbol> DynamicObject<'a, E> {
     ghost use Rattle.elf_linking.specs.DynamicObject.{AreOfClassFor, IsNameAt, IsObject};
     ghost use Rattle.elf_linking.specs.DynamicObject.{IsObjectFor, IsObjectRefused};
     ghost use Rattle.elf_linking.specs.DynamicObject.{IsObjectRefusedFor, object_dynamic_symbols};
+    ghost use Rattle.elf_linking.specs.DynamicObject.{IsReachedObject, IsReachedRefused};
     ghost use Rattle.elf_linking.specs.DynamicObject.{object_file, object_machine, object_name};
     ghost use Rattle.elf_linking.specs.DynamicObject.{object_name_bytes, object_records};
     ghost use Rattle.elf_linking.specs.DynamicObject.{object_strings};
@@ -82,6 +83,20 @@ impl<'a, E: LinkedSymbol> DynamicObject<'a, E> {
             (IsObjectRefusedFor (Some count) E.CLASS E.SIZE file.now) }
     {
         Self::read_for(file, Some(count))
+    }
+
+    /// Reads the same with as many symbols as look-ups and relocations reach: the result of
+    /// `read_counted` for that of `DynamicView::reached_count`.
+    ///
+    /// Errors, the first of these: those of `DynamicView::read`; those of
+    /// `DynamicView::reached_count`; those of `read_counted`.
+    pub fn read_reached(file: &ElfFile<'a>) -> Result<Self, LinkError>
+        ensures { MatchResult result (IsReachedObject E.CLASS E.SIZE file.now)
+            (IsReachedRefused E.CLASS E.SIZE file.now) }
+    {
+        let view = DynamicView::read(file)?;
+        let count = view.reached_count(file)?;
+        Self::read_counted(file, count)
     }
 
     // Reads the dynamic segment of a file with as many symbols as are given, otherwise with as many
@@ -317,7 +332,8 @@ impl<'a, E: LinkedSymbol> DynamicObject<'a, E> {
         file: &ElfFile<'a>,
         count: Option<u64>,
     ) -> Result<Table<'a, E>, LinkError>
-        ensures exact { let are = AreOfClassFor count E.CLASS E.SIZE file.now (view_entries view.now) in
+        ensures exact { let are
+            = AreOfClassFor count E.CLASS E.SIZE file.now (view_entries view.now) in
             MatchResult result
             (λ symbols. are (Ok (table_data symbols))
             × (table_order symbols ≡ file_order file.now.header))

@@ -1,7 +1,8 @@
 //! All references of the objects of a scope, and what each gets (gABI, "Relocation" and "Dynamic
 //! Section").
 
-ghost use Rattle.std.specs.Prelude.{◌≡◌, ◌+◌, ◌<◌, [], ◌∷◌, Err, IfSome, MatchResult, None, Ok, MatchOption, IsSomeAnd, length, slice_get};
+ghost use Rattle.std.specs.Prelude.{◌≡◌, ◌+◌, ◌<◌, [], ◌∷◌, Err, IfSome, MatchOption, MatchResult};
+ghost use Rattle.std.specs.Prelude.{length};
 ghost use Rattle.std.specs.Iterator.{YieldsFirst, YieldsFirstBy, item_count};
 ghost use Rattle.elf_linking.specs.Bindings.{IsAskedAt, IsItemOf, bindings_left, bindings_objects};
 ghost use Rattle.elf_linking.specs.Bindings.{current_left, reference_of_item, references_from};

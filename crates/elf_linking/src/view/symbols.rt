@@ -102,8 +102,8 @@ impl<'a> DynamicView<'a> {
         file: &ElfFile<'a>,
         count: u64,
     ) -> Result<Table<'a, E>, LinkError>
-        ensures exact { let answer = counted_symbols_of file.now (view_entries self.now) count E.SIZE in
-            MatchResult result
+        ensures exact { let answer
+            = counted_symbols_of file.now (view_entries self.now) count E.SIZE in MatchResult result
             (λ symbols. (answer ≡ Ok (table_data symbols))
             × (table_order symbols ≡ file_order file.now.header))
             (λ error. answer ≡ Err error) }
@@ -126,7 +126,8 @@ impl<'a> DynamicView<'a> {
     ) -> Result<&'a [u8], LinkError>
         requires above { 0 < size }
         requires below { size ≤ 24 }
-        ensures exact { lent result ≡ counted_symbols_of file.now (view_entries self.now) count size }
+        ensures exact { lent result
+            ≡ counted_symbols_of file.now (view_entries self.now) count size }
         ensures whole { IfOk result (λ bytes. length bytes.now % size ≡ 0) }
         ensures place { IfOk result (LieAsSymbols file.now (view_entries self.now)) }
     {
