@@ -28,7 +28,7 @@ BOUNDS = {
     "elf_linking::gnu_hash::lookup GnuHashTable::lookup_in": 105,
     "elf_linking::object DynamicObject::find": 190,
     "elf_linking::scope Scope::bind": 255,
-    "elf_linking::values value_by_name": 260,
+    "elf_linking::values value_by_name": 265,
 }
 ROOM = re.compile(r"(<!-- (read|bytes) ([^>]*) -->\n).*?(<!-- end -->)", re.S)
 

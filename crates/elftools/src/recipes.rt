@@ -1,15 +1,11 @@
-//! Runs the recipes of `elf_callers` over a file: `elfrecipes PATH` prints what each gives, under a
-//! line with its name in brackets.
-#![tactic(auto)]
+//! The recipes of `elf_callers` over a file.
 
-use anyhow::Context;
 use elf_callers::recipes::{
     first_symbols, print_build_id, print_needed, print_needed_by_segments, print_relocations,
     print_sections, print_symbols, segment_of_address, text_of,
 };
-use std::fs::File;
-use std::io::{BufWriter, Read, Write};
-use std::{env, io};
+use std::io;
+use std::io::Write;
 use xmas_elf::ElfFile;
 
 // The recipes that print.
@@ -46,14 +42,8 @@ fn print_answers<W: Write>(file: &ElfFile<'_>, out: &mut W) -> io::Result<()> {
     Ok(())
 }
 
-fn main(rt: HostRuntime) -> anyhow::Result<()> {
-    let path = env::args(&rt)?.nth(1).context("usage: elfrecipes PATH")?;
-    let mut input = Vec::new(rt.alloc());
-    File::open(&rt, path.as_str())?.read_to_end(&mut input)?;
-    let file = ElfFile::new(&input)?;
-    let mut out = BufWriter::new(rt.alloc(), rt.stdout())?;
-    print_all(&file, &mut out)?;
-    print_answers(&file, &mut out)?;
-    out.flush()?;
-    Ok(())
+/// Writes what each recipe gives, under a line with its name in brackets.
+pub fn write_recipes<W: Write>(file: &ElfFile<'_>, out: &mut W) -> io::Result<()> {
+    print_all(file, out)?;
+    print_answers(file, out)
 }

@@ -1,3 +1,5 @@
+pub mod AllBound
+pub mod CountedSymbols
 pub mod FirstNotes
 pub mod LinkedFunction
 pub mod LinkedName

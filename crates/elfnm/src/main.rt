@@ -1,0 +1,37 @@
+//! Prints the sections of an ELF file, and the symbols of a 64-bit one: `elfnm PATH`. A name that
+//! can't be read is `?`.
+#![tactic(auto)]
+
+use anyhow::Context;
+use std::env;
+use std::fs::File;
+use std::io::{BufWriter, Read, Write};
+use xmas_elf::ElfFile;
+use xmas_elf::sections::SectionData;
+use xmas_elf::symbol_table::{Entry, SymbolTable};
+
+fn main(rt: HostRuntime) -> anyhow::Result<()> {
+    let path = env::args(&rt)?.nth(1).context("usage: elfnm PATH")?;
+    let mut input = Vec::new(rt.alloc());
+    File::open(&rt, path.as_str())?.read_to_end(&mut input)?;
+    let file = ElfFile::new(&input)?;
+    let mut out = BufWriter::new(rt.alloc(), rt.stdout())?;
+    writeln!(out, "{} sections", file.section_count())?;
+    for section in file.section_iter() {
+        let name = file.get_shstr_bytes(section.name()).unwrap_or(b"?");
+        write!(out, "{:6} ", section.size())?;
+        out.write_all(name)?;
+        writeln!(out)?;
+        if let Ok(SectionData::SymbolTable64(symbols)) = section.get_data(&file) {
+            let names = SymbolTable::new(symbols, &file);
+            for symbol in symbols {
+                let name = names.name_bytes_of(&symbol).unwrap_or(b"?");
+                write!(out, "    {:016x} ", symbol.value())?;
+                out.write_all(name)?;
+                writeln!(out)?;
+            }
+        }
+    }
+    out.flush()?;
+    Ok(())
+}
