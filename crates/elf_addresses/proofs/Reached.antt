@@ -96,10 +96,13 @@ starts_next table words k bucket are i within =
     full : (n : ℕ) → get_or words i 0 ≡ suc n → IsLeast (λ b. (b < k) × Starts table i b) (suc n) → IsLeast Now (get_or new i 0)
     full n is ((below, starts), least) =
         let same : get_or new i 0 ≡ suc n = kept words (start_word table k) (k + 1) i (λ _ is_zero _. absurd (omega arith)) ∙ is in
-        subst (λ w. IsLeast Now w) (sym same) ((omega arith, starts), λ m has. elim (cases_lt m k) [
-          | inl less ↦ least m (less, has.1)
-          | inr more ↦ omega arith
-        ])
+        subst (λ w. IsLeast Now w) (sym same) (
+          (omega arith, starts),
+          λ m has. elim (cases_lt m k) [
+            | inl less ↦ least m (less, has.1)
+            | inr more ↦ omega arith
+          ],
+        )
 
     empty : get_or words i 0 ≡ 0 → i < length words → ((b : ℕ) → (b < k) × Starts table i b → ⊥) → IsLeast Now (get_or new i 0)
     empty is inside none = elim (cases_eq (start_word table k) i) [
@@ -107,10 +110,13 @@ starts_next table words k bucket are i within =
         | inl above ↦
             let word : get_or new i 0 ≡ k + 1 = subst (λ s. get_or (with_start words s (k + 1)) i 0 ≡ k + 1) (sym same) (written words i (k + 1) above inside is) in
             let after : get_or new i 0 ≡ suc k = omega arith in
-            subst (λ w. IsLeast Now w) (sym after) ((omega arith, starts_there table k i bucket above same), λ m has. elim (cases_lt m k) [
-              | inl less ↦ absurd (none m (less, has.1))
-              | inr more ↦ more
-            ])
+            subst (λ w. IsLeast Now w) (sym after) (
+              (omega arith, starts_there table k i bucket above same),
+              λ m has. elim (cases_lt m k) [
+                | inl less ↦ absurd (none m (less, has.1))
+                | inr more ↦ more
+              ],
+            )
         | inr none_above ↦
             let word : get_or new i 0 ≡ 0 = kept words (start_word table k) (k + 1) i (λ _ _ above. absurd (omega arith)) ∙ is in
             subst (λ w. IsLeast Now w) (sym word) (λ n has. let above : 0 < i = has.1.above in absurd (omega arith))

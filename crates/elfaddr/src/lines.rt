@@ -45,10 +45,7 @@ impl<C: Named> Output for Lines<'_, '_, '_, '_, C> {
 }
 
 // A line for each address.
-fn write_each<C: Named, W: Write>(
-    lines: &Lines<'_, '_, '_, '_, C>,
-    out: &mut W,
-) -> io::Result<()>
+fn write_each<C: Named, W: Write>(lines: &Lines<'_, '_, '_, '_, C>, out: &mut W) -> io::Result<()>
     ensures { OnOk result (AppendsSome (AreLines (C.claim_of lines.now.index.claims.now)
         (C.name_of lines.now.index.claims.now) lines.now.file.now lines.now.addresses.now)
         (W.contents out.old) (W.contents out.new)) }

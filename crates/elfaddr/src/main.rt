@@ -168,7 +168,15 @@ fn run_on_lines(rt: &HostRuntime, path: &str, source: Source, text: &str) -> io:
 fn run_on_file(rt: &HostRuntime, path: &str, source: Source, addresses: &[u64]) -> u8 {
     let file = File::open(rt, path).ok();
     let (mut out, mut err) = (rt.stdout(), rt.stderr());
-    run(rt.alloc(), path, source, addresses, file, &mut out, &mut err)
+    run(
+        rt.alloc(),
+        path,
+        source,
+        addresses,
+        file,
+        &mut out,
+        &mut err,
+    )
 }
 
 // The symbols that the first argument asks for, and the arguments after it.

@@ -75,11 +75,16 @@ pub fn sanity_check(file: &ElfFile<'_>) -> Result<(), ElfError>
 #[inline(always)]
 fn check_tables(file: &ElfFile<'_>, part: &HeaderPt2_<P64>) -> Result<(), ElfError>
     requires { part.now ≡ header_fields file.now.header.pt2 }
-    ensures { result ≡ unless (
-        (nat_lt (length file.now.input.now)
-        (program_place file.now.header (program_count_of file.now)), ElfError.PhTableRange)
-        ∷ (nat_lt (length file.now.input.now)
-        (section_place file.now.header (section_count_of file.now)), ElfError.ShTableRange)
+    ensures { result ≡ unless ((
+      nat_lt (length file.now.input.now)
+          (program_place file.now.header (program_count_of file.now)),
+      ElfError.PhTableRange,
+    )
+        ∷ (
+          nat_lt (length file.now.input.now)
+              (section_place file.now.header (section_count_of file.now)),
+          ElfError.ShTableRange,
+        )
         ∷ []) tt }
 {
     if part.ph_count == PN_XNUM || part.sh_count == 0 {
@@ -88,10 +93,20 @@ fn check_tables(file: &ElfFile<'_>, part: &HeaderPt2_<P64>) -> Result<(), ElfErr
         let class = file.header.pt1.class;
         return check_wide_tables(file.input, programs, sections, class, file.byte_order());
     }
-    if !short_table_is_within(file.input, part.ph_offset, part.ph_entry_size, part.ph_count) {
+    if !short_table_is_within(
+        file.input,
+        part.ph_offset,
+        part.ph_entry_size,
+        part.ph_count,
+    ) {
         return Err(ElfError::PhTableRange);
     }
-    if !short_table_is_within(file.input, part.sh_offset, part.sh_entry_size, part.sh_count) {
+    if !short_table_is_within(
+        file.input,
+        part.sh_offset,
+        part.sh_entry_size,
+        part.sh_count,
+    ) {
         return Err(ElfError::ShTableRange);
     }
     Ok(())
@@ -109,11 +124,16 @@ fn check_wide_tables(
     class: Class_,
     order: Order,
 ) -> Result<(), ElfError>
-    ensures { result ≡ (let first = first_by input.now sections.0 sections.1 (class_number class) order in unless (
-        (nat_lt (length input.now) (entry_place programs.0 programs.1
-        (if programs.2 == 0xffff then option_map_or (λ h. (section_fields h).info) first 0xffff else programs.2)), ElfError.PhTableRange)
-        ∷ (nat_lt (length input.now) (entry_place sections.0 sections.1
-        (if sections.2 == 0 then option_map_or (λ h. (section_fields h).size) first 0 else sections.2)), ElfError.ShTableRange)
+    ensures { result ≡ (let first = first_by input.now sections.0 sections.1 (class_number class) order in unless ((
+      nat_lt (length input.now) (entry_place programs.0 programs.1
+          (if programs.2 == 0xffff then option_map_or (λ h. (section_fields h).info) first 0xffff else programs.2)),
+      ElfError.PhTableRange,
+    )
+        ∷ (
+          nat_lt (length input.now) (entry_place sections.0 sections.1
+              (if sections.2 == 0 then option_map_or (λ h. (section_fields h).size) first 0 else sections.2)),
+          ElfError.ShTableRange,
+        )
         ∷ []) tt) }
 {
     let first = first_at(input, sections.0, sections.1, class, order);

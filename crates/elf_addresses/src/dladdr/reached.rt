@@ -47,11 +47,7 @@ fn start_of(table: &GnuHashTable<'_>, bucket: u32) -> u32
     ensures { result ≡ start_word table.now bucket }
 {
     match table.get_bucket(bucket) {
-        Ok(word) => if word < table.first_symbol() {
-            0
-        } else {
-            word
-        },
+        Ok(word) => if word < table.first_symbol() { 0 } else { word },
         Err(_) => unreachable!(),
     }
 }
