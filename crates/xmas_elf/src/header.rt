@@ -87,26 +87,17 @@ fn check_tables(file: &ElfFile<'_>, part: &HeaderPt2_<P64>) -> Result<(), ElfErr
         )
         ∷ []) tt }
 {
+    let input = file.input;
     if part.ph_count == PN_XNUM || part.sh_count == 0 {
         let programs = (part.ph_offset, part.ph_entry_size, part.ph_count);
         let sections = (part.sh_offset, part.sh_entry_size, part.sh_count);
         let class = file.header.pt1.class;
-        return check_wide_tables(file.input, programs, sections, class, file.byte_order());
+        return check_wide_tables(input, programs, sections, class, file.byte_order());
     }
-    if !short_table_is_within(
-        file.input,
-        part.ph_offset,
-        part.ph_entry_size,
-        part.ph_count,
-    ) {
+    if !short_table_is_within(input, part.ph_offset, part.ph_entry_size, part.ph_count) {
         return Err(ElfError::PhTableRange);
     }
-    if !short_table_is_within(
-        file.input,
-        part.sh_offset,
-        part.sh_entry_size,
-        part.sh_count,
-    ) {
+    if !short_table_is_within(input, part.sh_offset, part.sh_entry_size, part.sh_count) {
         return Err(ElfError::ShTableRange);
     }
     Ok(())
