@@ -63,7 +63,7 @@ ORACLES = {
     "symbols": Oracle(SYSTEM, FEW, (built("elfsections"), "llvm-readelf")),
     "elfsym": Oracle(SYSTEM, FEW, (built("elfsym"), "llvm-readelf", "readelf")),
     "recipes": Oracle([], [], (built("elfrecipes"), "readelf", "gcc")),
-    "versions": Oracle(SYSTEM, LIBRARIES, (ARCHIVE, "readelf", "cargo")),
+    "dump": Oracle(SYSTEM, LIBRARIES, (ARCHIVE, "llvm-readelf", "readelf", "g++", "cargo")),
     "dlsym": Oracle([], LIBRARIES, (ARCHIVE, "llvm-readelf", "gcc"), ("bindings/python/wheel_backend.py",)),
     "bindings": Oracle(["--dir", "/usr/bin", "--dir", "/usr/sbin"], ["/usr/bin/readelf", "/usr/bin/python3"],
         (built("elfbind"), "llvm-readelf")),
