@@ -1,5 +1,6 @@
 // dump FILE NAME..: what a file needs, its build id, the symbols of its dynamic segment as `nm -D` prints them, the versions
-// that it defines and needs, its sections, and for each name, or name and version as exp@GLIBC_2.2.5, the symbol's value.
+// that it defines and needs, its sections with the numbers of their relocations, and for each name, or name and version as
+// exp@GLIBC_2.2.5, the symbol's value. The number of a version has an `h` behind it if it is hidden.
 #include <xmas_elf.hpp>
 
 #include <cstdio>
@@ -16,6 +17,8 @@ std::string hexadecimal(std::uint64_t number)
     return text;
 }
 
+std::string number(const xmas_elf::version &version) { return std::to_string(version.number) + (version.is_hidden ? "h" : ""); }
+
 void print_dynamic(const xmas_elf::file &file)
 {
     for (const auto name : file.needed()) print("needed " + std::string(name));
@@ -27,12 +30,15 @@ void print_dynamic(const xmas_elf::file &file)
         print("build id " + text);
     }
     for (const auto &symbol : file.dynamic_symbols()) {
+        if (symbol.version) print("version " + std::to_string(symbol.index) + " " + number(*symbol.version));
         const std::string version = symbol.version && symbol.version->name != symbol.name ? symbol.version->suffix() : "";
         if (symbol.name && !symbol.name->empty() && symbol.type() != 3 && symbol.type() != 4)
             print("symbol " + hexadecimal(symbol.is_defined() ? symbol.value : 0) + " " + std::string(*symbol.name) + version);
     }
-    for (const auto &version : file.version_needs()) print("need " + std::string(*version.library) + " " + std::string(*version.name));
-    for (const auto &version : file.version_definitions()) print("definition " + std::string(*version.name));
+    for (const auto &it : file.version_needs())
+        print("need " + number(it) + " " + std::to_string(it.flags) + " " + std::string(*it.library) + " " + std::string(*it.name));
+    for (const auto &it : file.version_definitions())
+        print("definition " + number(it) + " " + std::to_string(it.flags) + " " + std::string(*it.name));
 }
 
 void print_sections(const xmas_elf::file &file)
@@ -43,8 +49,8 @@ void print_sections(const xmas_elf::file &file)
             for (const auto address : section.packed_relocations()) relocations += address != 0;
         if (section->type == 4 || section->type == 9)
             for (const auto &relocation : section.relocations()) relocations += relocation.has_addend <= 1;
-        print("section " + std::to_string(section.index()) + " " + std::string(section.name().value_or("?")) + " " + std::to_string(section->type)
-              + " " + std::to_string(section->size) + " " + std::to_string(relocations));
+        print("section " + std::to_string(section.index()) + " " + std::string(section.name().value_or("?")) + " " + std::to_string(section->size)
+              + " " + std::to_string(relocations));
     }
 }
 

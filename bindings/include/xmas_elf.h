@@ -63,7 +63,7 @@ extern "C" {
 #define XMAS_ELF_NOEXCEPT
 #endif
 
-/* The statuses, written by tools/exports/statuses.py. */
+/* The statuses, written by tools/exports/declarations.py. */
 enum xmas_elf_status {
     XMAS_ELF_OK = 0,
     /* File is shorter than the first ELF header part. */

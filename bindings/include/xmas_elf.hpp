@@ -45,11 +45,13 @@ public:
     /// The symbols of the dynamic segment, which needs no sections, with their versions.
     auto dynamic_symbols() const;
 
-    /// The symbol that `dlsym` gets by a name, which is that of the default version, or `dlvsym` by a name and a version.
+    /// The symbol that `dlsym` gets by a name, which is that of the default version, or `dlvsym` by a name and a version; none
+    /// without a dynamic segment.
     std::optional<symbol> find_symbol(std::string_view name, std::string_view wanted = {}) const
     {
         xmas_elf_found_symbol_t found{};
-        check(call(xmas_elf_find_symbol, raw(name), name.size(), raw(wanted), wanted.size(), &found));
+        const std::uint32_t status = call(xmas_elf_find_symbol, raw(name), name.size(), raw(wanted), wanted.size(), &found);
+        if (status != XMAS_ELF_LINK_NO_DYNAMIC) check(status);
         if (found.found == 0) return std::nullopt;
         std::uint64_t count = 0;
         xmas_elf_name_t names{};

@@ -13,12 +13,13 @@ export async function checkHashes(file, module, source) {
   running?.client.end("Another file is opened.");
   running = null;
   for (const table of file.hashTables) {
-    const outcome = await check(table, module, source);
+    if (table.said) continue;
+    const outcome = await check(table, module, { source, tables: file.segmentTables });
     if (outcome === "replaced") return;
   }
 }
 
-async function check(table, module, source) {
+async function check(table, module, { source, tables }) {
   const client = new Client();
   const own = { client, table };
   running = own;
@@ -27,6 +28,7 @@ async function check(table, module, source) {
   try {
     await client.ask("load", { file: source, module });
     await client.ask("header");
+    if (table.section.isAdded) await client.ask("segmentTables", tables);
     table.said = await client.ask("checkHash", { section: table.section.index });
   } catch (error) {
     table.said = { failed: error.message };

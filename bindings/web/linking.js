@@ -194,9 +194,9 @@ export function hashesPanel(file, client, { choose, check }) {
     draw();
     return element("section", { class: "card" },
       element("h3", {}, nameOfSection(table.section), element("span", { class: "sort" }, table.gnu ? "GNU hash table" : "gABI hash table")),
-      checked, lookUpForm(file, client, table),
-      element("button", { type: "button", class: "quiet", onclick: () => choose(table.section.index) }, "Show its bytes"));
+      checked, ...(table.section.index === null ? [] : [lookUpForm(file, client, table),
+        element("button", { type: "button", class: "quiet", onclick: () => choose(table.section.index) }, "Show its bytes")]));
   });
-  const said = file.hashTables.length ? "A table that passes its check finds a symbol wherever one that isn't local has the name; GNU's, wherever one is defined too." : "The file has no section that is a hash table of symbols.";
+  const said = file.hashTables.length ? "A table that passes its check finds a symbol wherever one that isn't local has the name; GNU's, wherever one is defined too." : "The file has no hash table of symbols.";
   return { node: panel("Hash tables", said, element("div", { class: "cards" }, cards)) };
 }

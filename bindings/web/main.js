@@ -68,8 +68,12 @@ function choose(part, offset = part.start) {
   hexView.show(part, offset);
 }
 
+function partOf(section) {
+  return [...page.file.parts, ...page.file.addedParts].find(({ id }) => id === `section-${section}`);
+}
+
 function chooseSection(index) {
-  const part = page.file.parts.find(({ id }) => id === `section-${index}`);
+  const part = partOf(index);
   const headers = page.file.parts.find(({ id }) => id === "sections");
   if (part) choose(part);
   else if (headers) choose(headers, Math.min(headers.start + index * page.file.header.sh_entry_size, headers.end - 1));
@@ -89,7 +93,7 @@ function chooseSegment(index) {
 function chooseRecord(record, section, row) {
   if (row.isPacked) return showAddress(row.offset);
   if (section === null) return row.shndx ? showAddress(row.value) : null;
-  const part = [...page.file.parts, ...page.file.addedParts].find(({ id }) => id === `section-${section}`);
+  const part = partOf(section);
   const name = record === "rela" && !row.has_addend ? "rel" : record;
   if (part) choose(part, part.start + row.index * fieldsOf(name, page.file.header.file_class).size);
   return null;

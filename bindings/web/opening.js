@@ -54,14 +54,18 @@ async function findTables(client, file) {
     if (call) tables[kind].push({ section, strings, ...await client.ask("count", { call, section: section.index }) });
   };
   for (const section of file.sections) await add(section, file.sections[section.header.link]?.data ?? null);
-  file.added = [];
+  Object.assign(file, { added: [], segmentTables: null });
+  tables.hash = file.sections.filter(isHash).map((section) => ({ section, refused: null }));
   if (hasDynamic(file)) await addSegmentTables(client, file, tables, add);
   file.symbolTables = tables.symbol;
   file.relocationTables = tables.relocation;
   file.dynamicTables = tables.dynamic;
-  const hashes = file.sections.filter(({ header }) => header.type === names.HASH || header.type === names.GNU_HASH);
-  file.hashTables = hashes.map((section) =>
-    ({ section, gnu: section.header.type === names.GNU_HASH, said: null, running: false, listeners: [] }));
+  file.hashTables = tables.hash.map(({ section, refused }) =>
+    ({ section, gnu: section.header.type === names.GNU_HASH, said: refused, running: false, listeners: [] }));
+}
+
+function isHash({ header: { type } }) {
+  return type === names.HASH || type === names.GNU_HASH;
 }
 
 // The segment of a type, if it has bytes: in a file of debugging data alone a section without bytes has its address.
@@ -79,11 +83,14 @@ function hasDynamic(file) {
 async function addSegmentTables(client, file, tables, add) {
   const has = (kind, type) => tables[kind].some(({ section, count }) => count && (type ?? section.header.type) === section.header.type);
   if (!has("symbol", names.DYNSYM)) await addSegmentSymbols(client, tables.symbol);
-  const isMissing = { dynamic: !has("dynamic"), relocation: !has("relocation") };
-  if (!isMissing.dynamic && !isMissing.relocation) return;
+  const isMissing = { dynamic: !has("dynamic"), relocation: !has("relocation"), hash: !tables.hash.length };
+  if (!Object.values(isMissing).includes(true)) return;
   const { header, data, dataRefused } = segmentOf(file, names.PT_DYNAMIC);
-  const given = { range: data, address: header.virtual_addr, fileClass: file.header.file_class };
+  const loaded = file.segments.filter((it) => it.header.type === names.PT_LOAD).map((it) =>
+    ({ start: it.header.virtual_addr, end: it.header.virtual_addr + it.header.file_size }));
+  const given = { range: data, address: header.virtual_addr, fileClass: file.header.file_class, loaded };
   const { sections, missing, refused } = data ? await client.ask("segmentTables", given) : { sections: [], missing: [], refused: dataRefused };
+  file.segmentTables = given;
   file.added = sections;
   for (const section of sections) {
     const [, kind] = RECORD_CALLS[section.header.type] ?? [];
@@ -92,6 +99,8 @@ async function addSegmentTables(client, file, tables, add) {
   const none = ({ name, type, refused: why }) => ({ section: { index: null, name, header: { type } }, strings: null, count: 0, refused: why });
   if (refused && isMissing.dynamic) tables.dynamic.push(none({ name: "PT_DYNAMIC", type: names.DYNAMIC, refused }));
   if (isMissing.relocation) tables.relocation.push(...missing.filter(({ type }) => RECORD_CALLS[type]?.[1] === "relocation").map(none));
+  const unread = missing.map(none).filter(({ section }) => isHash(section));
+  if (isMissing.hash) tables.hash = [...sections.filter(isHash).map((section) => ({ section, refused: null })), ...unread];
 }
 
 // The symbols of the dynamic segment, where no section has them: why they are refused is said where other symbols aren't

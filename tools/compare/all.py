@@ -64,7 +64,7 @@ ORACLES = {
     "elfsym": Oracle(SYSTEM, FEW, (built("elfsym"), "llvm-readelf", "readelf")),
     "recipes": Oracle([], [], (built("elftools"), "readelf", "gcc")),
     "tools": Oracle([], [], (built("elftools"), "readelf", "nm")),
-    "versions": Oracle(SYSTEM, LIBRARIES, (ARCHIVE, "readelf", "cargo")),
+    "dump": Oracle(SYSTEM, LIBRARIES, (ARCHIVE, "llvm-readelf", "readelf", "g++", "cargo")),
     "dlsym": Oracle([], LIBRARIES, (ARCHIVE, "llvm-readelf", "gcc"), ("bindings/python/wheel_backend.py",)),
     "addresses": Oracle([], ["--libraries", "2", "--addresses", "2000", "--each", "300", *LIBRARIES[:1]],
         (built("elfaddr"), "gcc")),

@@ -1,24 +1,42 @@
 #!/usr/bin/env python3
-"""Compares what bindings/cpp/dump.cpp prints of files with what nm and readelf print.
+"""Compares what bindings/cpp/dump.cpp, bindings/rust/examples/dump.rs and bindings/c/find.c print of files with what nm and
+readelf print.
 
-    tools/compare/dump.py --program DUMP [--files N] [FILE..]
+    tools/compare/dump.py [--files N] [--jobs N] [FILE..]
 
 Takes FILE, else N files (300) spread over the small ones of /usr/bin and /usr/lib/x86_64-linux-gnu. Compared are, of each file
 and of a copy without section headers: the needed libraries, the name and the run path, the build id, the dynamic symbols with
-their versions, and the versions needed and defined; of each file besides its sections, and for each name with a version the
-symbol that is found by both, and by the name alone where the version is the default one.
-
-Each difference is a line. The exit status is 0 if there is none, 1 if there is one, 2 if nothing could be compared."""
-import collections
+the names and numbers of their versions, and the versions needed and defined; of each file besides its sections; and for up to
+200 names with a version the symbol that is found by both, and by the name alone where the version is the default one. The
+program in C prints the build id and these symbols. A file without sections is passed over. The programs are built over the
+archive in crates/elf_c/out, or in the folder that XMAS_ELF_ARCHIVE names."""
+import concurrent.futures
+import functools
+import itertools
+import os
 import re
+import subprocess
 import sys
 import tempfile
+from collections import Counter
 from pathlib import Path
 
-from comparing import llvm, parser_of, parts, read_elf, run, texts_of
+from comparing import ABOUT, ROOT, Tally, dynamic_symbols, ended, files_of, llvm, parser_of, parts, raw, read_elf, run, texts_of
 from elfsym import stripped
 
 LARGEST = 400_000
+
+
+def built(room):
+    """The programs in C++ and Rust, and that in C."""
+    archive = os.environ.get("XMAS_ELF_ARCHIVE", str(ROOT / "crates/elf_c/out"))
+    if not os.path.exists(f"{archive}/libelf_c.a"):
+        sys.exit(f"no libelf_c.a in {archive}: run `rt lib` in crates/elf_c")
+    flags = ["-O2", "-Ibindings/include", f"{archive}/libelf_c.a", "-o"]
+    for command in (["g++", "bindings/cpp/dump.cpp", *flags, f"{room}/dump"], ["gcc", "bindings/c/find.c", *flags, f"{room}/find"],
+        ["cargo", "build", "--quiet", "--offline", "--release", "--manifest-path", "bindings/rust/Cargo.toml", "--example", "dump"]):
+        subprocess.run(command, cwd=ROOT, env={**os.environ, "XMAS_ELF_ARCHIVE": archive, "CARGO_TARGET_DIR": room}, check=True)
+    return [f"{room}/dump", f"{room}/release/examples/dump"], f"{room}/find"
 
 
 def spread(wanted):
@@ -27,68 +45,91 @@ def spread(wanted):
     return found[:: max(1, len(found) // wanted)][:wanted]
 
 
-def symbols_of_nm(path):
-    """The values, with the names and their versions, of the dynamic symbols."""
-    return [(line[:16].strip() or "0" * 16, line[19:]) for line in run(["nm", "-D", path]).output.splitlines()]
+def numbered(number):
+    return f"{number % 0x8000}{'h' if number >= 0x8000 else ''}"
 
 
-def wanted_dynamic(path):
-    """The lines of what the dynamic segment says, in no order."""
-    said = llvm(path, "-V", "-n")
-    lines = [f"{word} {it}" for word, tag in (("needed", "NEEDED"), ("soname", "SONAME")) for it in texts_of(path, tag)]
-    lines += [f"run path {it}" for it in texts_of(path, "RUNPATH", "RPATH")[:1]]
-    lines += [f"build id {it}" for it in re.findall(r"'Build ID': '([0-9a-f]+)'", str(said.get("Notes")))[:1]]
-    lines += [f"symbol {value} {name}" for value, name in symbols_of_nm(path)]
-    lines += [f"definition {it['Name']}" for it in parts(said, "VersionDefinitions", "Definition")]
-    needs = parts(said, "VersionRequirements", "Dependency")
-    return lines + [f"need {it['FileName']} {entry['Name']}" for it in needs for entry in parts(it, "Entries", "Entry")]
+class Wanted:
+    """What nm and readelf say of a file."""
+
+    def __init__(self, path):
+        said, printed = llvm(path, "-SVn"), run(["readelf", "-rVW", "--", path]).output
+        # The values of dynamic symbols, with their names and the names of their versions.
+        self.symbols = [(line[:16].strip() or "0" * 16, line[19:]) for line in run(["nm", "-D", "--", path]).output.split("\n") if line]
+        lines = re.findall(r"^  [0-9a-f]+:( +[0-9a-f]+[h ]\(.*)$", printed, re.M)
+        self.numbers = [f"{int(number, 16)}{mark.strip()}" for line in lines for number, mark in re.findall(r" ([0-9a-f]+)([h ])\(", line)]
+        ids = re.findall(r"'Build ID': '([0-9a-f]+)'", str(said.get("Notes")))[:1]
+        self.ids = [f"build id {it}" for it in ids]
+        needs = [(need["FileName"], it) for need in parts(said, "VersionRequirements", "Dependency") for it in parts(need, "Entries", "Entry")]
+        number = lambda it: f"{numbered(it['Index'])} {it['Flags']['RawFlags']}"
+        # In no order.
+        self.lines = [
+            *self.ids, *(f"{word} {it}" for word, tag in (("needed", "NEEDED"), ("soname", "SONAME")) for it in texts_of(path, tag)),
+            *(f"run path {it}" for it in texts_of(path, "RUNPATH", "RPATH")[:1]),
+            *(f"need {number(it)} {library} {it['Name']}" for library, it in needs),
+            *(f"definition {number(it)} {it['Name']}" for it in parts(said, "VersionDefinitions", "Definition"))]
+        packed = dict(re.findall(r"^Relocation section '(.*)' at .*\n +(\d+) offsets", printed, re.M))
+        count = lambda it: it["Size"] // it["EntrySize"] if raw(it["Type"]) in (4, 9) and it["EntrySize"] else packed.get(it["Name"]["Value"], 0)
+        self.sections = [f"section {it['Index']} {it['Name']['Value']} {it['Size']} {count(it)}" for it in parts(said, "Sections", "Section")]
+        # What is asked for, and the value, the version and the index that are found.
+        self.found, values = {}, {name: value for value, name in self.symbols}
+        places = {(it.name, it.version): index for index, it in enumerate(dynamic_symbols(path))}
+        for name in [name for value, name in self.symbols if "@" in name[1:] and int(value, 16)][:200]:
+            at = name.index("@", 1)
+            for it in [name.replace("@@", "@"), *([name[:at]] if "@@" in name else [])]:
+                self.found[it] = values[name], name[at:], places.get((name[:at], name[at:].strip("@")))
+
+    def dynamic(self, printed):
+        """The lines for the dynamic segment. By GNU's hash table alone no symbol after the last exported one is counted, and none
+        of a file that exports none."""
+        counted = sum(it.startswith("version ") for it in printed)
+        versions = [f"version {index} {it}" for index, it in enumerate(self.numbers[:counted])]
+        is_counted = lambda value: int(value, 16) or any(it.startswith("symbol ") for it in printed)
+        return [*self.lines, *versions, *(f"symbol {value} {name}" for value, name in self.symbols if is_counted(value))]
 
 
-def differences(path, printed, wanted):
-    ours, theirs = collections.Counter(printed), collections.Counter(wanted)
-    return [f"{path}: here {it}" for it in ours - theirs] + [f"{path}: there {it}" for it in theirs - ours]
+def differing(tally, path, printed, wanted):
+    tally["lines"] += len(wanted)
+    for ours, theirs in itertools.zip_longest(*((sorted((Counter(one) - Counter(other)).elements()) for one, other in ((printed, wanted), (wanted, printed))))):
+        tally.differ(path, "line", ours, theirs)
 
 
-def compare(program, path, room):
-    nm, found, asked = symbols_of_nm(path), [], []
-    values = {name: value for value, name in nm}
-    for name in [name for value, name in nm if "@" in name and int(value, 16)][:200]:
-        plain, version = name[: name.index("@")], name[name.index("@") :]
-        for it in [name.replace("@@", "@"), *([plain] if "@@" in name else [])]:
-            asked.append(it)
-            found.append(f"found {it} {values[name]} {version}")
-    lines = run([program, path, *asked]).output.splitlines()
-    sections = [re.sub(r" \d+ (\d+) \d+$", r" \1", it) for it in lines if it.startswith("section ")]
-    dynamic = [it for it in lines if not it.startswith(("section ", "found "))]
-    wanted, headers = wanted_dynamic(path), parts(llvm(path, "-S"), "Sections", "Section")
-    # GNU's hash table alone doesn't count the symbols of a file that exports none.
-    if not any(it.startswith("symbol ") for it in dynamic):
-        wanted = [it for it in wanted if not it.startswith(f"symbol {'0' * 16} ")]
-    result = differences(path, dynamic, wanted)
-    result += differences(path, sections, [f"section {it['Index']} {it['Name']['Value']} {it['Size']}" for it in headers])
-    result += differences(path, [it for it in lines if it.startswith("found ")], found)
-    cut = Path(room, "cut")
-    cut.write_bytes(stripped(path.read_bytes()))
-    if int.from_bytes(path.read_bytes()[56:58], "little"):
-        lines = run([program, cut]).output.splitlines()
-        result += differences(f"{path} without sections", [it for it in lines if not it.startswith("section ")], wanted)
-    return len(wanted) + len(sections) + len(found), result
+def compare(programs, find, path):
+    """Compares what the programs print of a file."""
+    tally, wanted, data = Tally("dump"), Wanted(path), read_elf(path)
+    if not wanted.sections:
+        return tally
+    has_segments = any(data[56:58] if data[4] == 2 else data[44:46])
+    tally["files"] += 1
+    with tempfile.TemporaryDirectory() as room:
+        cut = Path(room, "cut")
+        cut.write_bytes(stripped(data))
+        for program, file in itertools.product(programs, (path, cut) if has_segments else (path,)):
+            lines = tally.output(path, program, file, *(wanted.found if file == path else ())).split("\n")[:-1]
+            found = [f"found {name} {value} {version}" for name, (value, version, _) in wanted.found.items()]
+            named = [it for it in lines if not it.startswith("section ")]
+            differing(tally, f"{path} by {program}", named, wanted.dynamic(named) + (found if file == path else []))
+            if file == path:
+                differing(tally, f"{path} by {program}", [it for it in lines if it.startswith("section ")], wanted.sections)
+        for file in (path, cut):
+            first, *lines = tally.output(path, find, file, *wanted.found).split("\n")[:-1]
+            # A line has bytes at its end.
+            found = [f"{name} {index} {value}" for name, (value, _, index) in wanted.found.items()]
+            differing(tally, f"{path} by C", [first, *(" ".join(it.split()[:3]) for it in lines)], (wanted.ids or ["build id none"]) + found)
+    return tally
 
 
 def main():
-    parser = parser_of(__doc__)
-    parser.add_argument("--program", required=True)
+    parser = parser_of(__doc__ + ABOUT)
     parser.add_argument("--files", type=int, default=300)
-    parser.add_argument("paths", nargs="*", type=Path, metavar="FILE")
-    asked = parser.parse_args()
-    files, count, lines = asked.paths or spread(asked.files), 0, []
-    with tempfile.TemporaryDirectory() as room:
-        for path in files:
-            compared, different = compare(asked.program, path, room)
-            count += compared
-            lines += different
-    print("\n".join([*lines[:40], f"{len(files)} files, {count} lines compared, {len(lines)} differences"]))
-    return 1 if lines else 0 if count else 2
+    parser.add_argument("--jobs", type=int, default=os.cpu_count())
+    parser.add_argument("paths", nargs="*", metavar="FILE")
+    asked, total = parser.parse_args(), Tally("dump", "lines")
+    files = [it for it in files_of(asked.paths) if read_elf(it)] if asked.paths else spread(asked.files)
+    with tempfile.TemporaryDirectory() as room, concurrent.futures.ThreadPoolExecutor(asked.jobs) as pool:
+        for tally in pool.map(functools.partial(compare, *built(room)), files):
+            total.update(tally)
+    return ended(total)
 
 
 if __name__ == "__main__":

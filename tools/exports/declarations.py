@@ -1,10 +1,11 @@
 #!/usr/bin/env python3
-"""Writes the declarations of bindings/exports.toml for C and Rust, and checks them against the exports.
+"""Writes the declarations of bindings/exports.toml for C, Rust and Python, and checks them against the exports.
 
-It writes the structs and functions in bindings/include/xmas_elf.h; records.rs, ffi.rs and, from bindings/constants.toml,
-constants.rs in bindings/rust/src; and calls for tests (tools/exports/calls.py). --check: writes nothing, and fails where
-a file differs, where the `#[repr(C)]` structs or the exported functions of crates/elf_c/src are others than those of the
-list, or where a list of statuses is another than its definition has (tools/exports/refusals.py)."""
+It writes the statuses (tools/exports/statuses.py), structs and functions in bindings/include/xmas_elf.h; error.rs, records.rs,
+ffi.rs and, from bindings/constants.toml, constants.rs in bindings/rust/src; the modules for Python
+(python_declarations.py); and calls for tests (calls.py). --check: writes nothing, and fails where a file differs, where the
+`#[repr(C)]` structs or the exported functions of crates/elf_c/src are others than those of the list, or where a list of
+statuses is another than its definition has (refusals.py)."""
 import pathlib
 import re
 import sys
@@ -13,6 +14,7 @@ import textwrap
 sys.path.insert(1, str(pathlib.Path(__file__).resolve().parents[1]))
 import calls
 import listing
+import python_declarations
 import refusals
 import statuses
 from listing import FILLED, IN, OUT, ROOT, SIZES, SLICE, VALUE
@@ -119,10 +121,11 @@ def c_part(listed):
     return "\n".join(lines[:-1] + [LAST])
 
 
-def header_text(listed):
+def header_text(listed, rows):
     text = HEADER.read_text(encoding="utf-8")
-    before, after = text.index(FIRST), text.index(LAST) + len(LAST)
-    return text[:before] + c_part(listed) + text[after:]
+    for part, first, last in (("\n".join(statuses.c_part(rows)), statuses.FIRST, statuses.LAST), (c_part(listed), FIRST, LAST)):
+        text = text[: text.index(first)] + part + text[text.index(last) + len(last) :]
+    return text
 
 
 # Rust: the structs, and for each export its declaration and a safe call.
@@ -258,9 +261,11 @@ def differing_sources(listed):
 
 
 def main():
-    is_check, listed = parser_of(__doc__).parse_args().check, listing.read()
-    wanted = {HEADER: header_text(listed), RUST / "records.rs": records_text(listed), RUST / "ffi.rs": ffi_text(listed)}
-    wanted[RUST / "constants.rs"] = constants_text()
+    is_check, listed, rows = parser_of(__doc__).parse_args().check, listing.read(), statuses.statuses()
+    statuses.check_numbers_kept(rows)
+    wanted = {HEADER: header_text(listed, rows), RUST / "records.rs": records_text(listed), RUST / "ffi.rs": ffi_text(listed)}
+    wanted |= {statuses.PINNED: "\n".join(statuses.numbered(rows)) + "\n", RUST / "error.rs": "\n".join(statuses.rust_part(rows)) + "\n"}
+    wanted |= {RUST / "constants.rs": constants_text(), **python_declarations.texts(wanted[HEADER])}
     wanted[RUST / "calls.rs"] = calls.rust_text(listed, lambda name: rust_type(name, listed))
     wanted[ROOT / "bindings/c/calls.h"] = calls.c_text(listed, lambda name: c_type(name, listed))
     failed = differing(wanted, is_check)

@@ -8,7 +8,7 @@
 set -euo pipefail
 cd "$(dirname "$0")/../.."
 if [ "${1:-}" = --help ]; then sed -n '2,7s/^# //p' tools/exports/python.sh; exit; fi
-tools/exports/python_declarations.py --check
+tools/exports/declarations.py --check
 if [ -z "${XMAS_ELF_ARCHIVE:-}" ]; then
     log="$(mktemp)"
     trap 'rm -f "$log"' EXIT

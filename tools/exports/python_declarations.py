@@ -1,20 +1,14 @@
-#!/usr/bin/env python3
-"""Writes two modules of bindings/python/xmas_elf: _declarations.py, with the records, exports and statuses of the archive
-for ctypes and struct, and constants.py.
+"""Two modules of bindings/python/xmas_elf for tools/exports/declarations.py: _declarations.py, with the records, exports and
+statuses of the archive for ctypes and struct, and constants.py.
 
 Records and exports are those of bindings/exports.toml, statuses those of the header for C, constants those of
-bindings/constants.toml. --check: writes nothing, and fails where a file differs."""
-import pathlib
+bindings/constants.toml."""
 import re
-import sys
 import textwrap
 
-sys.path.insert(1, str(pathlib.Path(__file__).resolve().parents[1]))
 import listing
 from listing import FILLED, ROOT, SLICE, VALUE
-from pages.writing import differing, parser_of
 
-HEADER = ROOT / "bindings/include/xmas_elf.h"
 PACKAGE = ROOT / "bindings/python/xmas_elf"
 LETTERS = {"u8": "B", "u16": "H", "u32": "I", "u64": "Q"}
 KINDS = {"u8": "c_uint8", "u16": "c_uint16", "u32": "c_uint32", "u64": "c_uint64", "usize": "c_size_t"}
@@ -27,7 +21,7 @@ FRONT = {
     "segment": (FILE, ("index", "int", "The index of the segment.")),
     "symbol": NAME,
 }
-HEAD = '''"""The records, exports and statuses of the archive. Written by tools/exports/python_declarations.py."""
+HEAD = '''"""The records, exports and statuses of the archive. Written by tools/exports/declarations.py."""
 from __future__ import annotations
 
 from ctypes import {kinds}
@@ -52,7 +46,7 @@ NAMED = {
     ("header", "type"): "ET", ("header", "machine"): "EM", ("header", "os_abi"): "ELFOSABI",
     ("section", "type"): "SHT", ("section", "flags"): "SHF", ("segment", "type"): "PT", ("segment", "flags"): "PF", ("dynamic", "tag"): "DT",
 }
-NUMBERS_HEAD = '''"""Numbers of the ELF standard by their names there. Written by tools/exports/python_declarations.py.
+NUMBERS_HEAD = '''"""Numbers of the ELF standard by their names there. Written by tools/exports/declarations.py.
 
 Each kind of number is a class: `SHT(11)` is `SHT_DYNSYM`, whose `name` is the text `SHT_DYNSYM`, and `SHT["SHT_DYNSYM"]` is
 the number. A number without a name is allowed."""
@@ -136,14 +130,14 @@ def statuses(text):
     return lines + ["", "", "# The size of the longest text of a status, in bytes.", f"LONGEST_MESSAGE = {longest}"]
 
 
-def declarations():
+def declarations(header):
     listed = listing.read()
     kinds = {kind for function in listed.functions for result, all in [export(function)] for kind in (result, *all)}
     head = HEAD.replace("{kinds}", ", ".join(sorted(kinds - {"None"})))
     lines = [head.replace("{groups}", ", ".join(sorted(set(NAMED.values()))))]
     for struct in listed.structs:
         lines += record(struct, listed)
-    return "\n".join(lines + exports(listed) + statuses(HEADER.read_text())) + "\n"
+    return "\n".join(lines + exports(listed) + statuses(header)) + "\n"
 
 
 def constants():
@@ -162,12 +156,6 @@ def constants():
     return "\n".join(lines) + "\n"
 
 
-def main():
-    wanted = {PACKAGE / "_declarations.py": declarations(), PACKAGE / "constants.py": constants()}
-    faults = differing(wanted, parser_of(__doc__).parse_args().check)
-    print("\n".join(faults), end="\n" if faults else "")
-    return 1 if faults else 0
-
-
-if __name__ == "__main__":
-    sys.exit(main())
+def texts(header):
+    """The two modules, by the header for C."""
+    return {PACKAGE / "_declarations.py": declarations(header), PACKAGE / "constants.py": constants()}

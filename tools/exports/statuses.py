@@ -1,24 +1,16 @@
-#!/usr/bin/env python3
-"""Writes the list of statuses into bindings/include/xmas_elf.h and bindings/rust/src/error.rs.
+"""The list of statuses for tools/exports/declarations.py: in bindings/include/xmas_elf.h and bindings/rust/src/error.rs.
 
 The numbers of `ElfError` are those that its variants are declared with, those of `LinkError` stand beside its texts in
 crates/elf_linking/src/error.rt, and the others in crates/elf_c/src/status.rt; the other texts are those of crates/elf_base
-and crates/elf_c.
-A number never changes: bindings/statuses.txt has each name with its number, and the script only adds lines to it. Where
-a refusal has another number than there, or a name there is no refusal's, the script fails, and writes nothing.
---check: writes nothing, and fails where a file differs."""
-import pathlib
+and crates/elf_c. A number never changes: bindings/statuses.txt has each name with its number, and lines are only added to
+it. Where a refusal has another number than there, or a name there is no refusal's, this fails, and nothing is written."""
 import re
 import sys
 
-sys.path.insert(1, str(pathlib.Path(__file__).resolve().parents[1]))
-from listing import constant
-from pages.writing import ROOT, differing, parser_of
+from listing import ROOT, constant
 
-HEADER = ROOT / "bindings/include/xmas_elf.h"
-RUST = ROOT / "bindings/rust/src/error.rs"
 PINNED = ROOT / "bindings/statuses.txt"
-FIRST, LAST = "/* The statuses, written by tools/exports/statuses.py. */", "/* End of the statuses. */"
+FIRST, LAST = "/* The statuses, written by tools/exports/declarations.py. */", "/* End of the statuses. */"
 
 
 def matched(path, pattern):
@@ -69,7 +61,7 @@ def c_part(rows):
 
 
 def rust_part(rows):
-    lines = ["//! The errors of the archive. Written by tools/exports/statuses.py.", ""]
+    lines = ["//! The errors of the archive. Written by tools/exports/declarations.py.", ""]
     lines += ["/// Why a file, or a part of it, can't be read.", "#[derive(Clone, Copy, Debug, PartialEq, Eq, Hash)]"]
     lines += ["#[non_exhaustive]", "pub enum Error {"]
     for name, _, text in rows:
@@ -83,24 +75,3 @@ def rust_part(rows):
     lines += [f"            Error::{name} => {number}," for name, number, _ in rows]
     lines += ["            Error::Unknown(status) => *status,", "        }", "    }", "}", ""]
     return lines + ["// How many bytes the longest text has.", f"pub(crate) const LONGEST: usize = {longest(rows)};"]
-
-
-def header_with(part):
-    text = HEADER.read_text()
-    if FIRST not in text:
-        return text.replace("/* STATUSES */", "\n".join(part))
-    before, after = text.index(FIRST), text.index(LAST) + len(LAST)
-    return text[:before] + "\n".join(part) + text[after:]
-
-
-def main():
-    rows = statuses()
-    check_numbers_kept(rows)
-    wanted = {HEADER: header_with(c_part(rows)), RUST: "\n".join(rust_part(rows)) + "\n", PINNED: "\n".join(numbered(rows)) + "\n"}
-    faults = differing(wanted, parser_of(__doc__).parse_args().check)
-    print("\n".join(faults), end="\n" if faults else "")
-    return 1 if faults else 0
-
-
-if __name__ == "__main__":
-    sys.exit(main())

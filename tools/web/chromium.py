@@ -3,9 +3,7 @@
     with Chromium("http://127.0.0.1:8042/", 1440, 900) as page:
         page.run("document.title")
 """
-import contextlib
 import re
-import time
 
 from selenium import webdriver
 from selenium.common.exceptions import WebDriverException
@@ -13,16 +11,9 @@ from selenium.webdriver.chrome.service import Service
 from selenium.webdriver.common.action_chains import ActionChains
 from selenium.webdriver.common.by import By
 from selenium.webdriver.common.keys import Keys
+from selenium.webdriver.support.ui import WebDriverWait
 
 OPTIONS = ("--headless=new", "--no-sandbox", "--disable-gpu", "--no-first-run", "--disable-extensions", "--disable-background-networking")
-
-
-class Failed(Exception):
-    """A command failed, a script threw, or a condition never came true."""
-
-
-class Left(Failed):
-    """Another page is being opened."""
 
 
 class Chromium(webdriver.Chrome):
@@ -34,37 +25,24 @@ class Chromium(webdriver.Chrome):
             options.add_argument(it)
         options.set_capability("goog:loggingPrefs", {"browser": "ALL"})
         super().__init__(service=Service("/usr/bin/chromedriver"), options=options)
+        self.set_script_timeout(300)
         self.resize(width, height)
         self.get(address)
 
     def send(self, method, **params):
         """The answer to a command of the DevTools protocol."""
-        try:
-            return self.execute_cdp_cmd(method, params)
-        except WebDriverException as failure:
-            kind = Left if "navigated" in failure.msg or "context" in failure.msg else Failed
-            raise kind(f"{method}: {failure.msg}") from failure
+        return self.execute_cdp_cmd(method, params)
 
     def resize(self, width, height):
         self.send("Emulation.setDeviceMetricsOverride", width=width, height=height, deviceScaleFactor=1, mobile=False)
 
     def run(self, script):
         """The value of an expression, waited for where it is a promise."""
-        said = self.send("Runtime.evaluate", expression=script, awaitPromise=True, returnByValue=True)
-        if "exceptionDetails" in said:
-            detail = said["exceptionDetails"]
-            raise Failed(detail.get("exception", {}).get("description", detail["text"]))
-        return said["result"].get("value")
+        return self.execute_script(f"return ({script})")
 
     def wait(self, condition, seconds=30):
         """Waits until an expression is true. While another page is being opened, none is."""
-        until = time.monotonic() + seconds
-        while time.monotonic() < until:
-            with contextlib.suppress(Left):
-                if self.run(condition):
-                    return
-            time.sleep(0.02)
-        raise Failed(f"never true: {condition}")
+        WebDriverWait(self, seconds, 0.02, [WebDriverException]).until(lambda _: self.run(condition), f"never true: {condition}")
 
     def choose_files(self, selector, paths):
         self.find_element(By.CSS_SELECTOR, selector).send_keys("\n".join(map(str, paths)))

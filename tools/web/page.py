@@ -160,7 +160,6 @@ class Test:
         })(%r, %r)""" % (label, text))
 
 
-
 def system_files(count):
     """Files of this system, of all sizes up to 8 MiB, and small ones of this repository."""
     found = [TOP / "crates/elfnm/data/add.o", TOP / "crates/elfsym/data/stripped.so"]
@@ -272,6 +271,38 @@ def try_refused_symbols(test, options, room):
     compare_tables(test, path, "Symbols", "Table", {"the dynamic segment": readelf.symbols(whole)[".dynsym"]}, symbol_form)
 
 
+# Looks a name up in each hash table: what the page says of the table, of its check and of the name.
+LOOK_UPS = """
+(async (name) => {
+  const cards = Array.from(document.querySelectorAll("[role=tabpanel]:not([hidden]) .card"));
+  const frame = () => new Promise((resume) => requestAnimationFrame(resume));
+  for (const form of cards.map((it) => it.querySelector("form"))) {
+    form.querySelector("input").value = name;
+    form.requestSubmit();
+    while (!form.querySelector("output").textContent || /not checked/.test(form.parentElement.textContent)) await frame();
+  }
+  return cards.map((it) => ["h3", ".checked", "output"].map((part) => it.querySelector(part).textContent));
+})
+"""
+
+
+def try_hash_tables(test, options, room):
+    """The hash tables of a file without section headers are those that its dynamic segment names; each passes its check, and
+    finds a symbol as readelf lists it."""
+    libraries = [LIBRARIES / "libm.so.6", options.site / "example.elf", *(it for it in files.of_other_machines(room) if it.suffix == ".so")]
+    for path in [files.without_sections(room, it) for it in libraries]:
+        tags = [name for _, name, _ in readelf.dynamic(path)]
+        symbols = readelf.symbols(path)["the dynamic segment"]
+        names = [it[6] for it in symbols]
+        number, value, *_, name, _ = next(it for it in reversed(symbols) if int(it[1], 16) and it[4] == "GLOBAL" and names.count(it[6]) == 1)
+        test.open(path)
+        test.tab("Hash tables")
+        cards = test.page.run(f"({LOOK_UPS})('{name}')")
+        kinds = [kind for tag, kind in (("GNU_HASH", "GNU"), ("HASH", "gABI")) if tag in tags]
+        wanted = [[f"DT_{'GNU_' if it == 'GNU' else ''}HASH{it} hash table", "passes its check", f"Symbol {number} at 0x{int(value, 16):x}"] for it in kinds]
+        test.same(f"{path}: hash tables, and {name}", [[*it[:2], it[2].split(",")[0]] for it in cards], wanted)
+
+
 def try_examples(test, options):
     """The example without faults has none, by the page and by readelf. Of the other the page says what is wrong with the header,
     with each section and each segment, and with the hash table."""
@@ -285,7 +316,7 @@ def try_examples(test, options):
                                            "Hash table .hash: Chain index is out of range"],
                                           rows(19, {15: kind}), silent(19, {11: outside, 15: kind}), rows(8, {5: end, 7: align}), silent(8, {5: outside})]}
     for name, said in wanted.items():
-        test.page.run("document.querySelector('.brand')?.click(); document.body.dataset.state = 'waiting'")
+        test.page.run("document.querySelector('.brand')?.click(), document.body.dataset.state = 'waiting'")
         test.page.run(f"document.querySelector('[data-example=\"{name}\"]').click()")
         test.page.wait("document.body.dataset.state === 'ready' && !document.querySelector('.overview .pending')")
         test.tab("Overview")
@@ -446,14 +477,14 @@ def try_keyboard(test, options):
     page = test.page
     test.open(TOP / "crates/elfnm/data/add.o")
     test.tab("Overview")
-    page.run("document.activeElement?.blur(); window.getSelection()?.removeAllRanges(); document.querySelector('.skip').focus()")
+    page.run("document.activeElement?.blur(), window.getSelection()?.removeAllRanges(), document.querySelector('.skip').focus()")
     stops = stops_of(page)
     test.same("each stop of the keyboard has a name", [it for it in stops if not it["name"]], [])
     test.same("each stop of the keyboard is seen", [it for it in stops if not it["isSeen"]], [])
     order = ["Open a file", "Overview", "Bytes", "Go to", "Number in base 16", "Go", "Bytes", "Fields of the record"]
     heads = [re.split(r"\s*[\n,]", it["name"])[0] for it in stops]
     test.same("stops of the keyboard in order", [it for it in heads if it in order], order)
-    page.run("document.getElementById('tab-overview').focus(); document.getElementById('tab-overview').click()")
+    page.run("document.getElementById('tab-overview').focus(), document.getElementById('tab-overview').click()")
     page.key("ArrowDown")
     page.key("ArrowDown")
     test.same("arrows change the tab", page.run("document.activeElement.textContent.startsWith('Sections')"), True)
@@ -473,7 +504,7 @@ def try_fields(test, options):
     page, path = test.page, TOP / "crates/elfsym/data/stripped.so"
     test.open(path)
     test.tab("Overview")
-    page.run("(() => { document.querySelector('table.plain button').click(); })()")
+    page.run("document.querySelector('table.plain button').click()")
     x, y = page.run("(() => { const it = document.getElementById('byte-24').getBoundingClientRect(); return [it.x + 6, it.y + 6]; })()")
     page.send("Input.dispatchMouseEvent", type="mouseMoved", x=x, y=y)
     page.wait("/e_entry/.test(document.getElementById('place').textContent)", 5)

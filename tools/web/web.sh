@@ -65,7 +65,6 @@ module() {
 }
 
 if [ "$does" = test ]; then
-    tools/web/records.py --check
     if ! /usr/bin/python3 -c "import selenium" 2> /dev/null || ! command -v chromedriver > /dev/null; then
         echo "web: Debian's python3-selenium and chromium-driver are not installed: the page is not tested"
         exit 0

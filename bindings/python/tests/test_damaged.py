@@ -44,7 +44,7 @@ def walk(data):
         tried(segment.check)
         tried(segment.data)
         spent(segment.notes)
-    for items in (file.symbols, file.relocations, file.notes, file.dynamic, file.dynamic_symbols):
+    for items in (file.symbols, file.relocations, file.packed_relocations, file.notes, file.dynamic, file.dynamic_symbols):
         spent(items)
     for property in ("needed", "soname", "run_path", "build_id"):
         tried(lambda: getattr(file, property))

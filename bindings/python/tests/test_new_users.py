@@ -162,6 +162,12 @@ def test_parts_by_segments(path):
     assert list(cut.dynamic()) == list(whole.dynamic())
     assert len(list(cut.dynamic())) == len(re.findall(r"^ 0x[0-9a-f]+ \(", said("readelf", "--wide", "--dynamic", path), re.M))
     assert cut.overview() == whole.overview()
+    segment = next((it for it in beside.opened(cut.input.tobytes()).iter_segments() if it["p_type"] == "PT_DYNAMIC"), None)
+    tables = segment.get_relocation_tables() if segment else {}
+    theirs = [beside.relocation(it) for name in ("RELA", "REL", "JMPREL") if name in tables for it in tables[name].iter_relocations()]
+    assert [(it.offset, it.symbol, it.type, it.addend, it.has_addend) for it in cut.relocations()] == theirs
+    packed = [address for it in whole.sections() if it.type == SHT.SHT_RELR for address in it.packed_relocations()]
+    assert list(whole.packed_relocations()) == list(cut.packed_relocations()) == packed
 
 
 def test_build_id_of_a_section_with_another_name(tmp_path):
@@ -207,12 +213,14 @@ def test_numbers_that_are_too_large_or_no_numbers():
 def test_relr_is_no_error(tmp_path):
     (tmp_path / "a.c").write_text("int a; int *p[200] = {&a, 0, &a, [9] = &a, [150] = &a}; int main(void) { return 0; }\n")
     subprocess.run(["gcc", tmp_path / "a.c", "-o", tmp_path / "a", "-Wl,-z,pack-relative-relocs"], check=True)
-    section = ElfFile.load_from_path(tmp_path / "a").section(".relr.dyn")
+    file = ElfFile.load_from_path(tmp_path / "a")
+    section = file.section(".relr.dyn")
     section.check()
     theirs = beside.opened((tmp_path / "a").read_bytes()).get_section_by_name(".relr.dyn")
     assert (section.name, section.type.name) == (".relr.dyn", "SHT_RELR")
     assert section.data() == theirs.stream.getvalue()[theirs["sh_offset"] :][: theirs["sh_size"]]
-    assert list(section.packed_relocations()) == [it["r_offset"] for it in theirs.iter_relocations()]
+    for it in (section, file, ElfFile(without_sections(file.input))):
+        assert list(it.packed_relocations()) == [it["r_offset"] for it in theirs.iter_relocations()]
 
 
 # Names, help and closing.

@@ -1,4 +1,4 @@
-"""The records, exports and statuses of the archive. Written by tools/exports/python_declarations.py."""
+"""The records, exports and statuses of the archive. Written by tools/exports/declarations.py."""
 from __future__ import annotations
 
 from ctypes import c_size_t, c_uint32, c_uint64, c_void_p

@@ -16,9 +16,10 @@ from ._parts import Dynamic, Header, Note, Relocation, Section, Segment, Symbol
 from ._parts import section_of, segment_of, symbols_of
 from ._reading import Reading
 from ._rows import Row, batches, one, rows
+from ._tables import packed_relocations_of, relocations_of
 from ._versions import Version, versions
 from .constants import DT, DT_NEEDED, DT_NULL, DT_RPATH, DT_RUNPATH, DT_SONAME, ELFOSABI, EM, ET, NT_GNU_BUILD_ID, PT_DYNAMIC, PT_NOTE
-from .constants import SHT_DYNAMIC, SHT_DYNSYM, SHT_NOTE, SHT_REL, SHT_RELA, SHT_SYMTAB
+from .constants import SHT_DYNAMIC, SHT_DYNSYM, SHT_NOTE, SHT_REL, SHT_RELA, SHT_RELR, SHT_SYMTAB
 
 # A name that is an error only for the type of its section is read from the name table.
 _BY_TYPE = (Status.NULL_NAME, Status.INVALID_SH_TYPE)
@@ -164,8 +165,15 @@ class ElfFile(Reading):
 
     def relocations(self) -> Iterator[Relocation]:
         """The relocations of all tables, in the order of the sections. The index of a symbol is one of the symbol table
-        that is the section `link` of the table: see `Section.relocations`."""
-        return chain.from_iterable(it.relocations() for it in self._sections_of(SHT_RELA, SHT_REL))
+        that is the section `link` of the table: see `Section.relocations`. Without such sections, those of the dynamic
+        segment, whose symbols are `dynamic_symbols`."""
+        tables = self._sections_of(SHT_RELA, SHT_REL)
+        return chain.from_iterable(it.relocations() for it in tables) if tables else relocations_of(self)
+
+    def packed_relocations(self) -> Iterator[int]:
+        """The addresses in the packed relative relocations of sections of type SHT_RELR, or else of the dynamic segment."""
+        tables = self._sections_of(SHT_RELR)
+        return chain.from_iterable(it.packed_relocations() for it in tables) if tables else packed_relocations_of(self)
 
     # Versions.
 

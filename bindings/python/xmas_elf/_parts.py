@@ -2,6 +2,7 @@
 from __future__ import annotations
 
 from itertools import chain, repeat
+from reprlib import Repr
 from struct import Struct
 from typing import Any, Callable, Iterator, List, NamedTuple, Tuple, Type, TypeVar
 
@@ -13,6 +14,10 @@ from ._rows import NUMBER, Row, batches, one, rows
 from .constants import DT, PF, PF_R, PF_W, PF_X, PT, SHF, SHN, SHN_LORESERVE, SHN_UNDEF, SHT, SHT_RELR, STB, STT, STV
 
 _Record = TypeVar("_Record", bound=Tuple[Any, ...])
+
+# Shortens names: those of C++ have hundreds of characters.
+_short = Repr()
+_short.maxstring = 100
 
 # The names of the numbers that symbols have, by the numbers.
 _TYPES, _BINDINGS = tuple(map(STT, range(16))), tuple(map(STB, range(16)))
@@ -35,7 +40,7 @@ class Symbol(declared.SymbolRecord):
 
     def __repr__(self) -> str:
         section = SHN(self.shndx) if self.shndx >= SHN_LORESERVE or not self.shndx else f"section {self.shndx}"
-        return f"<Symbol {self.name!r} {self.type} {self.binding} {section} at {self.value:#x}, {self.size} bytes>"
+        return f"<Symbol {_short.repr(self.name)} {self.type} {self.binding} {section} at {self.value:#x}, {self.size} bytes>"
 
     @property
     def binding(self) -> STB:
@@ -128,7 +133,7 @@ class Section(declared.SectionRecord):
     __slots__ = ()
 
     def __repr__(self) -> str:
-        return f"<Section {self.index} {self.name!r} {self.type} {self.flags}, {self.size} bytes at offset {self.offset:#x}>"
+        return f"<Section {self.index} {_short.repr(self.name)} {self.type} {self.flags}, {self.size} bytes at offset {self.offset:#x}>"
 
     def check(self) -> None:
         """Raises if neither the reader nor the package knows the type."""

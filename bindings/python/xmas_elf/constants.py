@@ -1,4 +1,4 @@
-"""Numbers of the ELF standard by their names there. Written by tools/exports/python_declarations.py.
+"""Numbers of the ELF standard by their names there. Written by tools/exports/declarations.py.
 
 Each kind of number is a class: `SHT(11)` is `SHT_DYNSYM`, whose `name` is the text `SHT_DYNSYM`, and `SHT["SHT_DYNSYM"]` is
 the number. A number without a name is allowed."""

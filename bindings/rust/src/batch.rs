@@ -24,9 +24,14 @@ impl<T: Copy + Default, const N: usize> Batch<T, N> {
     }
 
     // The records from index 0 on, which `ask` gives as it does for `next`.
-    pub(crate) fn items(mut ask: impl FnMut(u64, &mut [T]) -> Result<u64, Error>) -> impl Iterator<Item = T> {
-        let mut batch = Batch::<T, N>::new();
-        core::iter::from_fn(move || batch.next(&mut ask).map(|(_, record)| record))
+    pub(crate) fn items(ask: impl FnMut(u64, &mut [T]) -> Result<u64, Error>) -> impl Iterator<Item = T> {
+        let mut records = Batch::<T, N>::counted(0, ask);
+        core::iter::from_fn(move || records.next())
+    }
+
+    // The same where it is known how many there are.
+    pub(crate) fn counted<F: FnMut(u64, &mut [T]) -> Result<u64, Error>>(count: u64, ask: F) -> Counted<F, T, N> {
+        Counted { batch: Batch::new(), count, ask }
     }
 
     // The next record, with its index. Where there is none left, `ask` puts those from an index on to the front of a
@@ -56,3 +61,24 @@ impl<T: Copy + Default, const N: usize> Batch<T, N> {
         (count > 0).then_some(())
     }
 }
+
+// Records in order, of which there are `count`.
+pub(crate) struct Counted<F, T, const N: usize> {
+    batch: Batch<T, N>,
+    count: u64,
+    ask: F,
+}
+
+impl<F: FnMut(u64, &mut [T]) -> Result<u64, Error>, T: Copy + Default, const N: usize> Iterator for Counted<F, T, N> {
+    type Item = T;
+
+    fn next(&mut self) -> Option<T> {
+        self.batch.next(&mut self.ask).map(|(_, record)| record)
+    }
+
+    fn size_hint(&self) -> (usize, Option<usize>) {
+        self.batch.left(self.count)
+    }
+}
+
+impl<F: FnMut(u64, &mut [T]) -> Result<u64, Error>, T: Copy + Default, const N: usize> ExactSizeIterator for Counted<F, T, N> {}

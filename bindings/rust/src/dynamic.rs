@@ -7,7 +7,7 @@ use core::fmt;
 use core::ops::Deref;
 
 // Whether a list can be read, by what a call for none of its records returned. A file without it has an empty list.
-fn begun(said: Result<u64, Error>) -> Result<(), Error> {
+pub(crate) fn begun(said: Result<u64, Error>) -> Result<(), Error> {
     match said {
         Ok(_) | Err(Error::NoRecord | Error::LinkNoDynamic | Error::NotFound) => Ok(()),
         Err(error) => Err(error),
@@ -104,10 +104,13 @@ impl<'a> ElfFile<'a> {
     }
 
     /// The symbol of the dynamic segment that `dlsym` gets by a name, which is that of the default version, or `dlvsym`
-    /// by a name and a version; none if there is none. Each call counts the symbols anew.
+    /// by a name and a version; none if there is none, or no dynamic segment. Each call counts the symbols anew.
     pub fn find_symbol(&self, name: &str, version: Option<&str>) -> Result<Option<DynamicSymbol<'a>>, Error> {
         let version = version.unwrap_or_default();
-        let said = ffi::find_symbol(self.input, &self.header, name.as_bytes(), version.as_bytes())?;
+        let said = match ffi::find_symbol(self.input, &self.header, name.as_bytes(), version.as_bytes()) {
+            Err(Error::LinkNoDynamic) => return Ok(None),
+            said => said?,
+        };
         if said.found == 0 {
             return Ok(None);
         }
@@ -164,7 +167,7 @@ impl<'a> ElfFile<'a> {
 }
 
 // The number that bytes are.
-fn number(bytes: &[u8], big: bool) -> u64 {
+pub(crate) fn number(bytes: &[u8], big: bool) -> u64 {
     let place = |value: u64, byte: &u8| value << 8 | u64::from(*byte);
     if big { bytes.iter().fold(0, place) } else { bytes.iter().rev().fold(0, place) }
 }

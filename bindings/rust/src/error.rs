@@ -1,4 +1,4 @@
-//! The errors of the archive. Written by tools/exports/statuses.py.
+//! The errors of the archive. Written by tools/exports/declarations.py.
 
 /// Why a file, or a part of it, can't be read.
 #[derive(Clone, Copy, Debug, PartialEq, Eq, Hash)]

@@ -2,7 +2,7 @@
 
 use crate::batch::{one, Batch};
 use crate::ffi;
-use crate::constants::SHT_RELR;
+use crate::constants::{SHT_RELA, SHT_RELR};
 use crate::{ByteRange, Dynamic, ElfFile, Entry, Error, HashTable, Name, Notes, ProgramHeader, Relocation, SectionHeader, Symbol, SymbolTable, Symbols};
 use core::fmt;
 use core::ops::Deref;
@@ -100,10 +100,18 @@ impl<'f, 'a> Section<'f, 'a> {
         HashTable::new(self.file, self.index, &self.header)
     }
 
+    // How many records of so many bytes the data of the section is, where a call for none of them, `begun`, is Ok. In class
+    // 32 each number has half its size.
+    fn count_of(&self, begun: Result<usize, Error>, size: u64) -> u64 {
+        let size = if self.file.is_64() { size } else { size / 2 };
+        begun.and_then(|_| self.data_range()).map_or(0, |data| data.size / size)
+    }
+
     /// The relocations of the section; none where it holds others.
-    pub fn relocations(&self) -> impl Iterator<Item = Relocation> + 'f {
+    pub fn relocations(&self) -> impl ExactSizeIterator<Item = Relocation> + 'f {
         let (file, section) = (self.file, self.index);
-        Batch::<Relocation, 64>::items(move |first, out| ffi::relocations(file.input, &file.header, section, first, out))
+        let count = self.count_of(self.relocations_from(0, &mut []), if self.header.type_ == SHT_RELA { 24 } else { 16 });
+        Batch::<Relocation, 64>::counted(count, move |first, out| ffi::relocations(file.input, &file.header, section, first, out))
     }
 
     /// The relocation at an index; an error if the section has none there.
@@ -124,9 +132,10 @@ impl<'f, 'a> Section<'f, 'a> {
     }
 
     /// The dynamic entries of the section, those after the entry of tag 0 too; none if it has other data.
-    pub fn dynamic(&self) -> impl Iterator<Item = Dynamic> + 'f {
+    pub fn dynamic(&self) -> impl ExactSizeIterator<Item = Dynamic> + 'f {
         let (file, section) = (self.file, self.index);
-        Batch::<Dynamic, 32>::items(move |first, out| ffi::dynamics(file.input, &file.header, section, first, out))
+        let count = self.count_of(self.dynamic_from(0, &mut []), 16);
+        Batch::<Dynamic, 32>::counted(count, move |first, out| ffi::dynamics(file.input, &file.header, section, first, out))
     }
 
     /// The dynamic entry at an index; an error if the section has none there.

@@ -47,6 +47,7 @@ mod notes;
 pub mod program;
 mod ranges;
 mod records;
+mod relocations;
 pub mod sections;
 #[cfg(feature = "alloc")]
 mod symbol_map;

@@ -93,6 +93,7 @@ fn visit_batches(file: &ElfFile<'_>, section: &Section<'_, '_>) {
     assert!(section.relocations().skip(3).take(7).eq(relocations[..count].iter().copied()));
     let count = section.dynamic_from(3, &mut tags).unwrap_or(0);
     assert!(section.dynamic().skip(3).take(7).eq(tags[..count].iter().copied()));
+    assert_eq!((section.relocations().len(), section.dynamic().len()), (section.relocations().count(), section.dynamic().count()));
     let text = section.text(1);
     assert!(text.map_or(true, |text| lies_in(file.input(), text.as_bytes())));
 }
@@ -257,6 +258,8 @@ fn visit(input: &[u8]) -> usize {
     assert!(file.build_id().ok().flatten().map_or(true, |id| lies_in(input, id)));
     assert!(file.notes().take(200).flatten().all(|note| lies_in(input, note.name) && lies_in(input, note.desc)));
     assert!(file.dynamic().map_or(true, |entries| entries.take(200).count() <= 200));
+    assert!(file.relocations().map_or(true, |relocations| relocations.take(200).count() <= 200));
+    assert!(file.packed_relocations().map_or(true, |addresses| addresses.take(200).count() <= 200));
     assert!(format!("{file:?}").len() < 1000);
     #[cfg(feature = "alloc")]
     visit_symbol_map(&file);

@@ -7,7 +7,7 @@ use xmas_elf_proved::constants::{PT_NULL, SHT_RELR, STT_FILE, STT_SECTION};
 use xmas_elf_proved::sections::ShType;
 #[cfg(feature = "alloc")]
 use xmas_elf_proved::symbol_table::Type;
-use xmas_elf_proved::{ElfFile, Error};
+use xmas_elf_proved::{ElfFile, Error, Note, Relocation};
 
 fn said(program: &str, words: &[&str], path: &Path) -> String {
     let done = Command::new(program).args(words).arg(path).env("LC_ALL", "C").output().expect("binutils");
@@ -65,12 +65,41 @@ fn by_crate(file: &ElfFile<'_>) -> Result<BTreeMap<(u64, String), usize>, Error>
     Ok(found)
 }
 
+// The owner of a note and the size of its description: as readelf prints them, in a line with a tab.
+fn printed_note(line: &str) -> Option<(String, usize)> {
+    let (owner, size) = line.split_once('\t')?.0.trim().rsplit_once("0x")?;
+    Some((owner.trim().to_owned(), usize::from_str_radix(size, 16).ok()?))
+}
+
+fn shown(note: &Note<'_>) -> (String, usize) {
+    (String::from_utf8_lossy(note.name).trim_end_matches('\0').to_owned(), note.desc.len())
+}
+
+// The places and the info numbers of the relocations of the dynamic segment, in order of the numbers.
+fn relocations_by_readelf(path: &Path) -> Vec<(u64, u64)> {
+    let printed = said("readelf", &["--wide", "--use-dynamic", "--relocs"], path);
+    let words = printed.lines().map(|line| line.split_whitespace().map_while(|word| u64::from_str_radix(word, 16).ok()).collect::<Vec<_>>());
+    let mut found: Vec<_> = words.filter(|words| words.len() > 1).map(|words| (words[0], words[1])).collect();
+    found.sort();
+    found
+}
+
+fn relocations_by_crate(file: &ElfFile<'_>) -> Vec<(u64, u64)> {
+    let info = |it: &Relocation| u64::from(it.symbol) << 32 | u64::from(it.type_);
+    let mut found: Vec<_> = file.relocations().expect("relocations").map(|it| (it.offset, info(&it))).collect();
+    found.sort();
+    found
+}
+
 fn compare(path: &Path) -> usize {
     let bytes = read(path);
     let (cut, theirs) = (without_sections(&bytes), by_nm(path));
     let printed = said("readelf", &["--wide", "--notes"], path);
     let id = printed.split_once("Build ID: ").and_then(|(_, rest)| rest.lines().next().map(str::to_owned));
     let tags = said("readelf", &["--wide", "--dynamic"], path).lines().filter(|line| line.starts_with(" 0x")).count();
+    let notes: Vec<_> = ElfFile::new(&bytes).expect("an ELF file").notes().map(|note| shown(&note.expect("a note"))).collect();
+    assert_eq!(notes, printed.lines().filter_map(printed_note).collect::<Vec<_>>(), "{}", path.display());
+    assert_eq!(relocations_by_crate(&ElfFile::new(&cut).expect("an ELF file")), relocations_by_readelf(path), "{}", path.display());
     for bytes in [&bytes, &cut] {
         let file = ElfFile::new(bytes).expect("an ELF file");
         if file.segment_count() == 0 {
@@ -98,28 +127,33 @@ fn compare(path: &Path) -> usize {
 fn symbols_versions_build_ids_and_entries() {
     let files = files();
     let compared: usize = files.iter().map(|path| compare(path)).sum();
+    println!("{} files, {compared} symbols", files.len());
     assert!(!files.is_empty() && compared > 20 * files.len());
+}
+
+// How many names of a file have another version than the default one, by which they are found.
+fn look_up(path: &Path) -> usize {
+    let (bytes, mut several) = (read(path), 0);
+    let file = ElfFile::new(&bytes).expect("an ELF file");
+    for ((value, shown), _) in by_nm(path).iter().filter(|((value, shown), _)| *value != 0 && shown.contains('@')) {
+        let (name, version) = shown.split_once('@').expect("a version");
+        let found = |version| file.find_symbol(name, version).expect("not refused").map(|symbol| (symbol.value, symbol.name().map(str::to_owned)));
+        let wanted = Some((*value, Ok(name.to_owned())));
+        assert_eq!(found(Some(version.trim_start_matches('@'))), wanted, "{}: {shown}", path.display());
+        if version.starts_with('@') {
+            assert_eq!(found(None), wanted, "{}: {shown}", path.display());
+        } else {
+            several += 1;
+        }
+    }
+    assert!(file.find_symbol("no_such_name", None).is_ok_and(|found| found.is_none()), "{}", path.display());
+    several
 }
 
 #[test]
 fn found_symbols_are_those_of_the_default_version() {
-    let mut several = 0;
-    for path in ["libc.so.6", "libm.so.6", "libgcc_s.so.1"].map(|name| Path::new("/lib/x86_64-linux-gnu").join(name)) {
-        let (bytes, theirs) = (read(&path), by_nm(&path));
-        let file = ElfFile::new(&bytes).expect("an ELF file");
-        for ((value, shown), _) in theirs.iter().filter(|((value, shown), _)| *value != 0 && shown.contains('@')) {
-            let (name, version) = shown.split_once('@').expect("a version");
-            let found = file.find_symbol(name, Some(version.trim_start_matches('@'))).expect("not refused");
-            assert_eq!(found.map(|symbol| symbol.value), Some(*value), "{shown}");
-            let default = file.find_symbol(name, None).expect("not refused").map(|symbol| symbol.value);
-            if version.starts_with('@') {
-                assert_eq!(default, Some(*value), "{shown}");
-            } else {
-                several += 1;
-            }
-        }
-        assert!(file.find_symbol("no_such_name", None).is_ok_and(|found| found.is_none()));
-    }
+    let large = ["libc.so.6", "libm.so.6", "libgcc_s.so.1"].map(|name| Path::new("/lib/x86_64-linux-gnu").join(name));
+    let several: usize = large.iter().chain(&files()).map(|path| look_up(path)).sum();
     assert!(several > 20);
 }
 
@@ -138,7 +172,12 @@ fn relative_relocations_are_no_error() {
     assert_eq!((section.name(), section.check(), section.get_type()), (Ok(".relr.dyn"), Ok(()), Ok(ShType::Relr)));
     assert_eq!(section.data().map(|data| data.len() as u64), Ok(section.size));
     let offsets = printed.split_once(" offsets\n").expect("relocations").1.lines().map_while(|line| u64::from_str_radix(line.trim(), 16).ok());
-    assert_eq!(section.packed_relocations().collect::<Vec<_>>(), offsets.collect::<Vec<_>>());
+    let offsets: Vec<_> = offsets.collect();
+    assert_eq!(section.packed_relocations().collect::<Vec<_>>(), offsets);
+    let cut = without_sections(&bytes);
+    for file in [file, ElfFile::new(&cut).expect("an ELF file")] {
+        assert_eq!(file.packed_relocations().map(|addresses| addresses.collect()), Ok(offsets.clone()));
+    }
 }
 
 #[test]
