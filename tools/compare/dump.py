@@ -8,8 +8,8 @@ Takes FILE, else N files (300) spread over the small ones of /usr/bin and /usr/l
 and of a copy without section headers: the needed libraries, the name and the run path, the build id, the dynamic symbols with
 the names and numbers of their versions, and the versions needed and defined; of each file besides its sections; and for up to
 200 names with a version the symbol that is found by both, and by the name alone where the version is the default one. The
-program in C prints the build id and these symbols. A file without sections is passed over. The programs are built over the
-archive in crates/elf_c/out, or in the folder that XMAS_ELF_ARCHIVE names."""
+program in C prints the build id and these symbols. A file without sections, or of debugging data alone, is passed over. The
+programs are built over the archive in crates/elf_c/out, or in the folder that XMAS_ELF_ARCHIVE names."""
 import concurrent.futures
 import functools
 import itertools
@@ -49,27 +49,33 @@ def numbered(number):
     return f"{number % 0x8000}{'h' if number >= 0x8000 else ''}"
 
 
+def build_ids(path):
+    """The line of the build id. Without section headers a note is found that lies in a segment."""
+    return [f"build id {it}" for it in re.findall(r"'Build ID': '([0-9a-f]+)'", str(llvm(path, "-n").get("Notes")))[:1]]
+
+
 class Wanted:
     """What nm and readelf say of a file."""
 
     def __init__(self, path):
-        said, printed = llvm(path, "-SVn"), run(["readelf", "-rVW", "--", path]).output
+        said, printed = llvm(path, "-SV"), run(["readelf", "-rVW", "--", path]).output
         # The values of dynamic symbols, with their names and the names of their versions.
-        self.symbols = [(line[:16].strip() or "0" * 16, line[19:]) for line in run(["nm", "-D", "--", path]).output.split("\n") if line]
+        rows = re.findall(r"^([0-9a-f]+| +) \S (.*)$", run(["nm", "-D", "--", path]).output, re.M)
+        self.symbols = [(f"{int(value.strip() or '0', 16):016x}", name) for value, name in rows]
         lines = re.findall(r"^  [0-9a-f]+:( +[0-9a-f]+[h ]\(.*)$", printed, re.M)
         self.numbers = [f"{int(number, 16)}{mark.strip()}" for line in lines for number, mark in re.findall(r" ([0-9a-f]+)([h ])\(", line)]
-        ids = re.findall(r"'Build ID': '([0-9a-f]+)'", str(said.get("Notes")))[:1]
-        self.ids = [f"build id {it}" for it in ids]
         needs = [(need["FileName"], it) for need in parts(said, "VersionRequirements", "Dependency") for it in parts(need, "Entries", "Entry")]
         number = lambda it: f"{numbered(it['Index'])} {it['Flags']['RawFlags']}"
         # In no order.
         self.lines = [
-            *self.ids, *(f"{word} {it}" for word, tag in (("needed", "NEEDED"), ("soname", "SONAME")) for it in texts_of(path, tag)),
+            *(f"{word} {it}" for word, tag in (("needed", "NEEDED"), ("soname", "SONAME")) for it in texts_of(path, tag)),
             *(f"run path {it}" for it in texts_of(path, "RUNPATH", "RPATH")[:1]),
             *(f"need {number(it)} {library} {it['Name']}" for library, it in needs),
             *(f"definition {number(it)} {it['Name']}" for it in parts(said, "VersionDefinitions", "Definition"))]
         packed = dict(re.findall(r"^Relocation section '(.*)' at .*\n +(\d+) offsets", printed, re.M))
         count = lambda it: it["Size"] // it["EntrySize"] if raw(it["Type"]) in (4, 9) and it["EntrySize"] else packed.get(it["Name"]["Value"], 0)
+        # A file of debugging data alone has not the bytes of its dynamic segment.
+        self.is_bare = any(raw(it["Type"]) == 8 and it["Name"]["Value"] == ".dynamic" for it in parts(said, "Sections", "Section"))
         self.sections = [f"section {it['Index']} {it['Name']['Value']} {it['Size']} {count(it)}" for it in parts(said, "Sections", "Section")]
         # What is asked for, and the value, the version and the index that are found.
         self.found, values = {}, {name: value for value, name in self.symbols}
@@ -97,25 +103,26 @@ def differing(tally, path, printed, wanted):
 def compare(programs, find, path):
     """Compares what the programs print of a file."""
     tally, wanted, data = Tally("dump"), Wanted(path), read_elf(path)
-    if not wanted.sections:
+    if wanted.is_bare or not wanted.sections:
         return tally
     has_segments = any(data[56:58] if data[4] == 2 else data[44:46])
     tally["files"] += 1
     with tempfile.TemporaryDirectory() as room:
         cut = Path(room, "cut")
         cut.write_bytes(stripped(data))
+        ids = {it: build_ids(it) for it in (path, cut)}
         for program, file in itertools.product(programs, (path, cut) if has_segments else (path,)):
             lines = tally.output(path, program, file, *(wanted.found if file == path else ())).split("\n")[:-1]
             found = [f"found {name} {value} {version}" for name, (value, version, _) in wanted.found.items()]
             named = [it for it in lines if not it.startswith("section ")]
-            differing(tally, f"{path} by {program}", named, wanted.dynamic(named) + (found if file == path else []))
+            differing(tally, f"{path} by {program}", named, ids[file] + wanted.dynamic(named) + (found if file == path else []))
             if file == path:
                 differing(tally, f"{path} by {program}", [it for it in lines if it.startswith("section ")], wanted.sections)
         for file in (path, cut):
             first, *lines = tally.output(path, find, file, *wanted.found).split("\n")[:-1]
             # A line has bytes at its end.
             found = [f"{name} {index} {value}" for name, (value, _, index) in wanted.found.items()]
-            differing(tally, f"{path} by C", [first, *(" ".join(it.split()[:3]) for it in lines)], (wanted.ids or ["build id none"]) + found)
+            differing(tally, f"{path} by C", [first, *(" ".join(it.split()[:3]) for it in lines)], (ids[file] or ["build id none"]) + found)
     return tally
 
 

@@ -18,6 +18,10 @@ __attribute__((weak)) int weak(int x) { return x + own; }
 int run(int x) { for (int k = 0; k < 3; k++) counter += outer(words[k], k) + weak(x); return table[x & 63] + counter; }
 """
 
+# How programs are linked that are hardened in different ways.
+WAYS = (["-no-pie"], ["-pie", "-Wl,-z,norelro"], ["-Wl,-z,relro,-z,lazy"], ["-Wl,-z,relro,-z,now"], ["-z", "execstack"],
+        ["-nostdlib", "-no-pie", "-Wl,-N,-e,main"])
+
 # Texts that are markup where a page takes them for it.
 MARKUP = ("<script>alert(1)</script>", "<img src=x onerror=alert(1)>", "\"><svg onload=alert(1)>", "</div><b>x<", "&lt;i&gt;&#0;")
 
@@ -36,6 +40,15 @@ def of_other_machines(room):
             if subprocess.run(command, capture_output=True).returncode == 0:
                 found.append(path)
     return found
+
+
+def hardened(room):
+    """A program for each way, and an object file."""
+    (room / "hardened.c").write_text("int main(void) { return 0; }\n")
+    for index, words in enumerate([*WAYS, ["-c"]]):
+        path = room / f"hardened-{index}.elf"
+        subprocess.run(["gcc", room / "hardened.c", "-o", path, *words], check=True, capture_output=True)
+        yield path
 
 
 def cut_file(room, path, size):

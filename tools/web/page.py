@@ -251,16 +251,14 @@ def said_of(test, tab, label):
 
 def try_hardening(test, options, room):
     """What the overview says of how a file is hardened, for programs linked in several ways and shared objects."""
-    import hardening
-
     shown = "Array.from(document.querySelectorAll('.hardened dt'), (it) => `${it.textContent}: ${it.nextElementSibling.textContent}`)"
-    programs = list(hardening.programs(room))
+    programs = list(files.hardened(room))
     libraries = [it for it in (LIBRARIES / "libc.so.6", LIBRARIES / "libz.so.1") if it.exists()]
     bare = [files.without_sections(room, it) for it in programs[:-1]]
     for path in (*programs, *libraries, *bare):
         test.open(path)
         test.tab("Overview")
-        test.same(f"{path}: hardening", test.page.run(shown), hardening.said_of(path))
+        test.same(f"{path}: hardening", test.page.run(shown), readelf.hardening(path))
 
 
 def try_refused_symbols(test, options, room):

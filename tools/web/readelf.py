@@ -114,3 +114,20 @@ def needed(path):
 
 def build_id(path):
     return next(iter(re.findall(r"Build ID: ([0-9a-f]+)", said(path, "--notes"))), None)
+
+
+def hardening(path):
+    """The rows of the page's card; none for a file without segments."""
+    printed = said(path, "--file-header", "--program-headers", "--dynamic")
+    if "There are no program headers" in printed:
+        return []
+    is_now = bool(re.search(r"\(BIND_NOW\)|\(FLAGS\) +.*BIND_NOW|\(FLAGS_1\) +Flags:.*\bNOW\b", printed))
+    stack = re.search(r"^  GNU_STACK .* ([R ][W ][E ]) 0x", printed, re.M)
+    yes = {True: "yes", False: "no"}
+    return [
+        f"Program at any address (PIE): {yes['Position-Independent Executable' in printed]}",
+        f"Read-only after relocation (RELRO): {('full' if is_now else 'partial') if '  GNU_RELRO ' in printed else 'none'}",
+        f"Stack not executable (NX): {yes[bool(stack) and 'E' not in stack[1]]}",
+        f"Bound before it runs (BIND_NOW): {yes[is_now]}",
+        f"Writable and executable (W+X): {yes[bool(re.search(r'^  LOAD .* RWE 0x', printed, re.M))]}",
+    ]
