@@ -78,7 +78,7 @@ pub fn run<R: Read + Drop, W: Write, E: Write>(
     ensures accepted { result ≡ 0 → IsSomeAnd file (λ reader.
         IfSome (R.remaining reader) (λ bytes. IsOk (header_of bytes))) }
 {
-    match print(alloc, path, source, addresses, file, &mut *out) {
+    match answer(alloc, path, source, addresses, file, &mut *out) {
         Ok(_) => 0,
         Err(fault) => say(&fault, err),
     }
@@ -86,7 +86,7 @@ pub fn run<R: Read + Drop, W: Write, E: Write>(
 
 // Writes a line for each address of the file that is all that the reader has left, and gives the
 // writer back.
-fn print<'a, R: Read + Drop, W: Write + Drop>(
+fn answer<'a, R: Read + Drop, W: Write + Drop>(
     alloc: Global,
     path: &'a str,
     source: Source,

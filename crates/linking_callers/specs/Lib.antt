@@ -1,5 +1,4 @@
 pub mod FirstNotes
-pub mod LinkedFunction
 pub mod LinkedName
 pub mod SecondFile
 pub mod SecondObject
