@@ -20,7 +20,7 @@ abbrev pub or_mark : Result (List ℕ) ElfError → List ℕ
 or_mark (Ok name) = name
 or_mark (Err error) = codes "?"
 
--- the bytes that are lent
+-- the bytes of a reference
 abbrev pub lent_bytes : Result (Bor (List ℕ)) ElfError → Result (List ℕ) ElfError
 lent_bytes (Ok part) = Ok part.now
 lent_bytes (Err error) = Err error
