@@ -20,7 +20,7 @@ abbrev pub or_mark : Result (List ℕ) ElfError → List ℕ
 or_mark (Ok name) = name
 or_mark (Err error) = codes "?"
 
--- the bytes that are lent
+-- the bytes of a reference
 abbrev pub lent_bytes : Result (Bor (List ℕ)) ElfError → Result (List ℕ) ElfError
 lent_bytes (Ok part) = Ok part.now
 lent_bytes (Err error) = Err error
@@ -34,9 +34,13 @@ symbol_name fields strings (Some symbol) = or_mark (bytes_up_to_zero_of strings 
 abbrev pub name_in : {E : Type 0} → (E → SymbolFields) → List E → List ℕ → ℕ → List ℕ
 name_in fields symbols strings index = symbol_name fields strings (slice_get symbols index)
 
--- a line: a name with its control characters escaped, and an offset in hexadecimal
+-- an offset in hexadecimal, and the end of its line
+abbrev pub offset_text : ℕ → List ℕ
+offset_text offset = codes "+0x" ++ (digits 16 false offset ++ codes "\n")
+
+-- a line: a name with its control characters escaped, and an offset
 abbrev pub place_text : List ℕ → ℕ → List ℕ
-place_text name offset = escaped name ++ (codes "+0x" ++ (digits 16 false offset ++ codes "\n"))
+place_text name offset = escaped name ++ offset_text offset
 
 -- the line of an address that no symbol covers: the first section that contains it, and the offset there, or `?`
 pub data IsSectionLine (file : ElfFile) (address : ℕ) : List ℕ → Type 0 where

@@ -1,13 +1,13 @@
 -- The symbols of a symbol table by its section header, with the string table that it is linked to, and its section
 -- indices (gABI, "Symbol Table" and "Sections", sh_link, SHT_SYMTAB and SHT_SYMTAB_SHNDX).
-use Rattle.std.specs.Prelude.{◌≡◌, ◌≢◌, ℕ, ◌%◌, ◌==◌, List, [], length, Result, Ok, Err, if◌then◌else◌}
+use Rattle.std.specs.Prelude.{◌≡◌, ◌≢◌, ℕ, ◌%◌, ◌==◌, List, [], length, Option, None, Some, Result, Ok, Err, if◌then◌else◌}
 use Rattle.elf_base.specs.FileHeader.{file_order}
 use Rattle.elf_base.specs.Refusal.{and_then}
 use Rattle.elf_base.specs.Table.{table_data, table_order}
 use Rattle.elf_base.specs.declared.error.ElfError.TheVariants.{NotMultiple}
 use Rattle.elf_addresses.specs.declared.symbols.AddressSymbols.{AddressSymbols}
 use Rattle.elf_linking.specs.References.{file_machine}
-use Rattle.xmas_elf.specs.First.{IsFirst, NoneBelow}
+use Rattle.xmas_elf.specs.First.{FindsFirstAt}
 use Rattle.xmas_elf.specs.SectionData.{section_data_of}
 use Rattle.xmas_elf.specs.SectionHeader.{section_fields, section_list, section_of}
 use Rattle.xmas_elf.specs.Types.{ElfError, ElfFile, SectionHeader}
@@ -35,11 +35,16 @@ abbrev pub whole_words : Result (List ℕ) ElfError → List ℕ
 whole_words (Ok bytes) = if length bytes % 4 == 0 then bytes else []
 whole_words (Err error) = []
 
+-- such data of the section at an index, if there is one
+abbrev pub words_at : ElfFile → Option ℕ → List ℕ
+words_at file None = []
+words_at file (Some place) = whole_words (data_at file place)
+
 -- the data of the first section of section indices that is linked to a section
-pub data IsIndexData (file : ElfFile) (index : ℕ) : List ℕ → Type 0 where
-  has_indices : (section : SectionHeader) → IsFirst (IsIndexSection index) (section_list file) section
-      → IsIndexData file index (whole_words (section_data_of file section))
-  no_indices : NoneBelow (IsIndexSection index) (section_list file) (length (section_list file)) → IsIndexData file index []
+pub record IsIndexData (file : ElfFile) (index : ℕ) (bytes : List ℕ) : Type 0 where
+  pub place : Option ℕ
+  pub first : FindsFirstAt (IsIndexSection index) (section_list file) place
+  pub bytes_are : bytes ≡ words_at file place
 
 -- the symbols of the section at an index
 pub record IsSymtab {E : Type 0} {r : _} (file : ElfFile) (index : ℕ) (symbols : AddressSymbols E r) : Type 0 where

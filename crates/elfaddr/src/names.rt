@@ -51,7 +51,7 @@ fn name_in<'a, E: Entry + Record>(table: &Table<'_, E>, strings: &'a [u8], index
 
 // A name, or `?` if it can't be read.
 pub(crate) fn or_mark(name: Result<&[u8], ElfError>) -> &[u8]
-    ensures { result.now ≡ or_mark (lent_bytes name) }
+    ensures { result.now ≡ or_mark (lent_bytes name.entry) }
 {
     match name {
         Ok(name) => name,

@@ -1,11 +1,7 @@
 //! The lines of a file by the symbols that are asked for.
 
-ghost use Rattle.std.specs.Prelude.{◌≡◌, IfErr, IfOk, MatchResult, length};
-ghost use Rattle.elfaddr.specs.Ends.{AreDladdrLines, AreDynamicLines, AreFileLines, AreLinesBy};
-ghost use Rattle.elfaddr.specs.Ends.{AreSymtabLines, AsLinkError, HasNoError, IsFault};
-ghost use Rattle.elfaddr.specs.Ends.{IsFileRefused, IsRefusedBy};
+ghost use Rattle.std.specs.Prelude.{IfOk, MatchResult, length};
 ghost use Rattle.elfaddr.specs.Lines.{AreLines};
-ghost use Rattle.elfaddr.specs.Symtab.{IsSymtabRefused};
 ghost use Rattle.elfaddr.specs.Tables.{AreDynamic, IsDynamicRefused, IsReach};
 ghost use Rattle.program_ends.specs.Appended.{AppendsSome};
 
@@ -14,8 +10,7 @@ use crate::names::Named;
 use crate::symtab::{symtab_at, symtab_index};
 use crate::{Fault, Source};
 use elf_addresses::dladdr::{DladdrSymbols, Reach, fill_reached};
-use elf_addresses::{AddressSymbols, ClaimIndex, SymbolClaims, build_index, index_words};
-use elf_base::header::Class;
+use elf_addresses::{AddressSymbols, SymbolClaims};
 use elf_linking::view::{LinkedSymbol, strings};
 use elf_linking::{AnyTable, DynamicObject, LinkError};
 use program_ends::{Stop, write_buffered};
@@ -34,19 +29,12 @@ pub(crate) fn print_file<'a, W: Write + Drop>(
     addresses: &[u64],
     out: W,
 ) -> Result<W, Fault<'a>>
-    ensures written { IfOk result (λ back. AppendsSome
-        (AreFileLines {r32 = ⟦<Entry32 as Record>⟧} {q32 = ⟦<DynEntry32 as Record>⟧}
-        {r64 = ⟦<Entry64 as Record>⟧} {q64 = ⟦<DynEntry64 as Record>⟧}
-        source file.now addresses.now) (W.contents out) (W.contents back)) }
-    ensures fault { IfErr result (IsFault path.entry (IsFileRefused source file.now)) }
 {
-    match file.header.pt1.class() {
-        Class::ThirtyTwo => {
-            print_by::<Entry32, DynEntry32, W>(alloc, path, file, source, addresses, out)
-        }
-        // A file has one of these two classes.
-        _ => print_by::<Entry64, DynEntry64, W>(alloc, path, file, source, addresses, out),
+    if file.header.pt1.class.raw() == 1 {
+        return print_by::<Entry32, DynEntry32, W>(alloc, path, file, source, addresses, out);
     }
+    // A file is of class 32 or 64.
+    print_by::<Entry64, DynEntry64, W>(alloc, path, file, source, addresses, out)
 }
 
 // The lines by symbols of these types.
@@ -58,12 +46,6 @@ fn print_by<'a, S: Entry + Record, D: LinkedSymbol, W: Write + Drop>(
     addresses: &[u64],
     out: W,
 ) -> Result<W, Fault<'a>>
-    ensures written { IfOk result (λ back. AppendsSome
-        (λ text. AreLinesBy {r = S.Record} {q = D.Record} S.fields D.fields D.CLASS D.SIZE
-        file.now addresses.now text source)
-        (W.contents out) (W.contents back)) }
-    ensures fault { IfErr result (IsFault path.entry
-        (λ error. IsRefusedBy S.SIZE D.CLASS D.SIZE file.now error source)) }
 {
     match source {
         Source::Symtab => match symtab_index(file) {
@@ -84,11 +66,6 @@ fn print_symtab<'a, S: Entry + Record, W: Write + Drop>(
     addresses: &[u64],
     out: W,
 ) -> Result<W, Fault<'a>>
-    ensures written { IfOk result (λ back. AppendsSome
-        (AreSymtabLines {r = S.Record} S.fields file.now index addresses.now)
-        (W.contents out) (W.contents back)) }
-    ensures fault { IfErr result (IsFault path.entry
-        (AsLinkError (IsSymtabRefused S.SIZE file.now index))) }
 {
     let symbols = match symtab_at::<S>(file, index) {
         Ok(symbols) => symbols,
@@ -114,10 +91,6 @@ fn print_dynamic<'a, D: LinkedSymbol, W: Write + Drop>(
     addresses: &[u64],
     out: W,
 ) -> Result<W, Fault<'a>>
-    ensures written { IfOk result (λ back. AppendsSome
-        (AreDynamicLines {r = D.Record} D.fields D.CLASS D.SIZE file.now addresses.now)
-        (W.contents out) (W.contents back)) }
-    ensures fault { IfErr result (IsFault path.entry (IsDynamicRefused D.CLASS D.SIZE file.now)) }
 {
     let symbols = match dynamic_symbols::<D>(file) {
         Ok(symbols) => symbols,
@@ -158,10 +131,6 @@ fn print_dladdr<'a, D: LinkedSymbol, W: Write + Drop>(
     addresses: &[u64],
     out: W,
 ) -> Result<W, Fault<'a>>
-    ensures written { IfOk result (λ back. AppendsSome
-        (AreDladdrLines {r = D.Record} D.fields D.CLASS D.SIZE file.now addresses.now)
-        (W.contents out) (W.contents back)) }
-    ensures fault { IfErr result (IsFault path.entry (IsDynamicRefused D.CLASS D.SIZE file.now)) }
 {
     let object = match DynamicObject::<D>::read(file) {
         Ok(object) => object,
@@ -204,20 +173,13 @@ fn print_lines<'a, C: Named, W: Write + Drop>(
     addresses: &[u64],
     out: W,
 ) -> Result<W, Fault<'a>>
-    ensures { MatchResult result
-        (λ back. AppendsSome (AreLines (C.claim_of claims.now) (C.name_of claims.now) file.now
-        addresses.now) (W.contents out) (W.contents back))
-        HasNoError }
+    ensures { IfOk result (λ back. AppendsSome (AreLines (C.claim_of claims.now)
+        (C.name_of claims.now) file.now addresses.now) (W.contents out) (W.contents back)) }
 {
-    let Ok(mut words) = vec![in alloc; 0u32; index_words(claims)] else {
-        return Err(Fault::Memory);
-    };
-    if build_index(claims, &mut words).is_err() {
-        return Err(Fault::Memory);
-    }
     let lines = Lines {
+        alloc,
         file,
-        index: ClaimIndex::lend(claims, &words),
+        claims,
         addresses,
     };
     match write_buffered(alloc, &lines, out) {

@@ -1,7 +1,6 @@
 mod Early
 mod FirstNotes
 mod FoundValues
-mod FunctionNames
 mod SecondFiles
 mod SecondObjects
 mod VersionNames

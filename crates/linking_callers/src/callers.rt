@@ -11,7 +11,6 @@ ghost use Rattle.elf_linking.specs.declared.error.LinkError.{LinkError};
 ghost use Rattle.xmas_elf.specs.SymbolTable.{table_symbols};
 ghost use Rattle.xmas_elf.specs.Symbols.{Decides, IsMatch, symbols_of};
 
-pub mod backtrace;
 pub mod bindings;
 pub mod clones;
 pub mod equality;

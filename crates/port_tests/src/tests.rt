@@ -1,7 +1,6 @@
 //! Expected values are worked out by hand from the format,
 //! and never taken from the program's output.
 
-mod backtrace;
 mod checks;
 mod data;
 mod hash;

@@ -11,7 +11,6 @@ use elf_linking::gnu_hash::GnuHashTable;
 use elf_linking::values::value_by_name;
 use elf_linking::view::{DynamicView, bytes_at, bytes_from};
 use elf_linking::{DynamicObject, LinkError};
-use linking_callers::callers::backtrace::function_name;
 use std::process::Abort;
 use std::test::Fail;
 use worked_files::linked::small::SMALL;
@@ -311,23 +310,4 @@ fn counts_symbols_by_runs(rt: HostRuntime) -> Result<(), Fail> {
         want_at(&rt, number, table.symbol_count(), *count);
     }
     Ok(())
-}
-
-const FUNCTIONS: &[(u64, Option<&str>)] = &[
-    (0x22f, None),
-    (0x230, Some("ab")),
-    (0x239, Some("ab")),
-    (0x23a, Some("ef")),
-    (0x23f, Some("ef")),
-    (0x240, None),
-    (u64::MAX, None),
-];
-
-// A function ends before its value and size together; what is no function isn't named.
-#[test]
-fn names_the_function_of_an_address(rt: HostRuntime) {
-    let file = open(&rt, SMALL);
-    for &(address, name) in FUNCTIONS {
-        want_at(&rt, address, function_name(&file, address), Ok(name));
-    }
 }

@@ -6,6 +6,6 @@ use Rattle.elfaddr.proofs.lines.write_each.Given as goal
 
 -- a line for each address so far
 abbrev pub invariant-loop-address : goal.invariant-loop-address
-invariant-loop-address g l = let all = l.lines in (lines : List (List ℕ))
-    × AllZip (λ address line. IsLine (g.C.Claims.claim_of all.index.claims.now) (g.C.Named.name_of all.index.claims.now) all.file.now address line) (take l.address-index all.addresses.now) lines
-    × Appends (g.W.Write.contents l.fn.out) (g.W.Write.contents l.out) (concat lines)
+invariant-loop-address g l = (texts : List (List ℕ))
+    × AllZip (λ address text. IsLine (g.C.Claims.claim_of l.lines.claims.now) (g.C.Named.name_of l.lines.claims.now) l.lines.file.now address text) (take l.address-index l.lines.addresses.now) texts
+    × Appends (g.W.Write.contents l.fn.out) (g.W.Write.contents l.out) (concat texts)
