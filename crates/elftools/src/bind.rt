@@ -3,10 +3,10 @@
 
 use crate::read_file;
 use anyhow::{Context, anyhow};
+use elf_linking::DynamicObject;
 use elf_linking::find::Wanted;
 use elf_linking::scope::{Asked, Binding, Scope};
 use elf_linking::view::{DynamicView, LinkedSymbol};
-use elf_linking::DynamicObject;
 use std::alloc::Global;
 use std::io;
 use std::io::Write;

@@ -1,9 +1,9 @@
 //! How many bytes of a file belong to which symbol, section, segment or header.
 
+use elf_linking::FileSymbols;
 use std::alloc::{AllocError, Global};
 use std::io;
 use std::io::Write;
-use elf_linking::FileSymbols;
 use xmas_elf::ElfFile;
 use xmas_elf::bytes::Record;
 use xmas_elf::program::{ProgramHeader, Type};
