@@ -4,7 +4,7 @@ use Rattle.std.specs.Prelude.{◌≡◌, ℕ, ◌+◌, List, [], ◌∷◌, ◌+
 use Rattle.elf_linking.specs.DynamicObject.{object_file, object_view}
 use Rattle.elf_linking.specs.DynamicView.{view_entries}
 use Rattle.elf_linking.specs.References.{references_left, references_of}
-use Rattle.elf_linking.specs.Scope.{AreGood, BindsReference, HasNamedSymbol, IsReferenceBound, asked_of, asked_parts, scope_objects}
+use Rattle.elf_linking.specs.Scope.{IsReferenceBound, asked_of, asked_parts, scope_objects}
 use Rattle.elf_linking.specs.VersionTables.{result_map}
 use Rattle.elf_linking.specs.declared.error.LinkError.{LinkError}
 use Rattle.elf_linking.specs.declared.error.LinkError.TheVariants.{ObjectIndex}
@@ -21,13 +21,10 @@ abbrev pub IsAskedAt : {E : Type 0} → {r : _} → (E → SymbolFields) → Lis
 IsAskedAt fields objects from reference asked = MatchOption (slice_get objects from) (asked ≡ Err ObjectIndex)
     (λ asking. result_map asked_parts asked ≡ asked_of fields asking reference)
 
--- the reference of a binding asks for what the binding says, and gets the symbol that `bind` returns; in objects whose
--- look-ups find what they must, that is the one that the lists of symbols say
+-- the reference of a binding asks for what the binding says, and gets the symbol that `bind` returns
 abbrev pub IsBindingOf : {E : Type 0} → {r : _} → (E → SymbolFields) → List (DynamicObject E r) → Binding E → Type 0
 IsBindingOf fields objects binding = IsAskedAt fields objects binding.from binding.reference binding.asked
     × IsReferenceBound fields objects binding.from binding.reference binding.bound
-    × (AreGood fields objects → HasNamedSymbol fields objects binding.from binding.reference
-    → BindsReference fields objects binding.from binding.reference binding.bound)
 
 -- the same of an item; an error is that of the relocations of an object
 abbrev pub IsItemOf : {E : Type 0} → {r : _} → (E → SymbolFields) → List (DynamicObject E r) → Result (Binding E) (ℕ × LinkError) → Type 0
