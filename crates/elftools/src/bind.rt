@@ -34,7 +34,8 @@ struct Loaded {
 
 // The folder of a file.
 fn directory_of(path: &str) -> &str {
-    path.rsplit_once('/').map_or(".", |(directory, _)| directory)
+    path.rsplit_once('/')
+        .map_or(".", |(directory, _)| directory)
 }
 
 // A file of the class and machine of the program, if it can be read there.
@@ -111,9 +112,7 @@ fn needed_by(alloc: Global, bytes: &[u8]) -> anyhow::Result<Vec<String>> {
 }
 
 fn is_loaded(loaded: &[Loaded], name: &str) -> bool {
-    loaded
-        .iter()
-        .any(|file| file.names.iter().any(|other| other.as_str() == name))
+    loaded.iter().any(|file| file.names.iter().any(|other| other.as_str() == name))
 }
 
 // The program and all libraries that it needs, breadth first.
@@ -131,8 +130,9 @@ fn load(rt: &HostRuntime, program: &str) -> anyhow::Result<Vec<Loaded>> {
             if is_loaded(&loaded, name.as_str()) {
                 continue;
             }
-            let (path, bytes) = find_library(rt, &loaded, from, name.as_str())?
-                .context(format_args!("not found: {name}"))?;
+            let (path, bytes) = find_library(rt, &loaded, from, name.as_str())?.context(
+                format_args!("not found: {name}"),
+            )?;
             let mut names = Vec::new(rt.alloc());
             names.push(name)?;
             if let Some(Ok(own)) = DynamicView::read(&ElfFile::new(&bytes)?)?.soname() {

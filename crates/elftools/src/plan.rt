@@ -93,9 +93,18 @@ fn write_relocations<E: LinkedSymbol, W: Write>(
 /// numbers are hexadecimal, and addresses those of the file.
 pub fn write_plan<W: Write>(file: &ElfFile<'_>, out: &mut W) -> anyhow::Result<()> {
     let is_narrow = matches!(file.header.pt1.class(), Class::ThirtyTwo);
-    let limit = if is_narrow { 0xffff_e000 } else { (1 << 47) - PAGE };
+    let limit = if is_narrow {
+        0xffff_e000
+    } else {
+        (1 << 47) - PAGE
+    };
     let plan = LoadPlan::check_load(file, PAGE, limit).map_err(|error| anyhow!("{error}"))?;
-    writeln!(out, "type {} entry {:x}", file.header.pt2.type_().as_type(), plan.entry())?;
+    writeln!(
+        out,
+        "type {} entry {:x}",
+        file.header.pt2.type_().as_type(),
+        plan.entry()
+    )?;
     let by = match plan.interpreter() {
         Some(_) => Loader::Kernel,
         None => Loader::Glibc,

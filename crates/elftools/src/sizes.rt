@@ -22,7 +22,12 @@ struct Row<'a> {
 
 impl<'a> Row<'a> {
     // What has no bytes in the file claims an empty range.
-    fn new(kind: &'static str, name: &'a [u8], range: Option<(usize, usize)>, size: u64) -> Row<'a> {
+    fn new(
+        kind: &'static str,
+        name: &'a [u8],
+        range: Option<(usize, usize)>,
+        size: u64,
+    ) -> Row<'a> {
         let (start, len) = range.unwrap_or((0, 0));
         Row {
             kind,
@@ -62,7 +67,12 @@ fn push_segments(
     for program in file.program_iter() {
         if matches!(program.get_type(), Ok(Type::Load)) == loads {
             let range = program.file_range(file).ok();
-            rows.push(Row::new("segment", segment_name(&program), range, program.file_size()))?;
+            rows.push(Row::new(
+                "segment",
+                segment_name(&program),
+                range,
+                program.file_size(),
+            ))?;
         }
     }
     Ok(())

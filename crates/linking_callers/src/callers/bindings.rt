@@ -5,9 +5,9 @@ ghost use Rattle.elf_linking.specs.Bindings.{references_from};
 ghost use Rattle.elf_linking.specs.Scope.{scope_objects};
 ghost use Rattle.linking_callers.specs.AllBound.{AreBound, IsOneUnbound, is_bound};
 
+use elf_linking::LinkError;
 use elf_linking::scope::{Binding, Scope};
 use elf_linking::view::LinkedSymbol;
-use elf_linking::LinkError;
 
 /// Whether each reference of all objects gets a symbol, without an error.
 pub fn all_bound<E: LinkedSymbol>(scope: &Scope<'_, '_, E>) -> bool

@@ -22,7 +22,11 @@ fn counts_the_symbols_that_relocations_name(rt: HostRuntime) -> Result<(), LinkE
     // In these the hash table counts all.
     for &(bytes, count) in &[(SMALL.as_slice(), 5), (NARROW, 7), (WIDE, 7)] {
         let file = open(&rt, bytes);
-        want(&rt, DynamicView::read(&file)?.reached_count(&file), Ok(count));
+        want(
+            &rt,
+            DynamicView::read(&file)?.reached_count(&file),
+            Ok(count),
+        );
     }
     Ok(())
 }
@@ -44,7 +48,12 @@ fn reads_as_many_symbols_as_are_given(rt: HostRuntime) -> Result<(), LinkError> 
     let file = open(&rt, IMPORTER);
     for &(count, wanted) in COUNTED {
         let object = DynamicObject::<DynEntry64>::read_counted(&file, count);
-        want_at(&rt, count, object.map(|object| object.symbol_count()), wanted);
+        want_at(
+            &rt,
+            count,
+            object.map(|object| object.symbol_count()),
+            wanted,
+        );
     }
     let object = DynamicObject::<DynEntry64>::read_counted(&file, 3)?;
     want(&rt, object.check(), Ok(()));
@@ -94,7 +103,11 @@ const REFUSED: &[(usize, &[u8], LinkError)] = &[
     (12 * 64 + 32, &[1], LinkError::Elf(ElfError::NotMultiple)),
     (12 * 64 + 34, &[1], LinkError::Elf(ElfError::DataRange)),
     // its sh_link: to no section, and to the first, of type Null
-    (12 * 64 + 41, &[1], LinkError::Elf(ElfError::ShortSectionHeader)),
+    (
+        12 * 64 + 41,
+        &[1],
+        LinkError::Elf(ElfError::ShortSectionHeader),
+    ),
     (12 * 64 + 40, &[0], LinkError::Elf(ElfError::NullData)),
 ];
 
@@ -103,7 +116,12 @@ fn tells_why_a_file_has_no_symbols(rt: HostRuntime) {
     for &(place, change, error) in REFUSED {
         let mut bytes = *IMPORTER;
         put(&mut bytes, 1352 + place, change);
-        want_at(&rt, place, FileSymbols::read(&open(&rt, &bytes)).err(), Some(error));
+        want_at(
+            &rt,
+            place,
+            FileSymbols::read(&open(&rt, &bytes)).err(),
+            Some(error),
+        );
     }
     let mut bytes = *IMPORTER;
     put(&mut bytes, 40, &[0, 0]);

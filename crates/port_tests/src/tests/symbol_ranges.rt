@@ -83,11 +83,7 @@ fn symbol_bytes(row: Row) -> [u8; 24] {
 }
 
 // Wants the ranges of symbols in a file.
-fn check_ranges(
-    rt: &impl Abort,
-    bytes: &[u8],
-    rows: &[(Row, Found)],
-) -> Result<(), ElfError> {
+fn check_ranges(rt: &impl Abort, bytes: &[u8], rows: &[(Row, Found)]) -> Result<(), ElfError> {
     let file = open(rt, bytes);
     for &(row, wanted) in rows {
         let symbol = symbol_bytes(row);
