@@ -1,3 +1,4 @@
+pub mod AllBound
 mod Early
 mod FirstNotes
 mod FoundValues

@@ -12,8 +12,8 @@ pub fn symbol_count(file: &ElfFile<'_>) -> Result<usize, LinkError>
     ensures { MatchResult result (AreCounted file.now) (NoFileSymbols file.now) }
 {
     match FileSymbols::read(file) {
-        Ok(FileSymbols::Narrow(symbols)) => Ok(symbols.len()),
-        Ok(FileSymbols::Wide(symbols)) => Ok(symbols.len()),
+        Ok(FileSymbols::Narrow(symbols)) => Ok(symbols.table().len()),
+        Ok(FileSymbols::Wide(symbols)) => Ok(symbols.table().len()),
         Err(error) => Err(error),
     }
 }
