@@ -9,7 +9,7 @@ use Rattle.elf_base.specs.FileHeader.{file_class, file_order}
 use Rattle.elf_base.specs.Table.{table_data, table_order}
 use Rattle.elf_base.specs.declared.bytes.table.Table.{Table}
 use Rattle.elf_linking.specs.DynamicObject.{AreOfClassFor, IsNameAt, IsObjectFor, IsObjectRefusedFor, IsReachedObject, IsReachedRefused, no_part, same_class}
-use Rattle.elf_linking.specs.DynamicView.{AreSymbolsFor, as_link_error, counted_symbols_of, dynamic_entries_of, text_in_strings}
+use Rattle.elf_linking.specs.DynamicView.{AreSymbols, as_link_error, counted_symbols_of, dynamic_entries_of, text_in_strings}
 use Rattle.elf_linking.specs.References.{IsReachedCount}
 use Rattle.elf_linking.specs.declared.object.DynamicObject.{DynamicObject}
 use Rattle.elf_linking.specs.Loaded.{lent}
@@ -19,6 +19,10 @@ use Rattle.elf_linking.specs.declared.error.LinkError.TheVariants.{SymbolIndex}
 use Rattle.elf_records.specs.declared.dynamic.Dynamic.{Dynamic}
 use Rattle.xmas_elf.specs.Symbol.{Symbols}
 use Rattle.xmas_elf.specs.declared.ElfFile.{ElfFile}
+
+-- the bytes of the symbols: as many as are given, otherwise as many as the hash table counts
+abbrev pub AreSymbolsFor : Option ℕ → ElfFile → List (Dynamic ℕ) → ℕ → Result (List ℕ) LinkError → Type 0
+AreSymbolsFor count file entries size bytes = MatchOption count (AreSymbols file entries size bytes) (λ many. bytes ≡ counted_symbols_of file entries many size)
 
 -- the symbols that were read are those of the class of the file
 pub of_class : {E : Type 0} → {r : _} → (count : Option ℕ) (class size : ℕ) (file : ElfFile) (entries : List (Dynamic ℕ)) (found : Result (Table E r) LinkError) → file_class file.header ≡ class

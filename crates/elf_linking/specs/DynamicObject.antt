@@ -1,6 +1,6 @@
 -- One value with the dynamic symbols of a file: the entries of its dynamic segment, its hash table, its
 -- symbols, the string table of their names, and its version tables.
-use Rattle.std.specs.Prelude.{◌≡◌, ◌≢◌, ◌/◌, ℕ, List, Option, Some, None, Result, Ok, Err, IfOk, MatchResult, length, slice_get}
+use Rattle.std.specs.Prelude.{◌≡◌, ◌≢◌, ◌/◌, ℕ, List, Option, Some, None, Result, Ok, Err, IfOk, MatchOption, MatchResult, length, slice_get}
 use Rattle.std.specs.Borrow.{Bor}
 use Rattle.std.specs.Result.{result_ok}
 use Rattle.elf_base.specs.FileHeader.{file_class, file_order}
@@ -9,7 +9,7 @@ use Rattle.elf_base.specs.Text.{text_of}
 use Rattle.elf_base.specs.declared.bytes.Order.{Order}
 use Rattle.elf_base.specs.declared.bytes.table.Table.{Table}
 use Rattle.elf_linking.specs.AnyTable.{IsLinkedTable}
-use Rattle.elf_linking.specs.DynamicView.{AreSymbolsFor, LieAsSymbols, LiesAsFileStrings, LiesAsStrings, bytes_in_strings, dynamic_entries_of, strings_by, dynamic_strings_of, text_in_strings, view_entries, view_strings, view_table}
+use Rattle.elf_linking.specs.DynamicView.{AreSymbols, LieAsSymbols, LiesAsFileStrings, LiesAsStrings, bytes_in_strings, counted_symbols_of, dynamic_entries_of, strings_by, dynamic_strings_of, text_in_strings, view_entries, view_strings, view_table}
 use Rattle.elf_linking.specs.Find.{DynamicSymbols, dynamic_symbols}
 use Rattle.elf_linking.specs.References.{IsReachedCount, file_machine}
 use Rattle.elf_linking.specs.VersionTables.{version_tables, version_tables_of}
@@ -61,7 +61,8 @@ object_dynamic_symbols fields object =
 -- many as are given, otherwise as many as the hash table counts
 pub data AreOfClassFor (count : Option ℕ) (class size : ℕ) (file : ElfFile) (entries : List (Dynamic ℕ)) : Result (List ℕ) LinkError → Type 0 where
   same_class : (bytes : Result (List ℕ) LinkError) → file_class file.header ≡ class
-      → AreSymbolsFor count file entries size bytes → AreOfClassFor count class size file entries bytes
+      → MatchOption count (AreSymbols file entries size bytes) (λ many. bytes ≡ counted_symbols_of file entries many size)
+      → AreOfClassFor count class size file entries bytes
   other_class : file_class file.header ≢ class → AreOfClassFor count class size file entries (Err UnknownClass)
 
 -- as many as the hash table counts
@@ -108,7 +109,7 @@ pub record AreDynamicSymbols {E : Type 0} (class size : ℕ) (entry : Order → 
   pub strings : List ℕ
   pub entries_are : dynamic_entries_of file ≡ Ok entries
   pub table_is : IsLinkedTable file entries (Ok all.table)
-  pub bytes_are : AreOfClass class size file entries (Ok bytes)
+  pub bytes_are : AreOfClassFor None class size file entries (Ok bytes)
   pub strings_are : strings_by file entries ≡ Ok strings
   pub symbols_are : all.symbols ≡ symbols_with size (entry (file_order file.header)) fields strings bytes
   pub versions_are : version_tables_of file entries (Ok strings) (length all.symbols.items) ≡ Ok all.versions

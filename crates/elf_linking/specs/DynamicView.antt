@@ -199,11 +199,6 @@ abbrev pub counted_symbols_of : ElfFile → List (Dynamic ℕ) → ℕ → ℕ �
 counted_symbols_of file entries count size = if nat_lt (2 ^ 32) count then Err SymbolIndex
     else and_then (ok_or (number_with DT_SYMTAB entries) NoEntry) (λ address. bytes_at_of file address (count * size))
 
--- the bytes of the symbols: as many as are given, otherwise as many as the hash table counts
-abbrev pub AreSymbolsFor : Option ℕ → ElfFile → List (Dynamic ℕ) → ℕ → Result (List ℕ) LinkError → Type 0
-AreSymbolsFor None file entries size answer = AreSymbols file entries size answer
-AreSymbolsFor (Some count) file entries size answer = answer ≡ counted_symbols_of file entries count size
-
 -- why there are no symbols with names: there are no symbols, or there is no string table
 pub data AreSymbolsRefused (file : ElfFile) (entries : List (Dynamic ℕ)) (strings : Result (List ℕ) LinkError) (size : ℕ) : LinkError → Type 0 where
   no_records : (error : LinkError) → AreSymbols file entries size (Err error) → AreSymbolsRefused file entries strings size error
