@@ -4,13 +4,14 @@ use Rattle.std.specs.Prelude.{◌≡◌, ℕ, ◌+◌, List, [], ◌∷◌, ◌+
 use Rattle.elf_linking.specs.DynamicObject.{object_file, object_view}
 use Rattle.elf_linking.specs.DynamicView.{view_entries}
 use Rattle.elf_linking.specs.References.{references_left, references_of}
-use Rattle.elf_linking.specs.Scope.{IsReferenceBound, asked_of, asked_parts, scope_objects}
+use Rattle.elf_linking.specs.Scope.{AreGood, BindsReference, HasNamedSymbol, IsReferenceBound, asked_of, asked_parts, scope_objects}
 use Rattle.elf_linking.specs.VersionTables.{result_map}
 use Rattle.elf_linking.specs.declared.error.LinkError.{LinkError}
 use Rattle.elf_linking.specs.declared.error.LinkError.TheVariants.{ObjectIndex}
 use Rattle.elf_linking.specs.declared.object.DynamicObject.{DynamicObject}
 use Rattle.elf_linking.specs.declared.references.Reference.{Reference}
 use Rattle.elf_linking.specs.declared.references.References.{References}
+use Rattle.elf_linking.specs.declared.scope.Bound.{Bound}
 use Rattle.elf_linking.specs.declared.scope.asking.Asked.{Asked}
 use Rattle.elf_linking.specs.declared.scope.bindings.Binding.{Binding}
 use Rattle.elf_linking.specs.declared.scope.bindings.Bindings.{Bindings}
@@ -21,10 +22,16 @@ abbrev pub IsAskedAt : {E : Type 0} → {r : _} → (E → SymbolFields) → Lis
 IsAskedAt fields objects from reference asked = MatchOption (slice_get objects from) (asked ≡ Err ObjectIndex)
     (λ asking. result_map asked_parts asked ≡ asked_of fields asking reference)
 
+-- in objects whose look-ups find what they must, a reference with a symbol whose name can be read gets the symbol that
+-- the lists of symbols say, and no error
+pub record IsBoundRight {E : Type 0} {r : _} (fields : E → SymbolFields) (objects : List (DynamicObject E r)) (from : ℕ) (reference : Reference) (bound : Result (Option (Bound E)) LinkError) : Type 0 where
+  pub right : AreGood fields objects → HasNamedSymbol fields objects from reference → BindsReference fields objects from reference bound
+
 -- the reference of a binding asks for what the binding says, and gets the symbol that `bind` returns
 abbrev pub IsBindingOf : {E : Type 0} → {r : _} → (E → SymbolFields) → List (DynamicObject E r) → Binding E → Type 0
 IsBindingOf fields objects binding = IsAskedAt fields objects binding.from binding.reference binding.asked
     × IsReferenceBound fields objects binding.from binding.reference binding.bound
+    × IsBoundRight fields objects binding.from binding.reference binding.bound
 
 -- the same of an item; an error is that of the relocations of an object
 abbrev pub IsItemOf : {E : Type 0} → {r : _} → (E → SymbolFields) → List (DynamicObject E r) → Result (Binding E) (ℕ × LinkError) → Type 0

@@ -87,14 +87,18 @@ fn find_library(
     for _step in 0..MOST {
         let Some(file) = loaded.get(at) else { break };
         let view = DynamicView::read(&ElfFile::new(&file.bytes)?)?;
-        let own = if at == from { view.run_path() } else { None };
-        if let Some(Ok(path)) = own.or(view.r_path()) {
+        let path = match view.run_path() {
+            Some(path) if at == from => Some(path),
+            Some(_) => None,
+            None => view.r_path(),
+        };
+        if let Some(Ok(path)) = path {
             let origin = directory_of(file.path.as_str());
             if let Some(found) = search(rt, &program.bytes, path, origin, name)? {
                 return Ok(Some(found));
             }
         }
-        if file.parent == at || own.is_some() {
+        if file.parent == at || at == from && view.run_path().is_some() {
             break;
         }
         at = file.parent;

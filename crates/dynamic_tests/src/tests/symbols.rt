@@ -13,14 +13,16 @@ use worked_files::linked::versions::{NARROW, WIDE};
 use worked_files::places::put;
 use xmas_elf::symbol_table::DynEntry64;
 
+// Files whose hash tables count all symbols, and how many there are.
+const COUNTED_WHOLE: &[(&[u8], u64)] = &[(SMALL, 5), (NARROW, 7), (WIDE, 7)];
+
 #[test]
 fn counts_the_symbols_that_relocations_name(rt: HostRuntime) -> Result<(), LinkError> {
     let file = open(&rt, IMPORTER);
     let view = DynamicView::read(&file)?;
     want(&rt, view.symbol_count(&file), Ok(1));
     want(&rt, view.reached_count(&file), Ok(3));
-    // In these the hash table counts all.
-    for &(bytes, count) in &[(SMALL.as_slice(), 5), (NARROW, 7), (WIDE, 7)] {
+    for &(bytes, count) in COUNTED_WHOLE {
         let file = open(&rt, bytes);
         want(
             &rt,
@@ -59,6 +61,8 @@ fn reads_as_many_symbols_as_are_given(rt: HostRuntime) -> Result<(), LinkError> 
     want(&rt, object.check(), Ok(()));
     want(&rt, object.name(1), Ok("data"));
     want(&rt, object.name(2), Ok("outer"));
+    let object = DynamicObject::<DynEntry64>::read_reached(&file)?;
+    want(&rt, object.symbol_count(), 3);
     let object = DynamicObject::<DynEntry64>::read(&file)?;
     want(&rt, object.name(1), Err(LinkError::SymbolIndex));
     Ok(())

@@ -4,7 +4,8 @@
 ghost use Rattle.std.specs.Prelude.{◌≡◌, ◌+◌, ◌<◌, [], ◌∷◌, Err, IfSome, MatchOption, MatchResult};
 ghost use Rattle.std.specs.Prelude.{length};
 ghost use Rattle.std.specs.Iterator.{YieldsFirst, YieldsFirstBy, item_count};
-ghost use Rattle.elf_linking.specs.Bindings.{IsAskedAt, IsItemOf, bindings_left, bindings_objects};
+ghost use Rattle.elf_linking.specs.Bindings.{IsAskedAt, IsBoundRight, IsItemOf, bindings_left};
+ghost use Rattle.elf_linking.specs.Bindings.{bindings_objects};
 ghost use Rattle.elf_linking.specs.Bindings.{current_left, reference_of_item, references_from};
 ghost use Rattle.elf_linking.specs.Scope.{AreGood, BindsReference, HasNamedSymbol};
 ghost use Rattle.elf_linking.specs.Scope.{IsReferenceBound, scope_objects};
@@ -113,6 +114,20 @@ impl<'a, E: LinkedSymbol> Bindings<'_, 'a, E> {
         }
     }
 
+    // A reference of the object that was read last, what it asks for, and what it gets.
+    fn item(&self, reference: &Reference) -> Binding<'a, E>
+        ensures from { result.from ≡ self.now.from }
+        ensures reference { result.reference ≡ reference.now }
+        ensures asked { IsAskedAt E.fields (bindings_objects self.now) self.now.from reference.now
+            result.asked }
+        ensures answer { IsReferenceBound E.fields (bindings_objects self.now) self.now.from
+            reference.now result.bound }
+        ensures right { IsBoundRight E.fields (bindings_objects self.now) self.now.from
+            reference.now result.bound }
+    {
+        self.scope.binding(self.from, reference)
+    }
+
     // Reads the relocations of the next object; `None` if there is none.
     fn open(&mut self) -> Option<Result<(), LinkError>>
         requires { current_left self.old.references ≡ [] }
@@ -154,7 +169,7 @@ impl<'a, E: LinkedSymbol> Iterator for Bindings<'_, 'a, E> {
     fn next(&mut self) -> Option<Result<Binding<'a, E>, (usize, LinkError)>> {
         loop {
             if let Some(reference) = self.next_reference() {
-                return Some(Ok(self.scope.binding(self.from, &reference)));
+                return Some(Ok(self.item(&reference)));
             }
             match self.open() {
                 None => return None,
