@@ -4,6 +4,7 @@
 mod candidates;
 mod files;
 mod index;
+mod messages;
 mod nearest;
 mod ranges;
 mod rows;
