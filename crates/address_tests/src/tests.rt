@@ -6,6 +6,7 @@ mod candidates;
 mod dladdr;
 mod files;
 mod index;
+mod messages;
 mod nearest;
 mod ranges;
 mod reached;

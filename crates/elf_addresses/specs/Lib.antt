@@ -1,6 +1,6 @@
 pub mod Claims
 pub mod Index
-pub mod IndexNumber
+pub mod Message
 pub mod Candidates
 pub mod SymbolClaims
 pub mod SymbolRanges

@@ -145,6 +145,13 @@ impl<'a> LoadPlan<'a> {
         last_stack(&self.file).map(|stack| stack.flags)
     }
 
+    /// The offset in the file of the path of the program interpreter: that of the first PT_INTERP.
+    pub fn interpreter_offset(&self) -> Option<u64>
+        ensures { result ≡ option_map (λ segment. segment.offset) (interpreter_of self.now.file) }
+    {
+        first_interpreter(&self.file).map(|segment| segment.offset)
+    }
+
     /// The path of the program interpreter, which lives as long as the input: the bytes of the first
     /// PT_INTERP up to the first zero.
     #[tactic(auto, using(crate::proofs::FileChecks::passes_path))]
