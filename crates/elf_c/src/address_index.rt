@@ -98,11 +98,7 @@ fn open_number(is_open: bool) -> u32
 }
 
 // The words in a range.
-fn words_by<'a>(
-    input: &'a [u8],
-    part: &Range,
-    order: Order,
-) -> Result<Table<'a, u32>, Refusal>
+fn words_by<'a>(input: &'a [u8], part: &Range, order: Order) -> Result<Table<'a, u32>, Refusal>
     ensures { MatchResult result (λ table. words_by input.now part.now order ≡ Ok (table_items table))
         (λ why. words_by input.now part.now order ≡ Err why) }
 {

@@ -13,10 +13,9 @@ use elf_addresses::{Claim, ClaimIndex, build_index, index_words, innermost, sect
 use elf_linking::LinkError;
 use program_ends::{Output, Stop, write_name};
 use std::alloc::Global;
-use std::fmt;
 use std::fmt::Display;
-use std::io;
 use std::io::Write;
+use std::{fmt, io};
 use xmas_elf::ElfFile;
 
 // A line for each address, by the symbols of the file.

@@ -42,7 +42,11 @@ const CASES: &[(Row, u64, bool)] = &[
     ((F, 0x12, 1, 4, 0), 5, false),
 ];
 
-fn symbols<'a>(rt: &impl Abort, bytes: &'a [u8], reach: Reach<'a>) -> DladdrSymbols<'a, DynEntry64> {
+fn symbols<'a>(
+    rt: &impl Abort,
+    bytes: &'a [u8],
+    reach: Reach<'a>,
+) -> DladdrSymbols<'a, DynEntry64> {
     DladdrSymbols {
         table: Table::new(bytes, Order::Little).expect(rt, "whole symbols"),
         strings: STRINGS,
