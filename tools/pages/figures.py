@@ -23,7 +23,7 @@ PAGES = ("README.md", "CONTRIBUTING.md", "CALLING.md", "docs", "bindings", "benc
 
 # The crate of the program that a comparison runs, by the name of its script.
 PROGRAMS = {"readelf": "elfinfo", "notes": "elfsections", "symbols": "elfsections", "recipes": "elfrecipes", "elfsym": "elfsym", "bindings": "elfbind",
-    "rust": "elfanswers", "fuzz": "elfanswers", "versions": "elf_c", "dlsym": "elf_c", "fuzz_bindings": "elfbind"}
+    "rust": "elfanswers", "fuzz": "elfanswers", "versions": "elf_c", "dlsym": "elf_c", "fuzz_bindings": "elfbind", "loads": "elfload"}
 
 
 def of(crate: str, *others: str) -> tuple:
