@@ -184,7 +184,8 @@ LOAD_ENDS = ends_of(
     two_files=(["counter", "library.so"], 0, PLANS, b""),
     a_refused_file_between_others=(["counter", "zeros.elf", "library.so"], 1, PLANS, b"elfload: zeros.elf: Did not find ELF magic number\n"),
     pages_of_16_kb=(["--page", "16384", "library.so"], 0, PAGES_PLAN, b""),
-    pages_in_which_a_file_overlaps=failing("elfload", ["--page", "16384", "counter"], "counter: Load segment begins before the end of the one before it"),
+    pages_larger_than_a_file_is_linked_for=failing(
+        "elfload", ["--page", "16384", "counter"], "counter: Address and offset of a load segment differ modulo the page size"),
     no_size_of_a_page=(["--page"], 1, f"usage: {LOAD_USAGE}\n".encode(), b""),
     no_file_after_a_size=(["--page", "4096"], 1, f"usage: {LOAD_USAGE}\n".encode(), b""),
     a_size_that_is_no_power_of_two=(["--page", "4097", "counter"], 1, f"usage: {LOAD_USAGE}\n".encode(), b""),

@@ -163,11 +163,11 @@ module _ (page limit : ℕ) (by : Loader) (load : ProgramHeader64) (input : List
   outside old missed = elim (cases_lt (base + i) (load_start page load)) [
     | inl less ↦ (let (one, two) = before less in neither old is_cleared is_copied one two)
     | inr begins ↦ elim (cases_lt (base + i) (load_end page load)) [
-        | inl ends ↦
-            let hit : holds_address page (base + i) load ≡ true = and_from _ _ (le-leb _ _ begins) (lt-ltb _ _ ends) in
-            absurd (cc)
-        | inr past ↦ (let (one, two) = behind past in neither old is_cleared is_copied one two)
-      ]
+      | inl ends ↦
+          let hit : holds_address page (base + i) load ≡ true = and_from _ _ (le-leb _ _ begins) (lt-ltb _ _ ends) in
+          absurd (cc)
+      | inr past ↦ (let (one, two) = behind past in neither old is_cleared is_copied one two)
+    ]
   ]
 
   by_held : (old : ℕ) (b : Bool) → holds_address page (base + i) load ≡ b → (b ≡ true → old ≡ 0) → filled_byte old ≡ (if b then byte_number input (Some (load_byte page by (length input) (base + i) load)) else old)

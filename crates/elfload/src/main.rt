@@ -25,7 +25,8 @@ mod plans;
 
 const USAGE: &str = "usage: elfload [--page <size>] <binary_path>..";
 
-const HELP: &str = "Prints the header of each file, what else a loader asks for, and what Linux (kernel) and glibc map.
+const HELP: &str =
+    "Prints the header of each file, what else a loader asks for, and what Linux (kernel) and glibc map.
 --page <size>  the size of a page in bytes, a power of two; 4096 without it";
 
 /// Why the program ends with status 1, and what it says then.

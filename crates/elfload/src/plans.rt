@@ -18,10 +18,9 @@ ghost use Rattle.program_ends.specs.declared.Stop.TheVariants as stops_are;
 
 use elf_loading::{Contents, LoadError, LoadPlan, Loader, Mapping, Mappings, Span, Tls};
 use program_ends::{Output, Stop, write_name};
-use std::fmt;
 use std::fmt::Display;
-use std::io;
 use std::io::Write;
+use std::{fmt, io};
 use thiserror::Error;
 use xmas_elf::header::Header;
 use xmas_elf::program::{FLAG_R, FLAG_W, FLAG_X, Flags};

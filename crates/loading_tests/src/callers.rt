@@ -4,7 +4,6 @@ ghost use Rattle.std.specs.Prelude.{◌≡◌, ◌↔◌, All, IfOk, IsTrue, Non
 ghost use Rattle.elf_loading.specs.Mappings.{mappings_of};
 ghost use Rattle.elf_loading.specs.Plan.{IsImageBy, plan_loads, plan_page, plan_relro};
 ghost use Rattle.elf_loading.specs.Spans.{is_in};
-
 ghost use Rattle.elf_loading.specs.declared.mapping.Loader.TheVariants.{Kernel};
 
 use elf_loading::{LoadPlan, Loader, Mapping};
