@@ -11,7 +11,7 @@ import re
 import subprocess
 import sys
 
-PEERS = ["crate", "object", "object, UTF-8", "goblin", "libelf", "C"]
+PEERS = ["crate", "object", "object, UTF-8", "goblin", "libelf", "C", "Rust"]
 HERE = ["here", "here, by a table"]
 
 

@@ -17,6 +17,10 @@ struct asked {
     xmas_elf_symbol_table_t table; /* of the symbols for dynamic linking */
     xmas_elf_hash_table_t hash; /* GNU's table */
     xmas_elf_hash_table_t sysv; /* the standard's */
+    xmas_elf_address_index_t address_index; /* of the table */
+    const uint32_t *words; /* of the index */
+    size_t words_count;
+    uint64_t numbers[2]; /* addresses; for a row the first is that of the symbol with the name */
 };
 
 /* A row of calls.h for each export of the list. */
@@ -42,11 +46,16 @@ struct outputs {
         xmas_elf_answer_t answers[3];
         xmas_elf_version_t versions[3];
         xmas_elf_found_symbol_t found_symbol;
+        xmas_elf_address_index_t address_index;
+        xmas_elf_symbol_at_t symbols_at[3];
+        xmas_elf_load_plan_t load_plan;
+        xmas_elf_load_mapping_t load_mappings[3];
         uint8_t text[XMAS_ELF_LONGEST_MESSAGE];
     } of;
     uint64_t count;
 };
 
+#define WORDS 4096
 #define FILE_OF(asked) (asked)->bytes, (asked)->size, &(asked)->header
 #define TABLE_OF(asked) (asked)->bytes, (asked)->size, &(asked)->table
 #define CALL(name) static uint32_t name##_call(const struct asked *a, struct outputs *out)
@@ -152,6 +161,37 @@ CALL(look_ups) /* answers nothing: the status of the first answer stands for it;
     if (status != XMAS_ELF_OK) *out = untouched;
     return status;
 }
+CALL(address_index) /* without words it says how many it takes; a word less is refused */
+{
+    uint32_t words[WORDS];
+    const xmas_elf_range_t indices = {a->index, 0};
+    xmas_elf_address_index_t sized;
+    uint32_t status = xmas_elf_address_index(FILE_OF(a), &a->table, &indices, 0, NULL, 0, &sized);
+    if (status != XMAS_ELF_OK) return xmas_elf_address_index(FILE_OF(a), &a->table, &indices, 0, words, WORDS, &out->of.address_index);
+    if (sized.words != a->words_count || sized.sized_count != 0 || sized.open_count != 0) return 999;
+    status = xmas_elf_address_index(FILE_OF(a), &a->table, &indices, 0, words, a->words_count - 1, &out->of.address_index);
+    if (status != XMAS_ELF_INDEX_FEW_WORDS) return 998;
+    status = xmas_elf_address_index(FILE_OF(a), &a->table, &indices, 0, words, a->words_count, &out->of.address_index);
+    if (memcmp(words, a->words, a->words_count * sizeof *words) != 0) return 997;
+    return 2 * out->of.address_index.sized_count + out->of.address_index.open_count == a->words_count ? status : 996;
+}
+CALL(symbols_at) /* the symbol of its last byte, and none where no symbol is */
+{
+    xmas_elf_address_index_t index = a->address_index;
+    const uint64_t addresses[2] = {a->numbers[0] + 3, UINT64_MAX};
+    xmas_elf_symbol_at_t *found = out->of.symbols_at;
+    xmas_elf_symbol_t symbol;
+    uint64_t one;
+    index.indices.offset = a->index;
+    uint32_t status = xmas_elf_symbols_at(a->bytes, a->size, &index, a->words, a->words_count, addresses, 2, NULL, 0);
+    if (xmas_elf_symbols_at(a->bytes, a->size, &index, a->words, a->words_count, addresses, 2, found, 2) != status) return 999;
+    if (status != XMAS_ELF_OK) return status;
+    if (found[0].found != 1 || found[0].offset != 3 || found[0].is_open != 0 || found[0].symbol.value != a->numbers[0]) return 998;
+    if (xmas_elf_symbols(TABLE_OF(a), found[0].index, &symbol, 1, &one) != XMAS_ELF_OK) return 997;
+    return memcmp(&symbol, &found[0].symbol, sizeof symbol) == 0 && found[1].found == 0 && found[1].symbol.value == 0 ? status : 996;
+}
+CALL(load_plan) { return xmas_elf_load_plan(FILE_OF(a), a->index, 0, &out->of.load_plan); }
+CALL_MANY(load_mappings, load_mappings, 4096, 0, 0, a->index)
 CALL(message) /* OK where the status `index` has a text */
 {
     size_t whole = xmas_elf_message((uint32_t)a->index, NULL, 0);
@@ -207,6 +247,10 @@ static const struct row {
     {"look_ups", look_ups_call, HASH, 0, 0, XMAS_ELF_TEXT_UTF_8, XMAS_ELF_DATA_RANGE},
     {"hash_open", hash_open_call, HASH, 0, FAR, SHORT, SHORT},
     {"check_hash", check_hash_call, HASH, 0, 0, XMAS_ELF_OK, XMAS_ELF_DATA_RANGE},
+    {"address_index", address_index_call, NONE, 0, FAR, XMAS_ELF_DATA_RANGE, XMAS_ELF_DATA_RANGE},
+    {"symbols_at", symbols_at_call, NONE, 0, FAR, XMAS_ELF_DATA_RANGE, XMAS_ELF_DATA_RANGE},
+    {"load_plan", load_plan_call, NONE, 0, FAR, XMAS_ELF_LOAD_OVERLAP, XMAS_ELF_LOAD_TABLE},
+    {"load_mappings", load_mappings_call, NONE, 1, FAR, XMAS_ELF_NO_RECORD, XMAS_ELF_LOAD_TABLE},
     {"message", message_call, NONE, XMAS_ELF_NOT_FOUND, 0, XMAS_ELF_NOT_FOUND, XMAS_ELF_OK},
 };
 
@@ -295,6 +339,7 @@ static void visit_any(const struct any *any, const struct asked *file, const uin
             struct asked empty = asked;
             asked.index = indices[i];
             asked.part = (xmas_elf_range_t){indices[i], 64};
+            asked.numbers[0] = asked.index, asked.numbers[1] = asked.section;
             asked.name = (const uint8_t *)"every_finds_this";
             asked.name_size = indices[i] == 7 ? 0 : 16;
             try_any(any, &asked, unaligned);
@@ -326,6 +371,14 @@ int main(int argc, char **argv)
     if (xmas_elf_symbols_open(FILE_OF(&file), section_of_type(&file, SYMBOLS), &file.table) != XMAS_ELF_OK) return 2;
     if (xmas_elf_hash_open(FILE_OF(&file), section_of_type(&file, GNU_HASH), &file.hash) != XMAS_ELF_OK) return 2;
     if (xmas_elf_hash_open(FILE_OF(&file), section_of_type(&file, HASH), &file.sysv) != XMAS_ELF_OK) return 2;
+    static uint32_t words[WORDS];
+    const xmas_elf_range_t none = {0, 0};
+    xmas_elf_found_symbol_t found;
+    if (xmas_elf_address_index(FILE_OF(&file), &file.table, &none, 0, words, WORDS, &file.address_index) != XMAS_ELF_OK) return 2;
+    file.words = words;
+    file.words_count = (size_t)file.address_index.words;
+    if (xmas_elf_find_symbol(FILE_OF(&file), (const uint8_t *)"every_finds_this", 16, NULL, 0, &found) != XMAS_ELF_OK) return 2;
+    file.numbers[0] = found.symbol.value;
     for (size_t i = 0; i < sizeof rows / sizeof *rows; i++) visit(&rows[i], file, unaligned);
     for (size_t i = 0; i < sizeof every / sizeof *every; i++) visit_any(&every[i], &file, unaligned);
     free(bytes);

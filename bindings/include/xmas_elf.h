@@ -215,11 +215,51 @@ enum xmas_elf_status {
     /* A table has no record with this index. */
     XMAS_ELF_NO_RECORD = 202,
     /* Nothing has this name. */
-    XMAS_ELF_NOT_FOUND = 203
+    XMAS_ELF_NOT_FOUND = 203,
+    /* Type is neither executable nor shared object. */
+    XMAS_ELF_LOAD_TYPE = 301,
+    /* Program headers are not of the size of the class. */
+    XMAS_ELF_LOAD_ENTRY_SIZE = 302,
+    /* Program header table is empty or larger than a page. */
+    XMAS_ELF_LOAD_COUNT = 303,
+    /* Program header table is past the end of the file. */
+    XMAS_ELF_LOAD_TABLE = 304,
+    /* Load segment is larger in the file than in memory. */
+    XMAS_ELF_LOAD_FILE_SIZE = 305,
+    /* Load segment is empty. */
+    XMAS_ELF_LOAD_EMPTY = 306,
+    /* Address and offset of a load segment differ modulo the page size. */
+    XMAS_ELF_LOAD_MISALIGNED = 307,
+    /* Alignment of a load segment is not a power of two. */
+    XMAS_ELF_LOAD_ALIGNMENT = 308,
+    /* Load segment is past the address limit. */
+    XMAS_ELF_LOAD_RANGE = 309,
+    /* Load segment is past the end of the file. */
+    XMAS_ELF_LOAD_DATA = 310,
+    /* Load segment begins before the end of the one before it. */
+    XMAS_ELF_LOAD_OVERLAP = 311,
+    /* Load segment has zeros but is not readable and writable. */
+    XMAS_ELF_LOAD_ZEROS = 312,
+    /* No load segment. */
+    XMAS_ELF_LOAD_NO_LOAD = 313,
+    /* Program headers are not where the file says they are in memory. */
+    XMAS_ELF_LOAD_HEADERS = 314,
+    /* Path of the interpreter is not valid. */
+    XMAS_ELF_LOAD_INTERPRETER = 315,
+    /* Part that is read-only after relocation is in no load segment. */
+    XMAS_ELF_LOAD_RELRO = 316,
+    /* Thread-local storage is not valid. */
+    XMAS_ELF_LOAD_TLS = 317,
+    /* Image is not of the size of the span. */
+    XMAS_ELF_LOAD_IMAGE_SIZE = 318,
+    /* Table has 2^32 symbols or more. */
+    XMAS_ELF_INDEX_MANY_SYMBOLS = 401,
+    /* Too few words for the index. */
+    XMAS_ELF_INDEX_FEW_WORDS = 402
 };
 
 /* How many bytes the longest text of a status has. */
-#define XMAS_ELF_LONGEST_MESSAGE 54
+#define XMAS_ELF_LONGEST_MESSAGE 64
 /* End of the statuses. */
 
 /* The structs and functions, written by tools/exports/declarations.py. */
@@ -458,6 +498,99 @@ typedef struct xmas_elf_found_symbol_t {
     /* The index of the symbol among those of the dynamic segment, or 0. */
     uint32_t index;
 } xmas_elf_found_symbol_t;
+
+/* An index of symbols by their addresses: the numbers that `xmas_elf_address_index` fills, and that
+ * `xmas_elf_symbols_at` takes back. */
+typedef struct xmas_elf_address_index_t {
+    /* The symbols, and the string table of their names. */
+    xmas_elf_symbol_table_t table;
+    /* The bytes of the section of type SHT_SYMTAB_SHNDX; its size is 0 if there is none. */
+    xmas_elf_range_t indices;
+    /* The number of words that the index takes. */
+    uint64_t words;
+    /* The number of symbols with a size in the index; 0 if it is not built. */
+    uint64_t sized_count;
+    /* The number of symbols of size 0 in the index; 0 if it is not built. */
+    uint64_t open_count;
+    /* The index of the section whose symbols alone are asked for, or 0. */
+    uint32_t within;
+    /* The processor that the file is for (e_machine). */
+    uint16_t machine;
+} xmas_elf_address_index_t;
+
+/* The symbol of an address. */
+typedef struct xmas_elf_symbol_at_t {
+    /* The symbol; its fields are 0 where none is found. */
+    xmas_elf_symbol_t symbol;
+    /* The index of the symbol in its table, or 0. */
+    uint64_t index;
+    /* The address less the value of the symbol, or 0. */
+    uint64_t offset;
+    /* 1 where a symbol covers the address, and else 0. */
+    uint32_t found;
+    /* 1 where the size of the symbol is 0, so that its end is unknown, and else 0. */
+    uint32_t is_open;
+} xmas_elf_symbol_at_t;
+
+/* Addresses from `start` on and before `end`, relative to the base at which a file is loaded. */
+typedef struct xmas_elf_span_t {
+    /* The first address. */
+    uint64_t start;
+    /* The first address after the last. */
+    uint64_t end;
+} xmas_elf_span_t;
+
+/* The template of thread-local storage (gABI, "Thread-Local Storage"); 0 in each field where a file has none. */
+typedef struct xmas_elf_tls_template_t {
+    /* The address of the bytes that the file has. */
+    uint64_t address;
+    /* The number of these bytes. */
+    uint64_t file_size;
+    /* The size of the storage in bytes; zeros follow the bytes of the file. */
+    uint64_t mem_size;
+    /* The alignment of the storage in bytes. */
+    uint64_t align;
+} xmas_elf_tls_template_t;
+
+/* What Linux and glibc put into memory for a file. Addresses are relative to a base, which is 0 for a file of type
+ * ET_EXEC. */
+typedef struct xmas_elf_load_plan_t {
+    /* The pages from the first of the first load segment to the last of the last one. */
+    xmas_elf_span_t span;
+    /* The pages that are only readable after relocation: those of the last PT_GNU_RELRO, both ends rounded down; 0
+     * where there is none. */
+    xmas_elf_span_t relro;
+    /* The last PT_TLS that is not empty. */
+    xmas_elf_tls_template_t tls;
+    /* The bytes of the path of the program interpreter, up to the first zero byte of the first PT_INTERP; offset and
+     * size are 0 where there is none. */
+    xmas_elf_range_t interpreter;
+    /* The address at which a program begins to run, or 0 (e_entry). */
+    uint64_t entry;
+    /* The permissions of the stack, those of the last PT_GNU_STACK; 0 where there is none: then they are those of the
+     * processor. */
+    uint32_t stack_flags;
+    /* 1 where the file has a PT_GNU_STACK, and else 0. */
+    uint32_t has_stack;
+    /* 1 where the file has a PT_GNU_RELRO, and else 0. */
+    uint32_t has_relro;
+    /* 1 where the file has a PT_INTERP, and else 0. */
+    uint32_t has_interpreter;
+} xmas_elf_load_plan_t;
+
+/* Pages that are mapped at once. */
+typedef struct xmas_elf_load_mapping_t {
+    /* The first address, relative to the base. */
+    uint64_t start;
+    /* The first address after the pages. */
+    uint64_t end;
+    /* The offset of the first byte in the file; 0 where the pages are not of the file. */
+    uint64_t offset;
+    /* The permissions: those of the load segment (p_flags), or 0. */
+    uint32_t flags;
+    /* What the pages hold: 0 nothing that can be read, 1 pages of the file, 2 zeros. */
+    uint32_t contents;
+} xmas_elf_load_mapping_t;
 
 /* Reads the ELF header of a file. Errors, in the order of the tests: XMAS_ELF_SHORT_PART_1, XMAS_ELF_NO_MAGIC,
  * XMAS_ELF_INVALID_CLASS, XMAS_ELF_SHORT_HEADERS. */
@@ -741,6 +874,53 @@ XMAS_ELF_NODISCARD uint32_t xmas_elf_hash_open(const uint8_t *input, size_t inpu
  * XMAS_ELF_LINK_CHAIN_DATA, XMAS_ELF_HASH_MISSING, XMAS_ELF_LINK_MISSING. */
 XMAS_ELF_NODISCARD uint32_t xmas_elf_check_hash(const uint8_t *input, size_t input_size,
     const xmas_elf_hash_table_t *table) XMAS_ELF_NOEXCEPT;
+
+/* Builds an index of symbols by their addresses, for many questions of `xmas_elf_symbols_at`. Without words
+ * (`words_count` 0) it only finds how many the index takes: `words` of the record; then call it again with as many.
+ * They stay the caller's, who keeps them for the questions. `table` is a record of `xmas_elf_symbols_open` or
+ * `xmas_elf_dynamic_symbols_open`; `indices` is the range of the section of type SHT_SYMTAB_SHNDX that is linked to
+ * the symbols' section, of size 0 where there is none; `within` is the index of a section in an object file, where
+ * values are offsets in sections, and else 0. A symbol names addresses if it is in a section, has no type or is a
+ * function or an object, and has a name; labels that assemblers make and mapping symbols don't. It takes time n log n
+ * for n symbols. `words` is changed in no call that is not OK. Errors, in the order of the tests:
+ * XMAS_ELF_DATA_RANGE, XMAS_ELF_NOT_MULTIPLE, XMAS_ELF_INDEX_MANY_SYMBOLS, XMAS_ELF_INDEX_FEW_WORDS. */
+XMAS_ELF_NODISCARD uint32_t xmas_elf_address_index(const uint8_t *input, size_t input_size,
+    const xmas_elf_header_t *header, const xmas_elf_symbol_table_t *table, const xmas_elf_range_t *indices,
+    uint32_t within, uint32_t *words, size_t words_count, xmas_elf_address_index_t *out) XMAS_ELF_NOEXCEPT;
+
+/* The symbols of many addresses by an index, as many as there are addresses and as `out` has room for. A symbol
+ * covers `size` addresses from its `value` on, and with size 0 its value alone. Of several that cover an address, one
+ * with a size comes first, then the one that begins last, the smallest, a function before an object, a global one
+ * before a weak one before a local one, and the first of the table. If no symbol covers an address, that is no error.
+ * A question takes time log n for n symbols. Each word is tested: with others than those of `xmas_elf_address_index`
+ * a symbol may be missed, and one that is found covers the address. Errors, in the order of the tests:
+ * XMAS_ELF_DATA_RANGE, XMAS_ELF_NOT_MULTIPLE. */
+XMAS_ELF_NODISCARD uint32_t xmas_elf_symbols_at(const uint8_t *input, size_t input_size,
+    const xmas_elf_address_index_t *index, const uint32_t *words, size_t words_count, const uint64_t *addresses,
+    size_t addresses_count, xmas_elf_symbol_at_t *out, size_t out_count) XMAS_ELF_NOEXCEPT;
+
+/* Whether Linux and glibc load a file, and what they put into memory for it. `page` is the size of a page, a power of
+ * two; 0 means 4096. `limit` is the end of the addresses that a loader may use; 0 means that of Linux: 0xffffe000 for
+ * a file of class 32, and else 0x7ffffffff000, that of x86-64. The load segments are those of type PT_LOAD. Errors,
+ * in the order of the tests: XMAS_ELF_LOAD_TYPE, XMAS_ELF_LOAD_ENTRY_SIZE, XMAS_ELF_LOAD_COUNT, XMAS_ELF_LOAD_TABLE,
+ * XMAS_ELF_LOAD_FILE_SIZE, XMAS_ELF_LOAD_EMPTY, XMAS_ELF_LOAD_MISALIGNED, XMAS_ELF_LOAD_ALIGNMENT,
+ * XMAS_ELF_LOAD_RANGE, XMAS_ELF_LOAD_DATA, XMAS_ELF_LOAD_OVERLAP, XMAS_ELF_LOAD_ZEROS, XMAS_ELF_LOAD_NO_LOAD,
+ * XMAS_ELF_LOAD_HEADERS, XMAS_ELF_LOAD_INTERPRETER, XMAS_ELF_LOAD_RELRO, XMAS_ELF_LOAD_TLS. */
+XMAS_ELF_NODISCARD uint32_t xmas_elf_load_plan(const uint8_t *input, size_t input_size,
+    const xmas_elf_header_t *header, uint64_t page, uint64_t limit, xmas_elf_load_plan_t *out) XMAS_ELF_NOEXCEPT;
+
+/* What a loader maps for a file before relocation, from index `first` on, in the order of addresses: no mapping is
+ * empty or overlaps another, and all lie in the span of `xmas_elf_load_plan`, whose `page` and `limit` they are.
+ * `loader` is 1 for glibc, which maps libraries; any other number for Linux, which maps a program and its
+ * interpreter. glibc maps the pages between load segments, too, without access. Each call reads the program headers
+ * anew, so give room for all. Errors, in the order of the tests: XMAS_ELF_LOAD_TYPE, XMAS_ELF_LOAD_ENTRY_SIZE,
+ * XMAS_ELF_LOAD_COUNT, XMAS_ELF_LOAD_TABLE, XMAS_ELF_LOAD_FILE_SIZE, XMAS_ELF_LOAD_EMPTY, XMAS_ELF_LOAD_MISALIGNED,
+ * XMAS_ELF_LOAD_ALIGNMENT, XMAS_ELF_LOAD_RANGE, XMAS_ELF_LOAD_DATA, XMAS_ELF_LOAD_OVERLAP, XMAS_ELF_LOAD_ZEROS,
+ * XMAS_ELF_LOAD_NO_LOAD, XMAS_ELF_LOAD_HEADERS, XMAS_ELF_LOAD_INTERPRETER, XMAS_ELF_LOAD_RELRO, XMAS_ELF_LOAD_TLS,
+ * XMAS_ELF_NO_RECORD. */
+XMAS_ELF_NODISCARD uint32_t xmas_elf_load_mappings(const uint8_t *input, size_t input_size,
+    const xmas_elf_header_t *header, uint64_t page, uint64_t limit, uint32_t loader, uint64_t first,
+    xmas_elf_load_mapping_t *out, size_t out_count, uint64_t *count) XMAS_ELF_NOEXCEPT;
 
 /* Writes the text of a status to the front of `out`, as much as fits, and returns the size of the whole text in
  * bytes. The text is ASCII without a zero byte at its end. A status that is no error, such as 0, has an empty text. */

@@ -398,4 +398,6 @@ inline std::optional<bytes_view> file::build_id() const
 
 } // namespace xmas_elf
 
+#include "xmas_elf_memory.hpp"
+
 #endif

@@ -1,4 +1,4 @@
-// What makes a file harder to attack, by its program headers and its dynamic entries.
+// What makes a file harder to attack, by the plan of its load and its dynamic entries.
 import * as names from "./names.js";
 
 const BIND_NOW = 24n;
@@ -25,19 +25,30 @@ export function isPie(file) {
   return Boolean(dynamicOf(file)?.isProgram);
 }
 
+// Whether pages are only readable after relocation, whether the stack isn't executable, and whether memory is writable and executable:
+// by the plan of the load, or by the program headers of a file that isn't loaded.
+function protectionOf({ load: { plan, mappings }, segments }) {
+  const isBoth = ({ flags }) => Boolean(flags & names.EXECUTE && flags & names.WRITE);
+  if (plan) {
+    const hasRelro = Boolean(plan.has_relro) && plan.relro.start < plan.relro.end;
+    return { hasRelro, isNx: Boolean(plan.has_stack) && !(plan.stack_flags & names.EXECUTE), isBoth: mappings.some(isBoth) };
+  }
+  const of = (type) => segments.map(({ header }) => header).filter((it) => it.type === type);
+  const stack = of(names.PT_STACK).at(-1);
+  return { hasRelro: of(names.PT_RELRO).length > 0, isNx: Boolean(stack) && !(stack.flags & names.EXECUTE), isBoth: of(names.PT_LOAD).some(isBoth) };
+}
+
 /** Names and texts: whether it is a program at any address (PIE), RELRO, NX, BIND_NOW and W+X. None for an object file. */
 export function hardeningOf(file) {
   if (!file.segments.length) return [];
-  const of = (type) => file.segments.filter(({ header }) => header.type === type);
+  const { hasRelro, isNx, isBoth } = protectionOf(file);
   const dynamic = dynamicOf(file);
   const relro = dynamic?.isNow ? "full" : "partial";
-  const stack = of(names.PT_STACK);
-  const both = of(names.PT_LOAD).some(({ header }) => header.flags & 1 && header.flags & 2);
   return [
     ["Program at any address (PIE)", dynamic ? yes(dynamic.isProgram) : UNKNOWN],
-    ["Read-only after relocation (RELRO)", of(names.PT_RELRO).length ? (dynamic ? relro : UNKNOWN) : "none"],
-    ["Stack not executable (NX)", yes(stack.length > 0 && stack.every(({ header }) => !(header.flags & 1)))],
+    ["Read-only after relocation (RELRO)", hasRelro ? (dynamic ? relro : UNKNOWN) : "none"],
+    ["Stack not executable (NX)", yes(isNx)],
     ["Bound before it runs (BIND_NOW)", dynamic ? yes(dynamic.isNow) : UNKNOWN],
-    ["Writable and executable (W+X)", yes(both)],
+    ["Writable and executable (W+X)", yes(isBoth)],
   ];
 }

@@ -1,4 +1,5 @@
-// The bytes of the file in base 16, with the part that was chosen, and the field under the pointer or the cursor named.
+// The bytes of the file in base 16, with the part that was chosen, and the field and the symbol under the pointer or the cursor named.
+import { symbolText } from "./addresses.js";
 import { element } from "./dom.js";
 import { recordOf } from "./inspect.js";
 import { Pages } from "./pages.js";
@@ -119,6 +120,8 @@ export class HexView {
     this.field = this.record?.fields.find((it) => it.start <= offset && offset < it.end) ?? null;
     this.rows.draw();
     this.describe(offset, part);
+    const symbol = await symbolText(this.file, this.client, part, offset).catch(() => null);
+    if (symbol && asked === this.asked) this.place.append(` › ${symbol}`);
   }
 
   describe(offset, part) {

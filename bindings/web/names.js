@@ -120,6 +120,7 @@ export const RELOCATION_TYPES = {
 
 /** The types of sections that hold tables of records. */
 export const SYMTAB = 2;
+export const SYMTAB_SHNDX = 18;
 export const STRTAB = 3;
 export const RELA = 4;
 export const HASH = 5;
@@ -133,6 +134,9 @@ export const REL = 9;
 export const DYNSYM = 11;
 export const RELR = 19;
 export const GNU_HASH = 0x6ffffff6;
+/** Permissions of segments and mappings. */
+export const EXECUTE = 1;
+export const WRITE = 2;
 export const PT_LOAD = 1;
 export const PT_DYNAMIC = 2;
 export const PT_INTERP = 3;
@@ -141,6 +145,8 @@ export const PT_PHDR = 6;
 export const PT_TLS = 7;
 export const PT_STACK = 0x6474e551;
 export const PT_RELRO = 0x6474e552;
+/** The kind of object files. */
+export const ET_REL = 1;
 /** The kind of shared objects, and of programs at any address. */
 export const ET_DYN = 3;
 /** The types of segments that hold only sections that are loaded. */

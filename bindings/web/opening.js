@@ -36,6 +36,7 @@ export async function survey(client, source) {
   file.sections = file.sectionsEnd.sections;
   file.segmentsEnd = await client.ask("segments");
   file.segments = file.segmentsEnd.segments;
+  file.load = await client.ask("plan");
   await findTables(client, file);
   file.added.push(...noteSegments(file).filter(({ part }) => part).map(({ place, part, align }, at) => noteSection(place, part, align, at)));
   Object.assign(file, partsOf(file));

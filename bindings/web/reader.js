@@ -1,7 +1,8 @@
 // Calls the exports of the reader's module, and reads the records that they answer by.
 //
 // The file lies in the module's memory, behind room for one record of each sort, for a batch of records and for
-// the bytes of a name. How records lie in memory and which parameters a function has comes from records.js.
+// the bytes of a name; the words of an index of addresses lie behind all. How records lie in memory and which parameters
+// a function has comes from records.js.
 // Section headers that are added lie behind the file: a call whose `section` is below 0 reads them, -1 the first.
 import { FUNCTIONS, LONGEST_MESSAGE, RECORDS, STATUS } from "./records.js";
 
@@ -14,7 +15,7 @@ export const LONGEST_NAME = 65536;
 
 const PAGE = 65536;
 const WIDEST = Math.max(...Object.values(RECORDS).map((record) => record.size));
-const ROOMS = { header: WIDEST, added: WIDEST, part: WIDEST, table: WIDEST, ranges: WIDEST, out: BATCH * WIDEST, count: 8,
+const ROOMS = { header: WIDEST, added: WIDEST, part: WIDEST, table: WIDEST, indices: WIDEST, index: WIDEST, addresses: 8, ranges: WIDEST, out: BATCH * WIDEST, count: 8,
   message: LONGEST_MESSAGE, names: LONGEST_NAME };
 
 /** The file is larger than the memory that the browser gives the module. */
@@ -146,6 +147,28 @@ export class Reader {
     this.call("look_ups", { names_size: name.length, ranges_count: 1, out_count: 1 });
     const record = this.value(outOf("look_ups"), this.places.out);
     return record.status === STATUS.OK ? { status: record.status, record } : { status: record.status };
+  }
+
+  /**
+   * Builds an index of the symbols of the table that was found last, which `symbolAt` takes: behind all that lies in the memory.
+   * `indices` is the range of their section indices that need more than 16 bits, `within` a section of an object file, or 0.
+   */
+  buildIndex({ indices, within }) {
+    this.write("range", this.places.indices, indices);
+    this.places.words = 0;
+    const asked = this.one("address_index", { within, words_count: 0 });
+    if (!asked.record) return asked;
+    this.words = Number(asked.record.words);
+    this.places.words = this.memory.buffer.byteLength;
+    this.grow(this.places.words + 4 * this.words);
+    return this.kept("address_index", "index", { within, words_count: this.words });
+  }
+
+  /** The symbol of an address by this index. */
+  symbolAt(address) {
+    this.view().setBigUint64(this.places.addresses, address, true);
+    const status = this.call("symbols_at", { words_count: this.words, addresses_count: 1, out_count: 1 });
+    return status === STATUS.OK ? { status, record: this.value(outOf("symbols_at"), this.places.out) } : { status };
   }
 
   /** The text of a status. */

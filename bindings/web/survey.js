@@ -98,6 +98,14 @@ function segmentOf(reader, header, index) {
     check: refusal(reader, reader.call("check_segment", { index })) };
 }
 
+/** What Linux puts into memory for the file, and what it maps; or why it doesn't load it. */
+export function planOf(reader) {
+  const given = { page: 0, limit: 0 };
+  const { status, record: plan } = reader.one("load_plan", given);
+  if (!plan) return { plan: null, mappings: [], refused: refusal(reader, status) };
+  return { plan, mappings: reader.many("load_mappings", { ...given, loader: 0, first: 0 }).records, refused: null };
+}
+
 /** The notes of a range, by the alignment of its section or segment. */
 export async function notesOf(reader, turns, { part, align }) {
   const work = turns.begin("Notes", Number(part.size));

@@ -6,10 +6,11 @@ import { count, countDynamicSymbols, dynamicRows, dynamicTexts, lookUp, noteRows
   symbolRows } from "./records_of.js";
 import { DoesNotFit, Reader } from "./reader.js";
 import { findSymbols, foundRows } from "./filter.js";
+import { symbolAt } from "./symbols_at.js";
 import { segmentTables } from "./segment_tables.js";
 import { Turns } from "./turns.js";
 import { versionsOf } from "./versions_of.js";
-import { headerOf, notesOf, sectionsOf, segmentsOf, textAt } from "./survey.js";
+import { headerOf, notesOf, planOf, sectionsOf, segmentsOf, textAt } from "./survey.js";
 
 const PIECE = 4 * 1024 * 1024;
 
@@ -56,6 +57,7 @@ const calls = {
   header: () => headerOf(reader),
   sections: () => sectionsOf(reader, turns),
   segments: () => segmentsOf(reader, turns),
+  plan: () => planOf(reader),
   notes: (given) => notesOf(reader, turns, given),
   count: (given) => count(reader, given),
   symbols: (given) => symbolRows(reader, given),
@@ -73,6 +75,7 @@ const calls = {
   lookUp: (given) => lookUp(reader, given),
   checkHash,
   bytesAt,
+  symbolAt: (given) => symbolAt(reader, given),
   bytes: ({ offset, size }) => reader.bytes(offset, size).slice(),
 };
 

@@ -112,9 +112,9 @@ class Comparison:
         unique, threads = unique_names([content]), held.names_with(lambda info: info % 16 == THREAD)
         for (name, version), line, other in zip(queries, said.output.split("\n"), loaded):
             if name in unique:
-                self.counts["answers of unique names"] += 1
+                self.counts["results of unique names"] += 1
             elif other.startswith("elsewhere") and line.endswith(": none"):
-                self.counts["answers in a library that the file needs"] += 1
+                self.counts["results in a library that the file needs"] += 1
             else:
                 self.counts["answers"] += 1
                 if not self.agree(line, other, name in threads):

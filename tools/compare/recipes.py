@@ -1,11 +1,11 @@
 #!/usr/bin/env python3
 """Compares what the recipes of crates/elf_callers/src/recipes.rt print with readelf, over real files.
 
-    tools/compare/recipes.py [--elfrecipes PATH] [FILE..]
+    tools/compare/recipes.py [--elftools PATH] [FILE..]
 
-The program `elfrecipes` runs each recipe over a file. Without files it takes the programs and libraries of SYSTEM, and what gcc
+`elftools recipes` runs each recipe over a file. Without files it takes the programs and libraries of SYSTEM, and what gcc
 makes of a small source here: an object file, a program and a shared object of class 64, and by -m32 of class 32 an
-object file and, by -nostdlib, a shared object. Files that `elfrecipes` doesn't read count as differences.
+object file and, by -nostdlib, a shared object. Files that it doesn't read count as differences.
 """
 import re
 import subprocess
@@ -116,7 +116,7 @@ def wanted(path: str) -> dict:
 
 def compare(tally: Tally, program: str, path: str) -> None:
     """Compares what the recipes print of a file, each behind a line with its name."""
-    done, read = run([program, path]), wanted(path)
+    done, read = run([program, "recipes", path]), wanted(path)
     tally["files"] += 1
     if done.status != 0:
         tally.differ(path, "the run", "a fault", "a file")
@@ -131,13 +131,13 @@ def compare(tally: Tally, program: str, path: str) -> None:
 
 
 def main() -> int:
-    parser, tally = parser_of(__doc__, "elfrecipes"), Tally("elfrecipes")
+    parser, tally = parser_of(__doc__, "elftools"), Tally("elftools")
     parser.add_argument("files", nargs="*", metavar="FILE")
     arguments = parser.parse_args()
     with tempfile.TemporaryDirectory() as room:
         files = arguments.files or [*(str(ROOT / it) for it in OURS), *make(Path(room)), *(it for it in SYSTEM if Path(it).exists())]
         for path in files:
-            compare(tally, arguments.elfrecipes, path)
+            compare(tally, arguments.elftools, path)
     return ended(tally) or int(not tally["files"])
 
 

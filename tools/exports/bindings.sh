@@ -41,14 +41,16 @@ diff <(nm --undefined-only "$archive" | awk '$1 == "U" { print $2 }' | grep -vxE
 readelf --wide --sections --relocs "$archive" > "$room/archive"
 if grep -E 'eh_frame|R_X86_64_(32|32S|64) | WAT? ' "$room/archive"; then exit 1; fi
 
-for program in nm find speed; do
+for program in nm find addresses speed; do
     gcc -std=c11 "${strict[@]}" "bindings/c/$program.c" "$archive" -o "$room/${program}_c"
 done
 cxx=(g++)
 if command -v clang++ > /dev/null; then cxx+=(clang++); else echo "bindings: no clang here: by gcc alone"; fi
 for compiler in "${cxx[@]}"; do
     "$compiler" -std=c++17 "${strict[@]}" -Wconversion bindings/cpp/nm.cpp "$archive" -o "$room/nm_$compiler"
-    "$compiler" -std=c++20 "${strict[@]}" -Wconversion bindings/cpp/dump.cpp "$archive" -o "$room/dump"
+    for program in dump memory; do
+        "$compiler" -std=c++20 "${strict[@]}" -Wconversion "bindings/cpp/$program.cpp" "$archive" -o "$room/$program"
+    done
     # C++11 has no [[nodiscard]]; a struct may have its zero as its value.
     echo '#include "xmas_elf.h"' | "$compiler" -std=c++11 "${strict[@]}" -Wconversion -x c++ -fsyntax-only -
     echo '#include "xmas_elf.h"
@@ -85,8 +87,39 @@ cargo build --quiet --offline --release --manifest-path bindings/rust/Cargo.toml
 grep -qx "#define XMAS_ELF_VERSION \"$(sed -n 's/^version = "\(.*\)"/\1/p' bindings/rust/Cargo.toml)\"" bindings/include/xmas_elf.h
 # C, C++ and Rust beside nm and readelf, over 300 files. A path that can't be opened is named.
 tools/compare/dump.py
-for program in "$room/nm_c" "$room/find_c" "$room/nm_g++" "$room/dump" "$CARGO_TARGET_DIR"/release/examples/{nm,find,dump}; do
+for program in "$room/nm_c" "$room/find_c" "$room/addresses_c" "$room/nm_g++" "$room/dump" "$room/memory" "$CARGO_TARGET_DIR"/release/examples/{nm,find,dump,addresses}; do
     { "$program" /no/such/file 2>&1 || true; } | grep -q '^/no/such/file: No such file or directory' || { echo "$program doesn't name its path"; exit 1; }
+done
+# The mappings of a program beside those of its process, in which those of zeros have no path; and the symbols of its functions
+# in their middle, by the values and sizes of nm.
+cat > "$room/mapped.c" << 'END'
+#include <stdio.h>
+int numbers[40000];
+int main(void)
+{
+    FILE *maps = fopen("/proc/self/maps", "r");
+    char line[512];
+    while (fgets(line, sizeof line, maps)) fputs(line, stdout);
+    return numbers[0];
+}
+END
+gcc "$room/mapped.c" -o "$room/mapped" -Wl,-z,norelro
+mapped() {
+    "$room/mapped" | python3 -c '
+import sys
+lines = [line.split() for line in sys.stdin if line.rstrip().endswith(sys.argv[1])]
+numbers = [[int(it, 16) for it in (*line[0].split("-"), line[2])] for line in lines]
+for (start, end, offset), line in zip(numbers, lines): print(f"{start - numbers[0][0]:x}-{end - numbers[0][0]:x} {line[1][:3]} {offset:x}")' "$1"
+}
+functions() { nm --defined-only --print-size "$room/mapped" | awk 'NF == 4 && $3 ~ /[tT]/ && $2 !~ /^0+$/'; }
+middles() { functions | python3 -c 'import sys
+for value, size, _, name in map(str.split, sys.stdin): print(f"{int(value, 16) + int(size, 16) // 2:x}", f"{name}+{int(size, 16) // 2:#x}")'; }
+[ "$(middles | wc -l)" -ge 2 ] || { echo "nm finds no functions"; exit 1; }
+"$room/memory" "$room/mapped" $(middles | cut -d' ' -f1) > "$room/memory_of"
+grep -v '^.*+0x' "$room/memory_of" | awk '$3 != 0 || NR == 1' | diff - <(mapped "$room/mapped")
+grep '+0x' "$room/memory_of" | diff - <(middles | cut -d' ' -f2)
+for program in "$room/addresses_c" "$CARGO_TARGET_DIR/release/examples/addresses"; do
+    "$program" "$room/mapped" $(middles | cut -d' ' -f1) 0 | diff - <(middles | cut -d' ' -f2; echo '?')
 done
 # Both kinds of hash tables, a file's own name and its folders, and libraries with many versions.
 echo 'int one(void) { return 1; }' | gcc -shared -fPIC -x c - -o "$room/libnamed.so" -Wl,-soname,libnamed.so.1 -Wl,-rpath,/a:/b -Wl,--enable-new-dtags

@@ -23,6 +23,7 @@ pub(crate) struct Asked<'a> {
     pub(crate) part: Range,
     pub(crate) table: SymbolTable,
     pub(crate) hash: FoundTable,
+    pub(crate) addresses: AddressIndex,
     pub(crate) name: &'a [u8],
     pub(crate) section: u64,
     pub(crate) index: u64,
@@ -32,6 +33,7 @@ pub(crate) struct Asked<'a> {
 pub(crate) fn every(asked: &Asked<'_>, mut heard: impl FnMut(&str, Result<(), Error>, &[Error])) {
     let (input, header, part, table) = (asked.input, &asked.header, &asked.part, &asked.table);
     let (hash, name, ranges) = (&asked.hash, asked.name, &[asked.part]);
+    let (address_index, numbers) = (&asked.addresses, &[asked.index, asked.section]);
 """
 
 
@@ -42,7 +44,8 @@ def value(parameter):
 
 def place_of(parameter):
     """The record that is handed to a parameter."""
-    return {"header": "header", "symbol_table": "table", "hash_table": "hash"}.get(parameter.type, "part")
+    places = {"header": "header", "symbol_table": "table", "hash_table": "hash", "address_index": "address_index"}
+    return places.get(parameter.type, "part")
 
 
 def c_argument(parameter, place, c_type):
@@ -51,7 +54,8 @@ def c_argument(parameter, place, c_type):
     if parameter.kind == IN:
         return f"&a->{place_of(parameter)}"
     if parameter.kind == SLICE:
-        return {"input": "a->bytes, a->size", "ranges": "&a->part, 1"}.get(parameter.name, "a->name, a->name_size")
+        slices = {"input": "a->bytes, a->size", "ranges": "&a->part, 1", "words": "a->words, a->words_count", "addresses": "a->numbers, 2"}
+        return slices.get(parameter.name, "a->name, a->name_size")
     written = f"out[{place}].of_{parameter.type}"
     return f"&{written}[0]" if parameter.kind == OUT else f"{written}, {ROOM}"
 
@@ -88,7 +92,7 @@ def rust_argument(parameter, rust_type):
     return {
         VALUE: f"asked.{value(parameter)}" if parameter.type == "u64" else f"asked.{value(parameter)} as {kind}",
         IN: place_of(parameter),
-        SLICE: {"input": "input", "ranges": "ranges"}.get(parameter.name, "name"),
+        SLICE: {"input": "input", "ranges": "ranges", "words": "&[0, 1]", "addresses": "numbers"}.get(parameter.name, "name"),
         FILLED: f"&mut [{kind}::default(); {ROOM}]",
     }[parameter.kind]
 

@@ -197,7 +197,8 @@ def ffi_text(listed):
     lines.append("}")
     for function in listed.functions:
         lines += safe_call(function, listed)
-    names = ", ".join(sorted(struct.rust for struct in listed.structs))
+    used = {parameter.type for function in listed.functions for parameter in function.parameters}
+    names = ", ".join(sorted(struct.rust for struct in listed.structs if struct.name in used))
     return FFI_HEAD.replace("{RECORDS}", f"{{{names}}}") + "\n".join(lines) + "\n"
 
 

@@ -9,10 +9,16 @@ import re
 from listing import ROOT
 from pages.definitions import Reader
 
-ENUMS = {"ElfError": "", "LinkError": "Link", "Refusal": ""}
+ENUMS = {"ElfError": "", "LinkError": "Link", "LoadError": "Load", "IndexError": "Index", "Refusal": ""}
 # Variants that hold an error of another enum.
-HOLDERS = {("LinkError", "Elf"), ("Refusal", "Elf"), ("Refusal", "Link")}
-ERRORS = {"ElfError": "crates/elf_base/src/error.rt", "LinkError": "crates/elf_linking/src/error.rt", "Refusal": "crates/elf_c/src/status.rt"}
+HOLDERS = {("LinkError", "Elf"), ("Refusal", "Elf"), ("Refusal", "Link"), ("Refusal", "Load"), ("Refusal", "Index")}
+ERRORS = {
+    "ElfError": "crates/elf_base/src/error.rt",
+    "LinkError": "crates/elf_linking/src/error.rt",
+    "LoadError": "crates/elf_loading/src/error.rt",
+    "IndexError": "crates/elf_addresses/src/error.rt",
+    "Refusal": "crates/elf_c/src/status.rt",
+}
 
 
 @functools.cache
@@ -38,7 +44,9 @@ class Named:
             local = self.reader.spec(one.path) if one.path.suffix == ".antt" else {}
             named, found = self.of(one.text, one.uses, local) if one.kind != "type" else (set(), [])
             # One that has a row for each variant of an enum, as that of the numbers, returns none.
-            is_table = any({name for it, name in named if it == enum} == variants(enum) for enum in ENUMS)
+            heads = "\n".join(line.split(" = ")[0] for line in one.text.splitlines() if " = " in line)
+            rows = self.of(heads, one.uses, local)[0]
+            is_table = any({name for it, name in rows if it == enum} == variants(enum) for enum in ENUMS)
             self.read[one.path, one.line] = (set(), []) if is_table else (named, found)
         return self.read[one.path, one.line]
 

@@ -1,9 +1,10 @@
 """The list of statuses for tools/exports/declarations.py: in bindings/include/xmas_elf.h and bindings/rust/src/error.rs.
 
-The numbers of `ElfError` are those that its variants are declared with, those of `LinkError` stand beside its texts in
-crates/elf_linking/src/error.rt, and the others in crates/elf_c/src/status.rt; the other texts are those of crates/elf_base
-and crates/elf_c. A number never changes: bindings/statuses.txt has each name with its number, and lines are only added to
-it. Where a refusal has another number than there, or a name there is no refusal's, this fails, and nothing is written."""
+The numbers of `ElfError` are those that its variants are declared with; those of `LinkError`, `LoadError` and `IndexError`
+stand beside their texts in src/error.rt of their crates, and the others in crates/elf_c/src/status.rt; the other texts are
+those of crates/elf_base and crates/elf_c. A number never changes: bindings/statuses.txt has each name with its number, and
+lines are only added to it. Where a refusal has another number than there, or a name there is no refusal's, this fails, and
+nothing is written."""
 import re
 import sys
 
@@ -17,17 +18,23 @@ def matched(path, pattern):
     return re.findall(pattern, (ROOT / path).read_text())
 
 
+def of_library(crate, prefix):
+    """The rows of a library's own errors."""
+    rows = matched(f"crates/{crate}/src/error.rt", rf'{prefix}Error::(\w+) => \(\s*(\d+),\s*"([^"]*)",?\s*\)')
+    return [(prefix + name, int(number), text) for name, number, text in rows]
+
+
 def statuses():
     """Rows of name, number and text."""
     errors = "crates/elf_base/src/error.rt"
     texts = dict(matched(errors, r'Self::(\w+) => "([^"]*)"'))
-    links = matched("crates/elf_linking/src/error.rt", r'LinkError::(\w+) => \((\d+), "([^"]*)"\)')
     source = "crates/elf_c/src/status.rt"
     rows = [(name, int(number), texts[name]) for name, number in matched(errors, r"(?m)^    (\w+) = (\d+),$")]
-    rows += [("Link" + name, int(number), text) for name, number, text in links]
+    rows += of_library("elf_linking", "Link")
     own_texts = dict(matched("crates/elf_c/src/message.rt", r'Refusal::(\w+) => "([^"]*)"'))
     for name, number in matched(source, r"Refusal::(\w+) => (\d+)"):
         rows.append((name, int(number), own_texts[name]))
+    rows += of_library("elf_loading", "Load") + of_library("elf_addresses", "Index")
     numbers = [number for _, number, _ in rows]
     assert len(set(numbers)) == len(numbers) and 0 not in numbers and len(rows) > 60
     assert {name for name, _, _ in rows} >= set(texts) | set(own_texts)

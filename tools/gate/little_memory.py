@@ -1,5 +1,5 @@
 #!/usr/bin/env python3
-"""Has each request of the built elfinfo, elfsym and elfbind for memory refused in turn, and each read and write failed.
+"""Has each request of the built elfinfo, elfsym, elfaddr and elfbind for memory refused in turn, and each read and write failed.
 
 Over some files and each build of a program, until a run makes no more such calls. With memory refused it
 says that it cannot read its arguments, then that it cannot read the file, then that memory is short; with a
@@ -47,10 +47,12 @@ class Program:
 
 FILES = {"a string table": STRTAB, "links": (SAMPLE / "notes-64.elf").read_bytes(),
     "a hash table": (SAMPLE / "dynamic-64.elf").read_bytes(), "three bytes": STRTAB[:3]}
+PLACES = (CRATES / "elfaddr" / "data" / "places.so").read_bytes()
 ASKED = (CRATES / "elfsym" / "args").read_text().split()[1:]
 PROGRAMS = [
     Program("elfinfo", [], FILES, REPORT, (20, 300)),
     Program("elfsym", ASKED, {"a hash table": LINKED, "three bytes": LINKED[:3]}, SYMBOLS, (20, 16)),
+    Program("elfaddr", ["206", "20a", "20f"], {"symbols": PLACES, "three bytes": PLACES[:3]}, b"outer+0x0\nouter+0x4\n?\n", (20, 4)),
     Program("elfbind", [], {"a library": FIRST, "three bytes": FIRST[:3]}, FIRST_LINES.encode(), (40, 4)),
 ]
 

@@ -1,5 +1,5 @@
 #!/usr/bin/env python3
-"""Wants the output, the error text and the status of each way in which the built elfinfo, elfsym and elfbind end.
+"""Wants the output, the error text and the status of each way in which the built elfinfo, elfsym, elfaddr and elfbind end.
 
 It runs each program as each compiler built it, on files that are good, refused, missing or unreadable,
 and into outputs that fail. Run it at the top of the repository once the programs are built, or give it
@@ -119,6 +119,27 @@ SYM_ENDS = ends_of(
     **{f"a file with another byte at {place}": failing("elfsym", [f"damaged-{place}.so", *NEEDS_NAMES], f"damaged-{place}.so: {reason}")
        for place, _, reason in NEEDS_REFUSALS})
 
+# What crates/elfaddr/data/places.s says of these addresses.
+PLACES = (CRATES / "elfaddr" / "data" / "places.so").read_bytes()
+PLACE_LINES = b"outer+0x0\ninner+0x0\nouter+0x4\nlabel+0x0\n?\n.data+0x8\n"
+ADDR_USAGE = "elfaddr [--dynamic | --dladdr] <binary_path> (<address>.. | -)"
+NO_ADDRESS = 1, f"usage: {ADDR_USAGE}\n".encode(), b""
+ADDR_ENDS = ends_of(
+    "elfaddr", ADDR_USAGE, ["0"], ["places.so", "206", "0x208", "20A", "20c", "20f", "2c8"], PLACE_LINES,
+    no_address=(["places.so"], *NO_ADDRESS),
+    a_word_that_is_no_address=(["places.so", "206", "main"], *NO_ADDRESS),
+    an_address_of_17_digits=(["places.so", "10000000000000000"], *NO_ADDRESS),
+    addresses_after_the_sign_for_the_standard_input=(["places.so", "-", "206"], *NO_ADDRESS),
+    an_option_without_a_path=(["--dladdr"], *NO_ADDRESS),
+    the_last_address=(["places.so", "ffffffffffffffff"], 0, b"?\n", b""),
+    the_dynamic_symbols=(["--dynamic", "places.so", "20c", "20d", "2c0"], 0, b".text+0x6\nlast+0x0\nvalue+0x0\n", b""),
+    what_dladdr_finds=(["--dladdr", "places.so", "20a", "20c", "20d"], 0, b"outer+0x4\n.text+0x6\nalias+0x0\n", b""),
+    a_file_without_section_headers=(["needs.so", "230", "243"], 0, b"ab+0x0\n?\n", b""),
+    what_dladdr_finds_in_a_file_without_section_headers=(["--dladdr", "needs.so", "242", "243"], 0, b"cd+0x2\n?\n", b""),
+    a_file_without_symbols=failing("elfaddr", ["strtab.elf", "0"], "strtab.elf: No dynamic segment"),
+    **{f"a file with another byte at {place}": failing("elfaddr", [f"damaged-{place}.so", "0"], f"damaged-{place}.so: {reason}")
+       for place, _, reason in NEEDS_REFUSALS[:-1]})
+
 BIND_USAGE = "elfbind <binary_path>.. | elfbind --check <binary_path>.."
 UNBOUND = "static_thread absent taken shared shared version taken per_thread".split()
 SECOND_LINES = "libsecond.so only -> libsecond.so 0x16d0\n" + "".join(f"libsecond.so {name} -> unresolved\n" for name in UNBOUND)
@@ -175,7 +196,8 @@ class Program:
 
 
 PROGRAMS = [
-    Program("elfinfo", ENDS, STRTAB), Program("elfsym", SYM_ENDS, LINKED), Program("elfbind", BIND_ENDS, (BOUND / "caller").read_bytes())]
+    Program("elfinfo", ENDS, STRTAB), Program("elfsym", SYM_ENDS, LINKED), Program("elfaddr", ADDR_ENDS, PLACES),
+    Program("elfbind", BIND_ENDS, (BOUND / "caller").read_bytes())]
 
 
 def run(built, arguments, room, given=b"", **streams):
@@ -235,6 +257,7 @@ def unlike(program, built: pathlib.Path) -> int:
     files = {NOT_UTF8: STRTAB, b"cut.so": CUT_VERSIONS, b"narrow.so": (CRATES / "elfsections" / "data" / "narrow.so").read_bytes(),
         b"strtab.elf": STRTAB, b"empty.elf": b"", b"zeros.elf": bytes(16), b"three.elf": STRTAB[:3], b"link.elf": debug_link(),
         b"hash.elf": hash_file(), b"far.elf": larger(FAR, 2), b"long.elf": larger(52, MANY), b"linked.so": LINKED, b"needs.so": NEEDS,
+        b"places.so": PLACES,
         b"stripped.so": (CRATES / "elfsym" / "data" / "stripped.so").read_bytes(),
         **{name.encode(): (BOUND / name).read_bytes() for name in WIDE_BOUND + NARROW_BOUND},
         **{b"damaged-%d.so" % place: damaged(place, byte) for place, byte, _ in NEEDS_REFUSALS}}

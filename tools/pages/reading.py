@@ -27,7 +27,7 @@ BOUNDS = {
     "xmas_elf::hash::check HashTable::check_in": 85,
     "elf_linking::gnu_hash::lookup GnuHashTable::lookup_in": 105,
     "elf_linking::object DynamicObject::find": 190,
-    "elf_linking::scope Scope::bind": 255,
+    "elf_linking::scope Scope::bind": 250,
     "elf_linking::values value_by_name": 260,
 }
 ROOM = re.compile(r"(<!-- (read|bytes) ([^>]*) -->\n).*?(<!-- end -->)", re.S)

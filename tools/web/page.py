@@ -527,6 +527,42 @@ def try_addresses(test, options):
     test.compared += 3
 
 
+PROGRAM = """
+static int inner(int number) { return number * 3 + 1; }
+int (*volatile outer)(int) = inner;
+int main(int count, char **words) { return outer(count) + words[0][0]; }
+"""
+
+
+def functions_of(path):
+    """The name, the value and the size of each function that nm prints."""
+    printed = subprocess.run(["nm", "--defined-only", "--print-size", path], check=True, capture_output=True, text=True).stdout
+    rows = [line.split() for line in printed.splitlines()]
+    return [(row[3], int(row[0], 16), int(row[1], 16)) for row in rows if len(row) == 4 and row[2] in "tT" and int(row[1], 16)]
+
+
+def try_symbols_of_addresses(test, options, room):
+    """The symbol of the byte under the pointer or the cursor is named: in a program by the address, in an object file by the offset in
+    its section; and none where no symbol is."""
+    (room / "named.c").write_text(PROGRAM)
+    shown, page = "document.getElementById('place').textContent", test.page
+    go = "(() => { const it = document.getElementById('go'); it.elements.what.value = '%s'; it.elements.where.value = '%x'; it.requestSubmit(); })()"
+    for name, words, what in (("named", ["-O0"], "address"), ("named.o", ["-O0", "-c"], "offset")):
+        path = room / name
+        subprocess.run(["gcc", room / "named.c", "-o", path, *words], check=True)
+        test.open(path)
+        text = next(it for it in readelf.sections(path) if it[1] == ".text")
+        start = int(text[4], 16) if what == "offset" else 0
+        for function, value, size in functions_of(path):
+            page.run(go % (what, start + value + size // 2))
+            page.wait(f"{shown}.endsWith(' › {function}+{size // 2:#x}')", 5)
+            test.compared += 1
+    page.run(go % ("offset", 0))
+    page.wait(f"{shown}.startsWith('00000000 ›') || {shown}.includes('0 › ELF header')", 5)
+    time.sleep(0.3)
+    test.same("a symbol of the ELF header", "+0x" in page.run(shown), False)
+
+
 def try_contrast(test, options):
     """All text of each view has enough contrast, in light and in dark."""
     test.open(options.site / "example.elf")

@@ -20,6 +20,8 @@ pub struct Facts {
     pub missing: Vec<u8>,
     pub names: Vec<u8>,
     pub versioned: Vec<u8>,
+    /// Addresses in symbols, of eight bytes each.
+    pub addresses: Vec<u8>,
 }
 
 impl Facts {
@@ -55,6 +57,8 @@ impl Facts {
                 facts.last_symbol = name.to_vec();
             }
         }
+        let sized = symbols.iter().filter(|symbol| symbol.st_size(endian) > 0 && symbol.is_definition(endian));
+        facts.addresses = addresses(sized.map(|symbol| (symbol.st_value(endian), symbol.st_size(endian))).collect());
         let exports = table.symbols(endian, data, elf::SHT_DYNSYM).unwrap();
         facts.exports = exports.len();
         let names = exports.iter().filter_map(|symbol| symbol.name(endian, exports.strings()).ok());
@@ -90,6 +94,21 @@ fn look_ups<'a>(names: impl Iterator<Item = &'a [u8]>) -> Vec<u8> {
         names.push(format!("absent_symbol_number_{index:07}").into_bytes());
     }
     mixed(names)
+}
+
+/// 100,000 addresses in symbols, by the values and sizes of these, in no order.
+fn addresses(symbols: Vec<(u64, u64)>) -> Vec<u8> {
+    let mut state = 1u64;
+    let mut next = |bound: u64| {
+        state = state.wrapping_mul(6364136223846793005).wrapping_add(1442695040888963407);
+        (state >> 33) % bound
+    };
+    let count = if symbols.is_empty() { 0 } else { 100_000 };
+    let found = (0..count).map(|_| {
+        let (value, size) = symbols[next(symbols.len() as u64) as usize];
+        value.wrapping_add(next(size))
+    });
+    found.flat_map(u64::to_le_bytes).collect()
 }
 
 /// The record of a name and its version with the hash number that the file has for it, if it has room for both.

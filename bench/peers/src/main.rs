@@ -8,6 +8,7 @@ mod foreign;
 mod goblin_passes;
 mod object_passes;
 mod passes;
+mod sorted_passes;
 
 use facts::Facts;
 use passes::{PASSES, Pass};

@@ -258,3 +258,21 @@ pub fn linked_look_ups<'a>(data: &'a [u8], text: &'a [u8]) -> u64 {
     let found = |name: &&str| table.find(endian, name.as_bytes(), elf::gnu_hash(name.as_bytes()), None, &symbols, &versions).is_some();
     names.filter(found).count() as u64
 }
+
+/// Its map of symbols: a sorted vector of the values and names of those with a section, which a binary search asks.
+fn map(data: &[u8]) -> Option<object::SymbolMap<object::SymbolMapName<'_>>> {
+    use object::Object as _;
+    Some(object::read::elf::ElfFile64::<Endianness>::parse(data).ok()?.symbol_map())
+}
+
+pub fn addresses_build(data: &[u8], _: &[u8]) -> u64 {
+    std::hint::black_box(there!(map(data)));
+    there!(symbols(data, elf::SHT_SYMTAB)).0.len() as u64
+}
+
+/// Each address is in a symbol, so that all are found.
+pub fn addresses_asked(data: &[u8], text: &[u8]) -> u64 {
+    let map = there!(map(data));
+    let addresses = text.chunks_exact(8).map(|part| u64::from_le_bytes(part.try_into().unwrap()));
+    addresses.filter(|address| map.get(*address).is_some()).count() as u64
+}

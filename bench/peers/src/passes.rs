@@ -4,6 +4,7 @@ use crate::facts::Facts;
 use crate::foreign::{here, libelf, loops};
 use crate::goblin_passes as goblin;
 use crate::object_passes as object;
+use crate::sorted_passes as sorted;
 use crate::Call;
 
 /// A pass over a file.
@@ -82,6 +83,10 @@ pub const PASSES: &[Pass] = passes![
         ["object" object::symbol_names, "C" loops::symbol_names, "here" here::symbol_name_bytes];
     "find the last symbol by a search", "large exports", |f| f.symbols, |f| &f.last_symbol,
         ["crate" original::symbol_search, "object" object::symbol_search, "goblin" goblin::symbol_search, "C" loops::symbol_search, "here" here::symbol_search];
+    "an index of symbols by addresses", "large", |f| f.symbols, NOTHING,
+        ["object" object::addresses_build, "Rust" sorted::addresses_build, "here" here::addresses_build];
+    "an index of symbols by addresses, and addresses by it", "large", |f| f.addresses.len() / 8, |f| &f.addresses,
+        ["object" object::addresses_asked, "Rust" sorted::addresses_asked, "here" here::addresses_asked];
     "dynamic entries with their tags", "large dynamic", |f| f.dynamic, NOTHING,
         ["crate" original::dynamic, "object" object::dynamic, "goblin" goblin::dynamic, "C" loops::dynamic, "here" here::dynamic,
          "here, by a table" here::table_dynamic];

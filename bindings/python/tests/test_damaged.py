@@ -52,6 +52,11 @@ def walk(data):
         tried(lambda: file.symbol(name))
         tried(lambda: file.section(name))
     tried(lambda: file.bytes_at(1 << 63, 1 << 63))
+    for within in (0, 1, 0xffff):
+        found = tried(lambda: file.symbols_at((0, 0x401000, 1 << 63), within))
+        assert all(it is None or it.offset < max(it.symbol.size, 1) for it in found or ())
+    plan = tried(file.load_plan)
+    assert plan is None or all(plan.span.start <= it.start < it.end <= plan.span.end for it in plan.mappings())
     return 1
 
 

@@ -14,7 +14,7 @@ from conftest import LIBRARIES, PYTHON, system_files
 from elftools.elf.gnuversions import GNUVerDefSection, GNUVerNeedSection
 
 import xmas_elf
-from xmas_elf import ElfError, ElfFile, Status, VersionKind, constants
+from xmas_elf import Contents, ElfError, ElfFile, Loader, Status, VersionKind, constants
 from xmas_elf.constants import SHF, SHT, STB, STT
 
 FOLDER = pathlib.Path("/lib/x86_64-linux-gnu")
@@ -272,6 +272,117 @@ def test_file_closes_while_parts_are_in_use():
     assert len(list(relocations)) > 5
     with pytest.raises(FileNotFoundError, match="no_such_file"):
         ElfFile.load_from_path("/no_such_file")
+
+
+# Addresses and loads.
+
+PROGRAM = """
+static int inner(int number) { return number * 3 + 1; }
+int (*volatile outer)(int) = inner;
+int numbers[5000];
+int main(int count, char **words) { return outer(count) + words[0][0] + numbers[count]; }
+"""
+
+
+def compiled(tmp_path, *words):
+    (tmp_path / "a.c").write_text(PROGRAM)
+    subprocess.run(["gcc", "-O0", tmp_path / "a.c", "-o", tmp_path / "a", *words], check=True)
+    return tmp_path / "a"
+
+
+def sized(path):
+    """The name, the value and the size of each function that nm prints, and of `numbers`."""
+    rows = [line.split() for line in said("nm", "--defined-only", "--print-size", path).splitlines()]
+    return [(row[3], int(row[0], 16), int(row[1], 16)) for row in rows if len(row) == 4 and (row[2] in "tT" or row[3] == "numbers")]
+
+
+@pytest.mark.parametrize("words", (["-no-pie"], ["-pie"], ["-static"]))
+def test_symbols_of_addresses(words, tmp_path):
+    path = compiled(tmp_path, *words)
+    symbols = sized(path)
+    assert {"inner", "main", "numbers"} <= {name for name, _, _ in symbols}
+    with ElfFile.load_from_path(path) as file:
+        for name, value, size in symbols[:: max(1, len(symbols) // 300)]:
+            # Another name for the same range, or a symbol further in.
+            found = file.symbol_at(value + size // 2)
+            assert found.symbol.name == name or found.symbol.value >= value and found.symbol.size <= size
+            assert found.symbol.value + found.offset == value + size // 2
+        main = next(value for name, value, _ in symbols if name == "main")
+        assert str(file.symbol_at(main + 3)) == "main+0x3" and file.symbol_at((1 << 64) - 1) is None
+        assert file.symbols_at([main, main + 1, 1]) == [file.symbol_at(main), file.symbol_at(main + 1), None]
+        assert file.symbols_at([]) == []
+        with pytest.raises(OverflowError):
+            file.symbol_at(1 << 64)
+    with pytest.raises(ValueError, match="closed"):
+        file.symbol_at(main)
+
+
+def test_symbols_of_offsets_in_an_object_file(tmp_path):
+    path = compiled(tmp_path, "-c", "-ffunction-sections")
+    with ElfFile.load_from_path(path) as file:
+        for name, _, size in (it for it in sized(path) if it[0] in ("inner", "main")):
+            section = file.section(f".text.{name}")
+            assert str(file.symbol_at(size - 1, section.index)) == f"{name}+{size - 1:#x}"
+            assert file.symbol_at(size, section.index) is None
+
+
+def test_symbols_of_addresses_without_sections(tmp_path):
+    path = compiled(tmp_path, "-rdynamic")
+    value = next(value for name, value, _ in sized(path) if name == "main")
+    file = ElfFile(without_sections(path.read_bytes()))
+    assert file.num_sections() == 0 and str(file.symbol_at(value + 1)) == "main+0x1"
+
+
+def maps_of(path):
+    """What Linux maps of a program that prints its own maps; memory for zeros has no path there."""
+    printed = subprocess.run([path], check=True, capture_output=True, text=True).stdout
+    rows = [line.split() for line in printed.splitlines() if line.endswith(str(path))]
+    numbers = [[int(it, 16) for it in (*row[0].split("-"), row[2])] for row in rows]
+    return [(start, end, offset, row[1][:3]) for (start, end, offset), row in zip(numbers, rows)]
+
+
+@pytest.mark.parametrize("words", (["-no-pie"], ["-pie"]))
+def test_mappings_are_those_of_the_process(words, tmp_path):
+    (tmp_path / "a.c").write_text("""#include <stdio.h>
+int numbers[40000];
+int main(void) { FILE *f = fopen("/proc/self/maps", "r"); char s[512]; while (fgets(s, sizeof s, f)) fputs(s, stdout); return numbers[0]; }
+""")
+    path = tmp_path / "a"
+    subprocess.run(["gcc", tmp_path / "a.c", "-o", path, "-Wl,-z,norelro", *words], check=True)
+    mapped = maps_of(path)
+    with ElfFile.load_from_path(path) as file:
+        plan = file.load_plan()
+        base = 0 if words == ["-no-pie"] else mapped[0][0] - plan.span.start
+        letters = lambda flags: "".join(letter if flags & flag else "-" for letter, flag in zip("rwx", (4, 2, 1)))  # noqa: E731
+        planned = [(base + it.start, base + it.end, it.offset, letters(it.flags)) for it in plan.mappings() if it.contents == Contents.FILE]
+        assert planned == mapped
+        assert plan.relro is None and plan.interpreter == "/lib64/ld-linux-x86-64.so.2" and plan.entry == file.header.entry_point
+        assert plan.mappings()[-1].contents == Contents.ZERO and plan.mappings()[-1].end == plan.span.end
+        glibc = plan.mappings(Loader.GLIBC)
+        assert all(one.end == other.start for one, other in zip(glibc, glibc[1:]))
+
+
+def test_plans_of_libraries(library):
+    path = path_of(library)
+    with ElfFile.load_from_path(path) as file:
+        plan = file.load_plan()
+        loads = [it for it in file.segments() if it.type == constants.PT_LOAD]
+        assert plan.span.start == loads[0].virtual_addr // 4096 * 4096
+        assert plan.span.end == -(-(loads[-1].virtual_addr + loads[-1].mem_size) // 4096) * 4096
+        relro = next((it for it in file.segments() if it.type == constants.PT_GNU_RELRO), None)
+        assert plan.relro == (relro and (relro.virtual_addr // 4096 * 4096, (relro.virtual_addr + relro.mem_size) // 4096 * 4096))
+        assert not any(it.flags & constants.PF_W and it.flags & constants.PF_X for it in plan.mappings(Loader.GLIBC))
+
+
+def test_why_a_file_is_not_loaded(tmp_path):
+    with pytest.raises(ElfError) as raised:
+        ElfFile.load_from_path(compiled(tmp_path, "-c")).load_plan()
+    assert raised.value.status == Status.LOAD_TYPE and str(raised.value) == "Type is neither executable nor shared object"
+    file = ElfFile.load_from_path(path_of("libc.so.6"))
+    for words, status in (({"page": 1 << 40}, Status.LOAD_OVERLAP), ({"limit": 4096}, Status.LOAD_RANGE)):
+        with pytest.raises(ElfError) as raised:
+            file.load_plan(**words)
+        assert raised.value.status == status
 
 
 # Overviews and surveys.

@@ -8,15 +8,18 @@
 Data is a `memoryview` of the input. A part that can't be read raises `ElfError`, with the status that says why. Numbers
 have the names of the standard: `constants.SHT(11)` is `SHT_DYNSYM`. `survey` makes a table of many files.
 """
+from ._addresses import SymbolAt
 from ._archive import ElfError
 from ._declarations import Status
 from ._file import ElfFile
+from ._loading import Addresses, Contents, Loader, LoadPlan, Mapping, TlsTemplate
 from ._overview import Overview
 from ._parts import Dynamic, Header, Note, Relocation, Section, Segment, Symbol
 from ._survey import elf_files, survey, survey_row
 from ._versions import Version, VersionKind
 
 __all__ = [
-    "Dynamic", "ElfError", "ElfFile", "Header", "Note", "Overview", "Relocation", "Section", "Segment", "Status", "Symbol",
-    "Version", "VersionKind", "elf_files", "survey", "survey_row",
+    "Addresses", "Contents", "Dynamic", "ElfError", "ElfFile", "Header", "LoadPlan", "Loader", "Mapping", "Note", "Overview",
+    "Relocation", "Section", "Segment", "Status", "Symbol", "SymbolAt", "TlsTemplate", "Version", "VersionKind", "elf_files",
+    "survey", "survey_row",
 ]

@@ -495,6 +495,228 @@ _document(
 FOUND_SYMBOL = Struct("@QQIHBBII0Q")
 
 
+class AddressIndexRecord(NamedTuple):
+    """An index of symbols by their addresses: the numbers that `xmas_elf_address_index` fills, and that
+    `xmas_elf_symbols_at` takes back."""
+
+    table_symbols_offset: int
+    table_symbols_size: int
+    table_strings_offset: int
+    table_strings_size: int
+    table_count: int
+    table_strings_status: int
+    table_file_class: int
+    table_encoding: int
+    indices_offset: int
+    indices_size: int
+    words: int
+    sized_count: int
+    open_count: int
+    within: int
+    machine: int
+
+
+_document(
+    AddressIndexRecord,
+    table_symbols_offset=
+        "The symbols, and the string table of their names. The bytes of the symbols. The offset of the first "
+        "byte, in bytes from the start of the input.",
+    table_symbols_size="The symbols, and the string table of their names. The bytes of the symbols. The number of bytes.",
+    table_strings_offset=
+        "The symbols, and the string table of their names. The bytes of the string table of their names; "
+        "offset and size are 0 if it can't be read. The offset of the first byte, in bytes from the start of "
+        "the input.",
+    table_strings_size=
+        "The symbols, and the string table of their names. The bytes of the string table of their names; "
+        "offset and size are 0 if it can't be read. The number of bytes.",
+    table_count="The symbols, and the string table of their names. The number of symbols.",
+    table_strings_status="The symbols, and the string table of their names. The status of the string table.",
+    table_file_class=
+        "The symbols, and the string table of their names. 1: symbols of class 32, any other number: of class"
+        " 64 (EI_CLASS).",
+    table_encoding=
+        "The symbols, and the string table of their names. 2: big-endian; any other number is read as little-"
+        "endian (EI_DATA).",
+    indices_offset=
+        "The bytes of the section of type SHT_SYMTAB_SHNDX; its size is 0 if there is none. The offset of the"
+        " first byte, in bytes from the start of the input.",
+    indices_size=
+        "The bytes of the section of type SHT_SYMTAB_SHNDX; its size is 0 if there is none. The number of "
+        "bytes.",
+    words="The number of words that the index takes.",
+    sized_count="The number of symbols with a size in the index; 0 if it is not built.",
+    open_count="The number of symbols of size 0 in the index; 0 if it is not built.",
+    within="The index of the section whose symbols alone are asked for, or 0.",
+    machine="The processor that the file is for (e_machine).",
+)
+
+
+ADDRESS_INDEX = Struct("@QQQQQIHHQQQQQIH0Q")
+
+
+class SymbolAtRecord(NamedTuple):
+    """The symbol of an address."""
+
+    symbol_value: int
+    symbol_size: int
+    symbol_name_index: int
+    symbol_shndx: int
+    symbol_info: int
+    symbol_other: int
+    index: int  # type: ignore[assignment]
+    offset: int
+    found: int
+    is_open: int
+
+
+_document(
+    SymbolAtRecord,
+    symbol_value=
+        "The symbol; its fields are 0 where none is found. The address of the symbol, or an offset in its "
+        "section (st_value).",
+    symbol_size=
+        "The symbol; its fields are 0 where none is found. The size of the function or object in bytes, or 0 "
+        "(st_size).",
+    symbol_name_index=
+        "The symbol; its fields are 0 where none is found. The index of the symbol's name in its string "
+        "table, in bytes; 0 where it has none (st_name).",
+    symbol_shndx=
+        "The symbol; its fields are 0 where none is found. The index of the section that the symbol belongs "
+        "to, or a reserved index (st_shndx).",
+    symbol_info="The symbol; its fields are 0 where none is found. The binding times 16, plus the type (st_info).",
+    symbol_other=
+        "The symbol; its fields are 0 where none is found. The visibility: the remainder of this number by 4 "
+        "(st_other).",
+    index="The index of the symbol in its table, or 0.",
+    offset="The address less the value of the symbol, or 0.",
+    found="1 where a symbol covers the address, and else 0.",
+    is_open="1 where the size of the symbol is 0, so that its end is unknown, and else 0.",
+)
+
+
+SYMBOL_AT = Struct("@QQIHBBQQII0Q")
+
+
+class SpanRecord(NamedTuple):
+    """Addresses from `start` on and before `end`, relative to the base at which a file is loaded."""
+
+    start: int
+    end: int
+
+
+_document(
+    SpanRecord,
+    start="The first address.",
+    end="The first address after the last.",
+)
+
+
+SPAN = Struct("@QQ0Q")
+
+
+class TlsTemplateRecord(NamedTuple):
+    """The template of thread-local storage (gABI, "Thread-Local Storage"); 0 in each field where a file has none."""
+
+    address: int
+    file_size: int
+    mem_size: int
+    align: int
+
+
+_document(
+    TlsTemplateRecord,
+    address="The address of the bytes that the file has.",
+    file_size="The number of these bytes.",
+    mem_size="The size of the storage in bytes; zeros follow the bytes of the file.",
+    align="The alignment of the storage in bytes.",
+)
+
+
+TLS_TEMPLATE = Struct("@QQQQ0Q")
+
+
+class LoadPlanRecord(NamedTuple):
+    """What Linux and glibc put into memory for a file. Addresses are relative to a base, which is 0 for a file of
+    type ET_EXEC."""
+
+    span_start: int
+    span_end: int
+    relro_start: int
+    relro_end: int
+    tls_address: int
+    tls_file_size: int
+    tls_mem_size: int
+    tls_align: int
+    interpreter_offset: int
+    interpreter_size: int
+    entry: int
+    stack_flags: int
+    has_stack: int
+    has_relro: int
+    has_interpreter: int
+
+
+_document(
+    LoadPlanRecord,
+    span_start="The pages from the first of the first load segment to the last of the last one. The first address.",
+    span_end=
+        "The pages from the first of the first load segment to the last of the last one. The first address "
+        "after the last.",
+    relro_start=
+        "The pages that are only readable after relocation: those of the last PT_GNU_RELRO, both ends rounded"
+        " down; 0 where there is none. The first address.",
+    relro_end=
+        "The pages that are only readable after relocation: those of the last PT_GNU_RELRO, both ends rounded"
+        " down; 0 where there is none. The first address after the last.",
+    tls_address="The last PT_TLS that is not empty. The address of the bytes that the file has.",
+    tls_file_size="The last PT_TLS that is not empty. The number of these bytes.",
+    tls_mem_size=
+        "The last PT_TLS that is not empty. The size of the storage in bytes; zeros follow the bytes of the "
+        "file.",
+    tls_align="The last PT_TLS that is not empty. The alignment of the storage in bytes.",
+    interpreter_offset=
+        "The bytes of the path of the program interpreter, up to the first zero byte of the first PT_INTERP; "
+        "offset and size are 0 where there is none. The offset of the first byte, in bytes from the start of "
+        "the input.",
+    interpreter_size=
+        "The bytes of the path of the program interpreter, up to the first zero byte of the first PT_INTERP; "
+        "offset and size are 0 where there is none. The number of bytes.",
+    entry="The address at which a program begins to run, or 0 (e_entry).",
+    stack_flags=
+        "The permissions of the stack, those of the last PT_GNU_STACK; 0 where there is none: then they are "
+        "those of the processor.",
+    has_stack="1 where the file has a PT_GNU_STACK, and else 0.",
+    has_relro="1 where the file has a PT_GNU_RELRO, and else 0.",
+    has_interpreter="1 where the file has a PT_INTERP, and else 0.",
+)
+
+
+LOAD_PLAN = Struct("@QQQQQQQQQQQIIII0Q")
+
+
+class LoadMappingRecord(NamedTuple):
+    """Pages that are mapped at once."""
+
+    start: int
+    end: int
+    offset: int
+    flags: int
+    contents: int
+
+
+_document(
+    LoadMappingRecord,
+    start="The first address, relative to the base.",
+    end="The first address after the pages.",
+    offset="The offset of the first byte in the file; 0 where the pages are not of the file.",
+    flags="The permissions: those of the load segment (p_flags), or 0.",
+    contents="What the pages hold: 0 nothing that can be read, 1 pages of the file, 2 zeros.",
+)
+
+
+LOAD_MAPPING = Struct("@QQQII0Q")
+
+
 # What each export answers, and its parameters: a slice is a pointer and a count.
 EXPORTS: Dict[str, Tuple[Any, Tuple[Any, ...]]] = {
     "xmas_elf_open": (c_uint32, (c_void_p, c_size_t, c_void_p,)),
@@ -531,6 +753,10 @@ EXPORTS: Dict[str, Tuple[Any, Tuple[Any, ...]]] = {
     "xmas_elf_look_ups": (None, (c_void_p, c_size_t, c_void_p, c_void_p, c_size_t, c_void_p, c_size_t, c_void_p, c_size_t,)),
     "xmas_elf_hash_open": (c_uint32, (c_void_p, c_size_t, c_void_p, c_uint64, c_void_p,)),
     "xmas_elf_check_hash": (c_uint32, (c_void_p, c_size_t, c_void_p,)),
+    "xmas_elf_address_index": (c_uint32, (c_void_p, c_size_t, c_void_p, c_void_p, c_void_p, c_uint32, c_void_p, c_size_t, c_void_p,)),
+    "xmas_elf_symbols_at": (c_uint32, (c_void_p, c_size_t, c_void_p, c_void_p, c_size_t, c_void_p, c_size_t, c_void_p, c_size_t,)),
+    "xmas_elf_load_plan": (c_uint32, (c_void_p, c_size_t, c_void_p, c_uint64, c_uint64, c_void_p,)),
+    "xmas_elf_load_mappings": (c_uint32, (c_void_p, c_size_t, c_void_p, c_uint64, c_uint64, c_uint32, c_uint64, c_void_p, c_size_t, c_void_p,)),
     "xmas_elf_message": (c_size_t, (c_uint32, c_void_p, c_size_t,)),
 }
 
@@ -690,7 +916,47 @@ class Status(IntEnum):
     """A table has no record with this index."""
     NOT_FOUND = 203
     """Nothing has this name."""
+    LOAD_TYPE = 301
+    """Type is neither executable nor shared object."""
+    LOAD_ENTRY_SIZE = 302
+    """Program headers are not of the size of the class."""
+    LOAD_COUNT = 303
+    """Program header table is empty or larger than a page."""
+    LOAD_TABLE = 304
+    """Program header table is past the end of the file."""
+    LOAD_FILE_SIZE = 305
+    """Load segment is larger in the file than in memory."""
+    LOAD_EMPTY = 306
+    """Load segment is empty."""
+    LOAD_MISALIGNED = 307
+    """Address and offset of a load segment differ modulo the page size."""
+    LOAD_ALIGNMENT = 308
+    """Alignment of a load segment is not a power of two."""
+    LOAD_RANGE = 309
+    """Load segment is past the address limit."""
+    LOAD_DATA = 310
+    """Load segment is past the end of the file."""
+    LOAD_OVERLAP = 311
+    """Load segment begins before the end of the one before it."""
+    LOAD_ZEROS = 312
+    """Load segment has zeros but is not readable and writable."""
+    LOAD_NO_LOAD = 313
+    """No load segment."""
+    LOAD_HEADERS = 314
+    """Program headers are not where the file says they are in memory."""
+    LOAD_INTERPRETER = 315
+    """Path of the interpreter is not valid."""
+    LOAD_RELRO = 316
+    """Part that is read-only after relocation is in no load segment."""
+    LOAD_TLS = 317
+    """Thread-local storage is not valid."""
+    LOAD_IMAGE_SIZE = 318
+    """Image is not of the size of the span."""
+    INDEX_MANY_SYMBOLS = 401
+    """Table has 2^32 symbols or more."""
+    INDEX_FEW_WORDS = 402
+    """Too few words for the index."""
 
 
 # The size of the longest text of a status, in bytes.
-LONGEST_MESSAGE = 54
+LONGEST_MESSAGE = 64

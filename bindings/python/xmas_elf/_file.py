@@ -5,11 +5,13 @@ import os
 from functools import cached_property
 from itertools import chain
 from struct import Struct
-from typing import Any, BinaryIO, Dict, Iterator, List, Optional, Tuple, Union
+from typing import Any, BinaryIO, Dict, Iterable, Iterator, List, Optional, Tuple, Union
 
 from . import _declarations as declared
+from ._addresses import AddressIndex, SymbolAt
 from ._archive import ElfError, check, library
 from ._declarations import Status
+from ._loading import LoadPlan, load_plan_of
 from ._numbers import unsigned, utf_8
 from ._overview import Overview, overview_of
 from ._parts import Dynamic, Header, Note, Relocation, Section, Segment, Symbol
@@ -19,7 +21,7 @@ from ._rows import Row, batches, one, rows
 from ._tables import packed_relocations_of, relocations_of
 from ._versions import Version, versions
 from .constants import DT, DT_NEEDED, DT_NULL, DT_RPATH, DT_RUNPATH, DT_SONAME, ELFOSABI, EM, ET, NT_GNU_BUILD_ID, PT_DYNAMIC, PT_NOTE
-from .constants import SHT_DYNAMIC, SHT_DYNSYM, SHT_NOTE, SHT_REL, SHT_RELA, SHT_RELR, SHT_SYMTAB
+from .constants import SHT_DYNAMIC, SHT_DYNSYM, SHT_NOTE, SHT_REL, SHT_RELA, SHT_RELR, SHT_SYMTAB, SHT_SYMTAB_SHNDX
 
 # A name that is an error only for the type of its section is read from the name table.
 _BY_TYPE = (Status.NULL_NAME, Status.INVALID_SH_TYPE)
@@ -86,6 +88,12 @@ class ElfFile(Reading):
     def overview(self) -> Overview:
         """What a first look at a file asks for: what it needs, its build id, and how it is hardened."""
         return overview_of(self)
+
+    def load_plan(self, page: int = 0, limit: int = 0) -> LoadPlan:
+        """What Linux and glibc put into memory for the file; an error if they don't load it. `page` is the size of a page, a
+        power of two, and `limit` the end of the addresses that a loader may use; 0 means 4096, and for the limit of
+        Linux on x86-64, or on 386 for a file of class 32."""
+        return load_plan_of(self, unsigned(page), unsigned(limit))
 
     # Sections.
 
@@ -266,6 +274,40 @@ class ElfFile(Reading):
         return self._dynamic_text(DT_RPATH) if folders is None else folders
 
     # Look-ups.
+
+    def symbol_at(self, address: int, within: int = 0) -> Optional[SymbolAt]:
+        """The innermost symbol that covers an address: of several one with a size, then the one that begins last, the
+        smallest, a function before an object, a global one before a weak one, and the first of its table. The symbols are
+        those of the first section of type SHT_SYMTAB, or else of SHT_DYNSYM, or else of the dynamic segment.
+
+        In an object file, where values are offsets in sections, `within` is the index of the section. The first call builds
+        an index of the symbols, which the file keeps."""
+        return self.symbols_at((address,), within)[0]
+
+    def symbols_at(self, addresses: Iterable[int], within: int = 0) -> List[Optional[SymbolAt]]:
+        """The symbols of many addresses, each that of `symbol_at`, in their order; None if no symbol covers one."""
+        numbers = [unsigned(address) for address in addresses]
+        index = self._address_index(within)
+        return index.symbols_at(numbers) if index else [None] * len(numbers)
+
+    def _address_index(self, within: int) -> Optional[AddressIndex]:
+        if within not in self._address_indexes:
+            self._address_indexes[within] = self._new_address_index(within)
+        return self._address_indexes[within]
+
+    def _new_address_index(self, within: int) -> Optional[AddressIndex]:
+        sections = list(self.sections())
+        symbols = next((it for type in (SHT_SYMTAB, SHT_DYNSYM) for it in sections if it.type == type), None)
+        table = self._table("xmas_elf_symbols_open", symbols.index) if symbols else self._dynamic_table
+        # No section has an index of more than 32 bits.
+        if table is None or unsigned(within) >> 32:
+            return None
+        wide = next((it for it in sections if symbols and it.type == SHT_SYMTAB_SHNDX and it.link == symbols.index), None)
+        return AddressIndex(self, table, (wide.offset, wide.size) if wide else (0, 0), within)
+
+    @cached_property
+    def _address_indexes(self) -> Dict[int, Optional[AddressIndex]]:
+        return {}
 
     def bytes_at(self, address: int, count: int) -> memoryview:
         """The bytes of the file for `count` addresses from `address` on: those of the first segment of type PT_LOAD that

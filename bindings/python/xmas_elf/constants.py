@@ -765,14 +765,249 @@ class DF_1(Flags):
     """As DF_ORIGIN."""
     DF_1_DIRECT = 256
     """References are bound directly."""
+    DF_1_TRANS = 512
+    """The meaning is not documented."""
     DF_1_INTERPOSE = 1024
     """The file's symbols come before those of others."""
     DF_1_NODEFLIB = 2048
     """The usual folders aren't searched."""
     DF_1_NODUMP = 4096
     """The file can't be dumped."""
+    DF_1_CONFALT = 8192
+    """An alternative configuration is in use."""
+    DF_1_ENDFILTEE = 16384
+    """The search for filtered libraries ends at this one."""
+    DF_1_DISPRELDNE = 32768
+    """Displacement relocations were applied when the file was built."""
+    DF_1_DISPRELPND = 0x10000
+    """Displacement relocations are applied at run time."""
+    DF_1_NODIRECT = 0x20000
+    """The file has no direct bindings."""
+    DF_1_IGNMULDEF = 0x40000
+    """Further definitions of a symbol are ignored."""
+    DF_1_NOKSYMS = 0x80000
+    """The meaning is not documented."""
+    DF_1_NOHDR = 0x100000
+    """The meaning is not documented."""
+    DF_1_EDITED = 0x200000
+    """The file was modified after it was built."""
+    DF_1_NORELOC = 0x400000
+    """The meaning is not documented."""
+    DF_1_SYMINTPOSE = 0x800000
+    """Individual symbols take precedence over those of other libraries."""
+    DF_1_GLOBAUDIT = 0x1000000
+    """All libraries are audited."""
+    DF_1_SINGLETON = 0x2000000
+    """The file uses singleton symbols."""
+    DF_1_STUB = 0x4000000
+    """The file is a stub for another file, which contains the code."""
     DF_1_PIE = 0x8000000
     """The file is a program at any address."""
+
+
+class R_X86_64(Number):
+    """Types of relocations of x86-64."""
+
+    R_X86_64_NONE = 0
+    """Nothing."""
+    R_X86_64_64 = 1
+    """The symbol and the addend, in 64 bits."""
+    R_X86_64_PC32 = 2
+    """The symbol and the addend less the location, in 32 bits."""
+    R_X86_64_GOT32 = 3
+    """The place of the symbol in the global offset table."""
+    R_X86_64_PLT32 = 4
+    """The symbol, or its entry in the procedure linkage table, and the addend less the location, in 32 bits."""
+    R_X86_64_COPY = 5
+    """The bytes of the symbol, copied to the location."""
+    R_X86_64_GLOB_DAT = 6
+    """The symbol, in an entry of the global offset table."""
+    R_X86_64_JUMP_SLOT = 7
+    """The symbol, in an entry for the procedure linkage table."""
+    R_X86_64_RELATIVE = 8
+    """The load address and the addend."""
+    R_X86_64_GOTPCREL = 9
+    """The entry of the symbol in the global offset table and the addend less the location."""
+    R_X86_64_32 = 10
+    """The symbol and the addend, in 32 bits without sign."""
+    R_X86_64_32S = 11
+    """The symbol and the addend, in 32 bits with a sign."""
+    R_X86_64_16 = 12
+    """The symbol and the addend, in 16 bits."""
+    R_X86_64_PC16 = 13
+    """The symbol and the addend less the location, in 16 bits."""
+    R_X86_64_8 = 14
+    """The symbol and the addend, in 8 bits."""
+    R_X86_64_PC8 = 15
+    """The symbol and the addend less the location, in 8 bits."""
+    R_X86_64_DTPMOD64 = 16
+    """The number of the module of a thread-local symbol."""
+    R_X86_64_DTPOFF64 = 17
+    """The offset of a thread-local symbol in its module, in 64 bits."""
+    R_X86_64_TPOFF64 = 18
+    """The offset of a thread-local symbol from the thread pointer, in 64 bits."""
+    R_X86_64_TLSGD = 19
+    """The pair of entries for a thread-local symbol, general dynamic model."""
+    R_X86_64_TLSLD = 20
+    """The pair of entries for the module, local dynamic model."""
+    R_X86_64_DTPOFF32 = 21
+    """The offset of a thread-local symbol in its module, in 32 bits."""
+    R_X86_64_GOTTPOFF = 22
+    """The entry with the offset from the thread pointer, initial executable model."""
+    R_X86_64_TPOFF32 = 23
+    """The offset of a thread-local symbol from the thread pointer, in 32 bits."""
+    R_X86_64_PC64 = 24
+    """The symbol and the addend less the location, in 64 bits."""
+    R_X86_64_GOTOFF64 = 25
+    """The symbol and the addend less the global offset table."""
+    R_X86_64_GOTPC32 = 26
+    """The global offset table and the addend less the location, in 32 bits."""
+    R_X86_64_GOT64 = 27
+    """The place of the symbol in the global offset table, in 64 bits."""
+    R_X86_64_GOTPCREL64 = 28
+    """As GOTPCREL, in 64 bits."""
+    R_X86_64_GOTPC64 = 29
+    """As GOTPC32, in 64 bits."""
+    R_X86_64_GOTPLT64 = 30
+    """As GOT64, of a symbol with an entry in the procedure linkage table."""
+    R_X86_64_PLTOFF64 = 31
+    """The entry in the procedure linkage table and the addend less the global offset table."""
+    R_X86_64_SIZE32 = 32
+    """The size of the symbol and the addend, in 32 bits."""
+    R_X86_64_SIZE64 = 33
+    """The size of the symbol and the addend, in 64 bits."""
+    R_X86_64_GOTPC32_TLSDESC = 34
+    """The descriptor of a thread-local symbol in the global offset table, less the location."""
+    R_X86_64_TLSDESC_CALL = 35
+    """Marks a call through a descriptor."""
+    R_X86_64_TLSDESC = 36
+    """The descriptor of a thread-local symbol."""
+    R_X86_64_IRELATIVE = 37
+    """The result of the function at the load address and the addend."""
+    R_X86_64_RELATIVE64 = 38
+    """The load address and the addend, in 64 bits where addresses have 32."""
+    R_X86_64_GOTPCRELX = 41
+    """As GOTPCREL, of an instruction that a linker may change."""
+    R_X86_64_REX_GOTPCRELX = 42
+    """The same of an instruction with a REX prefix."""
+
+
+class R_386(Number):
+    """Types of relocations of the 386."""
+
+    R_386_NONE = 0
+    """Nothing."""
+    R_386_32 = 1
+    """The symbol and the addend."""
+    R_386_PC32 = 2
+    """The symbol and the addend less the location."""
+    R_386_GOT32 = 3
+    """The place of the symbol in the global offset table."""
+    R_386_PLT32 = 4
+    """The symbol, or its entry in the procedure linkage table, and the addend less the location."""
+    R_386_COPY = 5
+    """The bytes of the symbol, copied to the location."""
+    R_386_GLOB_DAT = 6
+    """The symbol, in an entry of the global offset table."""
+    R_386_JMP_SLOT = 7
+    """The symbol, in an entry for the procedure linkage table."""
+    R_386_RELATIVE = 8
+    """The load address and the addend."""
+    R_386_GOTOFF = 9
+    """The symbol and the addend less the global offset table."""
+    R_386_GOTPC = 10
+    """The global offset table and the addend less the location."""
+    R_386_32PLT = 11
+    """As PLT32, an address."""
+    R_386_TLS_TPOFF = 14
+    """The offset of a thread-local symbol from the thread pointer, which is negative."""
+    R_386_TLS_IE = 15
+    """The address of the entry with this offset."""
+    R_386_TLS_GOTIE = 16
+    """The place of this entry in the global offset table."""
+    R_386_TLS_LE = 17
+    """The offset of a thread-local symbol from the thread pointer."""
+    R_386_TLS_GD = 18
+    """The pair of entries for a thread-local symbol, general dynamic model."""
+    R_386_TLS_LDM = 19
+    """The pair of entries for the module, local dynamic model."""
+    R_386_16 = 20
+    """The symbol and the addend, in 16 bits."""
+    R_386_PC16 = 21
+    """The symbol and the addend less the location, in 16 bits."""
+    R_386_8 = 22
+    """The symbol and the addend, in 8 bits."""
+    R_386_PC8 = 23
+    """The symbol and the addend less the location, in 8 bits."""
+    R_386_TLS_LDO_32 = 32
+    """The offset of a thread-local symbol in its module."""
+    R_386_TLS_IE_32 = 33
+    """The entry with the negated offset from the thread pointer."""
+    R_386_TLS_LE_32 = 34
+    """The negated offset of a thread-local symbol from the thread pointer."""
+    R_386_TLS_DTPMOD32 = 35
+    """The number of the module of a thread-local symbol."""
+    R_386_TLS_DTPOFF32 = 36
+    """The offset of a thread-local symbol in its module."""
+    R_386_TLS_TPOFF32 = 37
+    """The negated offset of a thread-local symbol from the thread pointer."""
+    R_386_SIZE32 = 38
+    """The size of the symbol and the addend."""
+    R_386_TLS_GOTDESC = 39
+    """The place of a descriptor in the global offset table."""
+    R_386_TLS_DESC_CALL = 40
+    """Marks a call through a descriptor."""
+    R_386_TLS_DESC = 41
+    """The descriptor of a thread-local symbol."""
+    R_386_IRELATIVE = 42
+    """The result of the function at the load address and the addend."""
+    R_386_GOT32X = 43
+    """As GOT32, of an instruction that a linker may change."""
+
+
+class R_AARCH64(Number):
+    """Types of relocations of AArch64: those of data, of a dynamic linker, and of some instructions."""
+
+    R_AARCH64_NONE = 0
+    """Nothing."""
+    R_AARCH64_ABS64 = 257
+    """The symbol and the addend, in 64 bits."""
+    R_AARCH64_ABS32 = 258
+    """The symbol and the addend, in 32 bits."""
+    R_AARCH64_ABS16 = 259
+    """The symbol and the addend, in 16 bits."""
+    R_AARCH64_PREL64 = 260
+    """The symbol and the addend less the location, in 64 bits."""
+    R_AARCH64_PREL32 = 261
+    """The symbol and the addend less the location, in 32 bits."""
+    R_AARCH64_PREL16 = 262
+    """The symbol and the addend less the location, in 16 bits."""
+    R_AARCH64_ADR_PREL_PG_HI21 = 275
+    """The page of the symbol less that of the location, in an ADRP."""
+    R_AARCH64_ADD_ABS_LO12_NC = 277
+    """The low 12 bits of the address, in an ADD."""
+    R_AARCH64_JUMP26 = 282
+    """The distance of a branch."""
+    R_AARCH64_CALL26 = 283
+    """The distance of a call."""
+    R_AARCH64_COPY = 1024
+    """The bytes of the symbol, copied to the location."""
+    R_AARCH64_GLOB_DAT = 1025
+    """The symbol and the addend, in an entry of the global offset table."""
+    R_AARCH64_JUMP_SLOT = 1026
+    """The symbol and the addend, in an entry for the procedure linkage table."""
+    R_AARCH64_RELATIVE = 1027
+    """The load address and the addend."""
+    R_AARCH64_TLS_DTPMOD = 1028
+    """The number of the module of a thread-local symbol."""
+    R_AARCH64_TLS_DTPREL = 1029
+    """The offset of a thread-local symbol in its module."""
+    R_AARCH64_TLS_TPREL = 1030
+    """The offset of a thread-local symbol from the thread pointer."""
+    R_AARCH64_TLSDESC = 1031
+    """The descriptor of a thread-local symbol."""
+    R_AARCH64_IRELATIVE = 1032
+    """The result of the function at the load address and the addend."""
 
 
 class VER_FLG(Flags):
@@ -1145,10 +1380,120 @@ DF_1_INITFIRST = DF_1.DF_1_INITFIRST
 DF_1_NOOPEN = DF_1.DF_1_NOOPEN
 DF_1_ORIGIN = DF_1.DF_1_ORIGIN
 DF_1_DIRECT = DF_1.DF_1_DIRECT
+DF_1_TRANS = DF_1.DF_1_TRANS
 DF_1_INTERPOSE = DF_1.DF_1_INTERPOSE
 DF_1_NODEFLIB = DF_1.DF_1_NODEFLIB
 DF_1_NODUMP = DF_1.DF_1_NODUMP
+DF_1_CONFALT = DF_1.DF_1_CONFALT
+DF_1_ENDFILTEE = DF_1.DF_1_ENDFILTEE
+DF_1_DISPRELDNE = DF_1.DF_1_DISPRELDNE
+DF_1_DISPRELPND = DF_1.DF_1_DISPRELPND
+DF_1_NODIRECT = DF_1.DF_1_NODIRECT
+DF_1_IGNMULDEF = DF_1.DF_1_IGNMULDEF
+DF_1_NOKSYMS = DF_1.DF_1_NOKSYMS
+DF_1_NOHDR = DF_1.DF_1_NOHDR
+DF_1_EDITED = DF_1.DF_1_EDITED
+DF_1_NORELOC = DF_1.DF_1_NORELOC
+DF_1_SYMINTPOSE = DF_1.DF_1_SYMINTPOSE
+DF_1_GLOBAUDIT = DF_1.DF_1_GLOBAUDIT
+DF_1_SINGLETON = DF_1.DF_1_SINGLETON
+DF_1_STUB = DF_1.DF_1_STUB
 DF_1_PIE = DF_1.DF_1_PIE
+R_X86_64_NONE = R_X86_64.R_X86_64_NONE
+R_X86_64_64 = R_X86_64.R_X86_64_64
+R_X86_64_PC32 = R_X86_64.R_X86_64_PC32
+R_X86_64_GOT32 = R_X86_64.R_X86_64_GOT32
+R_X86_64_PLT32 = R_X86_64.R_X86_64_PLT32
+R_X86_64_COPY = R_X86_64.R_X86_64_COPY
+R_X86_64_GLOB_DAT = R_X86_64.R_X86_64_GLOB_DAT
+R_X86_64_JUMP_SLOT = R_X86_64.R_X86_64_JUMP_SLOT
+R_X86_64_RELATIVE = R_X86_64.R_X86_64_RELATIVE
+R_X86_64_GOTPCREL = R_X86_64.R_X86_64_GOTPCREL
+R_X86_64_32 = R_X86_64.R_X86_64_32
+R_X86_64_32S = R_X86_64.R_X86_64_32S
+R_X86_64_16 = R_X86_64.R_X86_64_16
+R_X86_64_PC16 = R_X86_64.R_X86_64_PC16
+R_X86_64_8 = R_X86_64.R_X86_64_8
+R_X86_64_PC8 = R_X86_64.R_X86_64_PC8
+R_X86_64_DTPMOD64 = R_X86_64.R_X86_64_DTPMOD64
+R_X86_64_DTPOFF64 = R_X86_64.R_X86_64_DTPOFF64
+R_X86_64_TPOFF64 = R_X86_64.R_X86_64_TPOFF64
+R_X86_64_TLSGD = R_X86_64.R_X86_64_TLSGD
+R_X86_64_TLSLD = R_X86_64.R_X86_64_TLSLD
+R_X86_64_DTPOFF32 = R_X86_64.R_X86_64_DTPOFF32
+R_X86_64_GOTTPOFF = R_X86_64.R_X86_64_GOTTPOFF
+R_X86_64_TPOFF32 = R_X86_64.R_X86_64_TPOFF32
+R_X86_64_PC64 = R_X86_64.R_X86_64_PC64
+R_X86_64_GOTOFF64 = R_X86_64.R_X86_64_GOTOFF64
+R_X86_64_GOTPC32 = R_X86_64.R_X86_64_GOTPC32
+R_X86_64_GOT64 = R_X86_64.R_X86_64_GOT64
+R_X86_64_GOTPCREL64 = R_X86_64.R_X86_64_GOTPCREL64
+R_X86_64_GOTPC64 = R_X86_64.R_X86_64_GOTPC64
+R_X86_64_GOTPLT64 = R_X86_64.R_X86_64_GOTPLT64
+R_X86_64_PLTOFF64 = R_X86_64.R_X86_64_PLTOFF64
+R_X86_64_SIZE32 = R_X86_64.R_X86_64_SIZE32
+R_X86_64_SIZE64 = R_X86_64.R_X86_64_SIZE64
+R_X86_64_GOTPC32_TLSDESC = R_X86_64.R_X86_64_GOTPC32_TLSDESC
+R_X86_64_TLSDESC_CALL = R_X86_64.R_X86_64_TLSDESC_CALL
+R_X86_64_TLSDESC = R_X86_64.R_X86_64_TLSDESC
+R_X86_64_IRELATIVE = R_X86_64.R_X86_64_IRELATIVE
+R_X86_64_RELATIVE64 = R_X86_64.R_X86_64_RELATIVE64
+R_X86_64_GOTPCRELX = R_X86_64.R_X86_64_GOTPCRELX
+R_X86_64_REX_GOTPCRELX = R_X86_64.R_X86_64_REX_GOTPCRELX
+R_386_NONE = R_386.R_386_NONE
+R_386_32 = R_386.R_386_32
+R_386_PC32 = R_386.R_386_PC32
+R_386_GOT32 = R_386.R_386_GOT32
+R_386_PLT32 = R_386.R_386_PLT32
+R_386_COPY = R_386.R_386_COPY
+R_386_GLOB_DAT = R_386.R_386_GLOB_DAT
+R_386_JMP_SLOT = R_386.R_386_JMP_SLOT
+R_386_RELATIVE = R_386.R_386_RELATIVE
+R_386_GOTOFF = R_386.R_386_GOTOFF
+R_386_GOTPC = R_386.R_386_GOTPC
+R_386_32PLT = R_386.R_386_32PLT
+R_386_TLS_TPOFF = R_386.R_386_TLS_TPOFF
+R_386_TLS_IE = R_386.R_386_TLS_IE
+R_386_TLS_GOTIE = R_386.R_386_TLS_GOTIE
+R_386_TLS_LE = R_386.R_386_TLS_LE
+R_386_TLS_GD = R_386.R_386_TLS_GD
+R_386_TLS_LDM = R_386.R_386_TLS_LDM
+R_386_16 = R_386.R_386_16
+R_386_PC16 = R_386.R_386_PC16
+R_386_8 = R_386.R_386_8
+R_386_PC8 = R_386.R_386_PC8
+R_386_TLS_LDO_32 = R_386.R_386_TLS_LDO_32
+R_386_TLS_IE_32 = R_386.R_386_TLS_IE_32
+R_386_TLS_LE_32 = R_386.R_386_TLS_LE_32
+R_386_TLS_DTPMOD32 = R_386.R_386_TLS_DTPMOD32
+R_386_TLS_DTPOFF32 = R_386.R_386_TLS_DTPOFF32
+R_386_TLS_TPOFF32 = R_386.R_386_TLS_TPOFF32
+R_386_SIZE32 = R_386.R_386_SIZE32
+R_386_TLS_GOTDESC = R_386.R_386_TLS_GOTDESC
+R_386_TLS_DESC_CALL = R_386.R_386_TLS_DESC_CALL
+R_386_TLS_DESC = R_386.R_386_TLS_DESC
+R_386_IRELATIVE = R_386.R_386_IRELATIVE
+R_386_GOT32X = R_386.R_386_GOT32X
+R_AARCH64_NONE = R_AARCH64.R_AARCH64_NONE
+R_AARCH64_ABS64 = R_AARCH64.R_AARCH64_ABS64
+R_AARCH64_ABS32 = R_AARCH64.R_AARCH64_ABS32
+R_AARCH64_ABS16 = R_AARCH64.R_AARCH64_ABS16
+R_AARCH64_PREL64 = R_AARCH64.R_AARCH64_PREL64
+R_AARCH64_PREL32 = R_AARCH64.R_AARCH64_PREL32
+R_AARCH64_PREL16 = R_AARCH64.R_AARCH64_PREL16
+R_AARCH64_ADR_PREL_PG_HI21 = R_AARCH64.R_AARCH64_ADR_PREL_PG_HI21
+R_AARCH64_ADD_ABS_LO12_NC = R_AARCH64.R_AARCH64_ADD_ABS_LO12_NC
+R_AARCH64_JUMP26 = R_AARCH64.R_AARCH64_JUMP26
+R_AARCH64_CALL26 = R_AARCH64.R_AARCH64_CALL26
+R_AARCH64_COPY = R_AARCH64.R_AARCH64_COPY
+R_AARCH64_GLOB_DAT = R_AARCH64.R_AARCH64_GLOB_DAT
+R_AARCH64_JUMP_SLOT = R_AARCH64.R_AARCH64_JUMP_SLOT
+R_AARCH64_RELATIVE = R_AARCH64.R_AARCH64_RELATIVE
+R_AARCH64_TLS_DTPMOD = R_AARCH64.R_AARCH64_TLS_DTPMOD
+R_AARCH64_TLS_DTPREL = R_AARCH64.R_AARCH64_TLS_DTPREL
+R_AARCH64_TLS_TPREL = R_AARCH64.R_AARCH64_TLS_TPREL
+R_AARCH64_TLSDESC = R_AARCH64.R_AARCH64_TLSDESC
+R_AARCH64_IRELATIVE = R_AARCH64.R_AARCH64_IRELATIVE
 VER_FLG_BASE = VER_FLG.VER_FLG_BASE
 VER_FLG_WEAK = VER_FLG.VER_FLG_WEAK
 NT_GNU_ABI_TAG = NT.NT_GNU_ABI_TAG

@@ -10,6 +10,7 @@ pub(crate) struct Asked<'a> {
     pub(crate) part: Range,
     pub(crate) table: SymbolTable,
     pub(crate) hash: FoundTable,
+    pub(crate) addresses: AddressIndex,
     pub(crate) name: &'a [u8],
     pub(crate) section: u64,
     pub(crate) index: u64,
@@ -19,6 +20,7 @@ pub(crate) struct Asked<'a> {
 pub(crate) fn every(asked: &Asked<'_>, mut heard: impl FnMut(&str, Result<(), Error>, &[Error])) {
     let (input, header, part, table) = (asked.input, &asked.header, &asked.part, &asked.table);
     let (hash, name, ranges) = (&asked.hash, asked.name, &[asked.part]);
+    let (address_index, numbers) = (&asked.addresses, &[asked.index, asked.section]);
     let answer = ffi::open(input).map(|_| ());
     heard("open", answer, &[Error::ShortPart1, Error::NoMagic, Error::InvalidClass, Error::ShortHeaders]);
     let answer = ffi::check_header(input, header).map(|_| ());
@@ -88,6 +90,14 @@ pub(crate) fn every(asked: &Asked<'_>, mut heard: impl FnMut(&str, Result<(), Er
     heard("hash_open", answer, &[Error::ShortSectionHeader, Error::UnknownClass, Error::SmallEntry, Error::InvalidShType, Error::DataRange, Error::NotMultiple, Error::Note32, Error::ShortData, Error::LinkShortTable, Error::LinkBloomCount, Error::OtherData]);
     let answer = ffi::check_hash(input, hash).map(|_| ());
     heard("check_hash", answer, &[Error::DataRange, Error::ShortData, Error::LinkShortTable, Error::LinkBloomCount, Error::NotMultiple, Error::HashData, Error::ChainIndex, Error::SymbolIndex, Error::ChainSum, Error::HashCycle, Error::LinkChainIndex, Error::LinkSymbolIndex, Error::LinkChainData, Error::HashMissing, Error::LinkMissing]);
+    let answer = ffi::address_index(input, header, table, part, asked.index as u32, &mut [u32::default(); 3]).map(|_| ());
+    heard("address_index", answer, &[Error::DataRange, Error::NotMultiple, Error::IndexManySymbols, Error::IndexFewWords]);
+    let answer = ffi::symbols_at(input, address_index, &[0, 1], numbers, &mut [FoundAt::default(); 3]).map(|_| ());
+    heard("symbols_at", answer, &[Error::DataRange, Error::NotMultiple]);
+    let answer = ffi::load_plan(input, header, asked.index, asked.index).map(|_| ());
+    heard("load_plan", answer, &[Error::LoadType, Error::LoadEntrySize, Error::LoadCount, Error::LoadTable, Error::LoadFileSize, Error::LoadEmpty, Error::LoadMisaligned, Error::LoadAlignment, Error::LoadRange, Error::LoadData, Error::LoadOverlap, Error::LoadZeros, Error::LoadNoLoad, Error::LoadHeaders, Error::LoadInterpreter, Error::LoadRelro, Error::LoadTls]);
+    let answer = ffi::load_mappings(input, header, asked.index, asked.index, asked.index as u32, asked.index, &mut [Mapping::default(); 3]).map(|_| ());
+    heard("load_mappings", answer, &[Error::LoadType, Error::LoadEntrySize, Error::LoadCount, Error::LoadTable, Error::LoadFileSize, Error::LoadEmpty, Error::LoadMisaligned, Error::LoadAlignment, Error::LoadRange, Error::LoadData, Error::LoadOverlap, Error::LoadZeros, Error::LoadNoLoad, Error::LoadHeaders, Error::LoadInterpreter, Error::LoadRelro, Error::LoadTls, Error::NoRecord]);
     let _size = ffi::message(asked.index as u32, &mut [u8::default(); 3]);
     let answer = Ok(());
     heard("message", answer, &[]);

@@ -720,14 +720,240 @@ pub const DF_1_NOOPEN: u64 = 64;
 pub const DF_1_ORIGIN: u64 = 128;
 /// References are bound directly.
 pub const DF_1_DIRECT: u64 = 256;
+/// The meaning is not documented.
+pub const DF_1_TRANS: u64 = 512;
 /// The file's symbols come before those of others.
 pub const DF_1_INTERPOSE: u64 = 1024;
 /// The usual folders aren't searched.
 pub const DF_1_NODEFLIB: u64 = 2048;
 /// The file can't be dumped.
 pub const DF_1_NODUMP: u64 = 0x1000;
+/// An alternative configuration is in use.
+pub const DF_1_CONFALT: u64 = 0x2000;
+/// The search for filtered libraries ends at this one.
+pub const DF_1_ENDFILTEE: u64 = 0x4000;
+/// Displacement relocations were applied when the file was built.
+pub const DF_1_DISPRELDNE: u64 = 0x8000;
+/// Displacement relocations are applied at run time.
+pub const DF_1_DISPRELPND: u64 = 0x10000;
+/// The file has no direct bindings.
+pub const DF_1_NODIRECT: u64 = 0x20000;
+/// Further definitions of a symbol are ignored.
+pub const DF_1_IGNMULDEF: u64 = 0x40000;
+/// The meaning is not documented.
+pub const DF_1_NOKSYMS: u64 = 0x80000;
+/// The meaning is not documented.
+pub const DF_1_NOHDR: u64 = 0x100000;
+/// The file was modified after it was built.
+pub const DF_1_EDITED: u64 = 0x200000;
+/// The meaning is not documented.
+pub const DF_1_NORELOC: u64 = 0x400000;
+/// Individual symbols take precedence over those of other libraries.
+pub const DF_1_SYMINTPOSE: u64 = 0x800000;
+/// All libraries are audited.
+pub const DF_1_GLOBAUDIT: u64 = 0x1000000;
+/// The file uses singleton symbols.
+pub const DF_1_SINGLETON: u64 = 0x2000000;
+/// The file is a stub for another file, which contains the code.
+pub const DF_1_STUB: u64 = 0x4000000;
 /// The file is a program at any address.
 pub const DF_1_PIE: u64 = 0x8000000;
+
+// Types of relocations of x86-64.
+/// Nothing.
+pub const R_X86_64_NONE: u32 = 0;
+/// The symbol and the addend, in 64 bits.
+pub const R_X86_64_64: u32 = 1;
+/// The symbol and the addend less the location, in 32 bits.
+pub const R_X86_64_PC32: u32 = 2;
+/// The place of the symbol in the global offset table.
+pub const R_X86_64_GOT32: u32 = 3;
+/// The symbol, or its entry in the procedure linkage table, and the addend less the location, in 32 bits.
+pub const R_X86_64_PLT32: u32 = 4;
+/// The bytes of the symbol, copied to the location.
+pub const R_X86_64_COPY: u32 = 5;
+/// The symbol, in an entry of the global offset table.
+pub const R_X86_64_GLOB_DAT: u32 = 6;
+/// The symbol, in an entry for the procedure linkage table.
+pub const R_X86_64_JUMP_SLOT: u32 = 7;
+/// The load address and the addend.
+pub const R_X86_64_RELATIVE: u32 = 8;
+/// The entry of the symbol in the global offset table and the addend less the location.
+pub const R_X86_64_GOTPCREL: u32 = 9;
+/// The symbol and the addend, in 32 bits without sign.
+pub const R_X86_64_32: u32 = 10;
+/// The symbol and the addend, in 32 bits with a sign.
+pub const R_X86_64_32S: u32 = 11;
+/// The symbol and the addend, in 16 bits.
+pub const R_X86_64_16: u32 = 12;
+/// The symbol and the addend less the location, in 16 bits.
+pub const R_X86_64_PC16: u32 = 13;
+/// The symbol and the addend, in 8 bits.
+pub const R_X86_64_8: u32 = 14;
+/// The symbol and the addend less the location, in 8 bits.
+pub const R_X86_64_PC8: u32 = 15;
+/// The number of the module of a thread-local symbol.
+pub const R_X86_64_DTPMOD64: u32 = 16;
+/// The offset of a thread-local symbol in its module, in 64 bits.
+pub const R_X86_64_DTPOFF64: u32 = 17;
+/// The offset of a thread-local symbol from the thread pointer, in 64 bits.
+pub const R_X86_64_TPOFF64: u32 = 18;
+/// The pair of entries for a thread-local symbol, general dynamic model.
+pub const R_X86_64_TLSGD: u32 = 19;
+/// The pair of entries for the module, local dynamic model.
+pub const R_X86_64_TLSLD: u32 = 20;
+/// The offset of a thread-local symbol in its module, in 32 bits.
+pub const R_X86_64_DTPOFF32: u32 = 21;
+/// The entry with the offset from the thread pointer, initial executable model.
+pub const R_X86_64_GOTTPOFF: u32 = 22;
+/// The offset of a thread-local symbol from the thread pointer, in 32 bits.
+pub const R_X86_64_TPOFF32: u32 = 23;
+/// The symbol and the addend less the location, in 64 bits.
+pub const R_X86_64_PC64: u32 = 24;
+/// The symbol and the addend less the global offset table.
+pub const R_X86_64_GOTOFF64: u32 = 25;
+/// The global offset table and the addend less the location, in 32 bits.
+pub const R_X86_64_GOTPC32: u32 = 26;
+/// The place of the symbol in the global offset table, in 64 bits.
+pub const R_X86_64_GOT64: u32 = 27;
+/// As GOTPCREL, in 64 bits.
+pub const R_X86_64_GOTPCREL64: u32 = 28;
+/// As GOTPC32, in 64 bits.
+pub const R_X86_64_GOTPC64: u32 = 29;
+/// As GOT64, of a symbol with an entry in the procedure linkage table.
+pub const R_X86_64_GOTPLT64: u32 = 30;
+/// The entry in the procedure linkage table and the addend less the global offset table.
+pub const R_X86_64_PLTOFF64: u32 = 31;
+/// The size of the symbol and the addend, in 32 bits.
+pub const R_X86_64_SIZE32: u32 = 32;
+/// The size of the symbol and the addend, in 64 bits.
+pub const R_X86_64_SIZE64: u32 = 33;
+/// The descriptor of a thread-local symbol in the global offset table, less the location.
+pub const R_X86_64_GOTPC32_TLSDESC: u32 = 34;
+/// Marks a call through a descriptor.
+pub const R_X86_64_TLSDESC_CALL: u32 = 35;
+/// The descriptor of a thread-local symbol.
+pub const R_X86_64_TLSDESC: u32 = 36;
+/// The result of the function at the load address and the addend.
+pub const R_X86_64_IRELATIVE: u32 = 37;
+/// The load address and the addend, in 64 bits where addresses have 32.
+pub const R_X86_64_RELATIVE64: u32 = 38;
+/// As GOTPCREL, of an instruction that a linker may change.
+pub const R_X86_64_GOTPCRELX: u32 = 41;
+/// The same of an instruction with a REX prefix.
+pub const R_X86_64_REX_GOTPCRELX: u32 = 42;
+
+// Types of relocations of the 386.
+/// Nothing.
+pub const R_386_NONE: u32 = 0;
+/// The symbol and the addend.
+pub const R_386_32: u32 = 1;
+/// The symbol and the addend less the location.
+pub const R_386_PC32: u32 = 2;
+/// The place of the symbol in the global offset table.
+pub const R_386_GOT32: u32 = 3;
+/// The symbol, or its entry in the procedure linkage table, and the addend less the location.
+pub const R_386_PLT32: u32 = 4;
+/// The bytes of the symbol, copied to the location.
+pub const R_386_COPY: u32 = 5;
+/// The symbol, in an entry of the global offset table.
+pub const R_386_GLOB_DAT: u32 = 6;
+/// The symbol, in an entry for the procedure linkage table.
+pub const R_386_JMP_SLOT: u32 = 7;
+/// The load address and the addend.
+pub const R_386_RELATIVE: u32 = 8;
+/// The symbol and the addend less the global offset table.
+pub const R_386_GOTOFF: u32 = 9;
+/// The global offset table and the addend less the location.
+pub const R_386_GOTPC: u32 = 10;
+/// As PLT32, an address.
+pub const R_386_32PLT: u32 = 11;
+/// The offset of a thread-local symbol from the thread pointer, which is negative.
+pub const R_386_TLS_TPOFF: u32 = 14;
+/// The address of the entry with this offset.
+pub const R_386_TLS_IE: u32 = 15;
+/// The place of this entry in the global offset table.
+pub const R_386_TLS_GOTIE: u32 = 16;
+/// The offset of a thread-local symbol from the thread pointer.
+pub const R_386_TLS_LE: u32 = 17;
+/// The pair of entries for a thread-local symbol, general dynamic model.
+pub const R_386_TLS_GD: u32 = 18;
+/// The pair of entries for the module, local dynamic model.
+pub const R_386_TLS_LDM: u32 = 19;
+/// The symbol and the addend, in 16 bits.
+pub const R_386_16: u32 = 20;
+/// The symbol and the addend less the location, in 16 bits.
+pub const R_386_PC16: u32 = 21;
+/// The symbol and the addend, in 8 bits.
+pub const R_386_8: u32 = 22;
+/// The symbol and the addend less the location, in 8 bits.
+pub const R_386_PC8: u32 = 23;
+/// The offset of a thread-local symbol in its module.
+pub const R_386_TLS_LDO_32: u32 = 32;
+/// The entry with the negated offset from the thread pointer.
+pub const R_386_TLS_IE_32: u32 = 33;
+/// The negated offset of a thread-local symbol from the thread pointer.
+pub const R_386_TLS_LE_32: u32 = 34;
+/// The number of the module of a thread-local symbol.
+pub const R_386_TLS_DTPMOD32: u32 = 35;
+/// The offset of a thread-local symbol in its module.
+pub const R_386_TLS_DTPOFF32: u32 = 36;
+/// The negated offset of a thread-local symbol from the thread pointer.
+pub const R_386_TLS_TPOFF32: u32 = 37;
+/// The size of the symbol and the addend.
+pub const R_386_SIZE32: u32 = 38;
+/// The place of a descriptor in the global offset table.
+pub const R_386_TLS_GOTDESC: u32 = 39;
+/// Marks a call through a descriptor.
+pub const R_386_TLS_DESC_CALL: u32 = 40;
+/// The descriptor of a thread-local symbol.
+pub const R_386_TLS_DESC: u32 = 41;
+/// The result of the function at the load address and the addend.
+pub const R_386_IRELATIVE: u32 = 42;
+/// As GOT32, of an instruction that a linker may change.
+pub const R_386_GOT32X: u32 = 43;
+
+// Types of relocations of AArch64: those of data, of a dynamic linker, and of some instructions.
+/// Nothing.
+pub const R_AARCH64_NONE: u32 = 0;
+/// The symbol and the addend, in 64 bits.
+pub const R_AARCH64_ABS64: u32 = 257;
+/// The symbol and the addend, in 32 bits.
+pub const R_AARCH64_ABS32: u32 = 258;
+/// The symbol and the addend, in 16 bits.
+pub const R_AARCH64_ABS16: u32 = 259;
+/// The symbol and the addend less the location, in 64 bits.
+pub const R_AARCH64_PREL64: u32 = 260;
+/// The symbol and the addend less the location, in 32 bits.
+pub const R_AARCH64_PREL32: u32 = 261;
+/// The symbol and the addend less the location, in 16 bits.
+pub const R_AARCH64_PREL16: u32 = 262;
+/// The page of the symbol less that of the location, in an ADRP.
+pub const R_AARCH64_ADR_PREL_PG_HI21: u32 = 275;
+/// The low 12 bits of the address, in an ADD.
+pub const R_AARCH64_ADD_ABS_LO12_NC: u32 = 277;
+/// The distance of a branch.
+pub const R_AARCH64_JUMP26: u32 = 282;
+/// The distance of a call.
+pub const R_AARCH64_CALL26: u32 = 283;
+/// The bytes of the symbol, copied to the location.
+pub const R_AARCH64_COPY: u32 = 1024;
+/// The symbol and the addend, in an entry of the global offset table.
+pub const R_AARCH64_GLOB_DAT: u32 = 1025;
+/// The symbol and the addend, in an entry for the procedure linkage table.
+pub const R_AARCH64_JUMP_SLOT: u32 = 1026;
+/// The load address and the addend.
+pub const R_AARCH64_RELATIVE: u32 = 1027;
+/// The number of the module of a thread-local symbol.
+pub const R_AARCH64_TLS_DTPMOD: u32 = 1028;
+/// The offset of a thread-local symbol in its module.
+pub const R_AARCH64_TLS_DTPREL: u32 = 1029;
+/// The offset of a thread-local symbol from the thread pointer.
+pub const R_AARCH64_TLS_TPREL: u32 = 1030;
+/// The descriptor of a thread-local symbol.
+pub const R_AARCH64_TLSDESC: u32 = 1031;
+/// The result of the function at the load address and the addend.
+pub const R_AARCH64_IRELATIVE: u32 = 1032;
 
 // Flags of versions (vd_flags, vna_flags).
 /// It names the file itself.

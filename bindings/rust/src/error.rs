@@ -154,6 +154,46 @@ pub enum Error {
     NoRecord,
     /// Nothing has this name.
     NotFound,
+    /// Type is neither executable nor shared object.
+    LoadType,
+    /// Program headers are not of the size of the class.
+    LoadEntrySize,
+    /// Program header table is empty or larger than a page.
+    LoadCount,
+    /// Program header table is past the end of the file.
+    LoadTable,
+    /// Load segment is larger in the file than in memory.
+    LoadFileSize,
+    /// Load segment is empty.
+    LoadEmpty,
+    /// Address and offset of a load segment differ modulo the page size.
+    LoadMisaligned,
+    /// Alignment of a load segment is not a power of two.
+    LoadAlignment,
+    /// Load segment is past the address limit.
+    LoadRange,
+    /// Load segment is past the end of the file.
+    LoadData,
+    /// Load segment begins before the end of the one before it.
+    LoadOverlap,
+    /// Load segment has zeros but is not readable and writable.
+    LoadZeros,
+    /// No load segment.
+    LoadNoLoad,
+    /// Program headers are not where the file says they are in memory.
+    LoadHeaders,
+    /// Path of the interpreter is not valid.
+    LoadInterpreter,
+    /// Part that is read-only after relocation is in no load segment.
+    LoadRelro,
+    /// Thread-local storage is not valid.
+    LoadTls,
+    /// Image is not of the size of the span.
+    LoadImageSize,
+    /// Table has 2^32 symbols or more.
+    IndexManySymbols,
+    /// Too few words for the index.
+    IndexFewWords,
     /// A status that this crate doesn't know: the archive is of another version.
     Unknown(u32),
 }
@@ -237,6 +277,26 @@ impl Error {
             201 => Error::OtherData,
             202 => Error::NoRecord,
             203 => Error::NotFound,
+            301 => Error::LoadType,
+            302 => Error::LoadEntrySize,
+            303 => Error::LoadCount,
+            304 => Error::LoadTable,
+            305 => Error::LoadFileSize,
+            306 => Error::LoadEmpty,
+            307 => Error::LoadMisaligned,
+            308 => Error::LoadAlignment,
+            309 => Error::LoadRange,
+            310 => Error::LoadData,
+            311 => Error::LoadOverlap,
+            312 => Error::LoadZeros,
+            313 => Error::LoadNoLoad,
+            314 => Error::LoadHeaders,
+            315 => Error::LoadInterpreter,
+            316 => Error::LoadRelro,
+            317 => Error::LoadTls,
+            318 => Error::LoadImageSize,
+            401 => Error::IndexManySymbols,
+            402 => Error::IndexFewWords,
             other => Error::Unknown(other),
         }
     }
@@ -319,10 +379,30 @@ impl Error {
             Error::OtherData => 201,
             Error::NoRecord => 202,
             Error::NotFound => 203,
+            Error::LoadType => 301,
+            Error::LoadEntrySize => 302,
+            Error::LoadCount => 303,
+            Error::LoadTable => 304,
+            Error::LoadFileSize => 305,
+            Error::LoadEmpty => 306,
+            Error::LoadMisaligned => 307,
+            Error::LoadAlignment => 308,
+            Error::LoadRange => 309,
+            Error::LoadData => 310,
+            Error::LoadOverlap => 311,
+            Error::LoadZeros => 312,
+            Error::LoadNoLoad => 313,
+            Error::LoadHeaders => 314,
+            Error::LoadInterpreter => 315,
+            Error::LoadRelro => 316,
+            Error::LoadTls => 317,
+            Error::LoadImageSize => 318,
+            Error::IndexManySymbols => 401,
+            Error::IndexFewWords => 402,
             Error::Unknown(status) => *status,
         }
     }
 }
 
 // How many bytes the longest text has.
-pub(crate) const LONGEST: usize = 54;
+pub(crate) const LONGEST: usize = 64;

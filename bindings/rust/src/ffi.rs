@@ -4,7 +4,7 @@
 //! writes the records that it is passed to write, of a slice at most as many as it has, and is defined whatever they
 //! contain. All of these are references of the call, of the types that the archive declares.
 
-use crate::records::{Answer, Counts, Dynamic, Entry, FoundSymbol, FoundTable, Header, Name, NoteRange, ProgramHeader, Range, Relocation, SectionHeader, SymbolTable, Version};
+use crate::records::{AddressIndex, Answer, Counts, Dynamic, Entry, FoundAt, FoundSymbol, FoundTable, Header, Mapping, Name, NoteRange, Plan, ProgramHeader, Range, Relocation, SectionHeader, SymbolTable, Version};
 use crate::Error;
 
 fn answered<T>(status: u32, value: T) -> Result<T, Error> {
@@ -74,6 +74,14 @@ extern "C" {
     fn xmas_elf_hash_open(input: *const u8, input_len: usize, header: *const Header, section: u64,
         out: *mut FoundTable) -> u32;
     fn xmas_elf_check_hash(input: *const u8, input_len: usize, table: *const FoundTable) -> u32;
+    fn xmas_elf_address_index(input: *const u8, input_len: usize, header: *const Header, table: *const SymbolTable,
+        indices: *const Range, within: u32, words: *mut u32, words_len: usize, out: *mut AddressIndex) -> u32;
+    fn xmas_elf_symbols_at(input: *const u8, input_len: usize, index: *const AddressIndex, words: *const u32,
+        words_len: usize, addresses: *const u64, addresses_len: usize, out: *mut FoundAt, out_len: usize) -> u32;
+    fn xmas_elf_load_plan(input: *const u8, input_len: usize, header: *const Header, page: u64, limit: u64,
+        out: *mut Plan) -> u32;
+    fn xmas_elf_load_mappings(input: *const u8, input_len: usize, header: *const Header, page: u64, limit: u64,
+        loader: u32, first: u64, out: *mut Mapping, out_len: usize, count: *mut u64) -> u32;
     fn xmas_elf_message(status: u32, out: *mut u8, out_len: usize) -> usize;
 }
 
@@ -475,6 +483,68 @@ pub(crate) fn check_hash(input: &[u8], table: &FoundTable) -> Result<(), Error> 
     // SAFETY: see the head of this file.
     let status = unsafe { xmas_elf_check_hash(input.as_ptr(), input.len(), table) };
     answered(status, ())
+}
+
+/// Builds an index of symbols by their addresses, for many questions of `symbols_at`. Without words (`words_count` 0)
+/// it only finds how many the index takes: `words` of the record; then call it again with as many. They stay the
+/// caller's, who keeps them for the questions. `table` is a record of `symbols_open` or `dynamic_symbols_open`;
+/// `indices` is the range of the section of type SHT_SYMTAB_SHNDX that is linked to the symbols' section, of size 0
+/// where there is none; `within` is the index of a section in an object file, where values are offsets in sections,
+/// and else 0. A symbol names addresses if it is in a section, has no type or is a function or an object, and has a
+/// name; labels that assemblers make and mapping symbols don't. It takes time n log n for n symbols. `words` is
+/// changed in no call that is not OK. Errors, in the order of the tests: `DataRange`, `NotMultiple`,
+/// `IndexManySymbols`, `IndexFewWords`.
+pub(crate) fn address_index(input: &[u8], header: &Header, table: &SymbolTable, indices: &Range, within: u32,
+    words: &mut [u32]) -> Result<AddressIndex, Error> {
+    let mut out = AddressIndex::default();
+    // SAFETY: see the head of this file.
+    let status = unsafe { xmas_elf_address_index(input.as_ptr(), input.len(), header, table, indices, within,
+        words.as_mut_ptr(), words.len(), &mut out) };
+    answered(status, out)
+}
+
+/// The symbols of many addresses by an index, as many as there are addresses and as `out` has room for. A symbol
+/// covers `size` addresses from its `value` on, and with size 0 its value alone. Of several that cover an address,
+/// one with a size comes first, then the one that begins last, the smallest, a function before an object, a global
+/// one before a weak one before a local one, and the first of the table. If no symbol covers an address, that is no
+/// error. A question takes time log n for n symbols. Each word is tested: with others than those of `address_index` a
+/// symbol may be missed, and one that is found covers the address. Errors, in the order of the tests: `DataRange`,
+/// `NotMultiple`.
+pub(crate) fn symbols_at(input: &[u8], index: &AddressIndex, words: &[u32], addresses: &[u64],
+    out: &mut [FoundAt]) -> Result<(), Error> {
+    // SAFETY: see the head of this file.
+    let status = unsafe { xmas_elf_symbols_at(input.as_ptr(), input.len(), index, words.as_ptr(), words.len(),
+        addresses.as_ptr(), addresses.len(), out.as_mut_ptr(), out.len()) };
+    answered(status, ())
+}
+
+/// Whether Linux and glibc load a file, and what they put into memory for it. `page` is the size of a page, a power
+/// of two; 0 means 4096. `limit` is the end of the addresses that a loader may use; 0 means that of Linux: 0xffffe000
+/// for a file of class 32, and else 0x7ffffffff000, that of x86-64. The load segments are those of type PT_LOAD.
+/// Errors, in the order of the tests: `LoadType`, `LoadEntrySize`, `LoadCount`, `LoadTable`, `LoadFileSize`,
+/// `LoadEmpty`, `LoadMisaligned`, `LoadAlignment`, `LoadRange`, `LoadData`, `LoadOverlap`, `LoadZeros`, `LoadNoLoad`,
+/// `LoadHeaders`, `LoadInterpreter`, `LoadRelro`, `LoadTls`.
+pub(crate) fn load_plan(input: &[u8], header: &Header, page: u64, limit: u64) -> Result<Plan, Error> {
+    let mut out = Plan::default();
+    // SAFETY: see the head of this file.
+    let status = unsafe { xmas_elf_load_plan(input.as_ptr(), input.len(), header, page, limit, &mut out) };
+    answered(status, out)
+}
+
+/// What a loader maps for a file before relocation, from index `first` on, in the order of addresses: no mapping is
+/// empty or overlaps another, and all lie in the span of `load_plan`, whose `page` and `limit` they are. `loader` is
+/// 1 for glibc, which maps libraries; any other number for Linux, which maps a program and its interpreter. glibc
+/// maps the pages between load segments, too, without access. Each call reads the program headers anew, so give room
+/// for all. Errors, in the order of the tests: `LoadType`, `LoadEntrySize`, `LoadCount`, `LoadTable`, `LoadFileSize`,
+/// `LoadEmpty`, `LoadMisaligned`, `LoadAlignment`, `LoadRange`, `LoadData`, `LoadOverlap`, `LoadZeros`, `LoadNoLoad`,
+/// `LoadHeaders`, `LoadInterpreter`, `LoadRelro`, `LoadTls`, `NoRecord`.
+pub(crate) fn load_mappings(input: &[u8], header: &Header, page: u64, limit: u64, loader: u32, first: u64,
+    out: &mut [Mapping]) -> Result<u64, Error> {
+    let mut count = u64::default();
+    // SAFETY: see the head of this file.
+    let status = unsafe { xmas_elf_load_mappings(input.as_ptr(), input.len(), header, page, limit, loader, first,
+        out.as_mut_ptr(), out.len(), &mut count) };
+    answered(status, count)
 }
 
 /// Writes the text of a status to the front of `out`, as much as fits, and returns the size of the whole text in

@@ -2,6 +2,8 @@
 
 use crate::batch::{one, Batch};
 use crate::ffi;
+#[cfg(feature = "alloc")]
+use crate::SymbolMap;
 use crate::constants::{SHT_RELA, SHT_RELR};
 use crate::{ByteRange, Dynamic, ElfFile, Entry, Error, HashTable, Name, Notes, ProgramHeader, Relocation, SectionHeader, Symbol, SymbolTable, Symbols};
 use core::fmt;
@@ -93,6 +95,14 @@ impl<'f, 'a> Section<'f, 'a> {
     /// The symbols of the section, found once for many calls of [`ElfFile::symbol_of`] and [`ElfFile::symbol_name_of`].
     pub fn symbol_table(&self) -> Result<SymbolTable, Error> {
         ffi::symbols_open(self.file.input, &self.file.header, self.index)
+    }
+
+    /// The symbols that name addresses in this section of an object file (ET_REL), whose values are offsets in it.
+    #[cfg(feature = "alloc")]
+    pub fn symbol_map(&self) -> SymbolMap<'f, 'a> {
+        // Index 0 would ask for the symbols of all sections; none is in this one, nor in one with the index u32::MAX.
+        let within = u32::try_from(self.index).ok().filter(|index| *index != 0);
+        SymbolMap::new(self.file, within.unwrap_or(u32::MAX))
     }
 
     /// The hash table that the section is by its type.

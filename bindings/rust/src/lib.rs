@@ -1,7 +1,7 @@
 //! A reader of ELF files that lie in a byte slice, over the proved static library `elf_c`.
 //!
 //! Every slice and text is a part of the input. No call panics or fails otherwise, whatever the bytes are, and none but
-//! [`ElfFile::symbol_map`] allocates. Every result of the archive is proved; this crate, which slices the input at the
+//! [`ElfFile::symbol_map`] and [`Section::symbol_map`] allocate. Every result of the archive is proved; this crate, which slices the input at the
 //! ranges that the archive returns, is tested.
 //!
 //! Numbers of headers, symbols and entries are fields, with the names of the standard in [`constants`]; `get_type` and
@@ -42,6 +42,7 @@ mod ffi;
 mod hash;
 pub mod header;
 mod items;
+mod load_plan;
 mod message;
 mod notes;
 pub mod program;
@@ -62,13 +63,14 @@ use batch::one;
 pub use error::Error;
 pub use hash::HashTable;
 pub use items::{Section, Sections, Segment, Segments};
+pub use load_plan::{Contents, LoadPlan, Loader};
 pub use message::Message;
 pub use notes::{Note, Notes};
 pub use records::Range as ByteRange;
 pub use ranges::LookUp;
-pub use records::{Answer, Dynamic, Entry, Header, Name, ProgramHeader, Relocation, SectionHeader, SymbolTable, Version};
+pub use records::{Answer, Dynamic, Entry, Header, Mapping, Name, ProgramHeader, Relocation, SectionHeader, Span, SymbolTable, TlsTemplate, Version};
 #[cfg(feature = "alloc")]
-pub use symbol_map::SymbolMap;
+pub use symbol_map::{SymbolAt, SymbolMap};
 pub use dynamic::{DynamicSymbol, DynamicSymbols};
 pub use symbols::{Symbol, Symbols};
 pub use versions::{SymbolVersion, VersionKind};
@@ -213,10 +215,23 @@ impl<'a> ElfFile<'a> {
         first(true).or_else(|| first(false))
     }
 
-    /// The functions and objects of the file by their addresses. It allocates 32 bytes for each of them.
+    /// The symbols of the file by their addresses: an index that is built once for many addresses. It allocates 8 bytes for
+    /// each of them. In an object file (ET_REL) values are offsets in sections: see [`Section::symbol_map`].
     #[cfg(feature = "alloc")]
     pub fn symbol_map(&self) -> SymbolMap<'_, 'a> {
-        SymbolMap::new(self)
+        SymbolMap::new(self, 0)
+    }
+
+    /// The plan of a load: whether Linux and glibc load the file, and what they put where. Pages have 4096 bytes, and the
+    /// addresses that a loader may use end where those of Linux on x86-64 end, or on 386 for a file of class 32.
+    pub fn load_plan(&self) -> Result<LoadPlan<'_, 'a>, Error> {
+        self.load_plan_with(0, 0)
+    }
+
+    /// The plan of a load with another size of a page, a power of two, and another end of the addresses; 0 means those
+    /// of [`ElfFile::load_plan`].
+    pub fn load_plan_with(&self, page: u64, limit: u64) -> Result<LoadPlan<'_, 'a>, Error> {
+        LoadPlan::new(self, page, limit)
     }
 
     pub(crate) fn bytes(&self, range: ByteRange) -> &'a [u8] {

@@ -265,3 +265,107 @@ pub(crate) struct FoundSymbol {
     /// The index of the symbol among those of the dynamic segment, or 0.
     pub(crate) index: u32,
 }
+
+/// An index of symbols by their addresses: the numbers that `address_index` fills, and that `symbols_at` takes back.
+#[repr(C)]
+#[derive(Clone, Copy, Debug, Default, PartialEq, Eq)]
+pub(crate) struct AddressIndex {
+    /// The symbols, and the string table of their names.
+    pub(crate) table: SymbolTable,
+    /// The bytes of the section of type SHT_SYMTAB_SHNDX; its size is 0 if there is none.
+    pub(crate) indices: Range,
+    /// The number of words that the index takes.
+    pub(crate) words: u64,
+    /// The number of symbols with a size in the index; 0 if it is not built.
+    pub(crate) sized_count: u64,
+    /// The number of symbols of size 0 in the index; 0 if it is not built.
+    pub(crate) open_count: u64,
+    /// The index of the section whose symbols alone are asked for, or 0.
+    pub(crate) within: u32,
+    /// The processor that the file is for (e_machine).
+    pub(crate) machine: u16,
+}
+
+/// The symbol of an address.
+#[repr(C)]
+#[derive(Clone, Copy, Debug, Default, PartialEq, Eq)]
+pub(crate) struct FoundAt {
+    /// The symbol; its fields are 0 where none is found.
+    pub(crate) symbol: Entry,
+    /// The index of the symbol in its table, or 0.
+    pub(crate) index: u64,
+    /// The address less the value of the symbol, or 0.
+    pub(crate) offset: u64,
+    /// 1 where a symbol covers the address, and else 0.
+    pub(crate) found: u32,
+    /// 1 where the size of the symbol is 0, so that its end is unknown, and else 0.
+    pub(crate) is_open: u32,
+}
+
+/// Addresses from `start` on and before `end`, relative to the base at which a file is loaded.
+#[repr(C)]
+#[derive(Clone, Copy, Debug, Default, PartialEq, Eq)]
+pub struct Span {
+    /// The first address.
+    pub start: u64,
+    /// The first address after the last.
+    pub end: u64,
+}
+
+/// The template of thread-local storage (gABI, "Thread-Local Storage"); 0 in each field where a file has none.
+#[repr(C)]
+#[derive(Clone, Copy, Debug, Default, PartialEq, Eq)]
+pub struct TlsTemplate {
+    /// The address of the bytes that the file has.
+    pub address: u64,
+    /// The number of these bytes.
+    pub file_size: u64,
+    /// The size of the storage in bytes; zeros follow the bytes of the file.
+    pub mem_size: u64,
+    /// The alignment of the storage in bytes.
+    pub align: u64,
+}
+
+/// What Linux and glibc put into memory for a file. Addresses are relative to a base, which is 0 for a file of type
+/// ET_EXEC.
+#[repr(C)]
+#[derive(Clone, Copy, Debug, Default, PartialEq, Eq)]
+pub(crate) struct Plan {
+    /// The pages from the first of the first load segment to the last of the last one.
+    pub(crate) span: Span,
+    /// The pages that are only readable after relocation: those of the last PT_GNU_RELRO, both ends rounded down; 0
+    /// where there is none.
+    pub(crate) relro: Span,
+    /// The last PT_TLS that is not empty.
+    pub(crate) tls: TlsTemplate,
+    /// The bytes of the path of the program interpreter, up to the first zero byte of the first PT_INTERP; offset and
+    /// size are 0 where there is none.
+    pub(crate) interpreter: Range,
+    /// The address at which a program begins to run, or 0 (e_entry).
+    pub(crate) entry: u64,
+    /// The permissions of the stack, those of the last PT_GNU_STACK; 0 where there is none: then they are those of
+    /// the processor.
+    pub(crate) stack_flags: u32,
+    /// 1 where the file has a PT_GNU_STACK, and else 0.
+    pub(crate) has_stack: u32,
+    /// 1 where the file has a PT_GNU_RELRO, and else 0.
+    pub(crate) has_relro: u32,
+    /// 1 where the file has a PT_INTERP, and else 0.
+    pub(crate) has_interpreter: u32,
+}
+
+/// Pages that are mapped at once.
+#[repr(C)]
+#[derive(Clone, Copy, Debug, Default, PartialEq, Eq)]
+pub struct Mapping {
+    /// The first address, relative to the base.
+    pub start: u64,
+    /// The first address after the pages.
+    pub end: u64,
+    /// The offset of the first byte in the file; 0 where the pages are not of the file.
+    pub offset: u64,
+    /// The permissions: those of the load segment (p_flags), or 0.
+    pub flags: u32,
+    /// What the pages hold: 0 nothing that can be read, 1 pages of the file, 2 zeros.
+    pub contents: u32,
+}

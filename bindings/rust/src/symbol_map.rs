@@ -1,82 +1,119 @@
-//! The symbol that an address lies in.
+//! The symbols of addresses.
 
 use crate::constants::*;
-use crate::{ElfFile, Entry, Symbol, SymbolTable};
+use crate::records::{AddressIndex, FoundAt};
+use crate::{ffi, ByteRange, ElfFile, Error, Section, Symbol, SymbolTable};
+use alloc::vec;
 use alloc::vec::Vec;
+use core::ops::Deref;
 
-// A symbol that addresses lie in: `first ..= last`.
+/// The symbol of an address, which it dereferences to.
 #[derive(Clone, Copy, Debug)]
-struct Extent {
-    first: u64,
-    last: u64,
-    // The greatest `last` up to this one in the order of the map.
-    reach: u64,
-    index: u64,
+pub struct SymbolAt<'a> {
+    symbol: Symbol<'a>,
+    offset: u64,
 }
 
-/// The functions and objects of a file by their addresses.
+impl<'a> Deref for SymbolAt<'a> {
+    type Target = Symbol<'a>;
+
+    fn deref(&self) -> &Symbol<'a> {
+        &self.symbol
+    }
+}
+
+impl SymbolAt<'_> {
+    /// The address less the value of the symbol.
+    pub fn offset(&self) -> u64 {
+        self.offset
+    }
+}
+
+/// The symbols of a file by their addresses: the index of the archive, and its words.
 ///
-/// It has the symbols of the section of type SHT_SYMTAB, or else of SHT_DYNSYM, or else of the dynamic segment, that are
-/// defined in a section and are functions, objects or of no type but with a size. A symbol has the addresses `value .. value + size`, and one of size
-/// 0 its value alone. In an object file (ET_REL) these are offsets in sections, which the map does not keep apart.
+/// It has the symbols of the section of type SHT_SYMTAB, or else of SHT_DYNSYM, or else of the dynamic segment, that name
+/// addresses: they are in a section, are functions, objects or of no type, and have a name; labels that assemblers make
+/// and mapping symbols are left out. A symbol covers the addresses `value .. value + size`, and one of size 0 its value.
 #[derive(Clone)]
 pub struct SymbolMap<'f, 'a> {
     file: &'f ElfFile<'a>,
-    table: Option<SymbolTable>,
-    // By address; of those at one address the smaller are later, and of equal ones the first of the table.
-    extents: Vec<Extent>,
+    index: AddressIndex,
+    words: Vec<u32>,
 }
 
 impl core::fmt::Debug for SymbolMap<'_, '_> {
     fn fmt(&self, f: &mut core::fmt::Formatter<'_>) -> core::fmt::Result {
-        f.debug_struct("SymbolMap").field("len", &self.extents.len()).finish_non_exhaustive()
+        f.debug_struct("SymbolMap").field("len", &self.len()).finish_non_exhaustive()
     }
 }
 
-fn extent(index: u64, entry: &Entry) -> Option<Extent> {
-    let placed = entry.is_defined() && (entry.shndx < SHN_LORESERVE || entry.shndx == SHN_XINDEX);
-    let kept = match entry.kind() {
-        STT_OBJECT | STT_FUNC | STT_GNU_IFUNC => true,
-        STT_NOTYPE => entry.size > 0,
-        _ => false,
-    };
-    let last = entry.value.saturating_add(entry.size.saturating_sub(1));
-    (placed && kept).then_some(Extent { first: entry.value, last, reach: last, index })
+// The section with the symbols of a file, if there is one.
+fn section_with_symbols<'f, 'a>(file: &'f ElfFile<'a>) -> Option<Section<'f, 'a>> {
+    let of_type = |type_| file.sections().find(|section| section.type_ == type_);
+    of_type(SHT_SYMTAB).or_else(|| of_type(SHT_DYNSYM))
+}
+
+fn table_of(file: &ElfFile<'_>, section: Option<Section<'_, '_>>) -> Result<SymbolTable, Error> {
+    section.map_or_else(|| file.dynamic_symbol_table(), |section| section.symbol_table())
+}
+
+// The range of the section indices that need more than 16 bits.
+fn indices_of(file: &ElfFile<'_>, section: Option<Section<'_, '_>>) -> ByteRange {
+    let of = |symbols: &Section<'_, '_>| file.sections().find(|one| one.type_ == SHT_SYMTAB_SHNDX && u64::from(one.link) == symbols.index());
+    let found = section.as_ref().and_then(of);
+    found.map_or(ByteRange::default(), |indices| ByteRange { offset: indices.offset, size: indices.size })
+}
+
+// The index of the symbols of a file, or of one of its sections alone, with its words.
+fn index_of(file: &ElfFile<'_>, within: u32) -> Result<(AddressIndex, Vec<u32>), Error> {
+    let section = section_with_symbols(file);
+    let (table, indices) = (table_of(file, section)?, indices_of(file, section));
+    let ask = |words: &mut [u32]| ffi::address_index(file.input(), file.header(), &table, &indices, within, words);
+    let mut words = vec![0; ask(&mut [])?.words as usize];
+    let index = ask(&mut words)?;
+    Ok((index, words))
 }
 
 impl<'f, 'a> SymbolMap<'f, 'a> {
-    pub(crate) fn new(file: &'f ElfFile<'a>) -> SymbolMap<'f, 'a> {
-        let of_type = |type_| file.sections().find(|section| section.type_ == type_);
-        let section = of_type(SHT_SYMTAB).or_else(|| of_type(SHT_DYNSYM));
-        let table = section.map_or_else(|| file.dynamic_symbol_table(), |section| section.symbol_table()).ok();
-        let mut extents: Vec<Extent> = match section {
-            Some(section) => section.symbols().filter_map(|symbol| extent(symbol.index(), &symbol)).collect(),
-            None => file.dynamic_symbols().into_iter().flatten().filter_map(|symbol| extent(symbol.index(), &symbol)).collect(),
-        };
-        extents.sort_unstable_by_key(|one| (one.first, core::cmp::Reverse((one.last, one.index))));
-        let mut reach = 0;
-        for one in &mut extents {
-            reach = one.last.max(reach);
-            one.reach = reach;
-        }
-        SymbolMap { file, table, extents }
+    pub(crate) fn new(file: &'f ElfFile<'a>, within: u32) -> SymbolMap<'f, 'a> {
+        let (index, words) = index_of(file, within).unwrap_or_default();
+        SymbolMap { file, index, words }
     }
 
     /// The number of symbols in the map.
     pub fn len(&self) -> usize {
-        self.extents.len()
+        (self.index.sized_count + self.index.open_count) as usize
     }
 
     /// Whether the map has no symbol.
     pub fn is_empty(&self) -> bool {
-        self.extents.is_empty()
+        self.len() == 0
     }
 
-    /// The symbol that an address lies in. Of several it is the one that begins last, and of those the smallest.
+    /// The innermost symbol that covers an address: one with a size before others, then the one that begins last, the
+    /// smallest, a function before an object, a global one before a weak one before a local one, and the first of the
+    /// table.
+    pub fn symbol_at(&self, address: u64) -> Option<SymbolAt<'a>> {
+        let mut found = [FoundAt::default()];
+        ffi::symbols_at(self.file.input(), &self.index, &self.words, &[address], &mut found).ok()?;
+        self.of(&found[0])
+    }
+
+    /// The symbols of many addresses, in their order, by one call of the archive.
+    pub fn symbols_at(&self, addresses: &[u64]) -> Vec<Option<SymbolAt<'a>>> {
+        let mut found = vec![FoundAt::default(); addresses.len()];
+        // The ranges were found in this input, so there is no error.
+        let _ = ffi::symbols_at(self.file.input(), &self.index, &self.words, addresses, &mut found);
+        found.iter().map(|one| self.of(one)).collect()
+    }
+
+    /// The symbol of `symbol_at`.
     pub fn get(&self, address: u64) -> Option<Symbol<'a>> {
-        let after = self.extents.partition_point(|one| one.first <= address);
-        let before = self.extents[..after].iter().rev();
-        let found = before.take_while(|one| one.reach >= address).find(|one| one.last >= address)?;
-        Symbol::of_table(self.file, self.table.as_ref()?, found.index).ok()
+        self.symbol_at(address).map(|found| found.symbol)
+    }
+
+    fn of(&self, found: &FoundAt) -> Option<SymbolAt<'a>> {
+        let symbol = Symbol::of_entry(self.file, &self.index.table, found.index, found.symbol);
+        (found.found != 0).then_some(SymbolAt { symbol, offset: found.offset })
     }
 }

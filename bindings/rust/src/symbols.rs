@@ -36,7 +36,12 @@ impl Deref for Symbol<'_> {
 impl<'a> Symbol<'a> {
     // The symbol at an index of a table.
     pub(crate) fn of_table(file: &ElfFile<'a>, table: &SymbolTable, index: u64) -> Result<Symbol<'a>, Error> {
-        Ok(Symbol { strings: strings_of(file, table), index, entry: file.symbol_of(table, index)? })
+        Ok(Symbol::of_entry(file, table, index, file.symbol_of(table, index)?))
+    }
+
+    // The symbol at an index of a table, with its numbers.
+    pub(crate) fn of_entry(file: &ElfFile<'a>, table: &SymbolTable, index: u64, entry: Entry) -> Symbol<'a> {
+        Symbol { strings: strings_of(file, table), index, entry }
     }
 
     /// The index of the symbol in its table.

@@ -2,7 +2,7 @@
 
 use crate::calls::{every, Asked};
 use crate::constants::*;
-use crate::records::{Answer, Dynamic, Entry, FoundSymbol, FoundTable, Header, Name, ProgramHeader, Range, Relocation, SectionHeader, SymbolTable, Version};
+use crate::records::{AddressIndex, Answer, Dynamic, Entry, FoundAt, FoundSymbol, FoundTable, Header, Mapping, Name, ProgramHeader, Range, Relocation, SectionHeader, SymbolTable, Version};
 use crate::{ffi, Error};
 extern crate std;
 use std::string::ToString;
@@ -330,12 +330,91 @@ fn look_ups_in_a_table_of_the_standard() {
 }
 
 #[test]
+fn symbols_of_addresses() {
+    let input = whole();
+    let header = ffi::open(&input).expect("an ELF file");
+    let table = ffi::symbols_open(&input, &header, section_of_type(&input, &header, SHT_SYMTAB).0).expect("symbols");
+    let none = Range::default();
+    let index_in = |words: &mut [u32]| ffi::address_index(&input, &header, &table, &none, 0, words);
+    let asked = index_in(&mut []).expect("a number of words");
+    assert!(asked.words > 1 && (asked.sized_count, asked.open_count) == (0, 0));
+    let mut words = std::vec![7; asked.words as usize + 1];
+    assert_eq!(index_in(&mut words[..asked.words as usize - 1]), Err(Error::IndexFewWords));
+    assert!(words.iter().all(|word| *word == 7));
+    let index = index_in(&mut words).expect("an index");
+    assert_eq!((index.words, 2 * index.sized_count + index.open_count, words.last()), (asked.words, asked.words, Some(&7)));
+    let mut symbols = std::vec![Entry::default(); table.count as usize];
+    assert_eq!(ffi::symbols(&input, &table, 0, &mut symbols), Ok(table.count));
+    let addresses: Vec<u64> = symbols.iter().filter(|one| one.kind() == STT_FUNC && one.size > 0).map(|one| one.value + one.size / 2).collect();
+    let mut found = std::vec![FoundAt::default(); addresses.len() + 1];
+    assert_eq!(ffi::symbols_at(&input, &index, &words, &addresses, &mut found), Ok(()));
+    assert!(found.pop().is_some_and(|last| last == FoundAt::default()) && addresses.len() > 100);
+    for (one, address) in found.iter().zip(&addresses) {
+        assert_eq!((one.found, one.symbol, one.symbol.value + one.offset), (1, symbols[one.index as usize], *address));
+    }
+    // With other words a symbol may be missed, and one that is found covers the address.
+    words.rotate_left(1);
+    let mut others = std::vec![FoundAt::default(); addresses.len()];
+    assert_eq!(ffi::symbols_at(&input, &index, &words, &addresses, &mut others), Ok(()));
+    assert!(others.iter().zip(&addresses).all(|(one, address)| one.found == 0 || address - one.symbol.value < one.symbol.size.max(1)));
+    let far = Range { offset: u64::MAX, size: 0 };
+    assert_eq!(ffi::address_index(&input, &header, &table, &far, 0, &mut words), Err(Error::DataRange));
+    assert_eq!(ffi::address_index(&input, &header, &table, &Range { offset: 0, size: 3 }, 0, &mut words), Err(Error::NotMultiple));
+    assert_eq!(ffi::symbols_at(&input, &AddressIndex { indices: far, ..index }, &words, &addresses, &mut found), Err(Error::DataRange));
+}
+
+// The mappings of the test itself that /proc has of it, relative to the first: start, end, offset and permissions, for those of the
+// file. The memory for zeros has no path there.
+fn maps() -> Vec<(u64, u64, u64, u32)> {
+    let path = std::env::current_exe().expect("a path");
+    let maps = std::fs::read_to_string("/proc/self/maps").expect("the maps of the test");
+    let number = |text: &str| u64::from_str_radix(text, 16).expect("hexadecimal");
+    let rows = maps.lines().filter(|line| line.ends_with(path.to_str().expect("a path"))).map(|line| {
+        let mut words = line.split_whitespace();
+        let (start, end) = words.next().and_then(|range| range.split_once('-')).expect("a range");
+        let flags = words.next().expect("permissions").bytes().zip([PF_R, PF_W, PF_X]).filter(|(letter, _)| *letter != b'-').map(|(_, flag)| flag).sum();
+        (number(start), number(end), number(words.next().expect("an offset")), flags)
+    });
+    let rows: Vec<_> = rows.collect();
+    let base = rows[0].0;
+    rows.into_iter().map(|(start, end, offset, flags)| (start - base, end - base, offset, flags)).collect()
+}
+
+#[test]
+fn plans_are_as_the_kernel_maps() {
+    let input = whole();
+    let file = crate::ElfFile::new(&input).expect("an ELF file");
+    let plan = file.load_plan().expect("it runs");
+    assert_eq!((plan.entry(), plan.interpreter()), (file.header().entry_point, Some(&b"/lib64/ld-linux-x86-64.so.2"[..])));
+    assert_eq!(plan.stack_flags().map(|flags| flags & PF_X), Some(0));
+    let relro = plan.relro().expect("a part that is read-only after relocation");
+    let mappings: Vec<Mapping> = plan.mappings(crate::Loader::Linux).collect();
+    assert!(!mappings.iter().any(|one| one.is_write_execute()));
+    assert_eq!((mappings.first().map(|one| one.start), mappings.last().map(|one| one.end)), (Some(plan.span().start), Some(plan.span().end)));
+    // The linker makes what is read-only after relocation a mapping of its own.
+    let split = |one: &Mapping| {
+        let (end, flags) = (one.end.min(relro.end.max(one.start)), one.flags);
+        let part = |start: u64, end: u64, flags| (start, end, one.offset + (start - one.start), flags);
+        [part(one.start, end, if one.start >= relro.start { flags & !PF_W } else { flags }), part(end, one.end, flags)]
+    };
+    let planned: Vec<_> = mappings.iter().filter(|one| one.contents == 1).flat_map(split).filter(|(start, end, _, _)| start < end).collect();
+    assert_eq!(planned, maps());
+    let glibc: Vec<Mapping> = plan.mappings(crate::Loader::Glibc).collect();
+    assert!(glibc.windows(2).all(|pair| pair[0].end == pair[1].start));
+    assert_eq!(file.load_plan_with(1 << 40, 0).map(|_| ()), Err(Error::LoadOverlap));
+    assert_eq!(file.load_plan_with(0, 4096).map(|_| ()), Err(Error::LoadRange));
+    assert_eq!(crate::ElfFile::new(&input[..64]).and_then(|file| file.load_plan().map(|_| ())), Err(Error::LoadTable));
+}
+
+#[test]
 fn empty_slices() {
     let header = ffi::open(&whole()).expect("an ELF file");
     assert_eq!(ffi::open(&[]), Err(Error::ShortPart1));
     assert_eq!(ffi::section(&[], &header, 0), Err(Error::ShortSectionHeader));
     assert_eq!(ffi::find_section_index(&[], &header, &[]), Err(Error::NotFound));
     ffi::look_ups(&[], &FoundTable::default(), &[], &[], &mut []);
+    assert_eq!(ffi::symbols_at(&[], &AddressIndex::default(), &[], &[], &mut []), Ok(()));
+    assert_eq!(ffi::load_mappings(&[], &header, 0, 0, 0, 0, &mut []), Err(Error::LoadTable));
     assert_eq!(ffi::message(203, &mut []), "Nothing has this name".len());
 }
 
@@ -352,7 +431,8 @@ fn each_call_answers_what_is_listed() {
     for (input, name) in [(&*whole, &b"main"[..]), (&[], &[])].into_iter().chain(damaged.iter().map(|file| (&**file, &b".text"[..]))) {
         let header = ffi::open(input).unwrap_or(header);
         for (section, index) in (0..40).flat_map(|section| [0, 1, 7, 1 << 40, u64::MAX].map(|index| (section, index))) {
-            let asked = Asked { input, header, part: Range { offset: index, size: 64 }, table, hash, name, section, index };
+            let addresses = AddressIndex { table, words: 3, sized_count: 1, open_count: 1, machine: EM_X86_64, ..AddressIndex::default() };
+            let asked = Asked { input, header, part: Range { offset: index, size: 64 }, table, hash, addresses, name, section, index };
             every(&asked, |call, answer, listed| {
                 calls += 1;
                 match answer {

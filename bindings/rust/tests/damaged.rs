@@ -2,7 +2,7 @@
 
 use xmas_elf_proved::constants::SHT_NULL;
 use xmas_elf_proved::program::Type;
-use xmas_elf_proved::{Answer, ByteRange, Dynamic, ElfFile, Entry, Error, HashTable, Name, ProgramHeader, Relocation, Section, SectionHeader, Version, VersionKind};
+use xmas_elf_proved::{Answer, ByteRange, Dynamic, ElfFile, Entry, Error, HashTable, Loader, Name, ProgramHeader, Relocation, Section, SectionHeader, Version, VersionKind};
 
 // A stream of numbers (Marsaglia's xorshift of 64 bits), the same in each run.
 struct Numbers(u64);
@@ -205,13 +205,28 @@ fn visit_section(input: &[u8], section: &Section<'_, '_>) -> usize {
     found
 }
 
-// A symbol that the map finds has the address.
+// A symbol that the map finds covers the address.
 #[cfg(feature = "alloc")]
 fn visit_symbol_map(file: &ElfFile<'_>) {
     let map = file.symbol_map();
     for symbol in file.sections().take(200).flat_map(|section| section.symbols().take(20)) {
         for address in [symbol.value, symbol.value.wrapping_add(symbol.size), u64::MAX] {
             assert!(map.get(address).map_or(true, |found| found.value <= address && address - found.value < found.size.max(1)));
+        }
+    }
+}
+
+// Mappings of a file that is loaded are not empty, follow each other in the span, and lie in the file.
+fn visit_load_plan(file: &ElfFile<'_>) {
+    let Ok(plan) = file.load_plan() else {
+        return;
+    };
+    assert!(plan.interpreter().map_or(true, |path| lies_in(file.input(), path) && !path.contains(&0)));
+    for by in [Loader::Linux, Loader::Glibc] {
+        let mut end = plan.span().start;
+        for mapping in plan.mappings(by) {
+            assert!(end <= mapping.start && mapping.start < mapping.end && mapping.end <= plan.span().end);
+            end = mapping.end;
         }
     }
 }
@@ -255,6 +270,7 @@ fn visit(input: &[u8]) -> usize {
     visit_segments(&file);
     visit_dynamic_symbols(&file);
     visit_versions(&file);
+    visit_load_plan(&file);
     assert!(file.build_id().ok().flatten().map_or(true, |id| lies_in(input, id)));
     assert!(file.notes().take(200).flatten().all(|note| lies_in(input, note.name) && lies_in(input, note.desc)));
     assert!(file.dynamic().map_or(true, |entries| entries.take(200).count() <= 200));

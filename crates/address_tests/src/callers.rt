@@ -1,11 +1,17 @@
-//! What is at an address of a file, by its section headers.
+//! What is at an address of a file, by its section headers or by its dynamic segment.
 
 ghost use Rattle.std.specs.Prelude.{IfOk, None};
 ghost use Rattle.elf_addresses.specs.Claims.{IsInnermost};
 ghost use Rattle.elf_addresses.specs.SymbolAt.{claim_at};
 ghost use Rattle.elf_addresses.specs.SymbolClaims.{claim_of_symbols};
 
+use elf_addresses::dladdr::{DladdrSymbols, Reach, fill_reached};
 use elf_addresses::{AddressSymbols, At, IndexError, SymbolIndex, symbol_at};
+use elf_base::bytes::text_at;
+use elf_linking::view::{LinkedSymbol, strings};
+use elf_linking::{AnyTable, DynamicObject, LinkError};
+use std::io;
+use std::io::Write;
 use xmas_elf::ElfFile;
 use xmas_elf::bytes::{Record, Table};
 use xmas_elf::sections::SectionData;
@@ -37,4 +43,93 @@ pub fn symbol_by_index<E: Entry + Record>(
 {
     SymbolIndex::build(symbols, None, words)?;
     Ok(SymbolIndex::lend(symbols, None, words).symbol_at(address))
+}
+
+/// The name of the symbol of `.symtab` that an address is in, in a file of either class with fewer
+/// than 65,280 sections; `None` if no symbol covers it.
+pub fn symbol_name<'a>(file: &ElfFile<'a>, address: u64) -> Option<&'a str> {
+    let section = file.find_section_by_name(".symtab")?;
+    match section.get_data(file) {
+        Ok(SectionData::SymbolTable32(table)) => name_in(file, table, address),
+        Ok(SectionData::SymbolTable64(table)) => name_in(file, table, address),
+        _ => None,
+    }
+}
+
+// The name of the symbol of a table that an address is in.
+fn name_in<'a, E: Entry + Record>(
+    file: &ElfFile<'a>,
+    table: Table<'a, E>,
+    address: u64,
+) -> Option<&'a str> {
+    let symbols = AddressSymbols {
+        table,
+        strings: E::string_table(file)?.ok()?,
+        indices: Table::new(&[], file.byte_order()).ok()?,
+        machine: file.header.pt2.machine().raw(),
+    };
+    let at = symbol_at(&symbols, address, None)?;
+    text_at(symbols.strings, at.symbol.name() as usize).ok()
+}
+
+/// The name of the dynamic symbol that an address is in, by the dynamic segment, in a file of the
+/// class of `E`; `None` if no symbol covers it. The errors are those of `DynamicObject::read`.
+pub fn linked_name<'a, E: LinkedSymbol>(
+    file: &ElfFile<'a>,
+    address: u64,
+) -> Result<Option<&'a str>, LinkError> {
+    let object = DynamicObject::<E>::read(file)?;
+    let symbols = AddressSymbols {
+        table: object.symbols().table(),
+        strings: strings(file)?,
+        indices: Table::new(&[], file.byte_order())?,
+        machine: file.header.pt2.machine().raw(),
+    };
+    Ok(match symbol_at(&symbols, address, None) {
+        Some(at) => text_at(symbols.strings, at.symbol.name() as usize).ok(),
+        None => None,
+    })
+}
+
+/// The symbol that `dladdr` finds at an address, in a file of the class of `E`. There is a word for
+/// each dynamic symbol. The errors are those of `DynamicObject::read`.
+pub fn dladdr_in<E: LinkedSymbol>(
+    file: &ElfFile<'_>,
+    words: &mut [u32],
+    address: u64,
+) -> Result<Option<At<E>>, LinkError> {
+    let object = DynamicObject::<E>::read(file)?;
+    let reach = match object.table() {
+        AnyTable::Gnu(table) => {
+            fill_reached(&table, words);
+            Reach::Buckets(words)
+        }
+        AnyTable::Sysv(table) => Reach::Chains(table.chain_count()),
+    };
+    let symbols = DladdrSymbols {
+        table: object.symbols().table(),
+        strings: strings(file)?,
+        reach,
+    };
+    Ok(symbols.symbol_at(address))
+}
+
+/// Prints the symbol and the offset in it of each address of a backtrace. The words are those of an
+/// index (`SymbolIndex::build`).
+pub fn print_backtrace<E: Entry + Record, W: Write>(
+    symbols: &AddressSymbols<'_, E>,
+    words: &[u32],
+    addresses: &[u64],
+    out: &mut W,
+) -> io::Result<()> {
+    let index = SymbolIndex::lend(symbols, None, words);
+    for address in addresses {
+        let Some(at) = index.symbol_at(*address) else {
+            writeln!(out, "{address:x} ?")?;
+            continue;
+        };
+        let name = text_at(symbols.strings, at.symbol.name() as usize).unwrap_or("?");
+        writeln!(out, "{address:x} {name}+0x{:x}", at.offset)?;
+    }
+    Ok(())
 }

@@ -1,10 +1,14 @@
 //! Expected values are worked out by hand from the definitions, and never taken from the program's
 //! output.
 
+mod backtrace;
 mod candidates;
+mod dladdr;
 mod files;
 mod index;
+mod messages;
 mod nearest;
 mod ranges;
+mod reached;
 mod rows;
 mod want;

@@ -7,3 +7,4 @@ pub mod Listed
 pub mod Sorted
 pub mod Lasting
 pub mod Build
+pub mod Reached

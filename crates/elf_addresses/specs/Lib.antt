@@ -1,8 +1,11 @@
 pub mod Claims
 pub mod Index
-pub mod IndexNumber
+pub mod Message
 pub mod Candidates
 pub mod SymbolClaims
 pub mod SymbolRanges
 pub mod SymbolAt
 pub mod SectionAt
+pub mod Reached
+pub mod Dladdr
+pub mod DladdrRanges

@@ -10,7 +10,7 @@ use Rattle.elf_addresses.specs.declared.symbols.AddressSymbols.{AddressSymbols}
 
 -- the range of a symbol with its index
 abbrev pub symbol_claim : ℕ → SymbolFields → Claim
-symbol_claim index symbol = record { begin = symbol.value; size = symbol.size; rank = symbol_rank symbol.info; index = index }
+symbol_claim index symbol = record { begin = symbol.value; size = symbol.size; extent = symbol.size; rank = symbol_rank symbol.info; index = index }
 
 -- the symbols of a table
 abbrev pub symbol_items : {E : Type 0} → {r : _} → AddressSymbols E r → List E

@@ -11,8 +11,12 @@ pub struct Claim {
     pub begin: u64,
     /// The number of addresses; 0 for an open claim, whose end is unknown.
     pub size: u64,
-    /// Which of two claims to the same range comes first: that of the smaller rank.
-    pub rank: u8,
+    /// Which of two claims with the same first address comes first: that of the smaller extent. It
+    /// is the size, or 0 for claims whose sizes are not compared.
+    pub extent: u64,
+    /// Which of two claims with the same first address and extent comes first: that of the smaller
+    /// rank.
+    pub rank: u32,
     /// The index of the symbol in its table.
     pub index: usize,
 }
@@ -31,7 +35,7 @@ impl Claim {
     }
 
     /// Whether this claim is further in than another: a sized claim before an open one, then the
-    /// greater first address, the smaller size, the smaller rank, and the smaller index.
+    /// greater first address, the smaller extent, the smaller rank, and the smaller index.
     #[tactic(auto, unfolding(crate::specs::Claims::comes_before))]
     #[inline(always)]
     pub fn comes_before(&self, other: &Claim) -> bool
@@ -39,8 +43,8 @@ impl Claim {
     {
         let by_index = self.index < other.index;
         let by_rank = less_or(u64::from(self.rank), u64::from(other.rank), by_index);
-        let by_size = less_or(self.size, other.size, by_rank);
-        let by_begin = less_or(other.begin, self.begin, by_size);
+        let by_extent = less_or(self.extent, other.extent, by_rank);
+        let by_begin = less_or(other.begin, self.begin, by_extent);
         less_or(self.openness(), other.openness(), by_begin)
     }
 

@@ -9,6 +9,7 @@
 
 mod claim;
 mod claims;
+pub mod dladdr;
 mod error;
 mod find;
 mod index;

@@ -132,7 +132,8 @@ impl<E: Entry + Record> Claims for SymbolClaims<'_, '_, E> {
         Some(Claim {
             begin: symbol.value(),
             size: symbol.size(),
-            rank: rank_of(symbol.info()),
+            extent: symbol.size(),
+            rank: u32::from(rank_of(symbol.info())),
             index,
         })
     }

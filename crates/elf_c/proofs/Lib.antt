@@ -14,3 +14,6 @@ pub mod OpenedTables
 pub mod OpenedDynamics
 pub mod OpenedFound
 pub mod LookedUp
+pub mod Storing
+pub mod AddressIndexes
+pub mod LoadPlans

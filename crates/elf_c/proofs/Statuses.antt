@@ -1,14 +1,20 @@
--- No error has number 0, which is the status of a call that was not refused.
+-- No error has number 0, which is the status of a call that was not refused; the numbers of each library are apart.
 use Rattle.std.proofs.Common.{◌<◌, lit<}
+use Rattle.elf_addresses.specs.Message.{index_number}
+use Rattle.elf_addresses.specs.declared.error.IndexError.{IndexError}
+use Rattle.elf_addresses.specs.declared.error.IndexError.TheVariants as index_error
 use Rattle.elf_base.specs.Message.{error_number}
 use Rattle.elf_base.specs.declared.error.ElfError.{ElfError}
 use Rattle.elf_base.specs.declared.error.ElfError.TheVariants.{ShortPart1}
 use Rattle.elf_linking.specs.Message.{link_number}
 use Rattle.elf_linking.specs.declared.error.LinkError.{LinkError}
 use Rattle.elf_linking.specs.declared.error.LinkError.TheVariants as link_error
+use Rattle.elf_loading.specs.Message.{load_number}
+use Rattle.elf_loading.specs.declared.error.LoadError.{LoadError}
+use Rattle.elf_loading.specs.declared.error.LoadError.TheVariants as load_error
 use Rattle.elf_c.specs.Status.{refusal_number}
 use Rattle.elf_c.specs.declared.status.Refusal.{Refusal}
-use Rattle.elf_c.specs.declared.status.Refusal.TheVariants.{Elf, Link}
+use Rattle.elf_c.specs.declared.status.Refusal.TheVariants.{Elf, Index, Link, Load}
 
 pub error_above : (error : ElfError) → 0 < error_number error
 error_above ShortPart1 = lit< tt
@@ -18,7 +24,34 @@ pub link_above : (error : LinkError) → 0 < link_number error
 link_above (link_error.Elf error) = error_above error
 link_above _ = lit< tt
 
+-- the numbers of `elf_linking` are below 300, those of `elf_loading` between 300 and 400, and those of `elf_addresses` above
+error_below : (error : ElfError) → error_number error < 300
+error_below ShortPart1 = lit< tt
+error_below _ = lit< tt
+
+pub link_below : (error : LinkError) → link_number error < 300
+link_below (link_error.Elf error) = error_below error
+link_below _ = lit< tt
+
+pub load_within : (error : LoadError) → (300 < load_number error) × (load_number error < 400)
+load_within load_error.Type = (lit< tt, lit< tt)
+load_within _ = (lit< tt, lit< tt)
+
+pub index_within : (error : IndexError) → 400 < index_number error
+index_within index_error.ManySymbols = lit< tt
+index_within index_error.FewWords = lit< tt
+
+load_above : (error : LoadError) → 0 < load_number error
+load_above load_error.Type = lit< tt
+load_above _ = lit< tt
+
+index_above : (error : IndexError) → 0 < index_number error
+index_above index_error.ManySymbols = lit< tt
+index_above index_error.FewWords = lit< tt
+
 pub refusal_above : (refusal : Refusal) → 0 < refusal_number refusal
 refusal_above (Elf error) = error_above error
 refusal_above (Link error) = link_above error
+refusal_above (Load error) = load_above error
+refusal_above (Index error) = index_above error
 refusal_above _ = lit< tt

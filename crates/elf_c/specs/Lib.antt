@@ -16,3 +16,5 @@ pub mod HashTables
 pub mod LookUps
 pub mod Versions
 pub mod FoundSymbols
+pub mod AddressIndex
+pub mod LoadPlans

@@ -3,14 +3,18 @@
 use Rattle.std.specs.Prelude.{◌≡◌, ℕ, List, codes, Result, Ok, Err}
 use Rattle.elf_base.specs.Message.{error_number, row_of}
 use Rattle.elf_base.specs.declared.error.ElfError.{ElfError}
+use Rattle.elf_addresses.specs.Message.{index_row}
 use Rattle.elf_linking.specs.Message.{link_row}
+use Rattle.elf_loading.specs.Message.{load_row}
 use Rattle.elf_c.specs.declared.status.Refusal.{Refusal}
-use Rattle.elf_c.specs.declared.status.Refusal.TheVariants.{Elf, Link, OtherData, NoRecord, NotFound}
+use Rattle.elf_c.specs.declared.status.Refusal.TheVariants.{Elf, Index, Link, Load, OtherData, NoRecord, NotFound}
 
 -- the number and the text of an error of an export
 abbrev pub refusal_row : Refusal → ℕ × List ℕ
 refusal_row (Elf error) = row_of error
 refusal_row (Link error) = link_row error
+refusal_row (Load error) = load_row error
+refusal_row (Index error) = index_row error
 refusal_row OtherData = (201, codes "A section holds other data than what is asked for")
 refusal_row NoRecord = (202, codes "A table has no record with this index")
 refusal_row NotFound = (203, codes "Nothing has this name")

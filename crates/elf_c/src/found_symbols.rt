@@ -14,7 +14,7 @@ ghost use Rattle.elf_c.specs.declared.status.Refusal.{Refusal};
 use crate::dynamic_symbols::is_narrow;
 use crate::file::Parsed;
 use crate::status::{Refusal, give};
-use crate::symbols::Symbol;
+use crate::symbols::{NO_SYMBOL, Symbol};
 use elf_base::ElfError;
 use elf_linking::find::{Use, Wanted};
 use elf_linking::view::LinkedSymbol;
@@ -23,16 +23,6 @@ use std::str::from_utf8;
 use xmas_elf::ElfFile;
 use xmas_elf::bytes::Record;
 use xmas_elf::symbol_table::{DynEntry32, DynEntry64, Entry};
-
-// The numbers of no symbol.
-const NO_SYMBOL: Symbol = Symbol {
-    value: 0,
-    size: 0,
-    name: 0,
-    shndx: 0,
-    info: 0,
-    other: 0,
-};
 
 /// The symbol that a reference gets, as numbers.
 #[repr(C)]

@@ -7,6 +7,7 @@
 //! the errors, and `message` has their texts. The C declarations are `bindings/include/xmas_elf.h`.
 #![tactic(auto)]
 
+pub mod address_index;
 pub mod addresses;
 mod batch;
 pub mod dynamic;
@@ -15,6 +16,7 @@ pub mod dynamic_texts;
 pub mod file;
 pub mod found_symbols;
 pub mod hash_tables;
+pub mod load_plans;
 pub mod look_ups;
 pub mod message;
 pub mod names;

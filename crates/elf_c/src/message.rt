@@ -1,13 +1,46 @@
 //! The texts of the statuses.
 
-ghost use Rattle.std.specs.Prelude.{◌≡◌, ℕ, List, Some, length};
+ghost use Rattle.std.specs.Prelude.{◌≡◌, ◌<◌, ℕ, IfSome, List, Some, length};
+ghost use Rattle.elf_addresses.specs.Message.{index_number};
+ghost use Rattle.elf_addresses.specs.declared.error.IndexError.{IndexError};
+ghost use Rattle.elf_linking.specs.Message.{link_number};
+ghost use Rattle.elf_linking.specs.declared.error.LinkError.{LinkError};
+ghost use Rattle.elf_loading.specs.Message.{load_number};
+ghost use Rattle.elf_loading.specs.declared.error.LoadError.{LoadError};
 ghost use Rattle.elf_c.specs.Status.{refusal_message, refusal_number};
 ghost use Rattle.elf_c.specs.Texts.{HasNumber, IsStatusText, error_within, written};
 ghost use Rattle.elf_c.specs.declared.status.Refusal.{Refusal};
+ghost use Rattle.elf_c.specs.declared.status.Refusal.TheVariants.{Index, Link, Load};
 
 use crate::status::Refusal;
+use elf_addresses::IndexError;
 use elf_base::ElfError;
 use elf_linking::LinkError;
+use elf_loading::LoadError;
+
+// The error of `elf_linking`, `elf_loading` or `elf_addresses` with a number.
+#[tactic(auto, using(crate::proofs::Statuses::link_below, crate::proofs::Statuses::load_within, crate::proofs::Statuses::index_within))]
+fn library_refusal(number: u32) -> Option<Refusal>
+    ensures found { IfSome result (λ refusal. (100 < number)
+        × (refusal_number refusal ≡ number)) }
+    ensures link { (error : LinkError) → link_number error ≡ number → 100 < number
+        → result ≡ Some (Link error) }
+    ensures load { (error : LoadError) → load_number error ≡ number
+        → result ≡ Some (Load error) }
+    ensures index { (error : IndexError) → index_number error ≡ number
+        → result ≡ Some (Index error) }
+{
+    if number < 300 {
+        let error = LinkError::with_number(number)?;
+        return Some(Refusal::Link(error));
+    }
+    if number < 400 {
+        let error = LoadError::with_number(number)?;
+        return Some(Refusal::Load(error));
+    }
+    let error = IndexError::with_number(number)?;
+    Some(Refusal::Index(error))
+}
 
 // The error with a number; `Refusal::Elf` for an error that `elf_linking` passes on, too.
 fn refusal_with(number: u32) -> Option<Refusal>
@@ -74,10 +107,7 @@ fn refusal_with(number: u32) -> Option<Refusal>
         201 => Some(Refusal::OtherData),
         202 => Some(Refusal::NoRecord),
         203 => Some(Refusal::NotFound),
-        _ => match LinkError::with_number(number) {
-            Some(error) => Some(Refusal::Link(error)),
-            None => None,
-        },
+        _ => library_refusal(number),
     }
 }
 
@@ -89,6 +119,8 @@ impl Refusal {
         match self {
             Refusal::Elf(error) => error.message(),
             Refusal::Link(error) => error.message(),
+            Refusal::Load(error) => error.message(),
+            Refusal::Index(error) => error.message(),
             Refusal::OtherData => "A section holds other data than what is asked for",
             Refusal::NoRecord => "A table has no record with this index",
             Refusal::NotFound => "Nothing has this name",

@@ -2,12 +2,16 @@
 
 ghost use Rattle.std.specs.Prelude.{◌≡◌, ℕ};
 ghost use Rattle.elf_base.specs.Message.{error_number};
+ghost use Rattle.elf_addresses.specs.Message.{index_number};
 ghost use Rattle.elf_linking.specs.Message.{link_number};
+ghost use Rattle.elf_loading.specs.Message.{load_number};
 ghost use Rattle.elf_c.specs.Status.{GivesBy, refusal_number};
-ghost use Rattle.elf_c.specs.declared.status.Refusal.TheVariants.{Elf, Link};
+ghost use Rattle.elf_c.specs.declared.status.Refusal.TheVariants.{Elf, Index, Link, Load};
 
+use elf_addresses::IndexError;
 use elf_base::ElfError;
 use elf_linking::LinkError;
+use elf_loading::LoadError;
 
 /// The status of a successful call.
 pub const OK: u32 = 0;
@@ -19,6 +23,10 @@ pub enum Refusal {
     Elf(ElfError),
     /// An error of `elf_linking`.
     Link(LinkError),
+    /// An error of `elf_loading`.
+    Load(LoadError),
+    /// An error of `elf_addresses`.
+    Index(IndexError),
     /// A section contains other data than requested.
     OtherData,
     /// A table has no record at this index.
@@ -40,6 +48,22 @@ impl From<LinkError> for Refusal {
 
     fn from(error: LinkError) -> Self {
         Refusal::Link(error)
+    }
+}
+
+impl From<LoadError> for Refusal {
+    ghost from_gives = { λ error refusal. refusal ≡ Load error };
+
+    fn from(error: LoadError) -> Self {
+        Refusal::Load(error)
+    }
+}
+
+impl From<IndexError> for Refusal {
+    ghost from_gives = { λ error refusal. refusal ≡ Index error };
+
+    fn from(error: IndexError) -> Self {
+        Refusal::Index(error)
     }
 }
 
@@ -67,6 +91,22 @@ impl Numbered for LinkError {
     }
 }
 
+impl Numbered for LoadError {
+    ghost number_of = { load_number };
+
+    fn number(self) -> u32 {
+        LoadError::number(&self)
+    }
+}
+
+impl Numbered for IndexError {
+    ghost number_of = { index_number };
+
+    fn number(self) -> u32 {
+        IndexError::number(&self)
+    }
+}
+
 // The number of an error that was met before.
 impl Numbered for u32 {
     ghost number_of = { λ number. number };
@@ -83,6 +123,8 @@ impl Numbered for Refusal {
         match self {
             Refusal::Elf(error) => error.number(),
             Refusal::Link(error) => error.number(),
+            Refusal::Load(error) => error.number(),
+            Refusal::Index(error) => error.number(),
             Refusal::OtherData => 201,
             Refusal::NoRecord => 202,
             Refusal::NotFound => 203,

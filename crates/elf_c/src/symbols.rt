@@ -27,6 +27,16 @@ pub struct Symbol {
     pub other: u8,
 }
 
+/// The numbers of no symbol.
+pub(crate) const NO_SYMBOL: Symbol = Symbol {
+    value: 0,
+    size: 0,
+    name: 0,
+    shndx: 0,
+    info: 0,
+    other: 0,
+};
+
 impl Symbol {
     // The numbers of a symbol.
     #[inline(always)]

@@ -1,5 +1,4 @@
 pub mod Executable
-pub mod FunctionAt
 pub mod Kinds
 pub mod Linked
 pub mod Loaded

@@ -28,7 +28,6 @@ ghost use Rattle.xmas_elf.specs.Text.{IsText};
 ghost use Rattle.xmas_elf.specs.Types.{ElfFile, SectionHeader};
 
 pub mod accepted;
-pub mod backtrace;
 pub mod data;
 pub mod first;
 pub mod hash;

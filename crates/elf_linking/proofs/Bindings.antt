@@ -6,7 +6,7 @@ use Rattle.std.specs.Prelude.{option_map}
 use Rattle.elf_linking.specs.DynamicObject.{object_dynamic_symbols, object_view}
 use Rattle.elf_linking.specs.DynamicView.{is_symbolic, view_entries}
 use Rattle.elf_linking.specs.Find.{FindsRight, IsFound}
-use Rattle.elf_linking.specs.Scope.{AnswersAsked, AnswersRight, AreGood, BindsReference, BindsRight, FindsAt, GivesAt, HasAt, HasNameFor, HasNamedSymbol, IsBound, IsFirstFor, IsFirstGiven, IsProtectedBound, IsReferenceBound, asked, asked_of, asked_parts, at_home, elsewhere, fails, refused, symbols_at, undefined, unfound, unread, wanted_parts}
+use Rattle.elf_linking.specs.Scope.{AnswersAsked, AnswersRight, AreGood, BindsReference, BindsRight, FindsAt, GivesAt, HasAt, HasNamedSymbol, IsBound, IsFirstFor, IsFirstGiven, IsProtectedBound, IsReferenceBound, asked, asked_of, asked_parts, at_home, elsewhere, fails, refused, symbols_at, undefined, unfound, unread, wanted_parts}
 use Rattle.elf_linking.specs.VersionTables.{result_map}
 use Rattle.elf_linking.specs.declared.error.LinkError.{LinkError}
 use Rattle.elf_linking.specs.declared.error.LinkError.TheVariants.{ObjectIndex}
@@ -19,7 +19,7 @@ use Rattle.elf_linking.specs.declared.scope.Bound.{Bound}
 use Rattle.elf_linking.specs.declared.scope.asking.Asked.{Asked}
 use Rattle.elf_linking.specs.declared.scope.asking.Asked.TheVariants.{Look, Own}
 use Rattle.elf_linking.proofs.Finds.{found_right}
-use Rattle.elf_linking.proofs.Questions.{asked_read, found_alone}
+use Rattle.elf_linking.proofs.Questions.{HasNameFor, asked_read, found_alone}
 use Rattle.elf_linking.proofs.Scopes.{first_so, gives_so, match_so, match_some}
 use Rattle.xmas_elf.specs.Symbol.{SymbolFields}
 

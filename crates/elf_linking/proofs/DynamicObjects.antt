@@ -8,8 +8,10 @@ use Rattle.elf_base.specs.declared.error.ElfError.{ElfError}
 use Rattle.elf_base.specs.FileHeader.{file_class, file_order}
 use Rattle.elf_base.specs.Table.{table_data, table_order}
 use Rattle.elf_base.specs.declared.bytes.table.Table.{Table}
-use Rattle.elf_linking.specs.DynamicObject.{AreOfClass, IsNameAt, same_class}
-use Rattle.elf_linking.specs.DynamicView.{AreSymbols, as_link_error, text_in_strings}
+use Rattle.elf_linking.specs.DynamicObject.{AreOfClassFor, IsNameAt, IsObjectFor, IsObjectRefusedFor, IsReachedObject, IsReachedRefused, no_part, same_class}
+use Rattle.elf_linking.specs.DynamicView.{AreSymbols, as_link_error, counted_symbols_of, dynamic_entries_of, text_in_strings}
+use Rattle.elf_linking.specs.References.{IsReachedCount}
+use Rattle.elf_linking.specs.declared.object.DynamicObject.{DynamicObject}
 use Rattle.elf_linking.specs.Loaded.{lent}
 use Rattle.elf_linking.specs.VersionTables.{VersionTables, version_tables_of}
 use Rattle.elf_linking.specs.declared.error.LinkError.{LinkError}
@@ -18,12 +20,23 @@ use Rattle.elf_records.specs.declared.dynamic.Dynamic.{Dynamic}
 use Rattle.xmas_elf.specs.Symbol.{Symbols}
 use Rattle.xmas_elf.specs.declared.ElfFile.{ElfFile}
 
+-- the bytes of the symbols: as many as are given, otherwise as many as the hash table counts
+abbrev pub AreSymbolsFor : Option ℕ → ElfFile → List (Dynamic ℕ) → ℕ → Result (List ℕ) LinkError → Type 0
+AreSymbolsFor count file entries size bytes = MatchOption count (AreSymbols file entries size bytes) (λ many. bytes ≡ counted_symbols_of file entries many size)
+
 -- the symbols that were read are those of the class of the file
-pub of_class : {E : Type 0} → {r : _} → (class size : ℕ) (file : ElfFile) (entries : List (Dynamic ℕ)) (found : Result (Table E r) LinkError) → file_class file.header ≡ class
-    → MatchResult found (λ symbols. AreSymbols file entries size (Ok (table_data symbols)) × (table_order symbols ≡ file_order file.header)) (λ error. AreSymbols file entries size (Err error))
-    → MatchResult found (λ symbols. AreOfClass class size file entries (Ok (table_data symbols)) × (table_order symbols ≡ file_order file.header)) (λ error. AreOfClass class size file entries (Err error))
-of_class class size file entries (Ok symbols) same (are, order) = (same_class (Ok (table_data symbols)) same are, order)
-of_class class size file entries (Err error) same are = same_class (Err error) same are
+pub of_class : {E : Type 0} → {r : _} → (count : Option ℕ) (class size : ℕ) (file : ElfFile) (entries : List (Dynamic ℕ)) (found : Result (Table E r) LinkError) → file_class file.header ≡ class
+    → MatchResult found (λ symbols. AreSymbolsFor count file entries size (Ok (table_data symbols)) × (table_order symbols ≡ file_order file.header)) (λ error. AreSymbolsFor count file entries size (Err error))
+    → MatchResult found (λ symbols. AreOfClassFor count class size file entries (Ok (table_data symbols)) × (table_order symbols ≡ file_order file.header)) (λ error. AreOfClassFor count class size file entries (Err error))
+of_class count class size file entries (Ok symbols) same (are, order) = (same_class (Ok (table_data symbols)) same are, order)
+of_class count class size file entries (Err error) same are = same_class (Err error) same are
+
+-- the same of as many symbols as are given
+pub counted : {E : Type 0} → {r : _} → (count size : ℕ) (file : ElfFile) (entries : List (Dynamic ℕ)) (found : Result (Table E r) LinkError)
+    → MatchResult found (λ symbols. (counted_symbols_of file entries count size ≡ Ok (table_data symbols)) × (table_order symbols ≡ file_order file.header)) (λ error. counted_symbols_of file entries count size ≡ Err error)
+    → MatchResult found (λ symbols. AreSymbolsFor (Some count) file entries size (Ok (table_data symbols)) × (table_order symbols ≡ file_order file.header)) (λ error. AreSymbolsFor (Some count) file entries size (Err error))
+counted count size file entries (Ok symbols) (is, order) = (sym is, order)
+counted count size file entries (Err error) is = sym is
 
 -- the number of records in bytes that are a whole number of records
 count_in : (count size : ℕ) (bytes : List ℕ) → 0 < size → count * size ≡ length bytes → length bytes / size ≡ count
@@ -66,3 +79,9 @@ texts_ok text symbol at own part found same texts =
 pub texts_err : {E : Type 0} (text : E → Option (List ℕ)) (symbol : E) (at : Option E) (own : Option (List ℕ)) (error : LinkError) → Some symbol ≡ at → own ≡ text symbol → ((name : List ℕ) → (own ≡ Some name) ↔ ⊥) → AreTexts text (Err error) at
 texts_err text symbol at own error found same texts =
     subst (AreTexts text (Err error)) found (subst (λ t. (name : List ℕ) → (t ≡ Some name) ↔ ⊥) same texts)
+
+-- what is read of a file with as many symbols as are reached
+pub reached : {E : Type 0} → {r : _} → (class size : ℕ) (file : ElfFile) (entries : List (Dynamic ℕ)) (count : ℕ) (found : Result (DynamicObject E r) LinkError) → dynamic_entries_of file ≡ Ok entries → IsReachedCount file entries (Ok count)
+    → MatchResult found (IsObjectFor (Some count) class size file) (IsObjectRefusedFor (Some count) class size file) → MatchResult found (IsReachedObject class size file) (IsReachedRefused class size file)
+reached class size file entries count (Ok object) read counts is = record { entries = entries; count = count; entries_are = read; counted = counts; object_is = is }
+reached class size file entries count (Err error) read counts is = no_part entries count error read counts is

@@ -7,7 +7,7 @@ use Rattle.elf_base.specs.Table.{table_items}
 use Rattle.elf_linking.specs.DynamicObject.{object_dynamic_symbols, object_machine, object_name, object_records, object_versions}
 use Rattle.elf_linking.specs.Find.{AreReadable, DynamicSymbols, IsDefault, IsFound, asked_first, faulty, none_shown, one_shown, otherwise, two_shown}
 use Rattle.elf_linking.specs.References.{use_of}
-use Rattle.elf_linking.specs.Scope.{HasNameFor, asked_of, asked_with, binds_to_itself, if_protected, is_hidden_need, text_alone, wanted_by, wanted_of, wanted_parts}
+use Rattle.elf_linking.specs.Scope.{asked_of, asked_with, binds_to_itself, if_protected, is_hidden_need, text_alone, wanted_by, wanted_of, wanted_parts}
 use Rattle.elf_linking.specs.VersionTables.{result_map, version_tables}
 use Rattle.elf_linking.specs.Versions.{NamedParts, VersionParts, named_hash, named_name, number_of, version_at}
 use Rattle.elf_linking.specs.declared.error.LinkError.{LinkError}
@@ -20,6 +20,12 @@ use Rattle.elf_linking.specs.declared.scope.asking.Asked.{Asked}
 use Rattle.elf_linking.specs.declared.scope.asking.Asked.TheVariants.{Look, Own}
 use Rattle.elf_linking.proofs.VersionsRead.{HasName, item_ok, version_read}
 use Rattle.xmas_elf.specs.Symbol.{SymbolFields}
+
+-- the object has the symbol of a reference, and its name can be read unless the reference gets the symbol itself
+abbrev pub HasNameFor : {E : Type 0} → {r : _} → (E → SymbolFields) → DynamicObject E r → Reference → Type 0
+HasNameFor fields asking reference =
+    IsSomeAnd (slice_get (table_items (object_records asking)) reference.symbol) (λ symbol.
+    binds_to_itself (fields symbol) ≡ false → IsOk (object_name fields asking reference.symbol))
 
 -- the version that is wanted can be read, if the name of what bears it can
 wanted_read : (version : Option VersionParts) → IfSome version (λ v. HasName v.named) → IsOk (wanted_of version)

@@ -1,6 +1,6 @@
 -- One value with the dynamic symbols of a file: the entries of its dynamic segment, its hash table, its
 -- symbols, the string table of their names, and its version tables.
-use Rattle.std.specs.Prelude.{◌≡◌, ◌≢◌, ◌/◌, ℕ, List, Option, Some, None, Result, Ok, Err, IfOk, MatchResult, length, slice_get}
+use Rattle.std.specs.Prelude.{◌≡◌, ◌≢◌, ◌/◌, ℕ, List, Option, Some, None, Result, Ok, Err, IfOk, MatchOption, MatchResult, length, slice_get}
 use Rattle.std.specs.Borrow.{Bor}
 use Rattle.std.specs.Result.{result_ok}
 use Rattle.elf_base.specs.FileHeader.{file_class, file_order}
@@ -9,9 +9,9 @@ use Rattle.elf_base.specs.Text.{text_of}
 use Rattle.elf_base.specs.declared.bytes.Order.{Order}
 use Rattle.elf_base.specs.declared.bytes.table.Table.{Table}
 use Rattle.elf_linking.specs.AnyTable.{IsLinkedTable}
-use Rattle.elf_linking.specs.DynamicView.{AreSymbols, LieAsSymbols, LiesAsFileStrings, LiesAsStrings, bytes_in_strings, dynamic_entries_of, strings_by, dynamic_strings_of, text_in_strings, view_entries, view_strings, view_table}
+use Rattle.elf_linking.specs.DynamicView.{AreSymbols, LieAsSymbols, LiesAsFileStrings, LiesAsStrings, bytes_in_strings, counted_symbols_of, dynamic_entries_of, strings_by, dynamic_strings_of, text_in_strings, view_entries, view_strings, view_table}
 use Rattle.elf_linking.specs.Find.{DynamicSymbols, dynamic_symbols}
-use Rattle.elf_linking.specs.References.{file_machine}
+use Rattle.elf_linking.specs.References.{IsReachedCount, file_machine}
 use Rattle.elf_linking.specs.VersionTables.{version_tables, version_tables_of}
 use Rattle.elf_linking.specs.declared.any_table.AnyTable.{AnyTable}
 use Rattle.elf_linking.specs.declared.error.LinkError.{LinkError}
@@ -57,23 +57,29 @@ abbrev pub object_dynamic_symbols : {E : Type 0} → {r : _} → (E → SymbolFi
 object_dynamic_symbols fields object =
     dynamic_symbols (object_table object) (object_symbols fields object) (version_tables (object_versions object))
 
--- the bytes of the symbols of a file of this class, which have this size each, or why there are none
-pub data AreOfClass (class size : ℕ) (file : ElfFile) (entries : List (Dynamic ℕ)) : Result (List ℕ) LinkError → Type 0 where
+-- the bytes of the symbols of a file of this class, which have this size each, or why there are none; they are as
+-- many as are given, otherwise as many as the hash table counts
+pub data AreOfClassFor (count : Option ℕ) (class size : ℕ) (file : ElfFile) (entries : List (Dynamic ℕ)) : Result (List ℕ) LinkError → Type 0 where
   same_class : (bytes : Result (List ℕ) LinkError) → file_class file.header ≡ class
-      → AreSymbols file entries size bytes → AreOfClass class size file entries bytes
-  other_class : file_class file.header ≢ class → AreOfClass class size file entries (Err UnknownClass)
+      → MatchOption count (AreSymbols file entries size bytes) (λ many. bytes ≡ counted_symbols_of file entries many size)
+      → AreOfClassFor count class size file entries bytes
+  other_class : file_class file.header ≢ class → AreOfClassFor count class size file entries (Err UnknownClass)
+
+-- as many as the hash table counts
+abbrev pub AreOfClass : ℕ → ℕ → ElfFile → List (Dynamic ℕ) → Result (List ℕ) LinkError → Type 0
+AreOfClass = AreOfClassFor None
 
 -- the machine of the file (e_machine)
 abbrev pub object_machine : {E : Type 0} → {r : _} → DynamicObject E r → ℕ
 object_machine object = file_machine (object_file object)
 
 -- the object is that of a file of this class, with symbols of this size: each part is what the calls of the
--- dynamic segment return
-pub record IsObject {E : Type 0} {r : _} (class size : ℕ) (file : ElfFile) (object : DynamicObject E r) : Type 0 where
+-- dynamic segment return. The symbols are as many as are given, otherwise as many as the hash table counts
+pub record IsObjectFor {E : Type 0} {r : _} (count : Option ℕ) (class size : ℕ) (file : ElfFile) (object : DynamicObject E r) : Type 0 where
   pub file_is : object_file object ≡ file
   pub entries_are : dynamic_entries_of file ≡ Ok (view_entries (object_view object))
   pub table_is : IsLinkedTable file (view_entries (object_view object)) (Ok (object_table object))
-  pub symbols_are : AreOfClass class size file (view_entries (object_view object)) (Ok (table_data (object_records object)))
+  pub symbols_are : AreOfClassFor count class size file (view_entries (object_view object)) (Ok (table_data (object_records object)))
   pub order_is : table_order (object_records object) ≡ file_order file.header
   pub symbols_lie : LieAsSymbols file (view_entries (object_view object)) (table_bytes (object_records object))
   pub strings_are : dynamic_strings_of file ≡ Ok (object_strings object).now
@@ -82,6 +88,10 @@ pub record IsObject {E : Type 0} {r : _} (class size : ℕ) (file : ElfFile) (ob
   pub view_strings_lie : IfOk (view_table (object_view object)) (LiesAsStrings file (view_entries (object_view object)))
   pub versions_are : version_tables_of file (view_entries (object_view object)) (Ok (object_strings object).now)
       (length (table_items (object_records object))) ≡ Ok (version_tables (object_versions object))
+
+-- the same with as many symbols as the hash table counts
+abbrev pub IsObject : {E : Type 0} → {r : _} → ℕ → ℕ → ElfFile → DynamicObject E r → Type 0
+IsObject class size file object = IsObjectFor None class size file object
 
 -- the symbols in bytes, each of a size, with their names in a string table
 abbrev pub symbols_with : {E : Type 0} → ℕ → (List ℕ → E) → (E → SymbolFields) → List ℕ → List ℕ → Symbols E
@@ -99,29 +109,50 @@ pub record AreDynamicSymbols {E : Type 0} (class size : ℕ) (entry : Order → 
   pub strings : List ℕ
   pub entries_are : dynamic_entries_of file ≡ Ok entries
   pub table_is : IsLinkedTable file entries (Ok all.table)
-  pub bytes_are : AreOfClass class size file entries (Ok bytes)
+  pub bytes_are : AreOfClassFor None class size file entries (Ok bytes)
   pub strings_are : strings_by file entries ≡ Ok strings
   pub symbols_are : all.symbols ≡ symbols_with size (entry (file_order file.header)) fields strings bytes
   pub versions_are : version_tables_of file entries (Ok strings) (length all.symbols.items) ≡ Ok all.versions
 
 -- why there is no such object: the first error, of the entries, of the hash table, of the symbols, of the
 -- string table, or of the version tables
-pub data IsObjectRefused (class size : ℕ) (file : ElfFile) : LinkError → Type 0 where
-  no_entries : (error : LinkError) → dynamic_entries_of file ≡ Err error → IsObjectRefused class size file error
+pub data IsObjectRefusedFor (count : Option ℕ) (class size : ℕ) (file : ElfFile) : LinkError → Type 0 where
+  no_entries : (error : LinkError) → dynamic_entries_of file ≡ Err error → IsObjectRefusedFor count class size file error
   no_table : (entries : List (Dynamic ℕ)) (error : LinkError) → dynamic_entries_of file ≡ Ok entries
-      → IsLinkedTable file entries (Err error) → IsObjectRefused class size file error
+      → IsLinkedTable file entries (Err error) → IsObjectRefusedFor count class size file error
   no_symbols : (entries : List (Dynamic ℕ)) (table : AnyTable) (error : LinkError)
       → dynamic_entries_of file ≡ Ok entries → IsLinkedTable file entries (Ok table)
-      → AreOfClass class size file entries (Err error) → IsObjectRefused class size file error
+      → AreOfClassFor count class size file entries (Err error) → IsObjectRefusedFor count class size file error
   no_strings : (entries : List (Dynamic ℕ)) (table : AnyTable) (symbols : List ℕ) (error : LinkError)
       → dynamic_entries_of file ≡ Ok entries → IsLinkedTable file entries (Ok table)
-      → AreOfClass class size file entries (Ok symbols) → strings_by file entries ≡ Err error
-      → IsObjectRefused class size file error
+      → AreOfClassFor count class size file entries (Ok symbols) → strings_by file entries ≡ Err error
+      → IsObjectRefusedFor count class size file error
   no_versions : (entries : List (Dynamic ℕ)) (table : AnyTable) (symbols strings : List ℕ) (error : LinkError)
       → dynamic_entries_of file ≡ Ok entries → IsLinkedTable file entries (Ok table)
-      → AreOfClass class size file entries (Ok symbols) → strings_by file entries ≡ Ok strings
+      → AreOfClassFor count class size file entries (Ok symbols) → strings_by file entries ≡ Ok strings
       → version_tables_of file entries (Ok strings) (length symbols / size) ≡ Err error
-      → IsObjectRefused class size file error
+      → IsObjectRefusedFor count class size file error
+
+-- the same where the hash table counts the symbols
+abbrev pub IsObjectRefused : ℕ → ℕ → ElfFile → LinkError → Type 0
+IsObjectRefused class size file error = IsObjectRefusedFor None class size file error
+
+-- the object is that of a file with as many symbols as look-ups and relocations reach
+pub record IsReachedObject {E : Type 0} {r : _} (class size : ℕ) (file : ElfFile) (object : DynamicObject E r) : Type 0 where
+  pub entries : List (Dynamic ℕ)
+  pub count : ℕ
+  pub entries_are : dynamic_entries_of file ≡ Ok entries
+  pub counted : IsReachedCount file entries (Ok count)
+  pub object_is : IsObjectFor (Some count) class size file object
+
+-- why there is no such object: the first error, of the entries, of the count, or of what is read then
+pub data IsReachedRefused (class size : ℕ) (file : ElfFile) : LinkError → Type 0 where
+  no_view : (error : LinkError) → dynamic_entries_of file ≡ Err error → IsReachedRefused class size file error
+  no_count : (entries : List (Dynamic ℕ)) (error : LinkError) → dynamic_entries_of file ≡ Ok entries
+      → IsReachedCount file entries (Err error) → IsReachedRefused class size file error
+  no_part : (entries : List (Dynamic ℕ)) (count : ℕ) (error : LinkError) → dynamic_entries_of file ≡ Ok entries
+      → IsReachedCount file entries (Ok count) → IsObjectRefusedFor (Some count) class size file error
+      → IsReachedRefused class size file error
 
 -- the text in a string table at the name of the symbol at an index, or why there is none
 abbrev pub name_of_symbol : {E : Type 0} → (E → SymbolFields) → List ℕ → Option E → Result (List ℕ) LinkError

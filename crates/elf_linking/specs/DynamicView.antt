@@ -1,6 +1,6 @@
 -- What the dynamic segment of a file leads to (gABI, "Dynamic Section"): its entries, the string table, the hash
 -- tables, and the symbols with their number and their names.
-use Rattle.std.specs.Prelude.{ℕ, ◌==◌, Bool, List, [], ◌∷◌, length, Option, Result, Err, option_map, ok_or, if◌then◌else◌, ◌≡◌, None, Some, IfOk, IsSomeAnd, Ok, IsOkAnd, nat_lt, ◌*◌}
+use Rattle.std.specs.Prelude.{ℕ, ◌==◌, Bool, List, [], ◌∷◌, length, Option, Result, Err, option_map, ok_or, if◌then◌else◌, ◌≡◌, None, Some, IfOk, IsSomeAnd, Ok, IsOkAnd, nat_lt, ◌*◌, ◌^◌}
 use Rattle.std.specs.List.{find}
 use Rattle.std.specs.Borrow.{Bor}
 use Rattle.elf_base.specs.Refusal.{and_then, unless}
@@ -15,7 +15,7 @@ use Rattle.xmas_elf.specs.declared.program.program_header.ProgramHeader.{Program
 pub use Rattle.elf_linking.specs.Entries.{all_entries, entries_left, has_symbolic_flag, has_tag, is_symbolic, number_with, pairs_left, pairs_of, until_null, whole_entries}
 use Rattle.elf_linking.specs.Layouts.{gnu_table_of}
 use Rattle.elf_linking.specs.declared.error.LinkError.{LinkError}
-use Rattle.elf_linking.specs.declared.error.LinkError.TheVariants.{Elf, NoDynamic, NoEntry}
+use Rattle.elf_linking.specs.declared.error.LinkError.TheVariants.{Elf, NoDynamic, NoEntry, SymbolIndex}
 use Rattle.elf_records.specs.Dynamic.{dynamic_tag, dynamic_value}
 use Rattle.elf_records.specs.declared.dynamic.Dynamic.{Dynamic}
 use Rattle.elf_linking.specs.declared.view.tags.TheConstants.{DT_NEEDED, DT_STRSZ, DT_STRTAB, DT_GNU_HASH, DT_HASH, DT_SYMTAB}
@@ -193,6 +193,11 @@ pub record AreSymbols (file : ElfFile) (entries : List (Dynamic ℕ)) (size : �
   pub counted : IsSymbolCount file entries count
   pub bytes_are : answer ≡ and_then count (λ many.
       and_then (ok_or (number_with DT_SYMTAB entries) NoEntry) (λ address. bytes_at_of file address (many * size)))
+
+-- the bytes of as many symbols as are given, which are at most 2 to the 32, or why there are none
+abbrev pub counted_symbols_of : ElfFile → List (Dynamic ℕ) → ℕ → ℕ → Result (List ℕ) LinkError
+counted_symbols_of file entries count size = if nat_lt (2 ^ 32) count then Err SymbolIndex
+    else and_then (ok_or (number_with DT_SYMTAB entries) NoEntry) (λ address. bytes_at_of file address (count * size))
 
 -- why there are no symbols with names: there are no symbols, or there is no string table
 pub data AreSymbolsRefused (file : ElfFile) (entries : List (Dynamic ℕ)) (strings : Result (List ℕ) LinkError) (size : ℕ) : LinkError → Type 0 where

@@ -19,5 +19,8 @@ pub mod Find
 pub mod Kept
 pub mod DynamicObject
 pub mod References
+pub mod RelocationNames
+pub mod FileSymbols
 pub mod Values
 pub mod Scope
+pub mod Bindings

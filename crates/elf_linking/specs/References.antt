@@ -1,11 +1,11 @@
 -- The relocations of a file that name a symbol (gABI, "Relocation" and "Dynamic Section").
-use Rattle.std.specs.Prelude.{ℕ, ◌%◌, ◌==◌, ◌&&◌, ◌||◌, not, Bool, true, false, List, [], ◌∷◌, ◌++◌, length, map, filter, Option, None, Some, Result, Ok, Err, if◌then◌else◌}
+use Rattle.std.specs.Prelude.{◌≡◌, ℕ, ◌+◌, ◌%◌, nat_le, ◌==◌, ◌&&◌, ◌||◌, not, Bool, true, false, List, [], ◌∷◌, ◌++◌, length, map, filter, Option, None, Some, Result, Ok, Err, if◌then◌else◌}
 use Rattle.elf_base.specs.FileHeader.{file_class, file_order, header_fields, machine_number}
 use Rattle.elf_base.specs.Refusal.{and_then, unless}
 use Rattle.elf_base.specs.Table.{records, table_items, table_rest}
 use Rattle.elf_base.specs.declared.bytes.Order.{Order}
 use Rattle.elf_base.specs.declared.error.ElfError.TheVariants.{NotMultiple}
-use Rattle.elf_linking.specs.DynamicView.{number_with}
+use Rattle.elf_linking.specs.DynamicView.{IsSymbolCount, number_with}
 use Rattle.elf_linking.specs.Loaded.{bytes_at_of}
 use Rattle.elf_linking.specs.declared.error.LinkError.{LinkError}
 use Rattle.elf_linking.specs.declared.error.LinkError.TheVariants.{Elf, NoEntry, RelocationKind, UnknownClass}
@@ -143,6 +143,21 @@ all_left iter = relocations_left iter.rela ++ (relocations_left iter.rel ++ relo
 -- the references that an iterator has not yet returned
 abbrev pub references_left : References → List Reference
 references_left iter = filter (names_symbol iter.machine) (all_left iter.all)
+
+-- The number of symbols that look-ups and relocations reach (this project's own: no entry says how many there are).
+
+-- the least number that is not below the count, and above the index of the symbol of each reference
+abbrev pub count_with : ℕ → List Reference → ℕ
+count_with count [] = count
+count_with count (reference ∷ rest) =
+    count_with (if nat_le count reference.symbol then reference.symbol + 1 else count) rest
+
+-- the number of symbols by the hash table, or one that is above the indices of all references
+pub record IsReachedCount (file : ElfFile) (entries : List (Dynamic ℕ)) (answer : Result ℕ LinkError) : Type 0 where
+  pub count : Result ℕ LinkError
+  pub counted : IsSymbolCount file entries count
+  pub reached : answer ≡ and_then count (λ least.
+      and_then (references_of file entries) (λ references. Ok (count_with least references)))
 
 -- What a relocation of a type wants of its symbol, by the machine (the processor supplements of the System V
 -- ABI, tables of relocation types; that these types want a defined symbol is the rule of glibc's linker).

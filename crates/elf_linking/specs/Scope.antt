@@ -196,17 +196,13 @@ IsReferenceBound fields objects from reference answer = MatchOption (slice_get o
     (λ question. AnswersAsked (IsBound fields objects from) from reference.symbol question answer)
     (λ error. answer ≡ Err error))
 
--- the object has the symbol of a reference, and its name can be read unless the reference gets the symbol itself
-abbrev pub HasNameFor : {E : Type 0} → {r : _} → (E → SymbolFields) → DynamicObject E r → Reference → Type 0
-HasNameFor fields asking reference =
-    IsSomeAnd (slice_get (table_items (object_records asking)) reference.symbol) (λ symbol.
-    binds_to_itself (fields symbol) ≡ false → IsOk (object_name fields asking reference.symbol))
-
 -- there is an object at index `from`, which has the symbol of the reference, with a name that can be read if it is
 -- looked up
 abbrev pub HasNamedSymbol : {E : Type 0} → {r : _} → (E → SymbolFields) → List (DynamicObject E r) → ℕ → Reference → Type 0
 HasNamedSymbol fields objects from reference =
-    IsSomeAnd (slice_get objects from) (λ asking. HasNameFor fields asking reference)
+    IsSomeAnd (slice_get objects from) (λ asking.
+    IsSomeAnd (slice_get (table_items (object_records asking)) reference.symbol) (λ symbol.
+    binds_to_itself (fields symbol) ≡ false → IsOk (object_name fields asking reference.symbol)))
 
 -- the result of what a reference asks for is no error, and is right by the lists of symbols
 abbrev pub AnswersRight : {E : Type 0} → {r : _} → (E → SymbolFields) → List (DynamicObject E r) → ℕ → ℕ → Asked E → Result (Option (Bound E)) LinkError → Type 0

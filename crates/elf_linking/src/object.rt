@@ -41,8 +41,10 @@ pub struct DynamicObject<'a, E: Record> {
 impl<'a, E: LinkedSymbol> DynamicObject<'a, E> {
     ghost use Rattle.elf_linking.specs.AnyTable.{FindsAllBy, IsCheckBy, IsDefinedBy, IsGoodBy};
     ghost use Rattle.elf_linking.specs.AnyTable.{LooksBy, LooksForDefined};
-    ghost use Rattle.elf_linking.specs.DynamicObject.{AreOfClass, IsNameAt, IsObject};
-    ghost use Rattle.elf_linking.specs.DynamicObject.{IsObjectRefused, object_dynamic_symbols};
+    ghost use Rattle.elf_linking.specs.DynamicObject.{AreOfClassFor, IsNameAt, IsObject};
+    ghost use Rattle.elf_linking.specs.DynamicObject.{IsObjectFor, IsObjectRefused};
+    ghost use Rattle.elf_linking.specs.DynamicObject.{IsObjectRefusedFor, object_dynamic_symbols};
+    ghost use Rattle.elf_linking.specs.DynamicObject.{IsReachedObject, IsReachedRefused};
     ghost use Rattle.elf_linking.specs.DynamicObject.{object_file, object_machine, object_name};
     ghost use Rattle.elf_linking.specs.DynamicObject.{object_name_bytes, object_records};
     ghost use Rattle.elf_linking.specs.DynamicObject.{object_strings};
@@ -62,14 +64,51 @@ impl<'a, E: LinkedSymbol> DynamicObject<'a, E> {
     /// Errors, the first of these: those of `DynamicView::read`; those of `AnyTable::read`;
     /// `UnknownClass` if the file has another class; those of `DynamicView::symbols`; those of
     /// `DynamicView::strings`; those of `Versions::read`.
-    #[tactic(auto, unfolding(crate::specs::DynamicView::dynamic_strings_of))]
     pub fn read(file: &ElfFile<'a>) -> Result<Self, LinkError>
         ensures { MatchResult result (IsObject E.CLASS E.SIZE file.now)
             (IsObjectRefused E.CLASS E.SIZE file.now) }
     {
+        Self::read_for(file, None)
+    }
+
+    /// Reads the same with as many symbols as are given. `read` has those that the hash table counts,
+    /// which are none of a program that exports nothing and was made by GNU's linker:
+    /// `DynamicView::reached_count` counts those that its relocations name too.
+    ///
+    /// Errors, the first of these: those of `DynamicView::read`; those of `AnyTable::read`;
+    /// `UnknownClass` if the file has another class; those of `DynamicView::counted_records`; those
+    /// of `DynamicView::strings`; those of `Versions::read`.
+    pub fn read_counted(file: &ElfFile<'a>, count: u64) -> Result<Self, LinkError>
+        ensures { MatchResult result (IsObjectFor (Some count) E.CLASS E.SIZE file.now)
+            (IsObjectRefusedFor (Some count) E.CLASS E.SIZE file.now) }
+    {
+        Self::read_for(file, Some(count))
+    }
+
+    /// Reads the same with as many symbols as look-ups and relocations reach: the result of
+    /// `read_counted` for that of `DynamicView::reached_count`.
+    ///
+    /// Errors, the first of these: those of `DynamicView::read`; those of
+    /// `DynamicView::reached_count`; those of `read_counted`.
+    pub fn read_reached(file: &ElfFile<'a>) -> Result<Self, LinkError>
+        ensures { MatchResult result (IsReachedObject E.CLASS E.SIZE file.now)
+            (IsReachedRefused E.CLASS E.SIZE file.now) }
+    {
+        let view = DynamicView::read(file)?;
+        let count = view.reached_count(file)?;
+        Self::read_counted(file, count)
+    }
+
+    // Reads the dynamic segment of a file with as many symbols as are given, otherwise with as many
+    // as the hash table counts.
+    #[tactic(auto, unfolding(crate::specs::DynamicView::dynamic_strings_of))]
+    fn read_for(file: &ElfFile<'a>, count: Option<u64>) -> Result<Self, LinkError>
+        ensures { MatchResult result (IsObjectFor count E.CLASS E.SIZE file.now)
+            (IsObjectRefusedFor count E.CLASS E.SIZE file.now) }
+    {
         let view = DynamicView::read(file)?;
         let table = AnyTable::read(&view, file)?;
-        let symbols = Self::symbols_of_class(&view, file)?;
+        let symbols = Self::symbols_of_class(&view, file, count)?;
         let strings = view.strings()?;
         let versions = Versions::read(&view, file, symbols.len() as u64)?;
         Ok(Self {
@@ -291,17 +330,23 @@ impl<'a, E: LinkedSymbol> DynamicObject<'a, E> {
     fn symbols_of_class(
         view: &DynamicView<'a>,
         file: &ElfFile<'a>,
+        count: Option<u64>,
     ) -> Result<Table<'a, E>, LinkError>
-        ensures exact { MatchResult result
-            (λ symbols. AreOfClass E.CLASS E.SIZE file.now (view_entries view.now)
-            (Ok (table_data symbols)) × (table_order symbols ≡ file_order file.now.header))
-            (λ error. AreOfClass E.CLASS E.SIZE file.now (view_entries view.now) (Err error)) }
+        ensures exact { let are
+            = AreOfClassFor count E.CLASS E.SIZE file.now (view_entries view.now) in
+            MatchResult result
+            (λ symbols. are (Ok (table_data symbols))
+            × (table_order symbols ≡ file_order file.now.header))
+            (λ error. are (Err error)) }
         ensures place { IfOk result (λ symbols.
             LieAsSymbols file.now (view_entries view.now) (table_bytes symbols)) }
     {
         if file.header.pt1.class.raw() != E::CLASS {
             return Err(LinkError::UnknownClass);
         }
-        view.records(file)
+        match count {
+            Some(count) => view.counted_records(file, count),
+            None => view.records(file),
+        }
     }
 }

@@ -9,11 +9,13 @@ ghost use Rattle.elf_linking.specs.References.{all_left, names_symbol, reference
 ghost use Rattle.elf_linking.specs.References.{references_of, relocations_of, takes_no_symbol};
 ghost use Rattle.elf_linking.specs.References.{use_of, use_of_386, use_of_aarch64, use_of_x86_64};
 
+mod names;
 mod tables;
 pub mod types;
 
 use crate::LinkError;
 use crate::find::Use;
+pub use crate::references::names::relocation_name;
 use crate::references::tables::Relocations;
 use crate::references::types::{
     EM_386, EM_AARCH64, EM_X86_64, R_386_COPY, R_386_JMP_SLOT, R_386_NONE, R_386_RELATIVE,

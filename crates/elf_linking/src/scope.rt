@@ -9,10 +9,12 @@ ghost use Rattle.std.specs.Prelude.{◌≡◌};
 ghost use Rattle.elf_linking.specs.Scope.{is_passed_over};
 
 mod asking;
+mod bindings;
 
 use crate::find::{Use, Wanted};
 use crate::references::Reference;
 pub use crate::scope::asking::Asked;
+pub use crate::scope::bindings::{Binding, Bindings};
 use crate::serving::if_serving;
 use crate::view::LinkedSymbol;
 use crate::{DynamicObject, LinkError};
@@ -95,13 +97,7 @@ impl<'s, 'a, E: LinkedSymbol> Scope<'s, 'a, E> {
             AreGood E.fields objects → HasNamedSymbol E.fields objects from reference.now
             → BindsReference E.fields objects from reference.now result }
     {
-        let Some(asking) = self.objects.get(from) else {
-            return Err(LinkError::ObjectIndex);
-        };
-        match asking.asked(reference) {
-            Ok(asked) => self.answer(from, reference.symbol, &asked),
-            Err(error) => Err(error),
-        }
+        self.binding(from, reference).bound
     }
 
     /// The symbol that a reference of the object at index `from` to its symbol at `index` gets, by

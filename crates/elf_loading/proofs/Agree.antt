@@ -30,7 +30,8 @@ file_or_zero true offset = inl refl
 file_or_zero false offset = inr refl
 
 module _ (page limit len : ℕ) (by : Loader) (address : ℕ) (h : 0 < page) where
-  none_below : (before : ℕ) (loads : List ProgramHeader64) → AreApart page before loads → address < before → find (holds_address page address) loads ≡ None
+  -- an address before loads that are apart is in none
+  pub none_below : (before : ℕ) (loads : List ProgramHeader64) → AreApart page before loads → address < before → find (holds_address page address) loads ≡ None
   none_below before [] apart less = refl
   none_below before (load ∷ loads) (after, apart) less =
       let order : load_start page load ≤ load_end page load = start_le_end page load h in

@@ -11,7 +11,7 @@ use Rattle.elf_loading.specs.FileCheck.{check_file, covered_to, header_rows, is_
 use Rattle.elf_loading.specs.LoadCheck.{check_loads, fits_below, holds_address, lies_in, load_end}
 use Rattle.elf_loading.specs.Pages.{down}
 use Rattle.elf_loading.specs.Segments.{interpreter_of, loads_of, relro_of}
-use Rattle.elf_loading.specs.Spans.{ends_at, first_start, last_end}
+use Rattle.elf_loading.specs.Spans.{IsCovered, ends_at, first_start, last_end, relro_span}
 use Rattle.elf_loading.specs.Mappings.{FollowEachOther, mappings_of}
 use Rattle.elf_loading.specs.declared.mapping.Loader.{Loader}
 use Rattle.elf_loading.specs.declared.mapping.Loader.TheVariants.{Kernel}
@@ -19,6 +19,7 @@ use Rattle.elf_loading.proofs.Follows.{follow, follow_order}
 use Rattle.elf_loading.specs.declared.error.LoadError.{LoadError}
 use Rattle.elf_loading.specs.declared.error.LoadError.TheVariants as error
 use Rattle.elf_loading.proofs.Apart.{AreApart, checks_apart, checks_end, end_after}
+use Rattle.elf_loading.proofs.Covered.{covered}
 use Rattle.elf_loading.proofs.Rounded.{down_le}
 use Rattle.elf_loading.proofs.LoadChecks.{NoneApplies, loads_fit, loads_lie, unless_ok}
 
@@ -131,3 +132,11 @@ module _ (file : ElfFile) (page limit end : ℕ) where
 
   pub passes_order : 0 < page → ends_at (check_file file page limit) end ≡ true → first_start page (loads_of file) ≤ last_end page 0 (loads_of file)
   passes_order h is = follow_order (first_start page (loads_of file)) (last_end page 0 (loads_of file)) (mappings_of page Kernel None (loads_of file)) (passes_follow Kernel h is)
+
+  -- each address of what is read-only after relocation is in a load
+  pub passes_covered : (relro : ProgramHeader64) → ends_at (check_file file page limit) end ≡ true → relro_of file ≡ Some relro → IsCovered page (loads_of file) (relro_span page relro)
+  passes_covered relro is there address from to =
+      let pass = passes (ends_ok (check_file file page limit) end is) in
+      let checked : is_uncovered page (loads_of file) (Some relro) ≡ false = subst (λ o. is_uncovered page (loads_of file) o ≡ false) there pass.rest.1.1.0 in
+      let least : down page (relro.virtual_addr + relro.mem_size) ≤ covered_to page (down page relro.virtual_addr) (loads_of file) = ltb-false _ _ checked in
+      covered page (down page relro.virtual_addr) address (loads_of file) from (omega arith)

@@ -10,3 +10,7 @@ pub mod LoadBytes
 pub mod Agree
 pub mod Headlines
 pub mod PartsLeft
+pub mod Covered
+pub mod Filled
+pub mod Relro
+pub mod Numbers

@@ -3,7 +3,7 @@
 use Rattle.std.specs.Prelude.{◌≡◌, ◌⊎◌, ℕ, ◌+◌, ◌-◌, ◌&&◌, not, nat_le, nat_lt, slice_index, Bool, List, Option, Some, None, option_map, if◌then◌else◌}
 use Rattle.std.specs.List.{find}
 use Rattle.xmas_elf.specs.Types.{ProgramHeader64}
-use Rattle.elf_loading.specs.LoadCheck.{holds_address, load_start}
+use Rattle.elf_loading.specs.LoadCheck.{holds_address, load_end, load_start}
 use Rattle.elf_loading.specs.Mappings.{mapped_end}
 use Rattle.elf_loading.specs.Pages.{down}
 use Rattle.elf_loading.specs.declared.mapping.Loader.{Loader}
@@ -21,6 +21,12 @@ is_zeroed Kernel address load =
     nat_lt load.file_size load.mem_size && nat_le (load.virtual_addr + load.file_size) address
 is_zeroed Glibc address load =
     nat_le (load.virtual_addr + load.file_size) address && nat_lt address (load.virtual_addr + load.mem_size)
+
+-- the end of the zeros that a loader writes after the bytes of a load
+abbrev pub zeroed_end : ℕ → Loader → ProgramHeader64 → ℕ
+zeroed_end page Kernel load =
+    if nat_lt load.file_size load.mem_size then load_end page load else load.virtual_addr + load.mem_size
+zeroed_end page Glibc load = load.virtual_addr + load.mem_size
 
 -- the byte at an address is one of the file, if the file has it
 abbrev pub is_of_file : ℕ → Loader → ℕ → ProgramHeader64 → Bool

@@ -1,5 +1,6 @@
 -- The addresses that a plan covers (this project's own).
-use Rattle.std.specs.Prelude.{ℕ, ◌+◌, ◌==◌, ◌&&◌, nat_le, nat_lt, Bool, false, List, [], ◌∷◌, Option, Some, None, Result, Ok, Err}
+use Rattle.std.specs.Prelude.{ℕ, ◌+◌, ◌<◌, ◌≤◌, ◌==◌, ◌&&◌, nat_le, nat_lt, Bool, false, List, [], ◌∷◌, Option, Some, None, Result, Ok, Err}
+use Rattle.std.specs.List.{Contains}
 use Rattle.xmas_elf.specs.Types.{ProgramHeader64}
 use Rattle.elf_loading.specs.LoadCheck.{load_end, load_start}
 use Rattle.elf_loading.specs.Pages.{down}
@@ -31,6 +32,23 @@ relro_span page relro = record {
 abbrev pub is_in : Option Span → ℕ → Bool
 is_in (Some span) address = nat_le span.start address && nat_lt address span.end
 is_in None address = false
+
+-- an address is in the pages of one of these loads
+abbrev pub IsInLoad : ℕ → List ProgramHeader64 → ℕ → Type 0
+IsInLoad page loads address =
+    (load : ProgramHeader64) × Contains loads load × (load_start page load ≤ address) × (address < load_end page load)
+
+-- each address of a range is in a load
+abbrev pub IsCovered : ℕ → List ProgramHeader64 → Span → Type 0
+IsCovered page loads span =
+    (address : ℕ) → span.start ≤ address → address < span.end → IsInLoad page loads address
+
+-- an address of a range is in no load
+pub record HasUncovered (page : ℕ) (loads : List ProgramHeader64) (span : Span) : Type 0 where
+  pub address : ℕ
+  pub begins : span.start ≤ address
+  pub ends : address < span.end
+  pub not_in_load : ¬ IsInLoad page loads address
 
 -- whether a check ended with this number
 abbrev pub ends_at : Result ℕ LoadError → ℕ → Bool

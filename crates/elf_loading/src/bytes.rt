@@ -1,11 +1,12 @@
 //! The byte at an address, and an image of all bytes.
 
-ghost use Rattle.std.specs.Prelude.{◌≡◌, ◌<◌, slice_index, true};
-ghost use Rattle.elf_loading.specs.Bytes.{is_of_file, is_zeroed, load_byte};
-ghost use Rattle.elf_loading.specs.LoadCheck.{fits_below, holds_address};
+ghost use Rattle.std.specs.Prelude.{◌≡◌, ◌+◌, ◌-◌, ◌<◌, ◌≤◌, ◌&&◌, length, nat_le, nat_lt};
+ghost use Rattle.std.specs.Prelude.{if◌then◌else◌, slice_index, true, ℕ};
+ghost use Rattle.elf_loading.specs.Bytes.{is_of_file, is_zeroed, load_byte, zeroed_end};
+ghost use Rattle.elf_loading.specs.LoadCheck.{fits_below, holds_address, load_end, load_start};
 
 use crate::LoadError;
-use crate::load_check::holds_address;
+use crate::load_check::{holds_address, load_end};
 use crate::mapping::{Loader, mapped_end};
 use crate::pages::down;
 use crate::plan::LoadPlan;
@@ -33,6 +34,22 @@ fn is_zeroed(by: Loader, address: u64, load: &ProgramHeader64) -> bool
             after && u128::from(address) < u128::from(load.virtual_addr) + u128::from(load.mem_size)
         }
     }
+}
+
+// The end of the zeros that a loader writes after the bytes of a load.
+#[tactic(auto, using(crate::proofs::Fits::fits_facts))]
+#[inline(always)]
+fn zeroed_end(page: u64, limit: u64, by: Loader, load: &ProgramHeader64) -> u64
+    requires page { 0 < page }
+    requires fits { fits_below page limit load.now ≡ true }
+    ensures { result ≡ zeroed_end page by load.now }
+{
+    // This tells the proof that the sums are numbers of 64 bits.
+    let _limit = limit;
+    if by == Loader::Kernel && load.file_size < load.mem_size {
+        return load_end(page, limit, load);
+    }
+    load.virtual_addr + load.mem_size
 }
 
 // Whether the byte at an address is one of the file, if the file has it.
@@ -68,15 +85,34 @@ fn load_byte(
     Byte::Zero
 }
 
-// The byte at an index, or 0 past the end.
-#[inline(always)]
-fn byte_or_zero(bytes: &[u8], index: usize) -> u8
-    ensures { result ≡ slice_index bytes.now index }
+// Copies bytes of a file from `offset` on to the places `start` to `end` of an image: as many as the
+// file has.
+fn copy_file(input: &[u8], offset: u64, image: &mut [u8], start: usize, end: usize)
+    requires order { start ≤ end }
+    requires within { end ≤ length image.old }
+    ensures len { length image.new ≡ length image.old }
+    ensures bytes { (i : ℕ) → slice_index image.new i
+        ≡ (if nat_le start i && nat_lt i end && nat_lt (offset + (i - start)) (length input.now)
+        then slice_index input.now (offset + (i - start)) else slice_index image.old i) }
 {
-    match bytes.get(index) {
-        Some(byte) => *byte,
-        None => 0,
+    let len = input.len() as u64;
+    if offset >= len {
+        return;
     }
+    let first = offset as usize;
+    let count = (input.len() - first).min(end - start);
+    image[start..start + count].copy_from_slice(&input[first..first + count]);
+}
+
+// Writes zeros to the places `start` to `end` of an image.
+fn clear(image: &mut [u8], start: usize, end: usize)
+    requires order { start ≤ end }
+    requires within { end ≤ length image.old }
+    ensures len { length image.new ≡ length image.old }
+    ensures bytes { (i : ℕ) → slice_index image.new i
+        ≡ (if nat_le start i && nat_lt i end then 0 else slice_index image.old i) }
+{
+    image[start..end].fill(0);
 }
 
 impl<'a> LoadPlan<'a> {
@@ -123,21 +159,38 @@ impl<'a> LoadPlan<'a> {
         self.find_byte(address, by)
     }
 
-    // The byte at an address as a number; 0 if there is none.
-    #[inline(always)]
-    fn number_at(&self, address: u64, by: Loader) -> u8
-        ensures { result ≡ byte_number self.now.file.input.now
-            (byte_of self.now.page by (length self.now.file.input.now) address
-            (plan_loads self.now)) }
+    // Writes the bytes of a load to its pages in an image, which begins at `base`, and where they are
+    // zero.
+    fn fill_load(&self, by: Loader, base: u64, load: &ProgramHeader64, image: &mut [u8])
+        requires fits { fits_below self.now.page self.now.limit load.now ≡ true }
+        requires begins { base ≤ load_start self.now.page load.now }
+        requires ends { load_end self.now.page load.now ≤ base + length image.old }
+        requires zeros { (i : ℕ) → holds_address self.now.page (base + i) load.now ≡ true
+            → slice_index image.old i ≡ 0 }
+        ensures len { length image.new ≡ length image.old }
+        ensures bytes { (i : ℕ) → slice_index image.new i
+            ≡ (if holds_address self.now.page (base + i) load.now
+            then byte_number self.now.file.input.now (Some (load_byte self.now.page by
+            (length self.now.file.input.now) (base + i) load.now)) else slice_index image.old i) }
     {
-        match self.byte_at(address, by) {
-            Some(Byte::File(offset)) => byte_or_zero(self.file.input, offset as usize),
-            Some(Byte::Zero) | None => 0,
-        }
+        let (page, limit) = (self.page, self.limit);
+        let start = down(page, load.virtual_addr) - base;
+        let mapped = mapped_end(page, limit, by, load) - base;
+        let offset = down(page, load.offset);
+        copy_file(
+            self.file.input,
+            offset,
+            image,
+            start as usize,
+            mapped as usize,
+        );
+        let zeros = load.virtual_addr + load.file_size - base;
+        let end = zeroed_end(page, limit, by, load) - base;
+        clear(image, zeros as usize, end as usize);
     }
 
     /// Writes the bytes of the span into `image`: byte `i` is that at the start of the span plus
-    /// `i`, and 0 where no load segment has a page. It reads the program headers again for each byte.
+    /// `i`, and 0 where no load segment has a page.
     ///
     /// The error is `ImageSize` if the length of `image` is not that of the span; nothing is written
     /// then.
@@ -152,12 +205,12 @@ impl<'a> LoadPlan<'a> {
             ((span_of self.now.page (plan_loads self.now)).start + i) (plan_loads self.now))) }
     {
         let span = self.span();
-        let size = span.end - span.start;
-        if image.len() as u64 != size {
+        if image.len() as u64 != span.end - span.start {
             return Err(LoadError::ImageSize);
         }
-        for (k, byte) in image.iter_mut().enumerate() {
-            *byte = self.number_at(span.start + k as u64, by);
+        image.fill(0);
+        for load in loads_of(&self.file) {
+            self.fill_load(by, span.start, &load, image);
         }
         Ok(())
     }

@@ -55,6 +55,28 @@ pub enum LoadError {
     ImageSize,
 }
 
+// All errors.
+const ERRORS: [LoadError; 18] = [
+    LoadError::Type,
+    LoadError::EntrySize,
+    LoadError::Count,
+    LoadError::Table,
+    LoadError::FileSize,
+    LoadError::Empty,
+    LoadError::Misaligned,
+    LoadError::Alignment,
+    LoadError::Range,
+    LoadError::Data,
+    LoadError::Overlap,
+    LoadError::Zeros,
+    LoadError::NoLoad,
+    LoadError::Headers,
+    LoadError::Interpreter,
+    LoadError::Relro,
+    LoadError::Tls,
+    LoadError::ImageSize,
+];
+
 impl LoadError {
     ghost use Rattle.elf_loading.specs.declared.error.LoadError.{LoadError};
 
@@ -77,27 +99,10 @@ impl LoadError {
         ensures own { IfSome result (λ error. load_number error ≡ number) }
         ensures only { (error : LoadError) → load_number error ≡ number → result ≡ Some error }
     {
-        match number {
-            301 => Some(LoadError::Type),
-            302 => Some(LoadError::EntrySize),
-            303 => Some(LoadError::Count),
-            304 => Some(LoadError::Table),
-            305 => Some(LoadError::FileSize),
-            306 => Some(LoadError::Empty),
-            307 => Some(LoadError::Misaligned),
-            308 => Some(LoadError::Alignment),
-            309 => Some(LoadError::Range),
-            310 => Some(LoadError::Data),
-            311 => Some(LoadError::Overlap),
-            312 => Some(LoadError::Zeros),
-            313 => Some(LoadError::NoLoad),
-            314 => Some(LoadError::Headers),
-            315 => Some(LoadError::Interpreter),
-            316 => Some(LoadError::Relro),
-            317 => Some(LoadError::Tls),
-            318 => Some(LoadError::ImageSize),
-            _ => None,
-        }
+        ERRORS
+            .iter()
+            .find(|error| error.number() == number)
+            .copied()
     }
 
     // The number and the text.

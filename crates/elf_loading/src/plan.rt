@@ -45,25 +45,28 @@ pub struct Tls {
 }
 
 impl<'a> LoadPlan<'a> {
-    ghost use Rattle.std.specs.Prelude.{Err, IfNone, IfSome, MatchOption, MatchResult, None, Some};
+    ghost use Rattle.std.specs.Prelude.{Err, IfErr, IfNone, IfSome, MatchOption, MatchResult, None, Some};
     ghost use Rattle.std.specs.Prelude.{Ok, option_map, ◌≤◌};
     ghost use Rattle.elf_base.specs.FileHeader.{header_fields};
     ghost use Rattle.elf_base.specs.Text.{EndsInZero};
     ghost use Rattle.elf_base.specs.Lent.{LiesAt};
     ghost use Rattle.elf_loading.specs.Plan.{IsPlanOf, plan_loads, plan_relro};
-    ghost use Rattle.elf_loading.specs.Segments.{interpreter_of, stack_of, tls_of};
-    ghost use Rattle.elf_loading.specs.Spans.{span_of};
+    ghost use Rattle.elf_loading.specs.Segments.{interpreter_of, relro_of, stack_of, tls_of};
+    ghost use Rattle.elf_loading.specs.Spans.{HasUncovered, IsCovered, relro_span, span_of};
+    ghost use Rattle.elf_loading.specs.declared.error.LoadError.TheVariants.{Relro};
 
     /// The plan for a file.
     ///
     /// `page` is the size of a page, a power of two such as 4096. `limit` is the end of the
     /// addresses that a loader may use: 2^47 - 4096 for x86-64, 0xffffe000 for 386. The error is the
     /// first that applies in the order of `LoadError`.
-    #[tactic(auto, using(crate::proofs::FileChecks::ok_ends))]
+    #[tactic(auto, using(crate::proofs::FileChecks::ok_ends, crate::proofs::Relro::error_uncovered))]
     pub fn check_load(file: &ElfFile<'a>, page: u64, limit: u64) -> Result<LoadPlan<'a>, LoadError>
         requires { 0 < page }
-        ensures { MatchResult result (IsPlanOf file.now page limit)
+        ensures exact { MatchResult result (IsPlanOf file.now page limit)
             (λ error. check_file file.now page limit ≡ Err error) }
+        ensures relro { IfErr result (λ error. error ≡ Relro → MatchOption (relro_of file.now) ⊥
+            (λ relro. HasUncovered page (loads_of file.now) (relro_span page relro))) }
     {
         let end = check_file(page, limit, file)?;
         let start = first_start(page, file);
@@ -102,7 +105,8 @@ impl<'a> LoadPlan<'a> {
     /// rounded down to pages. The bytes after the last whole page stay writable.
     #[tactic(auto, using(crate::proofs::FileChecks::passes_relro_fits))]
     pub fn relro(&self) -> Option<Span>
-        ensures { result ≡ plan_relro self.now }
+        ensures exact { result ≡ plan_relro self.now }
+        ensures covered { IfSome result (IsCovered self.now.page (plan_loads self.now)) }
     {
         // This tells the proof that the limit is a number of 64 bits.
         let _limit = self.limit;
@@ -139,6 +143,13 @@ impl<'a> LoadPlan<'a> {
         ensures { result ≡ option_map (λ stack. stack.flags) (stack_of self.now.file) }
     {
         last_stack(&self.file).map(|stack| stack.flags)
+    }
+
+    /// The offset in the file of the path of the program interpreter: that of the first PT_INTERP.
+    pub fn interpreter_offset(&self) -> Option<u64>
+        ensures { result ≡ option_map (λ segment. segment.offset) (interpreter_of self.now.file) }
+    {
+        first_interpreter(&self.file).map(|segment| segment.offset)
     }
 
     /// The path of the program interpreter, which lives as long as the input: the bytes of the first

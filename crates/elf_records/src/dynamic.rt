@@ -9,6 +9,21 @@ ghost use Rattle.elf_records.specs.Dynamic.{tag_raw, value_in, value_of};
 use elf_base::bytes::{Order, Record, read_u32, read_u64};
 use elf_base::{ElfError, P32, P64};
 
+/// `DF_ORIGIN`: paths may contain `$ORIGIN`, the directory of the file.
+pub const FLAG_ORIGIN: u64 = 0x1;
+
+/// `DF_SYMBOLIC`: references of the file are bound within it first.
+pub const FLAG_SYMBOLIC: u64 = 0x2;
+
+/// `DF_TEXTREL`: relocations may change a segment that is not writable.
+pub const FLAG_TEXTREL: u64 = 0x4;
+
+/// `DF_BIND_NOW`: all relocations are applied before the program runs.
+pub const FLAG_BIND_NOW: u64 = 0x8;
+
+/// `DF_STATIC_TLS`: the file uses the static model of thread-local storage.
+pub const FLAG_STATIC_TLS: u64 = 0x10;
+
 /// `DF_1_NOW`: all relocations are applied before the program runs.
 pub const FLAG_1_NOW: u64 = 0x1;
 

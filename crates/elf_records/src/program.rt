@@ -23,6 +23,15 @@ pub const TYPE_LOPROC: u32 = 0x7000_0000;
 /// `PT_HIPROC`: the last processor-specific type.
 pub const TYPE_HIPROC: u32 = 0x7fff_ffff;
 
+/// `PT_GNU_EH_FRAME`: the index of the unwind tables (GNU).
+pub const TYPE_GNU_EH_FRAME: u32 = 0x6474_e550;
+
+/// `PT_GNU_STACK`: the permissions of the stack, in its flags (GNU).
+pub const TYPE_GNU_STACK: u32 = 0x6474_e551;
+
+/// `PT_GNU_PROPERTY`: a note with properties of the program (GNU).
+pub const TYPE_GNU_PROPERTY: u32 = 0x6474_e553;
+
 /// `PT_GNU_RELRO`: the memory that is read-only after relocation (GNU).
 pub const TYPE_GNU_RELRO: u32 = 0x6474_e552;
 

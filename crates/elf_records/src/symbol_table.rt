@@ -11,6 +11,12 @@ use elf_base::ElfError;
 use std::fmt;
 use std::fmt::Display;
 
+/// `STT_GNU_IFUNC`: a function whose address another function returns (GNU).
+pub const TYPE_GNU_IFUNC: u8 = 10;
+
+/// `STB_GNU_UNIQUE`: one symbol of its name in a whole process (GNU).
+pub const BINDING_GNU_UNIQUE: u8 = 10;
+
 /// The visibility of a symbol, as a number (gABI, "Symbol Table", st_other).
 #[derive(Clone, Copy, Debug)]
 pub struct Visibility_(u8);

@@ -6,7 +6,7 @@ use Rattle.std.proofs.lemmas.Slice.Zip.{AllZip-left}
 use Rattle.std.proofs.lemmas.Option.{same_Some, slice_get_read, slice_get_within}
 use Rattle.elf_base.specs.FileHeader.{header_of}
 use Rattle.elf_linking.specs.AnyTable.{IsGoodBy}
-use Rattle.elf_linking.specs.DynamicObject.{IsObject, IsObjectRefused, object_dynamic_symbols}
+use Rattle.elf_linking.specs.DynamicObject.{IsReachedObject, IsReachedRefused, object_dynamic_symbols}
 use Rattle.elf_linking.specs.declared.error.LinkError.{LinkError}
 use Rattle.elf_linking.specs.Find.{AreReadable, DynamicSymbols}
 use Rattle.elf_linking.specs.declared.object.DynamicObject.{DynamicObject}
@@ -57,6 +57,6 @@ accepted_by {E} {r} class size inputs objects all i = go (slice_get inputs i) (A
     go (Some input) is = with_object input (slice_get objects i) is
 
 -- what is read of a file is read of its bytes
-pub object_or_refused : {E : Type 0} {r : _} (class size : ℕ) (bytes : List ℕ) (file : ElfFile) (result : Result (DynamicObject E r) LinkError) → file.input.now ≡ bytes → header_of bytes ≡ Ok file.header → MatchResult result (IsObject class size file) (IsObjectRefused class size file) → MatchResult result (IsObjectOfBytes class size bytes) (IsRefusedAsObject class size bytes)
+pub object_or_refused : {E : Type 0} {r : _} (class size : ℕ) (bytes : List ℕ) (file : ElfFile) (result : Result (DynamicObject E r) LinkError) → file.input.now ≡ bytes → header_of bytes ≡ Ok file.header → MatchResult result (IsReachedObject class size file) (IsReachedRefused class size file) → MatchResult result (IsObjectOfBytes class size bytes) (IsRefusedAsObject class size bytes)
 object_or_refused class size bytes file (Ok object) input header is = record { file = file; bytes_are = input; header_is = header; object_is = is }
 object_or_refused class size bytes file (Err error) input header is = no_object file error input header is

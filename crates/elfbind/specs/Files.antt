@@ -3,7 +3,7 @@ use Rattle.std.specs.Prelude.{◌≡◌, ℕ, ◌++◌, ◌||◌, ◌==◌, Bool
 use Rattle.std.specs.List.{AllZip}
 use Rattle.elf_base.specs.FileHeader.{file_class, header_of}
 use Rattle.elf_base.specs.declared.error.ElfError.{ElfError}
-use Rattle.elf_linking.specs.DynamicObject.{IsObject, IsObjectRefused}
+use Rattle.elf_linking.specs.DynamicObject.{IsReachedObject, IsReachedRefused}
 use Rattle.elf_linking.specs.declared.error.LinkError.{LinkError}
 use Rattle.elf_linking.specs.declared.error.LinkError.TheVariants.{Elf}
 use Rattle.elf_linking.specs.declared.object.DynamicObject.{DynamicObject}
@@ -17,13 +17,13 @@ pub record IsObjectOfBytes {E : Type 0} {r : _} (class size : ℕ) (bytes : List
   pub file : ElfFile
   pub bytes_are : file.input.now ≡ bytes
   pub header_is : header_of bytes ≡ Ok file.header
-  pub object_is : IsObject class size file object
+  pub object_is : IsReachedObject class size file object
 
 -- why bytes are no such file: an error of their header, or of what a dynamic linker reads of it
 pub data IsRefusedAsObject (class size : ℕ) (bytes : List ℕ) : LinkError → Type 0 where
   no_header : (error : ElfError) → header_of bytes ≡ Err error → IsRefusedAsObject class size bytes (Elf error)
   no_object : (file : ElfFile) (error : LinkError) → file.input.now ≡ bytes → header_of bytes ≡ Ok file.header
-      → IsObjectRefused class size file error → IsRefusedAsObject class size bytes error
+      → IsReachedRefused class size file error → IsRefusedAsObject class size bytes error
 
 -- the objects are those of the inputs, in order
 abbrev pub AreObjectsOf : {E : Type 0} → {r : _} → ℕ → ℕ → List Input → List (DynamicObject E r) → Type 0

@@ -72,7 +72,7 @@ fn read_object<'a, E: LinkedSymbol>(bytes: &'a [u8]) -> Result<DynamicObject<'a,
         (IsRefusedAsObject E.CLASS E.SIZE bytes.now) }
 {
     match ElfFile::new(bytes) {
-        Ok(file) => DynamicObject::read(&file),
+        Ok(file) => DynamicObject::read_reached(&file),
         Err(error) => Err(LinkError::Elf(error)),
     }
 }

@@ -8,7 +8,7 @@ use Rattle.elf_linking.specs.DynamicObject.{name_of_symbol, object_dynamic_symbo
 use Rattle.elf_linking.specs.DynamicView.{view_entries}
 use Rattle.elf_linking.specs.Find.{AreReadable, DynamicSymbols}
 use Rattle.elf_linking.specs.References.{references_of}
-use Rattle.elf_linking.specs.Scope.{AreGood, BindsReference, HasNameFor, HasNamedSymbol, binds_to_itself}
+use Rattle.elf_linking.specs.Scope.{AreGood, BindsReference, HasNamedSymbol, binds_to_itself}
 use Rattle.elf_linking.specs.declared.error.LinkError.{LinkError}
 use Rattle.elf_linking.specs.declared.object.DynamicObject.{DynamicObject}
 use Rattle.elf_linking.specs.declared.references.Reference.{Reference}
@@ -40,7 +40,7 @@ module _ {E : Type 0} {r : _} (fields : E → SymbolFields) (program : DynamicOb
   pub named : (objects : List (DynamicObject E r)) (reference : Reference) → slice_get objects 0 ≡ Some program → FindsReference fields program name (Ok (Some reference)) → HasNamedSymbol fields objects 0 reference
   named objects reference first finds =
       let is = found_is reference (references_of (object_file program) (view_entries (object_view program))) finds in
-      subst (λ object. IsSomeAnd object (λ asking. HasNameFor fields asking reference)) (sym first)
+      subst (λ object. IsSomeAnd object (λ asking. IsSomeAnd (slice_get (table_items (object_records asking)) reference.symbol) (λ symbol. binds_to_itself (fields symbol) ≡ false → IsOk (object_name fields asking reference.symbol)))) (sym first)
       (has_symbol (object_strings program).now (slice_get (table_items (object_records program)) reference.symbol) (object_name fields program reference.symbol) is (subst (λ text. IsOk text) (sym is) refl))
 
   module _ (objects : List (DynamicObject E r)) where

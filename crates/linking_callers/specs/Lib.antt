@@ -1,5 +1,6 @@
+pub mod AllBound
+pub mod CountedSymbols
 pub mod FirstNotes
-pub mod LinkedFunction
 pub mod LinkedName
 pub mod SecondFile
 pub mod SecondObject

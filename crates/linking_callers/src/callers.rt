@@ -11,7 +11,7 @@ ghost use Rattle.elf_linking.specs.declared.error.LinkError.{LinkError};
 ghost use Rattle.xmas_elf.specs.SymbolTable.{table_symbols};
 ghost use Rattle.xmas_elf.specs.Symbols.{Decides, IsMatch, symbols_of};
 
-pub mod backtrace;
+pub mod bindings;
 pub mod clones;
 pub mod equality;
 pub mod find;
@@ -21,6 +21,7 @@ pub mod objects;
 pub mod relr;
 pub mod scope;
 pub mod second_file;
+pub mod symbols;
 pub mod versions;
 pub mod view;
 

@@ -1,5 +1,5 @@
-//! Tests of `elf_linking`: worked tables and files with their results, and small shared objects that
-//! a linker made.
+//! Tests of what `elf_linking` binds: look-ups by name and version, references and bindings, of worked
+//! files with their results, and of small shared objects that a linker made.
 #![tactic(auto)]
 
 #[cfg(test)]

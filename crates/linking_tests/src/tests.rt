@@ -2,20 +2,6 @@
 //! and never taken from the program's output.
 
 mod bind;
-mod by_index;
-mod by_name;
-mod callers;
 mod find;
-mod gnu_hash;
-mod linked;
-mod messages;
-mod notes;
-mod object;
 mod references;
-mod relr;
-mod sections;
-mod shared_object;
-mod version_parts;
-mod versions;
-mod view;
 mod want;

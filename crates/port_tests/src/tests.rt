@@ -1,7 +1,6 @@
 //! Expected values are worked out by hand from the format,
 //! and never taken from the program's output.
 
-mod backtrace;
 mod checks;
 mod data;
 mod hash;
@@ -19,6 +18,7 @@ mod segments;
 mod shared_object;
 mod sizes;
 mod symbol_numbers;
+mod symbol_ranges;
 mod symbol_sections;
 mod symbols;
 mod tables;

@@ -1,4 +1,5 @@
 //! Linked files: small shared objects as a compiler and a linker made them.
 
+pub mod importer;
 pub mod small;
 pub mod versions;

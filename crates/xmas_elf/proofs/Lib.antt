@@ -4,6 +4,7 @@ pub mod SectionLists
 pub mod ProgramLists
 pub mod ReportLines
 pub mod FirstNamed
+pub mod Firsts
 pub mod NamedSections
 pub mod StringTables
 pub mod SymbolNames

@@ -62,6 +62,7 @@ pub mod SymbolSection
 pub mod SymbolText
 pub mod SectionText
 pub mod ProgramHeader
+pub mod SymbolRange
 pub mod ProgramTable
 pub mod SegmentContent
 pub mod Shapes

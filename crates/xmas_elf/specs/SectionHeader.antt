@@ -138,6 +138,14 @@ unfoldable pub first_section : ElfFile → Option SectionHeader
 first_section file =
     if (header_fields file.header.pt2).sh_offset == 0 then None else result_ok (section_of file 0)
 
+-- the same by the bytes, the offset of the table, the size of an entry, the class and the order
+abbrev pub first_by : List ℕ → ℕ → ℕ → ℕ → Order → Option SectionHeader
+first_by input offset entry_size class order = if offset == 0 then None else result_ok (unless (
+    (nat_lt (length input) (entry_place offset entry_size 1), ShortSectionHeader)
+    ∷ (not (is_known_class class), UnknownClass)
+    ∷ (nat_lt entry_size (section_header_size class), SmallEntry)
+    ∷ []) (section_at_place class order (entry_place offset entry_size 0) input))
+
 -- the number of sections: that of the ELF header, or if it is 0, the size of section header 0, if there is
 -- one
 unfoldable pub section_count_of : ElfFile → ℕ

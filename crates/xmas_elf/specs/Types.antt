@@ -6,9 +6,10 @@
 pub use Rattle.xmas_elf.specs.Prelude.{Order, Table, TableIter, ElfError, Header, HeaderPt1, HeaderPt2, HeaderPt2_, Class, Class_, Data, Data_, Machine, Machine_, OsAbi, OsAbi_, HeaderType, HeaderType_, Version, Version_, Dynamic, Tag, Tag_, Flags, SegmentType, SegmentType_, ShType, ShType_, NoteHeader, Rel, Rela, Binding, Binding_, SymbolType, SymbolType_, Visibility, Visibility_}
 pub use Rattle.elf_base.specs.declared.error.ElfError.TheVariants.{BadAlign, BadMagic, BucketIndex, ChainIndex, ChainSum, ClassMismatch, DataRange, EntryPointRange, ExpectedShIndex, HashCycle, HashData, HashMissing, HeaderSize, InvalidBinding, InvalidClass, InvalidPhType, InvalidPtr, InvalidShType, InvalidSymbolType, InvalidTag, InvalidValue, NoClass, NoDataFormat, NoDynstr, NoMagic, NoProgramHeaders, NoShIndex, NoStrtab, NoVersion, NotMultiple, Note32, NoteDesc, NoteName, NullData, NullName, PhSizeMismatch, PhTableRange, ReservedIndex, ReservedSymbolIndex, ShLibUsed, ShTableRange, ShortData, ShortHeaders, ShortPart1, ShortProgramHeader, ShortSectionHeader, ShortSectionOffset, SmallEntry, StrtabType, SymbolIndex, TextEnd, TextStart, TextUtf8, UnknownClass, WideIndex}
 pub use Rattle.elf_base.specs.declared.header.TheConstants.{MAGIC}
-pub use Rattle.elf_records.specs.declared.dynamic.TheConstants.{FLAG_1_CONFALT, FLAG_1_DIRECT, FLAG_1_DISPRELDNE, FLAG_1_DISPRELPND, FLAG_1_EDITED, FLAG_1_ENDFILTEE, FLAG_1_GLOBAL, FLAG_1_GLOBAUDIT, FLAG_1_GROUP, FLAG_1_IGNMULDEF, FLAG_1_INITFIRST, FLAG_1_INTERPOSE, FLAG_1_LOADFLTR, FLAG_1_NODEFLIB, FLAG_1_NODELETE, FLAG_1_NODIRECT, FLAG_1_NODUMP, FLAG_1_NOHDR, FLAG_1_NOKSYMS, FLAG_1_NOOPEN, FLAG_1_NORELOC, FLAG_1_NOW, FLAG_1_ORIGIN, FLAG_1_PIE, FLAG_1_SINGLETON, FLAG_1_STUB, FLAG_1_SYMINTPOSE, FLAG_1_TRANS}
-pub use Rattle.elf_records.specs.declared.program.TheConstants.{FLAG_MASKOS, FLAG_MASKPROC, FLAG_R, FLAG_W, FLAG_X, TYPE_GNU_RELRO, TYPE_HIOS, TYPE_HIPROC, TYPE_LOOS, TYPE_LOPROC}
+pub use Rattle.elf_records.specs.declared.dynamic.TheConstants.{FLAG_1_CONFALT, FLAG_1_DIRECT, FLAG_1_DISPRELDNE, FLAG_1_DISPRELPND, FLAG_1_EDITED, FLAG_1_ENDFILTEE, FLAG_1_GLOBAL, FLAG_1_GLOBAUDIT, FLAG_1_GROUP, FLAG_1_IGNMULDEF, FLAG_1_INITFIRST, FLAG_1_INTERPOSE, FLAG_1_LOADFLTR, FLAG_1_NODEFLIB, FLAG_1_NODELETE, FLAG_1_NODIRECT, FLAG_1_NODUMP, FLAG_1_NOHDR, FLAG_1_NOKSYMS, FLAG_1_NOOPEN, FLAG_1_NORELOC, FLAG_1_NOW, FLAG_1_ORIGIN, FLAG_1_PIE, FLAG_1_SINGLETON, FLAG_1_STUB, FLAG_1_SYMINTPOSE, FLAG_1_TRANS, FLAG_BIND_NOW, FLAG_ORIGIN, FLAG_STATIC_TLS, FLAG_SYMBOLIC, FLAG_TEXTREL}
+pub use Rattle.elf_records.specs.declared.program.TheConstants.{FLAG_MASKOS, FLAG_MASKPROC, FLAG_R, FLAG_W, FLAG_X, TYPE_GNU_EH_FRAME, TYPE_GNU_PROPERTY, TYPE_GNU_RELRO, TYPE_GNU_STACK, TYPE_HIOS, TYPE_HIPROC, TYPE_LOOS, TYPE_LOPROC}
 pub use Rattle.elf_records.specs.declared.sections.TheConstants.{GRP_COMDAT, GRP_MASKOS, GRP_MASKPROC, SHF_ALLOC, SHF_COMPRESSED, SHF_EXECINSTR, SHF_GROUP, SHF_INFO_LINK, SHF_LINK_ORDER, SHF_MASKOS, SHF_MASKPROC, SHF_MERGE, SHF_OS_NONCONFORMING, SHF_STRINGS, SHF_TLS, SHF_WRITE, SHN_ABS, SHN_COMMON, SHN_HIOS, SHN_HIPROC, SHN_HIRESERVE, SHN_LOOS, SHN_LOPROC, SHN_LORESERVE, SHN_UNDEF, SHN_XINDEX, SHT_HIOS, SHT_HIPROC, SHT_HIUSER, SHT_LOOS, SHT_LOPROC, SHT_LOUSER}
+pub use Rattle.elf_records.specs.declared.symbol_table.TheConstants.{BINDING_GNU_UNIQUE, TYPE_GNU_IFUNC}
 use Rattle.std.specs.Prelude.{ℕ}
 use Rattle.xmas_elf.specs.Prelude.{ElfFile as the_ElfFile, HashTable as the_HashTable, ProgramIter as the_ProgramIter, SegmentData as the_SegmentData, ProgramHeader as the_ProgramHeader, ProgramHeader32 as the_ProgramHeader32, ProgramHeader64 as the_ProgramHeader64, ReportFault as the_ReportFault, SectionIter as the_SectionIter, SectionData as the_SectionData, SectionHeader_ as the_SectionHeader_, SectionHeader as the_SectionHeader, SectionStrings as the_SectionStrings, DynEntry32 as the_DynEntry32, DynEntry64 as the_DynEntry64, Entry32 as the_Entry32, Entry64 as the_Entry64}
 use Rattle.xmas_elf.specs.declared.sections.table.SectionTable.{SectionTable as the_SectionTable}

@@ -1,15 +1,10 @@
 //! The number of sections and segments of a file, and the section that contains the section names
 //! (gABI, "ELF Header").
 
-ghost use Rattle.std.specs.Prelude.{◌≡◌, ◌==◌, [], ◌∷◌, None, if◌then◌else◌, length, nat_lt, not};
-ghost use Rattle.std.specs.Result.{result_ok};
+ghost use Rattle.std.specs.Prelude.{◌≡◌};
 ghost use Rattle.elf_base.specs.FileHeader.{class_number, header_fields};
-ghost use Rattle.elf_base.specs.Refusal.{unless};
-ghost use Rattle.elf_base.specs.declared.error.ElfError.{ElfError};
-ghost use Rattle.xmas_elf.specs.SectionHeader.{first_section, program_count_of, section_at_place};
-ghost use Rattle.xmas_elf.specs.SectionHeader.{section_count_of, section_header_size};
-ghost use Rattle.xmas_elf.specs.SectionHeader.{shstr_index_of};
-ghost use Rattle.xmas_elf.specs.HeaderTable.{entry_place, is_known_class};
+ghost use Rattle.xmas_elf.specs.SectionHeader.{first_by, first_section, program_count_of};
+ghost use Rattle.xmas_elf.specs.SectionHeader.{section_count_of, shstr_index_of};
 
 use crate::bytes::Order;
 use crate::header::{Class_, HeaderPt2_};
@@ -18,7 +13,7 @@ use crate::sections::{SHN_LORESERVE, SHN_XINDEX, SectionHeader, read_at_place};
 use crate::{ElfError, ElfFile, P64};
 
 // PN_XNUM: the number of program headers is in section header 0.
-const PN_XNUM: u16 = 0xffff;
+pub(crate) const PN_XNUM: u16 = 0xffff;
 
 impl ElfFile<'_> {
     /// The number of sections: that of the ELF header, or if it is 0, the size of section header 0;
@@ -106,19 +101,14 @@ impl ElfFile<'_> {
 // It takes numbers, so that the caller need not store its file in memory: this case is rare.
 #[cold]
 #[inline(never)]
-fn first_at(
+pub(crate) fn first_at(
     input: &[u8],
     offset: u64,
     entry_size: u16,
     class: Class_,
     order: Order,
 ) -> Option<SectionHeader>
-    ensures { result ≡ (if offset == 0 then None else result_ok (unless (
-        (nat_lt (length input.now) (entry_place offset entry_size 1), ElfError.ShortSectionHeader)
-        ∷ (not (is_known_class (class_number class)), ElfError.UnknownClass)
-        ∷ (nat_lt entry_size (section_header_size (class_number class)), ElfError.SmallEntry)
-        ∷ []) (section_at_place (class_number class) order
-        (entry_place offset entry_size 0) input.now))) }
+    ensures { result ≡ first_by input.now offset entry_size (class_number class) order }
 {
     if offset == 0 {
         return None;

@@ -24,8 +24,9 @@ pub(crate) use crate::program::text::SegmentType;
 use crate::ranges::ends_inside;
 use crate::{ElfError, ElfFile};
 pub use elf_records::program::{
-    FLAG_MASKOS, FLAG_MASKPROC, FLAG_R, FLAG_W, FLAG_X, Flags, TYPE_GNU_RELRO, TYPE_HIOS,
-    TYPE_HIPROC, TYPE_LOOS, TYPE_LOPROC, Type, Type_,
+    FLAG_MASKOS, FLAG_MASKPROC, FLAG_R, FLAG_W, FLAG_X, Flags, TYPE_GNU_EH_FRAME,
+    TYPE_GNU_PROPERTY, TYPE_GNU_RELRO, TYPE_GNU_STACK, TYPE_HIOS, TYPE_HIPROC, TYPE_LOOS,
+    TYPE_LOPROC, Type, Type_,
 };
 
 impl<'a> ElfFile<'a> {

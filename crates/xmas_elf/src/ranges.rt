@@ -84,3 +84,12 @@ pub(crate) fn table_is_within(input: &[u8], offset: u64, entry_size: u16, count:
 {
     u128::from(offset) + u128::from(count) * u128::from(entry_size) <= input.len() as u128
 }
+
+// The same for a count of 16 bits, with which 64 bits are enough.
+#[inline(always)]
+pub(crate) fn short_table_is_within(input: &[u8], offset: u64, entry_size: u16, count: u16) -> bool
+    ensures { IsTrue result ↔ (entry_place offset entry_size count ≤ length input.now) }
+{
+    let size = u32::from(count) * u32::from(entry_size);
+    is_within(input, u64::from(size), offset)
+}

@@ -7,6 +7,7 @@ ghost use Rattle.std.specs.Prelude.{take, ℕ};
 ghost use Rattle.elf_callers.specs.Names.{HasText, IsNameTotal, first_name_of};
 ghost use Rattle.elf_callers.specs.Numbered.{numbered_name};
 ghost use Rattle.elf_callers.specs.Totals.{IsFirstWithout};
+ghost use Rattle.xmas_elf.specs.First.{FindsFirstAt};
 ghost use Rattle.xmas_elf.specs.Lent.{Answers, Lends};
 ghost use Rattle.xmas_elf.specs.NameTable.{section_named};
 ghost use Rattle.xmas_elf.specs.Number.{number};
@@ -25,6 +26,14 @@ use xmas_elf::bytes::{Order, Record, Table, text_at};
 use xmas_elf::sections::SectionHeader;
 use xmas_elf::symbol_table::{DynEntry32, Entry, Entry64, SymbolTable};
 use xmas_elf::{ElfError, ElfFile};
+
+/// The index in a table of the first symbol with this value.
+pub fn value_position<E: Entry + Record>(symbols: &Table<'_, E>, value: u64) -> Option<usize>
+    ensures { FindsFirstAt (λ symbol. (E.fields symbol).value ≡ value)
+        (table_items symbols.now) result }
+{
+    symbols.iter().position(|symbol| symbol.value() == value)
+}
 
 /// The name of a symbol of class 64, or the same error.
 pub fn name_or_refusal<'a>(symbol: &Entry64, file: &ElfFile<'a>) -> Result<&'a str, ElfError>

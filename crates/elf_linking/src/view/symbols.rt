@@ -5,12 +5,15 @@ ghost use Rattle.std.specs.Prelude.{Ok, Err, IfOk, IsOkAnd, MatchResult, Some, l
 ghost use Rattle.elf_base.specs.FileHeader.{file_order};
 ghost use Rattle.elf_base.specs.Table.{table_bytes, table_data, table_order};
 ghost use Rattle.elf_linking.specs.DynamicView.{AreSymbols, AreSymbolsRefused, IsSymbolCount};
-ghost use Rattle.elf_linking.specs.DynamicView.{LieAsSymbols, view_strings, view_table};
+ghost use Rattle.elf_linking.specs.DynamicView.{LieAsSymbols, counted_symbols_of, view_strings};
+ghost use Rattle.elf_linking.specs.DynamicView.{view_table};
+ghost use Rattle.elf_linking.specs.References.{IsReachedCount, count_with, references_left};
 ghost use Rattle.xmas_elf.specs.SymbolTable.{carried_strings, carried_table, table_symbols};
 ghost use Rattle.xmas_elf.specs.Symbols.{named_symbols};
 ghost use Rattle.elf_linking.specs.Loaded.{lent};
 
 use crate::LinkError;
+use crate::references::References;
 use crate::view::dynamic::DynamicView;
 use crate::view::linked_symbol::LinkedSymbol;
 use crate::view::loaded::bytes_at;
@@ -88,6 +91,72 @@ impl<'a> DynamicView<'a> {
         }
     }
 
+    /// As many symbols as are given at the address in the entry SymTab, without their names. The
+    /// number is the caller's where the hash table does not count all symbols: `reached_count`, or
+    /// that of a section of type DynSym.
+    ///
+    /// Errors: `SymbolIndex` if there are more than 2 to the 32; `NoEntry` if there is no entry
+    /// SymTab; those of `bytes_at`.
+    pub fn counted_records<E: LinkedSymbol>(
+        &self,
+        file: &ElfFile<'a>,
+        count: u64,
+    ) -> Result<Table<'a, E>, LinkError>
+        ensures exact { let answer
+            = counted_symbols_of file.now (view_entries self.now) count E.SIZE in MatchResult result
+            (λ symbols. (answer ≡ Ok (table_data symbols))
+            × (table_order symbols ≡ file_order file.now.header))
+            (λ error. answer ≡ Err error) }
+        ensures place { IfOk result (λ symbols.
+            LieAsSymbols file.now (view_entries self.now) (table_bytes symbols)) }
+    {
+        let bytes = self.counted_bytes(file, count, E::SIZE as u64)?;
+        match Table::new(bytes, file.byte_order()) {
+            Ok(symbols) => Ok(symbols),
+            Err(_) => unreachable!(),
+        }
+    }
+
+    // The bytes of as many symbols as are given, where each has `size` bytes.
+    pub(crate) fn counted_bytes(
+        &self,
+        file: &ElfFile<'a>,
+        count: u64,
+        size: u64,
+    ) -> Result<&'a [u8], LinkError>
+        requires above { 0 < size }
+        requires below { size ≤ 24 }
+        ensures exact { lent result
+            ≡ counted_symbols_of file.now (view_entries self.now) count size }
+        ensures whole { IfOk result (λ bytes. length bytes.now % size ≡ 0) }
+        ensures place { IfOk result (LieAsSymbols file.now (view_entries self.now)) }
+    {
+        if count > 1 << 32 {
+            return Err(LinkError::SymbolIndex);
+        }
+        match self.entry(DT_SYMTAB) {
+            Some(address) => bytes_at(file, address, count * size),
+            None => Err(LinkError::NoEntry),
+        }
+    }
+
+    /// The number of symbols that look-ups and relocations reach: `symbol_count`, or one more than
+    /// the greatest index of a symbol that a relocation of `references` names, if that is more.
+    ///
+    /// GNU's linker makes an empty hash table for a program that exports nothing, so that
+    /// `symbol_count` counts none of the symbols that its relocations name. The sections of a file,
+    /// if it has them, say the number of all symbols.
+    ///
+    /// Errors: those of `symbol_count`; those of `references`.
+    pub fn reached_count(&self, file: &ElfFile<'a>) -> Result<u64, LinkError>
+        ensures exact { IsReachedCount file.now (view_entries self.now) result }
+        ensures bound { IfOk result (λ count. count ≤ 2 ^ 32) }
+    {
+        let count = self.symbol_count(file)?;
+        let references = self.references(file)?;
+        Ok(count_with(count, references))
+    }
+
     // The bytes of the symbols, where each has `size` bytes.
     fn symbol_bytes(&self, file: &ElfFile<'a>, size: u64) -> Result<&'a [u8], LinkError>
         requires above { 0 < size }
@@ -97,9 +166,21 @@ impl<'a> DynamicView<'a> {
         ensures place { IfOk result (LieAsSymbols file.now (view_entries self.now)) }
     {
         let count = self.symbol_count(file)?;
-        match self.entry(DT_SYMTAB) {
-            Some(address) => bytes_at(file, address, count * size),
-            None => Err(LinkError::NoEntry),
+        self.counted_bytes(file, count, size)
+    }
+}
+
+// The count, or one more than the greatest index of a symbol that a reference names.
+fn count_with(count: u64, references: References<'_>) -> u64
+    requires { count ≤ 2 ^ 32 }
+    ensures value { result ≡ count_with count (references_left references.entry) }
+    ensures bound { result ≤ 2 ^ 32 }
+{
+    let mut reached = count;
+    for reference in references {
+        if u64::from(reference.symbol) >= reached {
+            reached = u64::from(reference.symbol) + 1;
         }
     }
+    reached
 }

@@ -10,7 +10,6 @@ use crate::tests::find::file::{
     DEFINITIONS, KINDS, Kind, Symbol, add_entry, drop_numbers, find_file, set_name, set_other,
     set_symbol,
 };
-use crate::tests::versions::file::{Field, set_fields};
 use crate::tests::want::{open, want_at};
 use elf_base::ElfError;
 use elf_linking::references::Reference;
@@ -19,6 +18,7 @@ use elf_linking::view::LinkedSymbol;
 use elf_linking::{DynamicObject, LinkError};
 use std::process::Abort;
 use worked_files::places::{header_64, set};
+use worked_files::versioned::{Field, set_fields};
 use xmas_elf::symbol_table::{DynEntry32, DynEntry64};
 
 // The index of the file and that of its symbol.

@@ -9,13 +9,13 @@ use crate::tests::find::Asked::{By, Hidden};
 use crate::tests::find::file::{
     DEFINITIONS, KINDS, Kind, Symbol, drop_numbers, find_file, set_symbol,
 };
-use crate::tests::versions::file::{Field, set_fields};
 use crate::tests::want::{open, want, want_at};
 use elf_base::ElfError;
 use elf_linking::find::{Use, Wanted};
 use elf_linking::view::LinkedSymbol;
 use elf_linking::{DynamicObject, LinkError};
 use std::process::Abort;
+use worked_files::versioned::{Field, set_fields};
 use xmas_elf::symbol_table::{DynEntry32, DynEntry64};
 
 const SHORT: LinkError = LinkError::ShortVersion;

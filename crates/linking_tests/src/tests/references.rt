@@ -1,20 +1,20 @@
 //! The relocations that name a symbol, in files of both classes and orders that are written field by
 //! field, and in a small shared object as `readelf -W -r` shows it.
 
-use crate::tests::versions::file::{
-    KINDS, PROGRAMS, set_entry, set_header, set_program, set_segment_end, sizes,
-};
 use crate::tests::want::{open, want, want_at};
 use elf_base::ElfError;
 use elf_base::bytes::Order;
 use elf_linking::find::Use;
-use elf_linking::references::{Reference, use_of};
+use elf_linking::references::{Reference, relocation_name, use_of};
 use elf_linking::view::{DynamicView, word_at};
 use elf_linking::{DynamicObject, LinkError};
 use std::process::Abort;
 use worked_files::files::with_class;
 use worked_files::linked::small::SMALL;
 use worked_files::places::{Place, set};
+use worked_files::versioned::{
+    KINDS, PROGRAMS, set_entry, set_header, set_program, set_segment_end, sizes,
+};
 use xmas_elf::symbol_table::DynEntry64;
 
 // Where the dynamic entries are, the relocations with and without addends, and those of the
@@ -351,5 +351,40 @@ const USES: &[(u16, u32, Use)] = &[
 fn uses_are_by_machine_and_type(rt: HostRuntime) {
     for &(machine, kind, use_) in USES {
         want_at(&rt, kind, use_of(machine, kind), use_);
+    }
+}
+
+// By machine and relocation type, as `elf.h` of glibc 2.36 names them.
+const NAMES: &[(u16, u32, Option<&str>)] = &[
+    (62, 0, Some("R_X86_64_NONE")),
+    (62, 8, Some("R_X86_64_RELATIVE")),
+    (62, 38, Some("R_X86_64_RELATIVE64")),
+    (62, 39, None),
+    (62, 42, Some("R_X86_64_REX_GOTPCRELX")),
+    (62, 43, None),
+    (62, u32::MAX, None),
+    (3, 7, Some("R_386_JMP_SLOT")),
+    (3, 12, None),
+    (3, 43, Some("R_386_GOT32X")),
+    (3, 44, None),
+    (183, 0, Some("R_AARCH64_NONE")),
+    (183, 256, None),
+    (183, 257, Some("R_AARCH64_ABS64")),
+    (183, 313, Some("R_AARCH64_LD64_GOTPAGE_LO15")),
+    (183, 512, Some("R_AARCH64_TLSGD_ADR_PREL21")),
+    (183, 543, Some("R_AARCH64_TLSIE_LD_GOTTPREL_PREL19")),
+    (183, 544, Some("R_AARCH64_TLSLE_MOVW_TPREL_G2")),
+    (183, 573, Some("R_AARCH64_TLSLD_LDST128_DTPREL_LO12_NC")),
+    (183, 574, None),
+    (183, 1024, Some("R_AARCH64_COPY")),
+    (183, 1032, Some("R_AARCH64_IRELATIVE")),
+    (183, 1033, None),
+    (40, 0, None),
+];
+
+#[test]
+fn types_have_the_names_of_their_machine(rt: HostRuntime) {
+    for &(machine, kind, name) in NAMES {
+        want_at(&rt, kind, relocation_name(machine, kind), name);
     }
 }

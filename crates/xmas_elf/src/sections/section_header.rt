@@ -1,7 +1,7 @@
 //! Section headers of both classes: their layout and their fields (gABI, "Sections": Elf32_Shdr and
 //! Elf64_Shdr).
 
-ghost use Rattle.std.specs.Prelude.{◌≡◌, ◌↔◌, ◌+◌, ◌≤◌, ◌<◌, [], ◌∷◌, Err, IfOk, IsOk, IsTrue};
+ghost use Rattle.std.specs.Prelude.{◌≡◌, ◌↔◌, ◌+◌, ◌≤◌, ◌<◌, [], ◌∷◌, Err, IfOk, IfSome, IsOk, IsTrue};
 ghost use Rattle.std.specs.Prelude.{MatchResult, Ok, drop, length, nat_lt, not, take};
 ghost use Rattle.std.proofs.Common.{lit<};
 ghost use Rattle.elf_base.specs.FileHeader.{class_number};
@@ -355,7 +355,9 @@ impl SectionHeader {
     ///
     /// Error: `DataRange` if the range extends past the end of the input.
     pub fn stored_range(&self, file: &ElfFile<'_>) -> Result<Option<(usize, usize)>, ElfError>
-        ensures { result ≡ stored_range_of file.now self.now }
+        ensures within { IfOk result (λ found. IfSome found
+            (λ range. range.0 + range.1 ≤ length file.now.input.now)) }
+        ensures exact { result ≡ stored_range_of file.now self.now }
     {
         if matches!(self.type_().raw(), SHT_NULL | SHT_NOBITS) {
             return Ok(None);

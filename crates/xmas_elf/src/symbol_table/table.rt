@@ -1,6 +1,6 @@
 //! A symbol table with the names of its symbols (gABI, "Symbol Table" and "String Table").
 
-ghost use Rattle.std.specs.Prelude.{◌≡◌, ◌↔◌, ◌<◌, ◌^◌, IfSome, IsNone, IsSomeAnd, IsTrue};
+ghost use Rattle.std.specs.Prelude.{◌≡◌, ◌↔◌, ◌<◌, ◌≤◌, ◌+◌, ◌^◌, IfOk, IfSome, IsNone, IsSomeAnd, IsTrue};
 ghost use Rattle.std.specs.Prelude.{Err, IsOkAnd, MatchOption, MatchResult, None, Ok, Some};
 ghost use Rattle.std.specs.Prelude.{length, slice_get};
 ghost use Rattle.std.specs.Result.{result_ok};
@@ -8,10 +8,12 @@ ghost use Rattle.std.specs.Str.{IsUtf8};
 ghost use Rattle.elf_base.specs.Lent.{Answers};
 ghost use Rattle.xmas_elf.specs.NamedSymbols.{TextBy, TextBy-prop};
 ghost use Rattle.xmas_elf.specs.SymbolName.{name_in_table};
+ghost use Rattle.xmas_elf.specs.SymbolRange.{symbol_range_of};
 ghost use Rattle.xmas_elf.specs.Symbols.{named_symbols, symbols_of};
 
 use crate::bytes::{Record, Table, TableIter, bytes_up_to_zero, text_at};
 use crate::symbol_table::Entry;
+use crate::symbol_table::file_ranges::symbol_range;
 use crate::symbol_table::symbol_names::Names;
 use crate::{ElfError, ElfFile};
 use elf_base::bytes::stands_at;
@@ -75,6 +77,17 @@ impl<'a, E: Entry + Record> SymbolTable<'a, E> {
         ensures { result ≡ carried_table self.now }
     {
         self.table
+    }
+
+    /// The string table of the names, or the error for it; `None` if names are not texts of one
+    /// table.
+    pub fn strings(&self) -> Option<Result<&'a [u8], ElfError>>
+        ensures { result ≡ carried_strings self.now }
+    {
+        match &self.names {
+            Names::Strings(found) => Some(*found),
+            Names::File(_) => None,
+        }
     }
 
     /// The symbol at an index, or `None` past the end of the table.
@@ -168,6 +181,35 @@ impl<'a, E: Entry + Record> SymbolTable<'a, E> {
                 Err(error) => Err(error),
             },
             Names::File(file) => bytes_of(symbol.get_name(file)),
+        }
+    }
+
+    /// The range of the bytes that the file stores for the symbol at an index: the offset of the
+    /// first, and their number. They are in the symbol's section, in an object file from its value
+    /// on, in other files from its address on: its value, or for a thread-local symbol (`Type::Tls`)
+    /// the sum of its value and the address of the first segment of type Tls.
+    ///
+    /// `None` if the symbol has no section, as one that is undefined, absolute or common; if the
+    /// file stores no bytes for its section, as for types NoBits and Null; if a file that is linked
+    /// has no segment of type Tls for a thread-local symbol; and if not all of the bytes are in the
+    /// section. A symbol of size 0 has an empty range.
+    ///
+    /// Errors: `SymbolIndex` past the end of the table; those of `Entry::get_section_header`, except
+    /// `ReservedSymbolIndex`; those of `SectionHeader::stored_range`.
+    pub fn file_range(
+        &self,
+        file: &ElfFile<'_>,
+        index: usize,
+    ) -> Result<Option<(usize, usize)>, ElfError>
+        ensures within { IfOk result (λ found. IfSome found
+            (λ range. range.0 + range.1 ≤ length file.now.input.now)) }
+        ensures exact { MatchOption (slice_get (table_symbols self.now).items index)
+            (result ≡ Err ElfError.SymbolIndex)
+            (λ symbol. result ≡ symbol_range_of file.now (E.fields symbol) index) }
+    {
+        match self.table.get(index) {
+            Some(symbol) => symbol_range(&symbol, file, index),
+            None => Err(ElfError::SymbolIndex),
         }
     }
 

@@ -229,6 +229,28 @@ fn check_scope<E: LinkedSymbol>(
     Ok(())
 }
 
+// Wants these bindings of the iterator over all references, in the order of the objects.
+fn check_bindings<E: LinkedSymbol>(
+    rt: &impl Abort,
+    objects: &[DynamicObject<'_, E>; 3],
+    bindings: Bindings,
+) -> Result<(), LinkError> {
+    let mut found = Scope::new(objects).bindings();
+    for (from, wanted) in bindings.iter().enumerate() {
+        for &wanted in *wanted {
+            let Some(Ok(binding)) = found.next() else {
+                panic!(rt; "no binding of object {from}");
+            };
+            want_at(rt, binding.reference, binding.from, from);
+            want_at(rt, from, binding.asked.err(), None);
+            let bound = binding.bound?.map(|bound| (bound.object, bound.index));
+            want_at(rt, binding.reference, bound, wanted);
+        }
+    }
+    want(rt, found.next().is_none(), true);
+    Ok(())
+}
+
 // Wants these bindings of the references of each file.
 fn check_bound<E: LinkedSymbol>(
     rt: &impl Abort,
@@ -239,7 +261,9 @@ fn check_bound<E: LinkedSymbol>(
     let program = loaded::<E>(rt, program)?;
     let first = loaded::<E>(rt, first)?;
     let second = loaded::<E>(rt, second)?;
-    check_scope(rt, &[program, first, second], bindings)
+    let objects = [program, first, second];
+    check_bindings(rt, &objects, bindings)?;
+    check_scope(rt, &objects, bindings)
 }
 
 #[test]
@@ -250,6 +274,23 @@ fn lists_and_binds_references(rt: HostRuntime) -> Result<(), LinkError> {
     let files: [&[u8]; 3] = [WIDE_CALLER, WIDE_FIRST, WIDE_SECOND];
     check_all_listed::<DynEntry64>(&rt, files, &WIDE_REFERENCES)?;
     check_bound::<DynEntry64>(&rt, files, BINDINGS)
+}
+
+// The number of the program's entry PltRel, at 0x4f8, is neither Rel nor Rela: an item tells it, and
+// the next is of the first library.
+#[test]
+fn goes_on_after_relocations_that_are_not_read(rt: HostRuntime) -> Result<(), LinkError> {
+    let mut program = *WIDE_CALLER;
+    put(&mut program, 0x4f8, &[8]);
+    let program = DynamicObject::<DynEntry64>::read(&open(&rt, &program))?;
+    let first = loaded::<DynEntry64>(&rt, WIDE_FIRST)?;
+    let objects = [program, first];
+    let mut bindings = Scope::new(&objects).bindings();
+    let refused = bindings.next().and_then(|item| item.err());
+    want(&rt, refused, Some((0, LinkError::RelocationKind)));
+    let next = bindings.next().and_then(|item| item.ok());
+    want(&rt, next.map(|binding| binding.from), Some(1));
+    Ok(())
 }
 
 #[test]

@@ -1,12 +1,12 @@
 //! A file in which up to three symbols have the name `ab`, with a hash table of either kind and the
 //! versions that `versions::file` has.
 
-use crate::tests::versions::file::{
+use elf_base::bytes::Order;
+use worked_files::places::{Place, WORD, put, set, symbol_32, symbol_64};
+use worked_files::versioned::{
     DEFINED, NAMES, NEEDED, PROGRAMS, set_entry, set_fields, set_header, set_program,
     set_segment_end, sizes,
 };
-use elf_base::bytes::Order;
-use worked_files::places::{Place, WORD, put, set, symbol_32, symbol_64};
 
 /// The class of a file, its byte order, and whether its hash table is GNU's.
 #[derive(Clone, Copy, Debug)]

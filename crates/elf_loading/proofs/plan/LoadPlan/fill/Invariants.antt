@@ -1,8 +1,21 @@
-use Rattle.std.proofs.Common.{◌≡◌, ℕ, ◌+◌, ◌<◌, length, get_or}
-use Rattle.elf_loading.specs.Bytes.{byte_number, byte_of}
+use Rattle.std.proofs.Common.{◌≡◌, ℕ, ◌+◌, true, length, get_or}
+use Rattle.std.specs.List.{find, list_all}
+use Rattle.elf_loading.specs.LoadCheck.{fits_below, holds_address}
+use Rattle.elf_loading.specs.Loads.{loads_rest}
 use Rattle.elf_loading.specs.Plan.{plan_loads}
-use Rattle.elf_loading.specs.Spans.{first_start}
+use Rattle.elf_loading.specs.Spans.{first_start, last_end}
+use Rattle.elf_loading.proofs.Filled.{AreBetween, IsFilled}
 use Rattle.elf_loading.proofs.plan.LoadPlan.fill.Given as goal
 
-abbrev pub invariant-loop-k : goal.invariant-loop-k
-invariant-loop-k l = (i : ℕ) → i < l.k → get_or l.image i 0 ≡ byte_number l.self.file.input.now (byte_of l.self.page l.by (length l.self.file.input.now) (first_start l.self.page (plan_loads l.self) + i) (plan_loads l.self))
+-- the bytes are those of the loads so far, and zero where a load that is left has a page
+abbrev pub invariant-loop-load : goal.invariant-loop-load
+invariant-loop-load l =
+    let rest = loads_rest l.load-iterator in
+    let loads = plan_loads l.self in
+    let start = first_start l.self.page loads in record {
+      len : length l.image ≡ length l.fn.image;
+      fit : list_all (fits_below l.self.page l.self.limit) rest ≡ true;
+      between : AreBetween l.self.page start (last_end l.self.page 0 loads) rest;
+      filled : (i : ℕ) → IsFilled l.self.file.input.now l.self.page l.by (start + i)
+          (find (holds_address l.self.page (start + i)) rest) (find (holds_address l.self.page (start + i)) loads) (get_or l.image i 0);
+    }

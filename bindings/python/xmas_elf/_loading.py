@@ -1,0 +1,122 @@
+"""What Linux and glibc put into memory for a file."""
+from __future__ import annotations
+
+from enum import IntEnum
+from typing import Any, List, NamedTuple, Optional
+
+from . import _declarations as declared
+from ._declarations import _document
+from ._rows import rows
+from .constants import PF, PF_R, PF_W, PF_X
+
+
+class Loader(IntEnum):
+    """Whose way of mapping: that of Linux, which maps programs, or of glibc, which maps libraries."""
+
+    LINUX = 0
+    GLIBC = 1
+
+
+class Contents(IntEnum):
+    """What a mapping holds: nothing that can be read, pages of the file, or zeros."""
+
+    NO_ACCESS = 0
+    FILE = 1
+    ZERO = 2
+
+
+class Mapping(NamedTuple):
+    """Pages that are mapped at once."""
+
+    start: int
+    end: int
+    offset: int
+    flags: PF
+    contents: Contents
+
+    def __repr__(self) -> str:
+        letters = "".join(letter if self.flags & flag else "-" for letter, flag in zip("RWX", (PF_R, PF_W, PF_X)))
+        return f"<Mapping {self.start:#x} to {self.end:#x} {letters} {self.contents.name}, offset {self.offset:#x}>"
+
+
+class Addresses(NamedTuple):
+    """Addresses from `start` on and before `end`."""
+
+    start: int
+    end: int
+
+
+class TlsTemplate(NamedTuple):
+    """The template of thread-local storage."""
+
+    address: int
+    file_size: int
+    mem_size: int
+    align: int
+
+
+class LoadPlan(NamedTuple):
+    """What Linux and glibc put into memory for a file. Addresses are relative to a base, which is 0 for type ET_EXEC."""
+
+    span: Addresses
+    relro: Optional[Addresses]
+    tls: Optional[TlsTemplate]
+    interpreter: Optional[str]
+    entry: int
+    stack_flags: Optional[PF]
+    linux: List[Mapping]
+    glibc: List[Mapping]
+
+    def mappings(self, by: Loader = Loader.LINUX) -> List[Mapping]:
+        """What a loader maps before relocation, in the order of addresses. No mapping is empty or overlaps another."""
+        return self.glibc if by == Loader.GLIBC else self.linux
+
+
+_LOAD_MAPPING = declared.LoadMappingRecord
+_document(
+    Mapping,
+    start=_LOAD_MAPPING.start.__doc__ or "",
+    end=_LOAD_MAPPING.end.__doc__ or "",
+    offset=_LOAD_MAPPING.offset.__doc__ or "",
+    flags=_LOAD_MAPPING.flags.__doc__ or "",
+    contents="What the pages hold.",
+)
+_document(Addresses, start="The first address.", end="The first address after the last.")
+_document(
+    TlsTemplate,
+    address="The address of the bytes that the file has.",
+    file_size="The number of these bytes.",
+    mem_size="The size of the storage in bytes; zeros follow the bytes of the file.",
+    align="The alignment of the storage in bytes.",
+)
+_document(
+    LoadPlan,
+    span="The pages from the first of the first load segment (PT_LOAD) to the last of the last one.",
+    relro="The pages that are only readable after relocation (PT_GNU_RELRO), or None.",
+    tls="The template of thread-local storage: the last PT_TLS that is not empty, or None.",
+    interpreter="The path of the program interpreter (PT_INTERP), or None.",
+    entry="The address at which a program begins to run, or 0.",
+    stack_flags="The permissions of the stack (PT_GNU_STACK); None if the file says none.",
+    linux="What Linux maps.",
+    glibc="What glibc maps: also the pages between load segments, without access.",
+)
+
+
+def _mappings(file: Any, page: int, limit: int, by: Loader) -> List[Mapping]:
+    found = rows("xmas_elf_load_mappings", declared.LOAD_MAPPING, *file._input, page, limit, int(by))
+    return [Mapping(start, end, offset, PF(flags), Contents(contents)) for start, end, offset, flags, contents in found]
+
+
+def load_plan_of(file: Any, page: int, limit: int) -> LoadPlan:
+    it = declared.LoadPlanRecord._make(file._asked("xmas_elf_load_plan", declared.LOAD_PLAN, page, limit))
+    path = bytes(file._view[it.interpreter_offset : it.interpreter_offset + it.interpreter_size])
+    return LoadPlan(
+        span=Addresses(it.span_start, it.span_end),
+        relro=Addresses(it.relro_start, it.relro_end) if it.has_relro else None,
+        tls=TlsTemplate(it.tls_address, it.tls_file_size, it.tls_mem_size, it.tls_align) if it.tls_mem_size else None,
+        interpreter=path.decode("utf-8", "surrogateescape") if it.has_interpreter else None,
+        entry=it.entry,
+        stack_flags=PF(it.stack_flags) if it.has_stack else None,
+        linux=_mappings(file, page, limit, Loader.LINUX),
+        glibc=_mappings(file, page, limit, Loader.GLIBC),
+    )

@@ -1,0 +1,32 @@
+// The symbol of the byte at an offset: its address by the loaded segments, or its place in a section of an object file.
+import * as names from "./names.js";
+import { escaped, hex } from "./text.js";
+
+// The address of a byte, and the section that its symbol is in, or 0; null where the byte has no address.
+function addressOf({ header, segments }, part, offset) {
+  if (header.type === names.ET_REL) {
+    const isSection = part?.sort === "section" && part.section.header.flags & names.SECTION_ALLOC;
+    return isSection ? { address: BigInt(offset - part.start), within: part.section.index } : null;
+  }
+  const at = BigInt(offset);
+  const holds = ({ header: it }) => it.type === names.PT_LOAD && it.offset <= at && at - it.offset < it.file_size;
+  const load = segments.find(holds)?.header;
+  return load ? { address: load.virtual_addr + (at - load.offset), within: 0 } : null;
+}
+
+// The table of symbols that are asked, and the section of their section indices that need more than 16 bits.
+function tableOf({ symbolTables, sections }) {
+  const tables = symbolTables.filter(({ count }) => count);
+  const table = tables.find(({ section }) => section.header.type === names.SYMTAB) ?? tables[0];
+  if (!table) return null;
+  const { index } = table.section;
+  const wide = sections.find(({ header }) => index !== null && header.type === names.SYMTAB_SHNDX && header.link === index);
+  return { section: index, indices: wide ? { offset: wide.header.offset, size: wide.header.size } : { offset: 0n, size: 0n } };
+}
+
+/** The symbol that covers the byte at an offset, as `main+0x4`; null if none does. */
+export async function symbolText(file, client, part, offset) {
+  const [place, table] = [addressOf(file, part, offset), tableOf(file)];
+  const found = place && table ? await client.ask("symbolAt", { ...place, ...table }) : null;
+  return found ? `${escaped(found.text)}+${hex(found.offset)}` : null;
+}

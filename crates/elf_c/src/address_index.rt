@@ -1,0 +1,410 @@
+//! The symbols of many addresses, by an index in words of the caller (gABI, "Symbol Table"; the
+//! index is this project's own).
+
+ghost use Rattle.std.specs.Prelude.{◌≡◌, ◌≤◌, ◌<◌, ℕ, Err, IfOk, MatchResult, OnErr, Ok, Result};
+ghost use Rattle.std.specs.Prelude.{Some, drop, length, map, slice_get, take};
+ghost use Rattle.elf_addresses.specs.Index.{IsWellBuilt};
+ghost use Rattle.elf_addresses.specs.SymbolClaims.{claim_of_symbols, range_of_symbols};
+ghost use Rattle.elf_addresses.specs.SymbolClaims.{symbol_count, symbol_items};
+ghost use Rattle.elf_base.specs.Table.{table_items};
+ghost use Rattle.elf_c.specs.AddressIndex.{AreAnswered, AreStored, IsAnswer, IsAnswerIn, IsIndexIn};
+ghost use Rattle.elf_c.specs.AddressIndex.{IsIndexOf, IsIndexWith, addresses_by, addresses_in};
+ghost use Rattle.elf_c.specs.AddressIndex.{index_of, open_number, sizes_of, sizes_with, told};
+ghost use Rattle.elf_c.specs.AddressIndex.{within_of, words_by};
+ghost use Rattle.elf_c.specs.Status.{GivesHere};
+ghost use Rattle.elf_c.specs.SymbolTables.{symbol_by};
+ghost use Rattle.elf_c.specs.Symbols.{symbol_record};
+ghost use Rattle.elf_c.specs.declared.address_index.SymbolAt.{SymbolAt};
+ghost use Rattle.elf_c.specs.declared.status.Refusal.{Refusal};
+
+use crate::file::Parsed;
+use crate::names::{Range, bytes_in};
+use crate::status::{Refusal, give};
+use crate::symbol_tables::{AnySymbols, SymbolTable, order_of, symbols_by};
+use crate::symbols::{NO_SYMBOL, Symbol};
+use elf_addresses::{AddressSymbols, At, SymbolClaims, SymbolIndex};
+use elf_base::bytes::Order;
+use xmas_elf::bytes::{Record, Table};
+use xmas_elf::symbol_table::{DynEntry32, DynEntry64, Entry};
+
+/// An index of the symbols of a table by their addresses: numbers that other calls take back.
+#[repr(C)]
+#[derive(Clone, Copy, Debug)]
+pub struct AddressIndex {
+    /// The symbols, and the string table of their names.
+    pub table: SymbolTable,
+    /// The range of the section indices of symbols that need more than 16 bits; of size 0 if there
+    /// are none.
+    pub indices: Range,
+    /// The number of words that the index takes.
+    pub words: u64,
+    /// The number of symbols with a size in the index; 0 if it was not built.
+    pub sized_count: u64,
+    /// The number of symbols of size 0 in the index; 0 if it was not built.
+    pub open_count: u64,
+    /// The index of the section whose symbols alone name addresses, or 0 for all.
+    pub within: u32,
+    /// The processor architecture of the file.
+    pub machine: u16,
+}
+
+/// The symbol of an address, as numbers.
+#[repr(C)]
+#[derive(Clone, Copy, Debug)]
+pub struct SymbolAt {
+    /// The symbol, or 0 in each field.
+    pub symbol: Symbol,
+    /// The index of the symbol in its table, or 0.
+    pub index: u64,
+    /// The address less the value of the symbol, or 0.
+    pub offset: u64,
+    /// 1 if a symbol is found, otherwise 0.
+    pub found: u32,
+    /// 1 if the size of the symbol is 0, so that its end is unknown, otherwise 0.
+    pub is_open: u32,
+}
+
+/// The sizes of an index.
+#[derive(Clone, Copy, Debug)]
+pub(crate) struct Sizes {
+    words: u64,
+    sized_count: u64,
+    open_count: u64,
+}
+
+/// The symbols of a table of either class, and what says which of them name addresses.
+#[derive(Drop)]
+pub(crate) enum AnyAddresses<'a> {
+    /// Of class 32.
+    Narrow(AddressSymbols<'a, DynEntry32>),
+    /// Of class 64.
+    Wide(AddressSymbols<'a, DynEntry64>),
+}
+
+// The section that is asked for; 0 is none.
+#[inline(always)]
+fn within_of(section: u32) -> Option<u32>
+    ensures { result ≡ within_of section }
+{
+    if section == 0 { None } else { Some(section) }
+}
+
+// 1 for a symbol of size 0.
+#[inline(always)]
+fn open_number(is_open: bool) -> u32
+    ensures { result ≡ open_number is_open }
+{
+    if is_open { 1 } else { 0 }
+}
+
+// The words in a range.
+fn words_by<'a>(input: &'a [u8], part: &Range, order: Order) -> Result<Table<'a, u32>, Refusal>
+    ensures { MatchResult result (λ table. words_by input.now part.now order ≡ Ok (table_items table))
+        (λ why. words_by input.now part.now order ≡ Err why) }
+{
+    let bytes = bytes_in(input, part)?;
+    Ok(Table::new(bytes, order)?)
+}
+
+// The symbols of a record, and what says which of them name addresses.
+#[tactic(auto, using(crate::proofs::AddressIndexes::all_read, crate::proofs::AddressIndexes::no_symbols, crate::proofs::AddressIndexes::no_strings, crate::proofs::AddressIndexes::no_words))]
+fn addresses_by<'a>(
+    input: &'a [u8],
+    table: &SymbolTable,
+    indices: &Range,
+    machine: u16,
+) -> Result<AnyAddresses<'a>, Refusal>
+    ensures { MatchResult result
+        (λ all. addresses_by input.now table.now indices.now machine ≡ Ok (addresses_in all))
+        (λ why. addresses_by input.now table.now indices.now machine ≡ Err why) }
+{
+    let symbols = symbols_by(input, table)?;
+    let strings = bytes_in(input, &table.strings)?;
+    let indices = words_by(input, indices, order_of(table.encoding))?;
+    match symbols {
+        AnySymbols::Narrow(table) => Ok(AnyAddresses::Narrow(AddressSymbols {
+            table,
+            strings,
+            indices,
+            machine,
+        })),
+        AnySymbols::Wide(table) => Ok(AnyAddresses::Wide(AddressSymbols {
+            table,
+            strings,
+            indices,
+            machine,
+        })),
+    }
+}
+
+// Builds an index in words, and returns its sizes; without words, the number that it takes.
+fn build<E: Entry + Record>(
+    symbols: &AddressSymbols<'_, E>,
+    within: Option<u32>,
+    words: &mut [u32],
+) -> Result<Sizes, Refusal>
+    ensures exact { result ≡ sizes_with (claim_of_symbols E.fields symbols.now within)
+        (symbol_count symbols.now) words.old }
+    ensures built { IfOk result (λ sizes. sizes.words ≤ length words.old
+        → IsIndexWith (claim_of_symbols E.fields symbols.now within)
+        (range_of_symbols E.fields symbols.now) sizes.sized_count sizes.open_count words.new) }
+    ensures unchanged { IfOk result (λ sizes. length words.old < sizes.words
+        → words.new ≡ words.old) }
+    ensures refused { OnErr result (words.new ≡ words.old) }
+{
+    let count = SymbolIndex::words(symbols, within);
+    if words.is_empty() && count > 0 {
+        return Ok(Sizes {
+            words: count as u64,
+            sized_count: 0,
+            open_count: 0,
+        });
+    }
+    SymbolIndex::build(symbols, within, words)?;
+    let index = SymbolIndex::lend(symbols, within, words);
+    Ok(Sizes {
+        words: count as u64,
+        sized_count: index.sized.len() as u64,
+        open_count: index.starts.len() as u64,
+    })
+}
+
+// Builds an index of symbols of either class.
+fn build_in(
+    all: &AnyAddresses<'_>,
+    within: Option<u32>,
+    words: &mut [u32],
+) -> Result<Sizes, Refusal>
+    ensures exact { result ≡ sizes_of (addresses_in all.now) within words.old }
+    ensures built { IfOk result (λ sizes. sizes.words ≤ length words.old
+        → IsIndexIn (addresses_in all.now) within sizes.sized_count sizes.open_count words.new) }
+    ensures unchanged { IfOk result (λ sizes. length words.old < sizes.words
+        → words.new ≡ words.old) }
+    ensures refused { OnErr result (words.new ≡ words.old) }
+{
+    match all {
+        AnyAddresses::Narrow(symbols) => build(symbols, within, words),
+        AnyAddresses::Wide(symbols) => build(symbols, within, words),
+    }
+}
+
+// Builds an index of the symbols of a record.
+fn build_by(
+    input: &[u8],
+    table: &SymbolTable,
+    indices: &Range,
+    machine: u16,
+    within: u32,
+    words: &mut [u32],
+) -> Result<AddressIndex, Refusal>
+    ensures exact { result
+        ≡ index_of input.now table.now indices.now machine within words.old }
+    ensures built { IfOk result (λ index. index.words ≤ length words.old
+        → IsIndexOf input.now index words.new) }
+    ensures unchanged { IfOk result (λ index. length words.old < index.words
+        → words.new ≡ words.old) }
+    ensures refused { OnErr result (words.new ≡ words.old) }
+{
+    let all = addresses_by(input, table, indices, machine)?;
+    let sizes = build_in(&all, within_of(within), words)?;
+    Ok(AddressIndex {
+        table: *table,
+        indices: *indices,
+        words: sizes.words,
+        sized_count: sizes.sized_count,
+        open_count: sizes.open_count,
+        within,
+        machine,
+    })
+}
+
+/// Builds an index of the symbols of a table that name addresses (`elf_addresses::AddressSymbols`),
+/// in the first of `words`, for `xmas_elf_symbols_at`. If `words` is empty, only the number of words
+/// that the index takes is found: `out.words`.
+///
+/// `table` is the record of `xmas_elf_symbols_open` or `xmas_elf_dynamic_symbols_open` for the same
+/// bytes. `indices` is the range of the section of type SHT_SYMTAB_SHNDX that belongs to the symbols,
+/// of size 0 if there is none. `within` is the index of a section, if only its symbols are asked for,
+/// in an object file, whose values are offsets in sections; otherwise 0.
+///
+/// Errors: `DataRange` if the symbols extend past the end of the input; `NotMultiple` if they are not
+/// a whole number of them; `DataRange` if the string table extends past the end of the input;
+/// `DataRange` if the range of indices does; `NotMultiple` if it is not a whole number of words;
+/// `ManySymbols` if there are 2 to the 32 symbols or more; `FewWords` if there are words, and too few
+/// of them. After an error, and if only their number is asked for, `words` is as it was.
+#[unsafe(no_mangle)]
+pub extern "C" fn xmas_elf_address_index(
+    input: &[u8],
+    header: &Parsed,
+    table: &SymbolTable,
+    indices: &Range,
+    within: u32,
+    words: &mut [u32],
+    out: &mut AddressIndex,
+) -> u32
+    ensures exact { GivesHere
+        (index_of input.now table.now indices.now header.now.machine within words.old)
+        out.old result out.new }
+    ensures built { result ≡ 0 → out.new.words ≤ length words.old
+        → IsIndexOf input.now out.new words.new }
+    ensures unchanged { (result ≡ 0 → length words.old < out.new.words)
+        → words.new ≡ words.old }
+{
+    give(
+        build_by(input, table, indices, header.machine, within, words),
+        out,
+    )
+}
+
+impl SymbolAt {
+    // The numbers of the symbol that a question found, if any.
+    #[inline(always)]
+    fn of<E: Entry + Record>(found: Option<At<E>>) -> SymbolAt
+        ensures { result ≡ told E.fields found }
+    {
+        match found {
+            Some(at) => SymbolAt {
+                symbol: Symbol::of(&at.symbol),
+                index: at.index as u64,
+                offset: at.offset,
+                found: 1,
+                is_open: open_number(at.open),
+            },
+            None => SymbolAt {
+                symbol: NO_SYMBOL,
+                index: 0,
+                offset: 0,
+                found: 0,
+                is_open: 0,
+            },
+        }
+    }
+}
+
+// The symbol of an address by an index.
+fn find_one<E: Entry + Record>(index: &SymbolIndex<'_, '_, '_, E>, address: u64) -> SymbolAt
+    ensures { let claims = index.now.claims in
+        let claim_of = claim_of_symbols E.fields claims.symbols.now claims.within in
+        IsAnswer claim_of (map E.fields (symbol_items claims.symbols.now))
+        (IsWellBuilt claim_of (range_of_symbols E.fields claims.symbols.now)
+        index.now.sized.now index.now.lasting.now index.now.starts.now) address result }
+{
+    SymbolAt::of(index.symbol_at(address))
+}
+
+// Stores the symbol of each address.
+fn find_each<E: Entry + Record>(
+    index: &SymbolIndex<'_, '_, '_, E>,
+    addresses: &[u64],
+    out: &mut [SymbolAt],
+)
+    ensures { let claims = index.now.claims in
+        let claim_of = claim_of_symbols E.fields claims.symbols.now claims.within in
+        AreStored (IsAnswer claim_of (map E.fields (symbol_items claims.symbols.now))
+        (IsWellBuilt claim_of (range_of_symbols E.fields claims.symbols.now)
+        index.now.sized.now index.now.lasting.now index.now.starts.now))
+        addresses.now out.old out.new }
+{
+    let count = addresses.len().min(out.len());
+    for place in 0..count {
+        out[place] = find_one(index, addresses[place]);
+    }
+}
+
+// The first words, and the rest; all words if there are no more.
+#[inline(always)]
+fn split(words: &[u32], count: u64) -> (&[u32], &[u32])
+    ensures front { result.0.now ≡ take count words.now }
+    ensures back { result.1.now ≡ drop count words.now }
+{
+    if count <= words.len() as u64 {
+        words.split_at(count as usize)
+    } else {
+        (words, &[])
+    }
+}
+
+// Stores the symbol of each address by the index in words.
+fn find_all<E: Entry + Record>(
+    symbols: &AddressSymbols<'_, E>,
+    index: &AddressIndex,
+    words: &[u32],
+    addresses: &[u64],
+    out: &mut [SymbolAt],
+)
+    ensures { let claim_of = claim_of_symbols E.fields symbols.now
+        (within_of index.now.within) in
+        AreStored (IsAnswer claim_of (map E.fields (symbol_items symbols.now))
+        (IsIndexWith claim_of (range_of_symbols E.fields symbols.now) index.now.sized_count
+        index.now.open_count words.now)) addresses.now out.old out.new }
+{
+    let (sized, rest) = split(words, index.sized_count);
+    let (lasting, rest) = split(rest, index.sized_count);
+    let (starts, _rest) = split(rest, index.open_count);
+    let within = within_of(index.within);
+    let index = SymbolIndex {
+        claims: SymbolClaims { symbols, within },
+        sized,
+        lasting,
+        starts,
+    };
+    find_each(&index, addresses, out);
+}
+
+// Stores the symbol of each address, of symbols of either class.
+fn find_in(
+    all: &AnyAddresses<'_>,
+    index: &AddressIndex,
+    words: &[u32],
+    addresses: &[u64],
+    out: &mut [SymbolAt],
+)
+    ensures { AreStored (IsAnswerIn (addresses_in all.now) index.now words.now)
+        addresses.now out.old out.new }
+{
+    match all {
+        AnyAddresses::Narrow(symbols) => find_all(symbols, index, words, addresses, out),
+        AnyAddresses::Wide(symbols) => find_all(symbols, index, words, addresses, out),
+    }
+}
+
+// Stores the symbol of each address by the index of a record.
+fn find_by(
+    input: &[u8],
+    index: &AddressIndex,
+    words: &[u32],
+    addresses: &[u64],
+    out: &mut [SymbolAt],
+) -> Result<(), Refusal>
+    ensures { AreAnswered input.now index.now words.now addresses.now out.old result out.new }
+{
+    let all = addresses_by(input, &index.table, &index.indices, index.machine)?;
+    find_in(&all, index, words, addresses, out);
+    Ok(())
+}
+
+/// The symbols of many addresses: for each the innermost of those that name addresses and cover it
+/// (`elf_addresses::SymbolIndex::symbol_at`), as many as there are addresses, and as fit in `out`.
+///
+/// `index` and `words` are those of `xmas_elf_address_index` for the same bytes. Any others may be
+/// given, as the ranges are compared with the input in each call, and each word is tested: a symbol
+/// that is found then covers the address too, but may not be the innermost, and one may be missed.
+///
+/// Errors: those of `xmas_elf_address_index` for the ranges; `out` is then unchanged.
+#[unsafe(no_mangle)]
+pub extern "C" fn xmas_elf_symbols_at(
+    input: &[u8],
+    index: &AddressIndex,
+    words: &[u32],
+    addresses: &[u64],
+    out: &mut [SymbolAt],
+) -> u32
+    ensures exact { (answer : Result (Unit {0}) Refusal)
+        × AreAnswered input.now index.now words.now addresses.now out.old answer out.new
+        × GivesHere answer tt result tt }
+    ensures symbols { result ≡ 0 → (k : ℕ) (one : SymbolAt) → k < length addresses.now
+        → slice_get out.new k ≡ Some one → one.found ≡ 1
+        → symbol_by symbol_record input.now index.now.table one.index ≡ Ok one.symbol }
+{
+    give(find_by(input, index, words, addresses, out), &mut ())
+}

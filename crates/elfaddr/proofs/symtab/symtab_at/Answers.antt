@@ -1,0 +1,11 @@
+use Rattle.std.proofs.Common.{subst, sym}
+use Rattle.elfaddr.specs.Symtab.{IsSymtabRefused, no_parts, not_whole}
+use Rattle.elfaddr.proofs.symtab.symtab_at.Goals as goal
+
+pub returns-in-Err : goal.returns-in-Err
+returns-in-Err g c = no_parts c.in-Err.error c.in-Err.ensures
+
+pub returns-in-Err-new : goal.returns-in-Err-new
+returns-in-Err-new g c =
+    subst (λ e. IsSymtabRefused g.E.Record.SIZE c.args.file.now c.args.index e) (sym c.in-Err-new.ensures.1)
+    (not_whole (c.in-Ok.parts.0.now, c.in-Ok.parts.1.now) c.in-Ok.ensures c.in-Err-new.ensures.0)

@@ -1,0 +1,159 @@
+//! A line for each address: the symbol or the section that it is in, and the offset there.
+
+ghost use Rattle.std.specs.Prelude.{◌≡◌, ◌-◌, ⊤, OnOk, Some};
+ghost use Rattle.std.specs.Io.KnownBytes.{Appends};
+ghost use Rattle.elf_addresses.specs.Claims.{IsInnermost};
+ghost use Rattle.elf_addresses.specs.Index.{IsWellBuilt};
+ghost use Rattle.elfaddr.specs.Lines.{AreLines, IsLine, IsSectionLine, offset_text, place_text};
+ghost use Rattle.program_ends.proofs.Flushed.{appended_flushed};
+ghost use Rattle.program_ends.specs.Appended.{AppendsSome};
+
+use crate::names::{Named, or_mark};
+use elf_addresses::{Claim, ClaimIndex, build_index, index_words, innermost, section_at};
+use elf_linking::LinkError;
+use program_ends::{Output, Stop, write_name};
+use std::alloc::Global;
+use std::fmt::Display;
+use std::io::Write;
+use std::{fmt, io};
+use xmas_elf::ElfFile;
+
+// A line for each address, by the symbols of the file.
+#[derive(Clone, Copy)]
+pub(crate) struct Lines<'f, 'a, C> {
+    pub(crate) alloc: Global,
+    pub(crate) file: &'f ElfFile<'a>,
+    pub(crate) claims: &'f C,
+    pub(crate) addresses: &'f [u64],
+}
+
+impl<C: Named> Output for Lines<'_, '_, C> {
+    ghost Writes = { λ lines. AppendsSome (AreLines (C.claim_of lines.claims.now)
+        (C.name_of lines.claims.now) lines.file.now lines.addresses.now) };
+
+    ghost flushed = { λ lines. appended_flushed (AreLines (C.claim_of lines.claims.now)
+        (C.name_of lines.claims.now) lines.file.now lines.addresses.now) };
+
+    type Refusal = LinkError;
+
+    ghost Refuses = { λ lines error. ⊥ };
+
+    ghost Begins = { λ lines. ⊤ };
+
+    // Without memory for the words of an index the lines are the same, and take longer.
+    fn write_to<W: Write>(&self, out: &mut W) -> Result<(), Stop<LinkError>> {
+        let words = vec![in self.alloc; 0; index_words(self.claims)];
+        let mut words = words.unwrap_or(Vec::new(self.alloc));
+        let written = match build_index(self.claims, &mut words) {
+            Ok(()) => {
+                let index = ClaimIndex::lend(self.claims, &words);
+                write_each(self, &index, out)
+            }
+            Err(_) => write_slowly(self, out),
+        };
+        match written {
+            Ok(()) => Ok(()),
+            Err(_) => Err(Stop::Write),
+        }
+    }
+}
+
+// A line for each address, by an index.
+fn write_each<C: Named, W: Write>(
+    lines: &Lines<'_, '_, C>,
+    index: &ClaimIndex<'_, '_, C>,
+    out: &mut W,
+) -> io::Result<()>
+    requires same { index.now.claims.now ≡ lines.now.claims.now }
+    requires built { IsWellBuilt (C.claim_of index.now.claims.now)
+        (C.range_of index.now.claims.now) index.now.sized.now index.now.lasting.now
+        index.now.starts.now }
+    ensures { OnOk result (AppendsSome (AreLines (C.claim_of lines.now.claims.now)
+        (C.name_of lines.now.claims.now) lines.now.file.now lines.now.addresses.now)
+        (W.contents out.old) (W.contents out.new)) }
+{
+    for address in lines.addresses {
+        let found = index.innermost(*address);
+        write_line(lines, found, *address, out)?;
+    }
+    Ok(())
+}
+
+// A line for each address, by a pass over the symbols for each.
+fn write_slowly<C: Named, W: Write>(lines: &Lines<'_, '_, C>, out: &mut W) -> io::Result<()>
+    ensures { OnOk result (AppendsSome (AreLines (C.claim_of lines.now.claims.now)
+        (C.name_of lines.now.claims.now) lines.now.file.now lines.now.addresses.now)
+        (W.contents out.old) (W.contents out.new)) }
+{
+    for address in lines.addresses {
+        let found = innermost(lines.claims, *address);
+        write_line(lines, found, *address, out)?;
+    }
+    Ok(())
+}
+
+// The line of an address, by the innermost symbol that covers it.
+fn write_line<C: Named, W: Write>(
+    lines: &Lines<'_, '_, C>,
+    found: Option<Claim>,
+    address: u64,
+    out: &mut W,
+) -> io::Result<()>
+    requires { IsInnermost (C.claim_of lines.now.claims.now) address found }
+    ensures { OnOk result (AppendsSome (IsLine (C.claim_of lines.now.claims.now)
+        (C.name_of lines.now.claims.now) lines.now.file.now address)
+        (W.contents out.old) (W.contents out.new)) }
+{
+    match found {
+        Some(claim) => {
+            let name = lines.claims.name(claim.index);
+            let offset = offset_from(address, claim.begin);
+            write_place(name, offset, out)
+        }
+        None => write_section(lines.file, address, out),
+    }
+}
+
+// The line of an address in no symbol.
+fn write_section<W: Write>(file: &ElfFile<'_>, address: u64, out: &mut W) -> io::Result<()>
+    ensures { OnOk result (AppendsSome (IsSectionLine file.now address)
+        (W.contents out.old) (W.contents out.new)) }
+{
+    match section_at(file, address) {
+        Some((_index, section)) => {
+            let name = or_mark(section.name_bytes(file));
+            let offset = offset_from(address, section.address());
+            write_place(name, offset, out)
+        }
+        None => out.write_all(b"?\n"),
+    }
+}
+
+// The offset of an address from the first one of its symbol or section.
+#[inline(always)]
+fn offset_from(address: u64, first: u64) -> u64
+    ensures { result ≡ address - first }
+{
+    address.saturating_sub(first)
+}
+
+// A name and an offset, as a line.
+fn write_place<W: Write>(name: &[u8], offset: u64, out: &mut W) -> io::Result<()>
+    ensures { OnOk result (Appends (W.contents out.old) (W.contents out.new)
+        (place_text name.now offset)) }
+{
+    write_name(name, out)?;
+    write!(out, "{}", Offset(offset))
+}
+
+// An offset in hexadecimal, and the end of its line.
+#[derive(Clone, Copy)]
+struct Offset(u64);
+
+impl Display for Offset {
+    ghost output = { λ offset. Some (offset_text offset.0) };
+
+    fn fmt<W: fmt::Write>(&self, f: &mut fmt::Formatter<W>) -> fmt::Result {
+        writeln!(f, "+0x{:x}", self.0)
+    }
+}

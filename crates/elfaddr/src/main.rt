@@ -1,0 +1,184 @@
+//! Writes what is at addresses of an ELF file: the symbol that each is in, and the offset there.
+//!
+//! `elfaddr PATH ADDRESS..` writes a line for each address, which is a number in hexadecimal:
+//! `NAME+0xOFFSET`, or `SECTION+0xOFFSET` if no symbol covers it, or `?` if no section contains it
+//! either. `elfaddr PATH -` reads the addresses from standard input, one on a line. The symbols are
+//! those of `.symtab` if the file has it, otherwise those of the dynamic segment. `--dynamic` before
+//! the path asks for the latter, and `--dladdr` for the symbols that `dladdr` finds.
+#![tactic(auto)]
+
+ghost use Rattle.std.specs.Prelude.{◌≡◌, ◌≤◌, IfOk, IfSome, IsOk, IsSomeAnd};
+ghost use Rattle.elf_base.specs.FileHeader.{header_of};
+
+use crate::print::print_file;
+use elf_linking::LinkError;
+use program_ends::{read_whole, say};
+use std::alloc::Global;
+use std::convert::AsStr;
+use std::fs::File;
+use std::io::{Read, Write};
+use std::process::ExitCode;
+use std::{env, io};
+use thiserror::Error;
+use xmas_elf::ElfFile;
+
+mod lines;
+mod names;
+mod print;
+mod symtab;
+
+/// Why the program ends with status 1, and what it says then.
+#[derive(Debug, Drop, Error)]
+enum Fault<'a> {
+    #[error("elfaddr: cannot read the arguments")]
+    Arguments,
+    #[error("usage: elfaddr [--dynamic | --dladdr] <binary_path> (<address>.. | -)")]
+    Usage,
+    #[error("elfaddr: cannot read {path}")]
+    Read { path: &'a str },
+    #[error("elfaddr: {path}: {error}")]
+    Refused { path: &'a str, error: LinkError },
+    #[error("elfaddr: cannot write")]
+    Write,
+    #[error("elfaddr: not enough memory")]
+    Memory,
+}
+
+/// The symbols that name addresses.
+#[derive(Clone, Copy, Debug)]
+pub enum Source {
+    /// Those of `.symtab` if the file has it, otherwise the dynamic symbols.
+    Symtab,
+    /// The dynamic symbols.
+    Dynamic,
+    /// The dynamic symbols that `dladdr` finds.
+    Dladdr,
+}
+
+/// Writes what is at each address to `out`, or the reason why it can't to `err`, and returns the
+/// exit status.
+///
+/// `file` is `None` where the path does not open. The status is 0 once all is written and flushed,
+/// and 1 otherwise. The contract says that the status is 0 only for a file that is accepted, and
+/// nothing of what `out` and `err` hold.
+pub fn run<R: Read + Drop, W: Write, E: Write>(
+    alloc: Global,
+    path: &str,
+    source: Source,
+    addresses: &[u64],
+    file: Option<R>,
+    out: &mut W,
+    err: &mut E,
+) -> u8
+    ensures bound { result ≤ 1 }
+    ensures accepted { result ≡ 0 → IsSomeAnd file (λ reader.
+        IfSome (R.remaining reader) (λ bytes. IsOk (header_of bytes))) }
+{
+    match answer(alloc, path, source, addresses, file, &mut *out) {
+        Ok(_) => 0,
+        Err(fault) => say(&fault, err),
+    }
+}
+
+// Writes a line for each address of the file that is all that the reader has left, and gives the
+// writer back.
+fn answer<'a, R: Read + Drop, W: Write + Drop>(
+    alloc: Global,
+    path: &'a str,
+    source: Source,
+    addresses: &[u64],
+    file: Option<R>,
+    out: W,
+) -> Result<W, Fault<'a>>
+    ensures accepted { IfOk result (λ _. IsSomeAnd file (λ reader.
+        IfSome (R.remaining reader) (λ bytes. IsOk (header_of bytes)))) }
+{
+    let Some(input) = read_whole(alloc, file) else {
+        return Err(Fault::Read { path });
+    };
+    match ElfFile::new(&input) {
+        Ok(file) => print_file(alloc, path, &file, source, addresses, out),
+        Err(error) => Err(Fault::Refused {
+            path,
+            error: LinkError::Elf(error),
+        }),
+    }
+}
+
+fn main(rt: HostRuntime) -> ExitCode {
+    let status = match run_on_arguments(&rt) {
+        Ok(status) => status,
+        Err(_) => say(&Fault::Arguments, &mut rt.stderr()),
+    };
+    ExitCode::from(status)
+}
+
+// The status, or why the arguments can't be read: for want of memory, or since one is not UTF-8.
+fn run_on_arguments(rt: &HostRuntime) -> io::Result<u8> {
+    let mut arguments = env::args(rt)?;
+    let _program = arguments.next();
+    let mut words = Vec::new(rt.alloc());
+    for argument in arguments {
+        words.push(argument)?;
+    }
+    let (source, words) = source_of(&words);
+    match words.split_first() {
+        Some((path, [word])) if word.as_str() == "-" => {
+            let text = io::read_to_string(rt.alloc(), rt.stdin())?;
+            run_on_lines(rt, path.as_str(), source, &text)
+        }
+        Some((path, words)) if !words.is_empty() => {
+            let mut addresses = Vec::new(rt.alloc());
+            for word in words {
+                match address_of(word.as_str()) {
+                    Some(address) => addresses.push(address)?,
+                    None => return Ok(say(&Fault::Usage, &mut rt.stdout())),
+                }
+            }
+            Ok(run_on_file(rt, path.as_str(), source, &addresses))
+        }
+        _ => Ok(say(&Fault::Usage, &mut rt.stdout())),
+    }
+}
+
+// The status for the addresses on the lines of a text.
+fn run_on_lines(rt: &HostRuntime, path: &str, source: Source, text: &str) -> io::Result<u8> {
+    let mut addresses = Vec::new(rt.alloc());
+    for line in text.lines() {
+        match address_of(line) {
+            Some(address) => addresses.push(address)?,
+            None => return Ok(say(&Fault::Usage, &mut rt.stdout())),
+        }
+    }
+    Ok(run_on_file(rt, path, source, &addresses))
+}
+
+// The status for these addresses.
+fn run_on_file(rt: &HostRuntime, path: &str, source: Source, addresses: &[u64]) -> u8 {
+    let file = File::open(rt, path).ok();
+    let (mut out, mut err) = (rt.stdout(), rt.stderr());
+    run(
+        rt.alloc(),
+        path,
+        source,
+        addresses,
+        file,
+        &mut out,
+        &mut err,
+    )
+}
+
+// The symbols that the first argument asks for, and the arguments after it.
+fn source_of<S: AsStr>(words: &[S]) -> (Source, &[S]) {
+    match words.split_first() {
+        Some((first, rest)) if first.as_str() == "--dynamic" => (Source::Dynamic, rest),
+        Some((first, rest)) if first.as_str() == "--dladdr" => (Source::Dladdr, rest),
+        _ => (Source::Symtab, words),
+    }
+}
+
+// The address that a word is in hexadecimal, with or without `0x`.
+fn address_of(word: &str) -> Option<u64> {
+    let digits = word.strip_prefix("0x").unwrap_or(word);
+    u64::from_str_radix(digits, 16).ok()
+}

@@ -1,0 +1,2 @@
+int outer(int x) { return x + 1; }
+int data = 3;
