@@ -58,7 +58,7 @@ ALLOWED = {
     "no such interpreter": r"No such file or directory|ENOENT|Accessing a corrupted|Permission denied|Exec format error|Is a directory",
     "no room": r"cannot map|failed to map|Cannot allocate memory|ENOMEM|no room|cannot allocate|File exists",
     "not for a library": r"cannot dynamically load|cannot be preloaded|position-independent executable|only ET_DYN",
-    "no dynamic segment": r"no dynamic section|dynamic section",
+    "dynamic segment": r"dynamic section|get-dynamic-info\.h",
     "header that glibc checks": r"ELF file|ELF header|invalid ELF|wrong ELF class|ABI|architecture|version",
     "stack or threads": r"executable stack|cannot handle TLS|TLS",
 }

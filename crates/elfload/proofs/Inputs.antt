@@ -3,7 +3,6 @@ use Rattle.std.proofs.Common.{◌≡◌, ℕ, List, Option, Some, Result, Ok, Er
 use Rattle.std.specs.Borrow.{Bor}
 use Rattle.std.specs.Prelude.{IsOk, IsOkAnd, MatchResult, OnOk}
 use Rattle.elf_base.specs.FileHeader.{header_of}
-use Rattle.elf_loading.specs.FileCheck.{check_file}
 use Rattle.elf_loading.specs.Plan.{IsPlanOf}
 use Rattle.elf_loading.specs.declared.plan.LoadPlan.{LoadPlan}
 use Rattle.elfload.specs.Plans.{IsFilePlan, IsFileRefused, IsLoaded, IsPlanText, OfHeader, header_limit}

@@ -1,5 +1,5 @@
 -- How a loop over mappings writes a line for each.
-use Rattle.std.proofs.Common.{◌≡◌, ℕ, List, [], ◌∷◌, ◌++◌, append_assoc, append-nil, refl, sym, ap, ◌∙◌}
+use Rattle.std.proofs.Common.{◌≡◌, ℕ, List, [], ◌∷◌, ◌++◌, append_assoc, append-nil, sym, ap, ◌∙◌}
 use Rattle.elf_loading.specs.declared.mapping.Mapping.{Mapping}
 use Rattle.elfload.specs.Texts.{mapping_text, mappings_text}
 

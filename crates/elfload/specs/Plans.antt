@@ -1,5 +1,5 @@
 -- What the program writes of a file (this project's own): its header, and its plan for both loaders.
-use Rattle.std.specs.Prelude.{◌≡◌, ℕ, ◌++◌, ◌==◌, ◌&&◌, ◌||◌, ◌*◌, List, Option, Some, None, Result, Ok, Err, codes, IsOk, IsOkAnd, MatchOption, if◌then◌else◌, option_map}
+use Rattle.std.specs.Prelude.{◌≡◌, ℕ, ◌++◌, ◌==◌, ◌&&◌, ◌||◌, ◌*◌, List, Option, Some, None, Err, codes, IsOk, IsOkAnd, MatchOption, if◌then◌else◌, option_map}
 use Rattle.std.specs.Borrow.{Bor}
 use Rattle.elf_base.specs.FileHeader.{file_class, header_fields, header_of, machine_number}
 use Rattle.elf_base.specs.Text.{EndsInZero}
