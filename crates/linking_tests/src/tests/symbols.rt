@@ -11,7 +11,7 @@ use worked_files::linked::importer::IMPORTER;
 use worked_files::linked::small::SMALL;
 use worked_files::linked::versions::{NARROW, WIDE};
 use worked_files::places::put;
-use xmas_elf::symbol_table::DynEntry64;
+use xmas_elf::symbol_table::{DynEntry64, Entry};
 
 // Files whose hash tables count all symbols, and how many there are.
 const COUNTED_WHOLE: &[(&[u8], u64)] = &[(SMALL, 5), (NARROW, 7), (WIDE, 7)];
