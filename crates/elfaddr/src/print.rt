@@ -28,8 +28,7 @@ pub(crate) fn print_file<'a, W: Write + Drop>(
     source: Source,
     addresses: &[u64],
     out: W,
-) -> Result<W, Fault<'a>>
-{
+) -> Result<W, Fault<'a>> {
     if file.header.pt1.class.raw() == 1 {
         return print_by::<Entry32, DynEntry32, W>(alloc, path, file, source, addresses, out);
     }
@@ -45,8 +44,7 @@ fn print_by<'a, S: Entry + Record, D: LinkedSymbol, W: Write + Drop>(
     source: Source,
     addresses: &[u64],
     out: W,
-) -> Result<W, Fault<'a>>
-{
+) -> Result<W, Fault<'a>> {
     match source {
         Source::Symtab => match symtab_index(file) {
             Some(index) => print_symtab::<S, W>(alloc, path, file, index, addresses, out),
@@ -65,8 +63,7 @@ fn print_symtab<'a, S: Entry + Record, W: Write + Drop>(
     index: usize,
     addresses: &[u64],
     out: W,
-) -> Result<W, Fault<'a>>
-{
+) -> Result<W, Fault<'a>> {
     let symbols = match symtab_at::<S>(file, index) {
         Ok(symbols) => symbols,
         Err(error) => {
@@ -90,8 +87,7 @@ fn print_dynamic<'a, D: LinkedSymbol, W: Write + Drop>(
     file: &ElfFile<'_>,
     addresses: &[u64],
     out: W,
-) -> Result<W, Fault<'a>>
-{
+) -> Result<W, Fault<'a>> {
     let symbols = match dynamic_symbols::<D>(file) {
         Ok(symbols) => symbols,
         Err(error) => return Err(Fault::Refused { path, error }),
@@ -130,8 +126,7 @@ fn print_dladdr<'a, D: LinkedSymbol, W: Write + Drop>(
     file: &ElfFile<'_>,
     addresses: &[u64],
     out: W,
-) -> Result<W, Fault<'a>>
-{
+) -> Result<W, Fault<'a>> {
     let object = match DynamicObject::<D>::read(file) {
         Ok(object) => object,
         Err(error) => return Err(Fault::Refused { path, error }),
