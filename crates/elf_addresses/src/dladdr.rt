@@ -63,9 +63,9 @@ fn is_exported<E: Entry>(symbol: &E) -> bool
 /// The dynamic symbols of a file, of which `dladdr` finds those that the hash table reaches, except
 /// thread-local, absolute, and undefined ones without a value.
 ///
-/// A symbol covers `size` addresses from `value` on, and at least one. Of those that cover an address
-/// `dladdr` finds the one with the greatest value, and of several with that value the first in the
-/// order of the hash table. `ClaimIndex` is their index for many addresses.
+/// A symbol covers `size` addresses from `value` on, and at least one. Of those that cover an
+/// address `dladdr` finds the one with the greatest value, and of several with that value the first
+/// in the order of the hash table. `ClaimIndex` is their index for many addresses.
 #[derive(Drop)]
 pub struct DladdrSymbols<'a, E: Entry + Record> {
     /// The dynamic symbols.

@@ -3,8 +3,8 @@
 //! `elfaddr PATH ADDRESS..` writes a line for each address, which is a number in hexadecimal:
 //! `NAME+0xOFFSET`, or `SECTION+0xOFFSET` if no symbol covers it, or `?` if no section contains it
 //! either. `elfaddr PATH -` reads the addresses from standard input, one on a line. The symbols are
-//! those of `.symtab` if the file has it, otherwise those of the dynamic segment. `--dynamic` before
-//! the path asks for the latter, and `--dladdr` for the symbols that `dladdr` finds.
+//! those of `.symtab` if the file has it, otherwise those of the dynamic segment. `--dynamic`
+//! before the path asks for the latter, and `--dladdr` for the symbols that `dladdr` finds.
 #![tactic(auto)]
 
 ghost use Rattle.std.specs.Prelude.{◌≡◌, ◌≤◌, IfOk, IfSome, IsOk, IsSomeAnd};

@@ -77,8 +77,8 @@ fn data_at<'a>(file: &ElfFile<'a>, index: usize) -> Result<&'a [u8], ElfError>
     section.raw_data(file)
 }
 
-// The data of the first section of type SHT_SYMTAB_SHNDX that is linked to a symbol table, if it can
-// be read and is of whole words.
+// The data of the first section of type SHT_SYMTAB_SHNDX that is linked to a symbol table, if it
+// can be read and is of whole words.
 fn index_data<'a>(file: &ElfFile<'a>, index: usize) -> &'a [u8]
     ensures data { IsIndexData file.now index result.now }
     ensures whole { length result.now % 4 ≡ 0 }

@@ -92,8 +92,8 @@ fn finds_the_name_by_an_address(rt: HostRuntime) -> Result<(), Fail> {
     Ok(())
 }
 
-// What `readelf` says of the dynamic symbols: `ab` has 10 bytes at 0x230, `ef` 6 behind it, and `cd`
-// 3 behind that.
+// What `readelf` says of the dynamic symbols: `ab` has 10 bytes at 0x230, `ef` 6 behind it, and
+// `cd` 3 behind that.
 const LINKED: &[(u64, Option<&str>)] = &[
     (0x22f, None),
     (0x230, Some("ab")),

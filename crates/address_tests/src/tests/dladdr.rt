@@ -141,8 +141,8 @@ fn the_greatest_value_and_the_first_bucket_come_first(rt: HostRuntime) -> Result
     Ok(())
 }
 
-// What `readelf` says of the dynamic symbols: `ab` has 10 bytes at 0x230, `ef` 6 behind it, and `cd`
-// 3 behind that; 3 is undefined and has no value.
+// What `readelf` says of the dynamic symbols: `ab` has 10 bytes at 0x230, `ef` 6 behind it, and
+// `cd` 3 behind that; 3 is undefined and has no value.
 const IN_SMALL: &[(u64, Option<(usize, u64)>)] = &[
     (0, None),
     (0x22f, None),

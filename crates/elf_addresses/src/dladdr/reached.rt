@@ -10,9 +10,9 @@ use elf_linking::gnu_hash::GnuHashTable;
 /// Writes for each symbol the number of the first bucket of a GNU hash table that reaches it,
 /// counted from 1, or 0 if none does. There is a word for each symbol.
 ///
-/// The run of a bucket begins at the symbol that the word of the bucket gives, and ends at the first
-/// symbol from there on whose chain word is odd, or is not there. A bucket whose word is before the
-/// first symbol of the table has none. One pass over the buckets, and one over the symbols.
+/// The run of a bucket begins at the symbol that the word of the bucket gives, and ends at the
+/// first symbol from there on whose chain word is odd, or is not there. A bucket whose word is
+/// before the first symbol of the table has none. One pass over the buckets, and one over the symbols.
 pub fn fill_reached(table: &GnuHashTable<'_>, words: &mut [u32])
     ensures length { length words.new ≡ length words.old }
     ensures reached { AreReached table.now words.new }
