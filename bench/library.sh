@@ -9,7 +9,7 @@ here="$(cd "$(dirname "$0")" && pwd)"
 top="$(dirname "$here")"
 mkdir -p "$1"
 room="$(cd "$1" && pwd)"
-crates=(elf_base elf_records xmas_elf elf_linking elf_addresses "${@:2}")
+crates=(elf_base elf_records xmas_elf elf_linking elf_addresses elf_loading "${@:2}")
 
 copy="$room/repository"
 rm -rf "$copy/crates/here/src"
@@ -33,7 +33,7 @@ for file in "$here"/here/src/*.rt.in; do
 done
 named="$(IFS='|' && echo "${crates[*]}")"
 grep -E "^($named)( staticlib)?:" "$top/crates.txt" > "$copy/crates.txt"
-echo 'here staticlib: elf_base elf_linking elf_addresses xmas_elf' >> "$copy/crates.txt"
+echo 'here staticlib: elf_base elf_linking elf_addresses elf_loading xmas_elf' >> "$copy/crates.txt"
 cp "$top/HANDLES" "$copy/"
 [ -d "$copy/.git" ] || git init -q "$copy"
 (cd "$copy/crates/here" && rt lib) > "$room/library.log" 2>&1 || { tail -30 "$room/library.log" >&2; exit 1; }

@@ -317,7 +317,7 @@ def compare_others(elfaddr: str, path: str, count: int, tables: Dict[str, collec
 def main() -> int:
     parser = parser_of(__doc__, "elfaddr")
     parser.add_argument("--libraries", type=int, default=60)
-    parser.add_argument("--addresses", type=int, default=40000)
+    parser.add_argument("--addresses", type=int, default=20000)
     parser.add_argument("--others", type=int, default=15)
     parser.add_argument("--each", type=int, default=3000)
     parser.add_argument("files", nargs="*", metavar="FILE")

@@ -70,6 +70,8 @@ ORACLES = {
         (built("elfaddr"), "gcc")),
     "bindings": Oracle(["--dir", "/usr/bin", "--dir", "/usr/sbin"], ["/usr/bin/readelf", "/usr/bin/python3"],
         (built("elfbind"), "llvm-readelf")),
+    "loads": Oracle(["--dir", "/usr/bin", "--dir", "/usr/sbin", "--damaged", "4000"], ["/usr/bin/readelf", "/usr/bin/python3", "--damaged", "60"],
+        (built("elfload"), "readelf")),
     "fuzz_bindings": Oracle(["--seed", "1", "--count", "2500"], ["--seed", "1", "--count", "100"],
         (built("elfbind"), built("elfsym"), "gcc")),
     "rust": Oracle([*FROM, "--damaged", "1", "--worked", "2000", "/usr/bin", "/usr/lib"], [*FROM, "--worked", "40", *LIBRARIES[:1]],

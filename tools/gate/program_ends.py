@@ -1,5 +1,6 @@
 #!/usr/bin/env python3
-"""Wants the output, the error text and the status of each way in which the built elfinfo, elfsym, elfaddr and elfbind end.
+"""Wants the output, the error text and the status of each way in which the built elfinfo, elfsym, elfaddr, elfbind
+and elfload end.
 
 It runs each program as each compiler built it, on files that are good, refused, missing or unreadable,
 and into outputs that fail. Run it at the top of the repository once the programs are built, or give it
@@ -60,7 +61,7 @@ def ends_of(name: str, usage: str, words: list, good: list, output: bytes, **oth
         "a path that is not UTF-8": failing(name, [NOT_UTF8, *words], "cannot read the arguments"),
         **{what: failing(name, [path, *words], path_of(path) + said) for what, (path, said) in REFUSED.items()},
         "a good file": (good, 0, output, b""),
-        "a good file through a pipe": (["/dev/stdin", *good[1:]], 0, output.replace(b"caller", b"/dev/stdin"), b""),
+        "a good file through a pipe": (["/dev/stdin", *good[1:]], 0, output.replace(good[0].encode(), b"/dev/stdin"), b""),
         **{what.replace("_", " "): end for what, end in others.items()},
     }
 
@@ -162,6 +163,61 @@ BIND_ENDS = ends_of(
     definitions_that_are_cut=failing("elfbind", ["caller", "cut.so"], "cut.so: Version record is cut off"),
     such_definitions_to_check=(["--check", "cut.so"], 1, b"cut.so: Version record is cut off\n", b""))
 
+# A program and its library, as crates/elfload/data/make.sh makes them, and copies with other numbers in some places.
+LOADED = CRATES / "elfload" / "data"
+COUNTER, LIBRARY = ((LOADED / name).read_bytes() for name in ("counter", "library.so"))
+PLANS = (CRATES / "elfload" / "stdout").read_bytes()
+COUNTER_PLAN = PLANS[: PLANS.index(b"library.so\n")]
+PAGES_PLAN = b"""library.so
+class 64
+type 3
+machine 62
+entry 0
+span 0-c000
+relro 4000-8000
+tls none
+stack rw-
+interpreter none
+kernel
+0-4000 r-xp 0 file
+4000-c000 rw-p 0 file
+glibc
+0-4000 r-xp 0 file
+4000-c000 rw-p 0 file
+"""
+
+
+def with_number(file: bytes, place: int, size: int, number: int) -> bytes:
+    return file[:place] + number.to_bytes(size, "little") + file[place + size :]
+
+
+CHANGED_PROGRAMS = {
+    "arm.elf": with_number(COUNTER, 18, 2, 40), "aarch64.elf": with_number(COUNTER, 18, 2, 183),
+    "type.elf": with_number(COUNTER, 16, 2, 1), "interpreter.elf": with_number(COUNTER, 64 + 56 + 32, 8, 5000),
+    "shut.elf": with_number(COUNTER, 64 + 3 * 56 + 4, 4, 4)}
+LOAD_USAGE = "elfload [--page <size>] <binary_path>.."
+LOAD_HELP = (
+    f"usage: {LOAD_USAGE}\nPrints the header of each file, what else a loader asks for, and what Linux (kernel) and glibc map.\n"
+    "--page <size>  the size of a page in bytes, a power of two; 4096 without it\n")
+LOAD_ENDS = ends_of(
+    "elfload", LOAD_USAGE, [], ["counter"], COUNTER_PLAN,
+    help=(["--help"], 0, LOAD_HELP.encode(), b""),
+    two_files=(["counter", "library.so"], 0, PLANS, b""),
+    a_refused_file_between_others=(["counter", "zeros.elf", "library.so"], 1, PLANS, b"elfload: zeros.elf: Did not find ELF magic number\n"),
+    pages_of_16_kb=(["--page", "16384", "library.so"], 0, PAGES_PLAN, b""),
+    pages_larger_than_a_file_is_linked_for=failing(
+        "elfload", ["--page", "16384", "counter"], "counter: Address and offset of a load segment differ modulo the page size"),
+    no_size_of_a_page=(["--page"], 1, f"usage: {LOAD_USAGE}\n".encode(), b""),
+    no_file_after_a_size=(["--page", "4096"], 1, f"usage: {LOAD_USAGE}\n".encode(), b""),
+    a_size_that_is_no_power_of_two=(["--page", "4097", "counter"], 1, f"usage: {LOAD_USAGE}\n".encode(), b""),
+    a_size_that_is_zero=(["--page", "0", "counter"], 1, f"usage: {LOAD_USAGE}\n".encode(), b""),
+    a_size_that_is_no_number=(["--page", "0x1000", "counter"], 1, f"usage: {LOAD_USAGE}\n".encode(), b""),
+    a_machine_without_a_limit=failing("elfload", ["arm.elf"], "arm.elf: Limit of addresses is not known for this machine"),
+    a_file_for_aarch64=(["aarch64.elf"], 0, COUNTER_PLAN.replace(b"counter", b"aarch64.elf").replace(b"machine 62", b"machine 183"), b""),
+    a_file_that_is_no_program=failing("elfload", ["type.elf"], "type.elf: Type is neither executable nor shared object"),
+    a_long_path_of_an_interpreter=failing("elfload", ["interpreter.elf"], "interpreter.elf: Path of the interpreter is not valid"),
+    zeros_that_cannot_be_written=failing("elfload", ["shut.elf"], "shut.elf: Load segment has zeros but is not readable and writable"))
+
 # Where the section headers are of a file that a reader doesn't take at once, and how many there are in a long one.
 FAR, MANY = (1 << 20) + 4096, 1000
 
@@ -197,7 +253,8 @@ class Program:
 
 PROGRAMS = [
     Program("elfinfo", ENDS, STRTAB), Program("elfsym", SYM_ENDS, LINKED), Program("elfaddr", ADDR_ENDS, PLACES),
-    Program("elfbind", BIND_ENDS, (BOUND / "caller").read_bytes())]
+    Program("elfbind", BIND_ENDS, (BOUND / "caller").read_bytes()),
+    Program("elfload", LOAD_ENDS, COUNTER)]
 
 
 def run(built, arguments, room, given=b"", **streams):
@@ -260,6 +317,7 @@ def unlike(program, built: pathlib.Path) -> int:
         b"places.so": PLACES,
         b"stripped.so": (CRATES / "elfsym" / "data" / "stripped.so").read_bytes(),
         **{name.encode(): (BOUND / name).read_bytes() for name in WIDE_BOUND + NARROW_BOUND},
+        b"counter": COUNTER, b"library.so": LIBRARY, **{name.encode(): held for name, held in CHANGED_PROGRAMS.items()},
         **{b"damaged-%d.so" % place: damaged(place, byte) for place, byte, _ in NEEDS_REFUSALS}}
     with tempfile.TemporaryDirectory() as room:
         os.mkdir(f"{room}/folder")

@@ -22,7 +22,7 @@ contender!(here, "here_", nothing header header_fields header_numbers header_che
     raw_data table_raw_data data table_data segments segments_table section_checks segment_checks symbol_values
     symbol_fields symbol_names symbol_texts symbol_name_bytes symbol_search dynamic table_dynamic table_dynamic_numbers
     relocations notes table_notes build_id hash_numbers look_ups hash_check gnu_look_ups gnu_check linked_look_ups
-    linked_objects found_newest found_by_version found_by_reference addresses_build addresses_asked);
+    linked_objects found_newest found_by_version found_by_reference addresses_build addresses_asked load_plan);
 contender!(loops, "loops_", header header_fields sections section_fields section_types section_names find raw_data data
     segments symbol_values symbol_fields symbol_names symbol_search dynamic relocations notes build_id hash_numbers look_ups);
 contender!(libelf, "libelf_", header sections section_names symbol_values);

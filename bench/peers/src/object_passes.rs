@@ -1,6 +1,6 @@
 //! The passes by `object`, in its raw calls. Names are bytes there; those with `text` test them for UTF-8.
 use crate::{NAME, NONE, RECORD, sum_of};
-use object::elf::{self, FileHeader64, Sym64};
+use object::elf::{self, FileHeader64, ProgramHeader64, Sym64};
 use object::read::elf::{Dyn as _, FileHeader as _, ProgramHeader as _, Rela as _, SectionHeader as _, SectionTable, Sym as _, SymbolTable, VersionTable};
 use object::{Endianness, SectionIndex};
 use std::str::from_utf8;
@@ -275,4 +275,114 @@ pub fn addresses_asked(data: &[u8], text: &[u8]) -> u64 {
     let map = there!(map(data));
     let addresses = text.chunks_exact(8).map(|part| u64::from_le_bytes(part.try_into().unwrap()));
     addresses.filter(|address| map.get(*address).is_some()).count() as u64
+}
+
+const PAGE: u64 = 4096;
+const LIMIT: u64 = 0x7fff_ffff_f000;
+
+fn down(address: u64) -> u64 {
+    address - address % PAGE
+}
+
+fn up(address: u64) -> Option<u64> {
+    Some(down(address.checked_add(PAGE - 1)?))
+}
+
+/// The end of the pages of a load segment, if it passes the checks of a plan.
+fn checked_load(load: &ProgramHeader64<Endianness>, endian: Endianness, before: Option<u64>, len: u64) -> Option<u64> {
+    let (address, offset) = (load.p_vaddr(endian), load.p_offset(endian));
+    let (held, size, align) = (load.p_filesz(endian), load.p_memsz(endian), load.p_align(endian));
+    let is_empty = before.is_none() && held == 0 || size == 0 && address % PAGE != 0;
+    let is_whole = align == 0 || align.is_power_of_two();
+    if held > size || is_empty || address % PAGE != offset % PAGE || !is_whole {
+        return None;
+    }
+    let end = up(address.checked_add(size)?).filter(|end| *end <= LIMIT)?;
+    let is_past = offset.checked_add(held)? > len || held == 0 && address % PAGE != 0 && len <= down(offset);
+    let is_shut = size > held && load.p_flags(endian) & 6 != 6;
+    (!is_past && !is_shut && down(address) >= before.unwrap_or(0)).then_some(end)
+}
+
+/// The plan that glibc follows for a file, with the same checks.
+pub fn load_plan(data: &[u8], _: &[u8]) -> u64 {
+    let (header, endian) = there!(opened(data));
+    let segments = there!(header.program_headers(endian, data).ok());
+    if !matches!(header.e_type(endian), 2 | 3) || size_of_val(segments) as u64 > PAGE {
+        return NONE;
+    }
+    let (mut sum, mut before, mut start) = (0u64, None, 0);
+    let (mut relro, mut tls, mut stack, mut interpreter, mut table) = (None, None, None, None, None);
+    for segment in segments {
+        match segment.p_type(endian) {
+            elf::PT_LOAD => {
+                let end = there!(checked_load(segment, endian, before, data.len() as u64));
+                let first = down(segment.p_vaddr(endian));
+                let middle = there!(up(segment.p_vaddr(endian) + segment.p_filesz(endian)));
+                let flags = u64::from(segment.p_flags(endian));
+                match before {
+                    Some(before) if before < first => sum = sum.wrapping_add(before + first + 2),
+                    Some(_) => {}
+                    None => start = first,
+                }
+                if first < middle {
+                    sum = sum.wrapping_add(first + middle + flags + down(segment.p_offset(endian)));
+                }
+                if middle < end {
+                    sum = sum.wrapping_add(middle + end + flags + 1);
+                }
+                before = Some(end);
+            }
+            elf::PT_GNU_RELRO => relro = Some(segment),
+            elf::PT_TLS if segment.p_memsz(endian) > 0 => tls = Some(segment),
+            elf::PT_GNU_STACK => stack = Some(segment),
+            elf::PT_INTERP if interpreter.is_none() => interpreter = Some(segment),
+            elf::PT_PHDR => table = Some(segment),
+            _ => {}
+        }
+    }
+    let loads = || segments.iter().filter(|segment| segment.p_type(endian) == elf::PT_LOAD);
+    let holds = |load: &&ProgramHeader64<Endianness>, at: u64| load.p_offset(endian) <= at && at - load.p_offset(endian) < load.p_filesz(endian);
+    match table {
+        Some(table) => {
+            let place = header.e_phoff(endian);
+            let load = there!(loads().filter(|load| holds(load, place)).last());
+            if load.p_vaddr(endian) + (place - load.p_offset(endian)) != table.p_vaddr(endian) {
+                return NONE;
+            }
+        }
+        None if header.e_type(endian) == 3 && interpreter.is_some() => return NONE,
+        None => {}
+    }
+    if let Some(segment) = interpreter {
+        let path = there!(segment.data(endian, data).ok());
+        if !(2..=4096).contains(&path.len()) || path.last() != Some(&0) {
+            return NONE;
+        }
+    }
+    if let Some(segment) = relro {
+        let (first, end) = (down(segment.p_vaddr(endian)), down(there!(segment.p_vaddr(endian).checked_add(segment.p_memsz(endian)))));
+        let mut covered = first;
+        for load in loads() {
+            let end = there!(up(load.p_vaddr(endian) + load.p_memsz(endian)));
+            if down(load.p_vaddr(endian)) <= covered && covered < end {
+                covered = end;
+            }
+        }
+        if covered < end {
+            return NONE;
+        }
+        sum = sum.wrapping_add(first + end);
+    }
+    if let Some(segment) = tls {
+        let (address, held) = (segment.p_vaddr(endian), segment.p_filesz(endian));
+        let is_in = |load: &ProgramHeader64<Endianness>| {
+            load.p_vaddr(endian) <= address && address - load.p_vaddr(endian) + held <= load.p_memsz(endian)
+        };
+        if held > segment.p_memsz(endian) || !segment.p_align(endian).is_power_of_two() || held > 0 && !loads().any(is_in) {
+            return NONE;
+        }
+        sum = sum.wrapping_add(segment.p_memsz(endian) + segment.p_align(endian));
+    }
+    let end = there!(before);
+    sum.wrapping_add(start + end).wrapping_add(stack.map_or(0, |segment| u64::from(segment.p_flags(endian))))
 }

@@ -67,6 +67,7 @@ pub const PASSES: &[Pass] = passes![
         ["crate" original::data, "object" object::data, "C" loops::data, "here" here::data, "here, by a table" here::table_data];
     "program headers", "large", |f| f.segments, NOTHING,
         ["crate" original::segments, "object" object::segments, "goblin" goblin::segments, "C" loops::segments, "here" here::segments, "here, by a table" here::segments_table];
+    "plan of a load (a call)", "large", ONE, NOTHING, ["object" object::load_plan, "here" here::load_plan];
     "checks of sections", "large", |f| f.sections, NOTHING,
         ["crate" original::section_checks, "here" here::section_checks];
     "checks of segments", "large", |f| f.segments, NOTHING,

@@ -17,7 +17,8 @@ abbrev pub end_after : ℕ → Option ℕ → List ProgramHeader64 → Option �
 end_after page before [] = before
 end_after page before (load ∷ loads) = Some (last_end page (load_end page load) loads)
 
-some_end : (page end : ℕ) (loads : List ProgramHeader64) → end_after page (Some end) loads ≡ Some (last_end page end loads)
+-- after a load it is an end
+pub some_end : (page end : ℕ) (loads : List ProgramHeader64) → end_after page (Some end) loads ≡ Some (last_end page end loads)
 some_end page end [] = refl
 some_end page end (load ∷ loads) = refl
 

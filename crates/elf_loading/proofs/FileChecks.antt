@@ -7,7 +7,7 @@ use Rattle.elf_base.specs.Text.{BytesRefused}
 use Rattle.elf_base.specs.declared.error.ElfError.{ElfError}
 use Rattle.elf_base.specs.declared.error.ElfError.TheVariants.{TextStart, TextEnd}
 use Rattle.xmas_elf.specs.Types.{ElfFile, ProgramHeader64}
-use Rattle.elf_loading.specs.FileCheck.{check_file, covered_to, header_rows, is_no_path, is_uncovered, segment_rows}
+use Rattle.elf_loading.specs.FileCheck.{NoneApplies, check_file, covered_to, header_rows, is_no_path, is_uncovered, segment_rows}
 use Rattle.elf_loading.specs.LoadCheck.{check_loads, fits_below, holds_address, lies_in, load_end}
 use Rattle.elf_loading.specs.Pages.{down}
 use Rattle.elf_loading.specs.Segments.{interpreter_of, loads_of, relro_of}
@@ -21,7 +21,7 @@ use Rattle.elf_loading.specs.declared.error.LoadError.TheVariants as error
 use Rattle.elf_loading.proofs.Apart.{AreApart, checks_apart, checks_end, end_after}
 use Rattle.elf_loading.proofs.Covered.{covered}
 use Rattle.elf_loading.proofs.Rounded.{down_le}
-use Rattle.elf_loading.proofs.LoadChecks.{NoneApplies, loads_fit, loads_lie, unless_ok}
+use Rattle.elf_loading.proofs.LoadChecks.{loads_fit, loads_lie, unless_ok}
 
 pub ends_ok : (answer : Result ℕ LoadError) (end : ℕ) → ends_at answer end ≡ true → answer ≡ Ok end
 ends_ok (Ok found) end is = ap (λ n. Ok n) (eqb-true found end is)

@@ -14,3 +14,4 @@ pub mod Covered
 pub mod Filled
 pub mod Relro
 pub mod Numbers
+pub mod Reasons

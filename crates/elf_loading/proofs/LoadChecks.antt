@@ -4,6 +4,7 @@ use Rattle.std.proofs.lemmas.Bool.{and_from, le-leb, ltb-false, or_parts}
 use Rattle.std.specs.List.{list_all}
 use Rattle.elf_base.specs.Refusal.{and_then, unless}
 use Rattle.xmas_elf.specs.Types.{ProgramHeader64}
+use Rattle.elf_loading.specs.FileCheck.{NoneApplies}
 use Rattle.elf_loading.specs.LoadCheck.{check_load, check_loads, fits_below, is_inside_page, lies_in, load_end, load_rows, load_start}
 use Rattle.elf_loading.specs.Pages.{down}
 use Rattle.elf_loading.specs.declared.error.LoadError.{LoadError}
@@ -19,11 +20,6 @@ refused_load page limit len before items others load error is err = ap (check_lo
 pub checked_end : (page limit len : ℕ) (before : Option ℕ) (items : List ProgramHeader64) → items ≡ [] → check_loads page limit len before items ≡ Ok before
 unfolding check_loads
 checked_end page limit len before items is = ap (check_loads page limit len before) is
-
--- no reason of a list applies
-abbrev pub NoneApplies : List (Bool × LoadError) → Type 0
-NoneApplies [] = Unit {0}
-NoneApplies (row ∷ rows) = (row.0 ≡ false) × (NoneApplies rows)
 
 unless_by : {A : Type 0} (b : Bool) (error : LoadError) (value end : A) (rows : List (Bool × LoadError)) → (unless rows value ≡ Ok end → NoneApplies rows × (value ≡ end)) → (if b then Err error else unless rows value) ≡ Ok end → ((b ≡ false) × (NoneApplies rows)) × (value ≡ end)
 unless_by true error value end rows next is = absurd (cc)

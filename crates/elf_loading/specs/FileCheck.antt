@@ -1,12 +1,12 @@
 -- Why a file can't be loaded, as Linux and glibc decide it (this project's own list).
-use Rattle.std.specs.Prelude.{ℕ, ◌+◌, ◌-◌, ◌*◌, ◌==◌, ◌&&◌, ◌||◌, not, min, nat_le, nat_lt, slice_index, Bool, false, List, [], ◌∷◌, length, Option, Some, None, is_some, ok_or, Result, Ok, if◌then◌else◌}
+use Rattle.std.specs.Prelude.{◌≡◌, ⊤, ◌++◌, ℕ, ◌+◌, ◌-◌, ◌*◌, ◌==◌, ◌&&◌, ◌||◌, not, min, nat_le, nat_lt, slice_index, Bool, true, false, List, [], ◌∷◌, length, Option, Some, None, is_some, ok_or, Result, Ok, if◌then◌else◌}
 use Rattle.std.specs.Int.{is_power_of_two}
 use Rattle.std.specs.List.{filter, last_or, list_any}
 use Rattle.elf_base.specs.FileHeader.{file_class, header_fields, type_number}
 use Rattle.elf_base.specs.Refusal.{and_then, unless}
 use Rattle.xmas_elf.specs.ProgramHeader.{program_header_size}
 use Rattle.xmas_elf.specs.Types.{ElfFile, Header, ProgramHeader64}
-use Rattle.elf_loading.specs.LoadCheck.{check_loads, holds_address, load_end}
+use Rattle.elf_loading.specs.LoadCheck.{check_loads, holds_address, load_end, loads_rows}
 use Rattle.elf_loading.specs.Pages.{down}
 use Rattle.elf_loading.specs.Segments.{interpreter_of, loads_of, phdr_of, relro_of, tls_of}
 use Rattle.elf_loading.specs.declared.error.LoadError.{LoadError}
@@ -98,3 +98,20 @@ check_file file page limit =
     and_then (check_loads page limit (length file.input.now) None (loads_of file)) (λ last.
     and_then (ok_or last error.NoLoad) (λ end.
     and_then (unless (segment_rows file page) (tt {0})) (λ passed. Ok end))))
+
+-- there is no load
+abbrev pub has_no_load : List ProgramHeader64 → Bool
+has_no_load [] = true
+has_no_load (load ∷ loads) = false
+
+-- all reasons why a file can't be loaded, in order: those of its header, of each load, that there is no load, and
+-- those of its other segments
+abbrev pub all_rows : ElfFile → ℕ → ℕ → List (Bool × LoadError)
+all_rows file page limit = header_rows file page
+    ++ (loads_rows page limit (length file.input.now) None (loads_of file)
+    ++ ((has_no_load (loads_of file), error.NoLoad) ∷ segment_rows file page))
+
+-- no reason of a list applies
+abbrev pub NoneApplies : List (Bool × LoadError) → Type 0
+NoneApplies [] = ⊤
+NoneApplies (row ∷ rows) = (row.0 ≡ false) × NoneApplies rows

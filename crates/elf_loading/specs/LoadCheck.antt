@@ -1,5 +1,5 @@
 -- Why a load can't be mapped, as Linux and glibc decide it (this project's own list).
-use Rattle.std.specs.Prelude.{ℕ, ◌+◌, ◌%◌, ◌==◌, ◌&&◌, ◌||◌, not, nat_le, nat_lt, bit_and, Bool, List, [], ◌∷◌, Option, Some, is_none, unwrap_or, Result, Ok}
+use Rattle.std.specs.Prelude.{ℕ, ◌+◌, ◌%◌, ◌==◌, ◌&&◌, ◌||◌, not, nat_le, nat_lt, bit_and, Bool, List, [], ◌∷◌, ◌++◌, Option, Some, is_none, unwrap_or, Result, Ok}
 use Rattle.std.specs.Int.{is_power_of_two}
 use Rattle.elf_base.specs.Refusal.{and_then, unless}
 use Rattle.xmas_elf.specs.Types.{ProgramHeader64}
@@ -64,6 +64,12 @@ unfoldable pub check_loads : ℕ → ℕ → ℕ → Option ℕ → List Program
 check_loads page limit len before [] = Ok before
 check_loads page limit len before (load ∷ loads) =
     and_then (check_load page limit len before load) (λ end. check_loads page limit len (Some end) loads)
+
+-- the reasons of loads, load by load
+abbrev pub loads_rows : ℕ → ℕ → ℕ → Option ℕ → List ProgramHeader64 → List (Bool × LoadError)
+loads_rows page limit len before [] = []
+loads_rows page limit len before (load ∷ loads) =
+    load_rows page limit len before load ++ loads_rows page limit len (Some (load_end page load)) loads
 
 -- the bytes of a load are within its memory, and its pages end at a limit or before it
 abbrev pub fits_below : ℕ → ℕ → ProgramHeader64 → Bool

@@ -1,9 +1,11 @@
 -- The plan of a load, by what its calls return.
-use Rattle.std.specs.Prelude.{◌≡◌, ℕ, List, Ok, Option, option_map}
+use Rattle.std.specs.Prelude.{◌≡◌, ◌<◌, ◌+◌, ◌-◌, ℕ, List, Ok, Option, length, option_map, slice_index}
 use Rattle.xmas_elf.specs.Types.{ElfFile, ProgramHeader64}
+use Rattle.elf_loading.specs.Bytes.{byte_number, byte_of}
 use Rattle.elf_loading.specs.FileCheck.{check_file}
 use Rattle.elf_loading.specs.Segments.{loads_of, relro_of}
-use Rattle.elf_loading.specs.Spans.{relro_span}
+use Rattle.elf_loading.specs.Spans.{relro_span, span_of}
+use Rattle.elf_loading.specs.declared.mapping.Loader.{Loader}
 use Rattle.elf_loading.specs.declared.span.Span.{Span}
 use Rattle.elf_loading.specs.declared.plan.LoadPlan.{LoadPlan}
 
@@ -25,3 +27,9 @@ plan_page plan = plan.page
 -- the pages of a plan that are read-only after relocation
 abbrev pub plan_relro : LoadPlan → Option Span
 plan_relro plan = option_map (relro_span plan.page) (relro_of plan.file)
+
+-- the bytes of the span of a plan, as a loader maps them: byte `i` is that at the start of the span plus `i`
+pub record IsImageBy (by : Loader) (plan : LoadPlan) (image : List ℕ) : Type 0 where
+  pub size : length image ≡ (span_of plan.page (plan_loads plan)).end - (span_of plan.page (plan_loads plan)).start
+  pub bytes : (i : ℕ) → i < length image → slice_index image i ≡ byte_number plan.file.input.now
+      (byte_of plan.page by (length plan.file.input.now) ((span_of plan.page (plan_loads plan)).start + i) (plan_loads plan))

@@ -46,7 +46,8 @@ pub struct Tls {
 
 impl<'a> LoadPlan<'a> {
     ghost use Rattle.std.specs.Prelude.{Err, IfErr, IfNone, IfSome, MatchOption, MatchResult, None, Some};
-    ghost use Rattle.std.specs.Prelude.{Ok, option_map, ◌≤◌};
+    ghost use Rattle.std.specs.Prelude.{IsOk, Ok, option_map, ◌↔◌, ◌≤◌};
+    ghost use Rattle.elf_loading.specs.FileCheck.{NoneApplies, all_rows};
     ghost use Rattle.elf_base.specs.FileHeader.{header_fields};
     ghost use Rattle.elf_base.specs.Text.{EndsInZero};
     ghost use Rattle.elf_base.specs.Lent.{LiesAt};
@@ -60,11 +61,12 @@ impl<'a> LoadPlan<'a> {
     /// `page` is the size of a page, a power of two such as 4096. `limit` is the end of the
     /// addresses that a loader may use: 2^47 - 4096 for x86-64, 0xffffe000 for 386. The error is the
     /// first that applies in the order of `LoadError`.
-    #[tactic(auto, using(crate::proofs::FileChecks::ok_ends, crate::proofs::Relro::error_uncovered))]
+    #[tactic(auto, using(crate::proofs::FileChecks::ok_ends, crate::proofs::Relro::error_uncovered, crate::proofs::Reasons::passes_means, crate::proofs::Reasons::refused_means))]
     pub fn check_load(file: &ElfFile<'a>, page: u64, limit: u64) -> Result<LoadPlan<'a>, LoadError>
         requires { 0 < page }
         ensures exact { MatchResult result (IsPlanOf file.now page limit)
             (λ error. check_file file.now page limit ≡ Err error) }
+        ensures accepts { IsOk result ↔ NoneApplies (all_rows file.now page limit) }
         ensures relro { IfErr result (λ error. error ≡ Relro → MatchOption (relro_of file.now) ⊥
             (λ relro. HasUncovered page (loads_of file.now) (relro_span page relro))) }
     {

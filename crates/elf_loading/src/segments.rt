@@ -59,6 +59,7 @@ fn is_of_type(kind: u32, size: u64, segment: &ProgramHeader64) -> bool
 
 // The last segment of a type with at least `size` bytes in memory.
 #[tactic(auto, using(crate::proofs::Lists::last_kept, crate::proofs::Lists::last_skipped, crate::proofs::Lists::last_end))]
+#[inline(always)]
 fn last_of(kind: u32, size: u64, file: &ElfFile<'_>) -> Option<ProgramHeader64>
     ensures { result ≡ last_of kind size file.now }
 {
@@ -102,6 +103,7 @@ pub(crate) fn last_tls(file: &ElfFile<'_>) -> Option<ProgramHeader64>
 
 // The first PT_INTERP.
 #[tactic(auto, using(crate::proofs::Lists::found_kept, crate::proofs::Lists::found_skipped, crate::proofs::Lists::found_end))]
+#[inline(always)]
 pub(crate) fn first_interpreter(file: &ElfFile<'_>) -> Option<ProgramHeader64>
     ensures { result ≡ interpreter_of file.now }
 {
@@ -133,6 +135,7 @@ pub(crate) fn loads_of<'b, 'a>(file: &'b ElfFile<'a>) -> Loads<'b, 'a>
 impl Loads<'_, '_> {
     // The next load.
     #[tactic(auto, using(crate::proofs::Lists::load_kept, crate::proofs::Lists::load_skipped, crate::proofs::Lists::load_end))]
+    #[inline(always)]
     pub(crate) fn step(&mut self) -> Option<ProgramHeader64>
         ensures load { YieldsFirst loads_rest self.old result self.new }
         ensures file { self.new.programs.file ≡ self.old.programs.file }

@@ -3,7 +3,7 @@
 ghost use Rattle.std.specs.Prelude.{◌≡◌, ◌-◌, ⊤, OnOk, Some};
 ghost use Rattle.std.specs.Io.KnownBytes.{Appends};
 ghost use Rattle.elf_addresses.specs.Claims.{IsInnermost};
-ghost use Rattle.elf_addresses.specs.Index.{IsWellBuilt};
+ghost use Rattle.elf_addresses.specs.Index.{IsBuilt, IsWellBuilt};
 ghost use Rattle.elfaddr.specs.Lines.{AreLines, IsLine, IsSectionLine, offset_text, place_text};
 ghost use Rattle.program_ends.proofs.Flushed.{appended_flushed};
 ghost use Rattle.program_ends.specs.Appended.{AppendsSome};
@@ -44,18 +44,33 @@ impl<C: Named> Output for Lines<'_, '_, C> {
     fn write_to<W: Write>(&self, out: &mut W) -> Result<(), Stop<LinkError>> {
         let words = vec![in self.alloc; 0; index_words(self.claims)];
         let mut words = words.unwrap_or(Vec::new(self.alloc));
-        let written = match build_index(self.claims, &mut words) {
-            Ok(()) => {
-                let index = ClaimIndex::lend(self.claims, &words);
-                write_each(self, &index, out)
-            }
-            Err(_) => write_slowly(self, out),
-        };
-        match written {
-            Ok(()) => Ok(()),
-            Err(_) => Err(Stop::Write),
+        match build_index(self.claims, &mut words) {
+            Ok(()) => match write_indexed(self, &words, out) {
+                Ok(()) => Ok(()),
+                Err(_) => Err(Stop::Write),
+            },
+            Err(_) => match write_slowly(self, out) {
+                Ok(()) => Ok(()),
+                Err(_) => Err(Stop::Write),
+            },
         }
     }
+}
+
+// A line for each address, by an index in words.
+fn write_indexed<C: Named, W: Write>(
+    lines: &Lines<'_, '_, C>,
+    words: &[u32],
+    out: &mut W,
+) -> io::Result<()>
+    requires { IsBuilt (C.claim_of lines.now.claims.now) (C.range_of lines.now.claims.now)
+        (C.count lines.now.claims.now) words.now }
+    ensures { OnOk result (AppendsSome (AreLines (C.claim_of lines.now.claims.now)
+        (C.name_of lines.now.claims.now) lines.now.file.now lines.now.addresses.now)
+        (W.contents out.old) (W.contents out.new)) }
+{
+    let index = ClaimIndex::lend(lines.claims, words);
+    write_each(lines, &index, out)
 }
 
 // A line for each address, by an index.

@@ -11,7 +11,7 @@ use worked_files::linked::importer::IMPORTER;
 use worked_files::linked::small::SMALL;
 use worked_files::linked::versions::{NARROW, WIDE};
 use worked_files::places::put;
-use xmas_elf::symbol_table::DynEntry64;
+use xmas_elf::symbol_table::{DynEntry64, Entry};
 
 // Files whose hash tables count all symbols, and how many there are.
 const COUNTED_WHOLE: &[(&[u8], u64)] = &[(SMALL, 5), (NARROW, 7), (WIDE, 7)];
@@ -84,20 +84,27 @@ fn check_names(rt: &impl Abort, bytes: &[u8], count: usize, names: &[(usize, &st
     }
 }
 
+// The index, the name and the value of some symbols of `.symtab`, and of all dynamic ones.
+const STATIC: &[(usize, &str, u64)] = &[
+    (3, "_DYNAMIC", 0x218),
+    (5, "begin", 0x1f0),
+    (8, "outer", 0),
+];
+
+const DYNAMIC: &[(usize, &str, u64)] = &[(0, "", 0), (1, "data", 0), (2, "outer", 0)];
+
 // The section headers begin at 1352: e_shoff is at 40, and `.symtab` and `.dynsym` are sections 12
 // and 2.
 #[test]
 fn reads_the_symbols_of_a_file(rt: HostRuntime) {
     let mut bytes = *IMPORTER;
-    let all = &[(3, "_DYNAMIC", 0x218), (5, "begin", 0x1f0), (8, "outer", 0)];
-    check_names(&rt, &bytes, 11, all);
-    let dynamic = &[(0, "", 0), (1, "data", 0), (2, "outer", 0)];
+    check_names(&rt, &bytes, 11, STATIC);
     put(&mut bytes, 1352 + 12 * 64 + 4, &[1]);
-    check_names(&rt, &bytes, 3, dynamic);
+    check_names(&rt, &bytes, 3, DYNAMIC);
     put(&mut bytes, 1352 + 2 * 64 + 4, &[1]);
-    check_names(&rt, &bytes, 3, dynamic);
+    check_names(&rt, &bytes, 3, DYNAMIC);
     put(&mut bytes, 40, &[0, 0]);
-    check_names(&rt, &bytes, 3, dynamic);
+    check_names(&rt, &bytes, 3, DYNAMIC);
     check_names(&rt, NARROW, 7, &[]);
 }
 

@@ -1,5 +1,6 @@
 //! The byte at addresses, for both loaders and pages of three sizes.
 
+use crate::callers::image_of;
 use crate::tests::rows::{LIMIT, Row, file_64, open};
 use crate::tests::want::want_at;
 use elf_loading::{Byte, LoadError, LoadPlan, Loader};
@@ -92,6 +93,19 @@ fn fills_an_image(rt: HostRuntime) -> Result<(), Fail> {
     for &(address, one, other) in NUMBERS {
         want_at(&rt, address, linux.get(address).copied(), Some(one));
         want_at(&rt, address, glibc.get(address).copied(), Some(other));
+    }
+    Ok(())
+}
+
+#[test]
+fn image_of_a_program(rt: HostRuntime) -> Result<(), Fail> {
+    let bytes = file_64(rt.alloc(), 0xc00, 2, ROWS)?;
+    let file = open(&rt, &bytes);
+    let plan = LoadPlan::check_load(&file, 0x1000, LIMIT)?;
+    let image = image_of(rt.alloc(), &plan)?;
+    want_at(&rt, "length", image.len(), 0x21000);
+    for &(address, wanted, _) in NUMBERS {
+        want_at(&rt, address, image.get(address).copied(), Some(wanted));
     }
     Ok(())
 }

@@ -1,4 +1,4 @@
-use Rattle.std.proofs.Common.{◌≡◌, ◌+◌, ◌<◌, [], ◌∷◌, ◌++◌, List, ℕ, length, take, subst, sym, ◌∙◌, ap, arith}
+use Rattle.std.proofs.Common.{◌≡◌, ◌+◌, ◌<◌, [], ◌∷◌, ◌++◌, List, ℕ, length, get_or, take, subst, sym, arith}
 use Rattle.std.proofs.KnownBytes.{Appends-nil, Appends-trans}
 use Rattle.std.proofs.lemmas.List.{take_more}
 use Rattle.std.specs.Io.KnownBytes.{Appends}
@@ -10,7 +10,7 @@ use Rattle.elfaddr.proofs.lines.write_each.Goals as goal
 
 pub write_line-requires : goal.write_line-requires
 write_line-requires g c =
-    subst (λ k. IsInnermost (g.C.Claims.claim_of k) c.address-item.result c.innermost-found.result) c.requires.same (c.innermost-found.ensures.innermost c.requires.built)
+    subst (λ k. IsInnermost (g.C.Claims.claim_of k) (get_or c.args.lines.now.addresses.now c.loop-address.address-index 0) c.innermost-found.result) c.requires.same (c.innermost-found.ensures.innermost c.requires.built)
 
 pub loop-address-init : goal.loop-address-init
 loop-address-init g c = ([], tt, Appends-nil _)
@@ -21,12 +21,12 @@ loop-address-preserved g c =
     let file = c.args.lines.now.file.now in
     let addresses = c.args.lines.now.addresses.now in
     let index = c.loop-address.address-index in
-    let item = c.address-item.result in
+    let item = get_or addresses index 0 in
     let (lines, each, grown) = c.loop-address.invariant in
     let (line, is_line, more) = c.in_ok-write_line.ensures in
     let below : index < length addresses = omega (arith, c.loop-address-test.true) in
     let longer : take (index + 1) addresses ≡ take index addresses ++ (item ∷ []) =
-    take_more addresses index item below ∙ ap (λ x. take index addresses ++ (x ∷ [])) (sym c.address-item.is) in (
+    take_more addresses index 0 below in (
       lines ++ (line ∷ []),
       subst (λ xs. AllZip (λ address text. IsLine (g.C.Claims.claim_of claims) (g.C.Named.name_of claims) file address text) xs (lines ++ (line ∷ []))) (sym longer)
           (zip_one_more (λ address text. IsLine (g.C.Claims.claim_of claims) (g.C.Named.name_of claims) file address text) (take index addresses) lines item line each is_line),

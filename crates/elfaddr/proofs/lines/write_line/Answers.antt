@@ -21,4 +21,4 @@ pub returns-in-None : goal.returns-in-None
 returns-in-None g c =
     let claims = c.args.lines.now.claims.now in
     let inner : IsInnermost (g.C.Claims.claim_of claims) c.args.address None = subst (λ o. IsInnermost (g.C.Claims.claim_of claims) c.args.address o) c.in-None.is c.requires in
-    on_ok_weaker c.write_section.result (λ written. (written.0, in_no_symbol written.0 inner written.1.0, written.1.1)) c.write_section.ensures
+    on_ok_weaker c.write_section.result (λ written. (written.0, in_no_symbol written.0 inner written.1, written.2)) c.write_section.ensures

@@ -1,4 +1,4 @@
-use Rattle.std.proofs.Common.{◌≡◌, ◌+◌, ◌<◌, [], ◌∷◌, ◌++◌, List, ℕ, length, take, subst, sym, ◌∙◌, ap, arith}
+use Rattle.std.proofs.Common.{◌≡◌, ◌+◌, ◌<◌, [], ◌∷◌, ◌++◌, List, ℕ, length, get_or, take, subst, sym, arith}
 use Rattle.std.proofs.KnownBytes.{Appends-nil, Appends-trans}
 use Rattle.std.proofs.lemmas.List.{take_more}
 use Rattle.std.specs.Io.KnownBytes.{Appends}
@@ -16,12 +16,12 @@ loop-address-preserved g c =
     let file = c.args.lines.now.file.now in
     let addresses = c.args.lines.now.addresses.now in
     let index = c.loop-address.address-index in
-    let item = c.address-item.result in
+    let item = get_or addresses index 0 in
     let (lines, each, grown) = c.loop-address.invariant in
     let (line, is_line, more) = c.in_ok-write_line.ensures in
     let below : index < length addresses = omega (arith, c.loop-address-test.true) in
     let longer : take (index + 1) addresses ≡ take index addresses ++ (item ∷ []) =
-    take_more addresses index item below ∙ ap (λ x. take index addresses ++ (x ∷ [])) (sym c.address-item.is) in (
+    take_more addresses index 0 below in (
       lines ++ (line ∷ []),
       subst (λ xs. AllZip (λ address text. IsLine (g.C.Claims.claim_of claims) (g.C.Named.name_of claims) file address text) xs (lines ++ (line ∷ []))) (sym longer)
           (zip_one_more (λ address text. IsLine (g.C.Claims.claim_of claims) (g.C.Named.name_of claims) file address text) (take index addresses) lines item line each is_line),

@@ -7,6 +7,6 @@ returns g c = record {
   is_object = c.in_ok-object.ensures;
   table = c.table.ensures ∙ c.symbols.ensures.table;
   strings = sym c.in_ok-strings.ensures.exact;
-  indices = c.in-Ok.ensures.1.0;
+  indices = c.in-Ok.ensures.1;
   machine = search rules;
 }

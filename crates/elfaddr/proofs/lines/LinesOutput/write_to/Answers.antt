@@ -1,4 +1,0 @@
-use Rattle.elfaddr.proofs.lines.LinesOutput.write_to.Goals as goal
-
-pub write_each-requires-clause-built : goal.write_each-requires-clause-built
-write_each-requires-clause-built g c = rw (c.lend-index.ensures.claims, c.lend-index.ensures.sized, c.lend-index.ensures.lasting, c.lend-index.ensures.starts) c.in-Ok.ensures.built

@@ -1,0 +1,3 @@
+mod Inputs
+mod MappingLines
+mod Written

@@ -1,0 +1,106 @@
+-- What the program writes of a file (this project's own): its header, and its plan for both loaders.
+use Rattle.std.specs.Prelude.{◌≡◌, ℕ, ◌++◌, ◌==◌, ◌&&◌, ◌||◌, ◌*◌, List, Option, Some, None, Err, codes, IsOk, IsOkAnd, MatchOption, if◌then◌else◌, option_map}
+use Rattle.std.specs.Borrow.{Bor}
+use Rattle.elf_base.specs.FileHeader.{file_class, header_fields, header_of, machine_number}
+use Rattle.elf_base.specs.Text.{EndsInZero}
+use Rattle.elf_base.specs.declared.error.ElfError.{ElfError}
+use Rattle.elf_loading.specs.FileCheck.{check_file, kind_of}
+use Rattle.elf_loading.specs.Mappings.{mappings_of}
+use Rattle.elf_loading.specs.Segments.{interpreter_of, loads_of, relro_of, stack_of, tls_of}
+use Rattle.elf_loading.specs.Spans.{relro_span, span_of}
+use Rattle.elf_loading.specs.declared.error.LoadError.{LoadError}
+use Rattle.elf_loading.specs.declared.mapping.Loader.{Loader}
+use Rattle.elf_loading.specs.declared.mapping.Loader.TheVariants.{Glibc, Kernel}
+use Rattle.elfload.specs.Texts.{head_text, mappings_text}
+use Rattle.elfload.specs.declared.plans.Head.{Head}
+use Rattle.elfload.specs.declared.plans.Refusal as refusals
+use Rattle.elfload.specs.declared.plans.Refusal.TheVariants as refusals_are
+use Rattle.program_ends.specs.Names.{escaped}
+use Rattle.xmas_elf.specs.Types.{ElfFile, Header}
+
+-- the number of a machine (e_machine)
+abbrev pub machine_of : Header → ℕ
+machine_of header = machine_number (header_fields header.pt2).machine
+
+-- the end of the addresses that Linux gives a program, by the class and the machine (TASK_SIZE of x86-64, of AArch64 with
+-- addresses of 48 bits, and of both machines' programs of class 32 on x86-64)
+abbrev pub limit_of : ℕ → ℕ → Option ℕ
+limit_of class machine =
+    if class == 2 && machine == 62 then Some 0x7ffffffff000
+    else (if class == 2 && machine == 183 then Some 0x1000000000000
+    else (if class == 1 && (machine == 3 || machine == 62) then Some 0xffffe000
+    else None))
+
+-- the same of a header
+abbrev pub header_limit : Header → Option ℕ
+header_limit header = limit_of (file_class header) (machine_of header)
+
+-- the head of the plan of a file
+abbrev pub head_of : ℕ → Bor (List ℕ) → ElfFile → Head
+head_of page path file = record {
+  path = path;
+  class = 32 * file_class file.header;
+  kind = kind_of file.header;
+  machine = machine_of file.header;
+  entry = (header_fields file.header.pt2).entry_point;
+  span = span_of page (loads_of file);
+  relro = option_map (relro_span page) (relro_of file);
+  tls = option_map (λ tls. record {
+    address = tls.virtual_addr;
+    file_size = tls.file_size;
+    mem_size = tls.mem_size;
+    align = tls.align;
+  }) (tls_of file);
+  stack = option_map (λ stack. stack.flags) (stack_of file);
+}
+
+-- the path of the interpreter with its control characters escaped, or that there is none
+abbrev pub IsInterpreterText : ElfFile → List ℕ → Type 0
+IsInterpreterText file text = MatchOption (interpreter_of file) (text ≡ codes "none")
+    (λ segment. (path : List ℕ) × EndsInZero file.input.now segment.offset path × (text ≡ escaped path))
+
+-- the lines of the mappings of a file, as a loader makes them
+abbrev pub lines_by : Loader → ℕ → ElfFile → List ℕ
+lines_by by page file = mappings_text (mappings_of page by None (loads_of file))
+
+-- the text of the plan of a file
+pub record IsPlanText (page : ℕ) (path : Bor (List ℕ)) (file : ElfFile) (text : List ℕ) : Type 0 where
+  pub interpreter : List ℕ
+  pub interpreter_is : IsInterpreterText file interpreter
+  pub text_is : text ≡ head_text (head_of page path file)
+      ++ (interpreter ++ (codes "\nkernel\n" ++ (lines_by Kernel page file ++ (codes "glibc\n" ++ lines_by Glibc page file))))
+
+-- Linux and glibc would load a file, with pages of a size
+pub record IsLoaded (page : ℕ) (file : ElfFile) : Type 0 where
+  pub limit : ℕ
+  pub limit_is : header_limit file.header ≡ Some limit
+  pub checked : IsOk (check_file file page limit)
+
+-- they would load it, and this is the text of its plan
+abbrev pub IsFilePlan : ℕ → Bor (List ℕ) → ElfFile → List ℕ → Type 0
+IsFilePlan page path file text = IsLoaded page file × IsPlanText page path file text
+
+-- why a file has no plan: its machine has no limit of addresses here, or an error of its check
+pub data IsFileRefused (page : ℕ) (file : ElfFile) : refusals.Refusal → Type 0 where
+  no_limit : header_limit file.header ≡ None → IsFileRefused page file refusals_are.Machine
+  no_plan : (limit : ℕ) (error : LoadError) → header_limit file.header ≡ Some limit
+      → check_file file page limit ≡ Err error → IsFileRefused page file (refusals_are.Load error)
+
+-- The same of an input.
+
+-- it is the file of its header, with a property
+abbrev pub OfHeader : Bor (List ℕ) → (ElfFile → Type 0) → Type 0
+OfHeader input P = IsOkAnd (header_of input.now) (λ header. P (record { input = input; header = header }))
+
+abbrev pub IsInputPlan : ℕ → Bor (List ℕ) → Bor (List ℕ) → List ℕ → Type 0
+IsInputPlan page path input text = OfHeader input (λ file. IsFilePlan page path file text)
+
+abbrev pub IsInputLoaded : ℕ → Bor (List ℕ) → Type 0
+IsInputLoaded page input = OfHeader input (IsLoaded page)
+
+-- why an input has no plan: an error of its header, or of the file
+pub data IsInputRefused (page : ℕ) (input : Bor (List ℕ)) : refusals.Refusal → Type 0 where
+  no_header : (error : ElfError) → header_of input.now ≡ Err error
+      → IsInputRefused page input (refusals_are.Elf error)
+  no_file : (refusal : refusals.Refusal) → OfHeader input (λ file. IsFileRefused page file refusal)
+      → IsInputRefused page input refusal

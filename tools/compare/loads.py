@@ -1,0 +1,532 @@
+#!/usr/bin/env python3
+"""Compare what elfload prints of programs and libraries with what Linux and the dynamic linker map.
+
+    tools/compare/loads.py [--elfload PATH] [--dir DIR].. [--damaged N] [--seed S] [PROGRAM..]
+
+The programs are those given, and all dynamically linked ELF programs in the folders DIR. Each is run in a process that is
+stopped by ptrace, and never comes to its own code:
+
+- at exec, where Linux has mapped the program and its interpreter (the lines under `kernel`);
+- before the linker makes anything read-only, with all libraries mapped (the lines under `glibc`);
+- before the first constructor, where relocation is done and `relro` of each file is read-only.
+
+At each stop every mapping of /proc/PID/maps must be as elfload says: its pages, its permissions, and its offset in the
+file; and no other page of the file is mapped. Of each file once at each stop, read-only bytes, and at exec all bytes, must be
+those of the file at that offset, or zero where the file has ended; at exec the last bytes of writable pages may be zero instead.
+
+--damaged N runs elfload on N damaged copies of the smallest of the programs, and as many of the smallest of its libraries,
+at random from the seed S: bytes of the ELF header and of program headers are changed. It must end within two seconds with
+status 0 or 1. The copies that it accepts are run, or loaded by LD_PRELOAD, and stopped in the same way. Where Linux or the
+linker doesn't load one, the cause is counted; the only ones allowed are those of ALLOWED.
+
+A difference is a line, and the exit status is then 1. It needs ptrace on x86-64: where that is not allowed or the machine is
+another, the script says so, and passes.
+"""
+import bisect
+import collections
+import ctypes
+import dataclasses
+import functools
+import os
+import platform
+import random
+import re
+import signal
+import struct
+import sys
+import tempfile
+import time
+from pathlib import Path
+from typing import Dict, Iterator, List, NamedTuple, Optional, Set, Tuple
+
+from bindings import linker_of, programs_in, real
+from comparing import parser_of, read_elf, run
+
+PAGE = 4096
+LONGEST = 2.0
+LINE = re.compile(r"^([0-9a-f]+)-([0-9a-f]+) (...)p ([0-9a-f]+) (file|zero|none)$")
+MAPPED = re.compile(r"^([0-9a-f]+)-([0-9a-f]+) (...). ([0-9a-f]+) \S+ \d+ *(.*)$")
+
+# Requests of ptrace, and the call mprotect of x86-64 with PROT_READ.
+TRACE_ME, WRITE_WORD, CONTINUE, REGISTERS, STEP_TO_CALL = 0, 5, 7, 12, 24
+MPROTECT, READ_ALONE = 10, 1
+# The places of registers in user_regs_struct of x86-64.
+THIRD, NUMBER = 12, 15
+
+# Why a damaged copy that elfload accepts isn't loaded.
+ALLOWED = {
+    "no such interpreter": r"No such file or directory|ENOENT|Accessing a corrupted|Permission denied|Exec format error|Is a directory",
+    "no room": r"cannot map|failed to map|Cannot allocate memory|ENOMEM|no room|cannot allocate|File exists",
+    "not for a library": r"cannot dynamically load|cannot be preloaded|position-independent executable|only ET_DYN",
+    "dynamic segment": r"dynamic section|get-dynamic-info\.h",
+    "header that glibc checks": r"ELF file|ELF header|invalid ELF|wrong ELF class|ABI|architecture|version",
+    "stack or threads": r"executable stack|cannot handle TLS|TLS",
+}
+
+
+class Line(NamedTuple):
+    """A mapping as elfload prints it."""
+
+    start: int
+    end: int
+    flags: str
+    offset: int
+    holds: str
+
+
+class Plan(NamedTuple):
+    """What elfload prints of a file."""
+
+    relro: Optional[Tuple[int, int]]
+    start: int
+    by: Dict[str, List[Line]]
+
+
+class Mapping(NamedTuple):
+    """A line of /proc/PID/maps."""
+
+    start: int
+    end: int
+    flags: str
+    offset: int
+    path: str
+
+
+class Said(NamedTuple):
+    """How a run of elfload ended, and the plan if it printed one."""
+
+    status: int
+    errors: str
+    plan: Optional[Plan]
+
+
+def span_of(text: str) -> Tuple[int, int]:
+    start, end = text.split("-")
+    return int(start, 16), int(end, 16)
+
+
+def plan_of(text: str) -> Plan:
+    """Takes what elfload prints of a file apart."""
+    heads, by, lines = {}, {}, None
+    for line in text.split("\n")[1:-1]:
+        if line in ("kernel", "glibc"):
+            lines = by.setdefault(line, [])
+        elif lines is None:
+            name, _, held = line.partition(" ")
+            heads[name] = held
+        else:
+            start, end, flags, offset, holds = LINE.match(line).groups()
+            lines.append(Line(int(start, 16), int(end, 16), flags, int(offset, 16), holds))
+    relro = None if heads["relro"] == "none" else span_of(heads["relro"])
+    return Plan(relro, span_of(heads["span"])[0], by)
+
+
+def said_of(elfload: str, path: str) -> Said:
+    done = run([elfload, path])
+    return Said(done.status, done.errors, plan_of(done.output) if done.status == 0 else None)
+
+
+class Stopped:
+    """A process that is stopped at exec."""
+
+    def __init__(self, path: str, **variables: str) -> None:
+        self.libc = ctypes.CDLL(None, use_errno=True)
+        self.libc.ptrace.restype, self.libc.ptrace.argtypes = ctypes.c_long, [ctypes.c_long, ctypes.c_long, ctypes.c_void_p, ctypes.c_void_p]
+        reader, writer = os.pipe()
+        self.pid = os.fork()
+        if not self.pid:
+            os.dup2(writer, 2)
+            null = os.open(os.devnull, os.O_RDWR)
+            os.dup2(null, 0)
+            os.dup2(null, 1)
+            self.libc.ptrace(TRACE_ME, 0, None, None)
+            try:
+                os.execve(path, [path], {"LC_ALL": "C", **variables})
+            except OSError as error:
+                os.write(2, f"{error.strerror}\n".encode())
+            os._exit(127)
+        os.close(writer)
+        self.errors, self.status = os.fdopen(reader, "rb"), 0
+        self.wait()
+
+    def wait(self) -> bool:
+        """Waits for the next stop; whether there is one."""
+        self.status = os.waitpid(self.pid, 0)[1]
+        return self.is_stopped()
+
+    def is_stopped(self) -> bool:
+        return os.WIFSTOPPED(self.status)
+
+    def signal(self) -> int:
+        return os.WSTOPSIG(self.status) if self.is_stopped() else 0
+
+    def go(self, how: int) -> bool:
+        self.libc.ptrace(how, self.pid, None, None)
+        return self.wait()
+
+    def registers(self) -> Tuple[int, ...]:
+        held = (ctypes.c_ulonglong * 27)()
+        self.libc.ptrace(REGISTERS, self.pid, None, ctypes.byref(held))
+        return tuple(held)
+
+    def to_read_only(self) -> bool:
+        """Runs up to the first call that makes pages read-only; False if the process ends or gets a signal before."""
+        while self.go(STEP_TO_CALL):
+            if self.signal() != signal.SIGTRAP:
+                return False
+            held = self.registers()
+            if held[NUMBER] == MPROTECT and held[THIRD] == READ_ALONE:
+                return True
+        return False
+
+    def to_address(self, address: int) -> bool:
+        """Runs up to an instruction."""
+        word = self.memory(address, 8)
+        self.libc.ptrace(WRITE_WORD, self.pid, address, int.from_bytes(b"\xcc" + word[1:], "little"))
+        reached = self.go(CONTINUE) and self.signal() == signal.SIGTRAP
+        if reached:
+            self.libc.ptrace(WRITE_WORD, self.pid, address, int.from_bytes(word, "little"))
+        return reached
+
+    def memory(self, start: int, size: int) -> bytes:
+        """The bytes at an address, up to the first that can't be read."""
+        with open(f"/proc/{self.pid}/mem", "rb", buffering=0) as held:
+            held.seek(start)
+            found = bytearray()
+            while len(found) < size:
+                try:
+                    part = held.read(size - len(found))
+                except OSError:
+                    break
+                if not part:
+                    break
+                found += part
+            return bytes(found)
+
+    def maps(self) -> List[Mapping]:
+        lines = Path(f"/proc/{self.pid}/maps").read_text("utf-8", "surrogateescape").split("\n")
+        found = []
+        for line in lines[:-1]:
+            start, end, flags, offset, path = MAPPED.match(line).groups()
+            found.append(Mapping(int(start, 16), int(end, 16), flags, int(offset, 16), path))
+        return found
+
+    def auxiliary(self, kind: int) -> int:
+        """An entry of the auxiliary vector, as 7, AT_BASE."""
+        held = Path(f"/proc/{self.pid}/auxv").read_bytes()
+        return dict(struct.iter_unpack("<QQ", held)).get(kind, 0)
+
+    def end(self) -> str:
+        """Ends the process, and returns what it has said."""
+        if not os.WIFEXITED(self.status) and not os.WIFSIGNALED(self.status):
+            os.kill(self.pid, signal.SIGKILL)
+            while not os.WIFSIGNALED(self.status) and not os.WIFEXITED(self.status):
+                self.wait()
+        said = self.errors.read().decode("utf-8", "replace")
+        self.errors.close()
+        return said
+
+
+class Tally:
+    """Counts what was compared, and prints each difference."""
+
+    def __init__(self, elfload: str) -> None:
+        self.elfload, self.counts, self.plans = elfload, collections.Counter(differences=0), {}
+        # The files and stops whose bytes were compared.
+        self.compared: Set[Tuple[str, str]] = set()
+
+    def differ(self, what: str) -> None:
+        self.counts["differences"] += 1
+        print(what[:500])
+
+    def plan(self, path: str) -> Optional[Plan]:
+        """The plan of a file; one that is refused is a difference."""
+        if path not in self.plans:
+            said = said_of(self.elfload, path)
+            if said.plan is None:
+                self.differ(f"{path}: elfload: status {said.status}: {said.errors.strip()}")
+            self.plans[path] = said.plan
+            self.counts["files"] += 1
+        return self.plans[path]
+
+
+@dataclasses.dataclass
+class Loaded:
+    """A file in a process: its plan, who loads it, its base, and whether its relro is read-only."""
+
+    path: str
+    plan: Plan
+    by: str
+    base: int
+    is_protected: bool = False
+
+    def flags(self, line: Line, address: int) -> str:
+        """The permissions of a page."""
+        if self.is_protected and self.plan.relro and self.plan.relro[0] <= address - self.base < self.plan.relro[1]:
+            return "r--"
+        return line.flags
+
+
+@functools.lru_cache(maxsize=None)
+def is_elf(path: str) -> bool:
+    return bool(read_elf(path))
+
+
+@functools.lru_cache(maxsize=8)
+def content_of(path: str) -> bytes:
+    return Path(path).read_bytes()
+
+
+def split(loaded: Loaded, line: Line) -> Iterator[Tuple[int, int, str]]:
+    """The parts of a line with the same permissions, by their addresses in the process."""
+    start, end = loaded.base + line.start, loaded.base + line.end
+    places = {start, end}
+    if loaded.is_protected and loaded.plan.relro:
+        places |= {loaded.base + it for it in loaded.plan.relro if line.start < it < line.end}
+    ordered = sorted(places)
+    for one, other in zip(ordered, ordered[1:]):
+        yield one, other, loaded.flags(line, one)
+
+
+def as_mapped(mapping: Mapping, loaded: Loaded, line: Line, start: int, flags: str) -> bool:
+    """Whether a mapping is as the line says, from an address of both on."""
+    if mapping.flags != flags:
+        return False
+    if line.holds == "file":
+        at = line.offset + start - loaded.base - line.start
+        return mapping.path == loaded.path and mapping.offset + start - mapping.start == at
+    return line.holds == "none" or mapping.path in ("", "[heap]")
+
+
+def compare_line(maps: List[Mapping], loaded: Loaded, line: Line, name: str, tally: Tally) -> None:
+    """Compares the pages of a line."""
+    starts = [it.start for it in maps]
+    for start, end, flags in split(loaded, line):
+        at = start
+        while at < end:
+            index = bisect.bisect_right(starts, at) - 1
+            mapping = maps[index] if index >= 0 and at < maps[index].end else None
+            if mapping is None or not as_mapped(mapping, loaded, line, at, flags):
+                tally.differ(f"{name}: {loaded.path}: elfload says {line} at {at - loaded.base:x} ({flags}), maps say {mapping}")
+                return
+            at = min(end, mapping.end)
+    tally.counts["mappings"] += 1
+
+
+def compare_bytes(process: Stopped, loaded: Loaded, line: Line, all_bytes: bool, name: str, tally: Tally) -> None:
+    """Compares the bytes of a line that is not writable, or of any line at exec."""
+    for start, end, flags in split(loaded, line):
+        if line.holds == "none" or flags[0] != "r" or ("w" in line.flags and not all_bytes):
+            continue
+        held = process.memory(start, end - start)
+        wanted = b""
+        if line.holds == "file":
+            at = line.offset + start - loaded.base - line.start
+            wanted = content_of(loaded.path)[at : at + end - start]
+        # Of pages of the file past its end there are no bytes.
+        last = -(-len(wanted) // PAGE) * PAGE if line.holds == "file" else end - start
+        wanted = wanted.ljust(min(last, end - start), b"\0")
+        if held != wanted and not ("w" in line.flags and line.holds == "file" and ends_in_zeros(held, wanted)):
+            tally.differ(f"{name}: {loaded.path}: bytes of {line} are others")
+        tally.counts["bytes"] += len(held)
+
+
+def ends_in_zeros(held: bytes, wanted: bytes) -> bool:
+    """Whether bytes are these up to a place, and zero from there on."""
+    last = len(held.rstrip(b"\0"))
+    return len(held) == len(wanted) and held[:last] == wanted[:last]
+
+
+def compare_loaded(process: Stopped, maps: List[Mapping], loaded: Loaded, at_exec: bool, name: str, tally: Tally) -> None:
+    """Compares all pages of a file."""
+    lines = loaded.plan.by[loaded.by]
+    stop = name.rpartition(": ")[2]
+    is_new = (loaded.path, stop) not in tally.compared
+    tally.compared.add((loaded.path, stop))
+    for line in lines:
+        compare_line(maps, loaded, line, name, tally)
+        if is_new:
+            compare_bytes(process, loaded, line, at_exec, name, tally)
+    for mapping in maps:
+        if mapping.path == loaded.path and not any(
+            loaded.base + it.start <= mapping.start and mapping.start < loaded.base + it.end for it in lines):
+            tally.differ(f"{name}: {loaded.path}: elfload has no mapping at {mapping}")
+
+
+def base_of(maps: List[Mapping], path: str, plan: Plan) -> Optional[int]:
+    """The base of a file in a process, by its first mapping."""
+    first = min((it.start for it in maps if it.path == path), default=None)
+    return None if first is None else first - plan.start
+
+
+def files_of(process: Stopped, maps: List[Mapping], program: str, tally: Tally, is_protected: bool) -> List[Loaded]:
+    """The files that a process has mapped."""
+    base = process.auxiliary(7)
+    interpreter = next((it.path for it in maps if it.start <= base < it.end), "")
+    found = []
+    for path in dict.fromkeys(it.path for it in maps if it.path.startswith("/") and is_elf(it.path)):
+        by = "kernel" if path in (program, interpreter) else "glibc"
+        plan = tally.plan(path)
+        if plan is not None:
+            found.append(Loaded(path, plan, by, base_of(maps, path, plan), is_protected))
+    return found
+
+
+@functools.lru_cache(maxsize=None)
+def value_of(path: str, name: str) -> Optional[int]:
+    """The value of a dynamic symbol, as readelf says."""
+    said = run(["readelf", "-W", "--dyn-syms", "--", path]).output
+    found = re.search(rf" ([0-9a-f]+) +\d+ FUNC .* {name}(?:@\S+)?$", said, re.M)
+    return int(found[1], 16) if found else None
+
+
+def compare_stop(process: Stopped, program: str, stop: str, tally: Tally) -> None:
+    maps = process.maps()
+    for loaded in files_of(process, maps, program, tally, stop == "after relro"):
+        compare_loaded(process, maps, loaded, stop == "exec", f"{program}: {stop}", tally)
+        tally.counts[f"objects {stop}"] += 1
+
+
+def compare(path: str, tally: Tally) -> None:
+    """Compares a program and its libraries at each stop."""
+    process = Stopped(path)
+    try:
+        if process.signal() != signal.SIGTRAP:
+            tally.counts["not run"] += 1
+            return
+        tally.counts["programs"] += 1
+        compare_stop(process, path, "exec", tally)
+        if not process.to_read_only():
+            tally.counts["without relro"] += 1
+            return
+        compare_stop(process, path, "before relro", tally)
+        base = process.auxiliary(7)
+        linker = next(it.path for it in process.maps() if it.start <= base < it.end)
+        state = value_of(linker, "_dl_debug_state")
+        # The linker calls it before it maps libraries, and once relocation is done.
+        if state is None or not process.to_address(base + state):
+            tally.counts["not relocated"] += 1
+            return
+        compare_stop(process, path, "after relro", tally)
+    finally:
+        process.end()
+
+
+# Fields of the ELF header and of a program header: their offset and size.
+HEADER = ((16, 2), (18, 2), (24, 8), (32, 8), (54, 2), (56, 2))
+SEGMENT = ((0, 4), (4, 4), (8, 8), (16, 8), (32, 8), (40, 8), (48, 8))
+
+
+def number_of(chance: random.Random, content: bytes, place: int, size: int) -> int:
+    """Another number for a field."""
+    was = int.from_bytes(content[place : place + size], "little")
+    other = chance.choice((0, 1, 2, 3, 4, 6, 7, PAGE, 16 * PAGE, 2**47 - PAGE, 0x6474E551, 0x6474E552, len(content), chance.getrandbits(8 * size)))
+    near = was + chance.choice((-PAGE, -8, -1, 1, 8, PAGE, 16 * PAGE))
+    return chance.choice((other, near, near)) % 2 ** (8 * size)
+
+
+def changed(content: bytes, chance: random.Random) -> bytes:
+    """A copy with one to three numbers of headers changed."""
+    copy, start, count = bytearray(content), *struct.unpack_from("<Q16xH", content, 32)[:1], struct.unpack_from("<H", content, 56)[0]
+    for _ in range(chance.choice((1, 1, 2, 3))):
+        base, fields = (0, HEADER) if chance.random() < 0.1 else (start + 56 * chance.randrange(count), SEGMENT)
+        offset, size = chance.choice(fields)
+        number = number_of(chance, content, base + offset, size)
+        copy[base + offset : base + offset + size] = number.to_bytes(size, "little")
+    return bytes(copy)
+
+
+def cause_of(text: str) -> Optional[str]:
+    return next((name for name, words in ALLOWED.items() if re.search(words, text)), None)
+
+
+def load_copy(copy: str, program: str, by: str, tally: Tally) -> None:
+    """Has a copy loaded that elfload accepts, and compares its mappings."""
+    is_program = by == "kernel"
+    process = Stopped(copy if is_program else program, **({} if is_program else {"LD_PRELOAD": copy}))
+    before = tally.counts["differences"]
+    try:
+        is_there = process.signal() == signal.SIGTRAP
+        if is_there and not is_program:
+            process.to_read_only()
+            is_there = process.is_stopped()
+        maps = process.maps() if is_there else []
+        plan = said_of(tally.elfload, copy).plan
+        base = base_of(maps, copy, plan)
+        if base is None:
+            text = process.end()
+            cause = cause_of(text) or ("killed at exec" if is_program else None)
+            tally.counts[f"{'programs' if is_program else 'libraries'} not loaded: {cause or 'unexplained'}"] += 1
+            if cause is None:
+                tally.differ(f"damaged copy {copy}: accepted and not loaded: {text.strip()}")
+            return
+        compare_loaded(process, maps, Loaded(copy, plan, by, base), is_program, "damaged copy", tally)
+        tally.counts[f"{'programs' if is_program else 'libraries'} as planned"] += tally.counts["differences"] == before
+    finally:
+        if not process.errors.closed:
+            process.end()
+
+
+def try_damaged(files: Dict[str, str], program: str, copies: int, seed: int, tally: Tally) -> None:
+    """Runs elfload on damaged copies of a program and of a library, and has those loaded that it accepts."""
+    chance, longest = random.Random(seed), 0.0
+    with tempfile.TemporaryDirectory() as room:
+        for by, source in files.items():
+            content = Path(source).read_bytes()
+            for number in range(copies):
+                copy = os.path.join(room, f"{by}_{number}")
+                Path(copy).write_bytes(changed(content, chance))
+                os.chmod(copy, 0o755)
+                began = time.monotonic()
+                said = said_of(tally.elfload, copy)
+                longest = max(longest, time.monotonic() - began)
+                if said.status not in (0, 1) or longest > LONGEST or (said.status == 1) != bool(said.errors):
+                    tally.differ(f"damaged copy {number} of {source}: status {said.status}, {longest:.1f} s at most")
+                tally.counts["damaged copies"] += 1
+                if said.plan is not None:
+                    tally.counts["accepted"] += 1
+                    load_copy(copy, program, by, tally)
+                os.unlink(copy)
+    print(f"damaged copies: {longest:.2f} s at most")
+
+
+def can_trace() -> bool:
+    """Whether a process can be stopped at exec."""
+    if platform.machine() != "x86_64":
+        return False
+    process = Stopped("/bin/true")
+    stopped = process.signal() == signal.SIGTRAP and bool(process.maps())
+    process.end()
+    return stopped
+
+
+def smallest(paths: List[str]) -> str:
+    return min(paths, key=os.path.getsize)
+
+
+def main() -> int:
+    parser = parser_of(__doc__, "elfload")
+    parser.add_argument("--dir", action="append", default=[], metavar="DIR")
+    parser.add_argument("--damaged", type=int, default=0, metavar="N")
+    parser.add_argument("--seed", type=int, default=1, metavar="S")
+    parser.add_argument("programs", nargs="*", metavar="PROGRAM")
+    given = parser.parse_args()
+    if not can_trace():
+        print("0 programs, 0 differences: processes can't be traced here")
+        return 0
+    tally = Tally(given.elfload)
+    paths = given.programs + [path for folder in given.dir for path in programs_in(folder)]
+    programs = [it for it in dict.fromkeys(map(real, paths)) if linker_of(it)]
+    for path in programs:
+        compare(path, tally)
+    if given.damaged and programs:
+        program = smallest(programs)
+        libraries = [it for it in tally.plans if ".so" in os.path.basename(it) and real(linker_of(program) or "") != it]
+        try_damaged({"kernel": program, "glibc": smallest(libraries)}, program, given.damaged, given.seed, tally)
+    counts = tally.counts
+    print(", ".join(f"{number} {name}" for name, number in counts.items() if name != "differences") + f", {counts['differences']} differences")
+    return 1 if counts["differences"] else 0
+
+
+if __name__ == "__main__":
+    sys.exit(main())
