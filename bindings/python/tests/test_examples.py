@@ -54,6 +54,7 @@ def test_rows_of_a_cluster_are_those_of_one_process():
     distributed = pytest.importorskip("dask.distributed")
     cluster = example("cluster")
     paths = list(xmas_elf.elf_files([it for it in FOLDERS if pathlib.Path(it).is_dir()]))
-    with distributed.Client(n_workers=2, threads_per_worker=1, dashboard_address=None):
+    with distributed.Client(n_workers=2, threads_per_worker=1, dashboard_address=None) as client:
+        client.wait_for_workers(2, timeout=60)
         rows = cluster.rows_of(paths, 16)
     assert len(rows) > 1000 and rows == xmas_elf.survey(paths, progress=False)
