@@ -93,8 +93,13 @@ const STATIC: &[(usize, &str, u64)] = &[
 
 const DYNAMIC: &[(usize, &str, u64)] = &[(0, "", 0), (1, "data", 0), (2, "outer", 0)];
 
-// The section headers begin at 1352: e_shoff is at 40, and `.symtab` and `.dynsym` are sections 12
-// and 2.
+// Sets e_shoff, at 40, and e_shnum, at 60, to 0.
+fn without_sections(bytes: &mut [u8]) {
+    put(bytes, 40, &[0; 8]);
+    put(bytes, 60, &[0; 2]);
+}
+
+// The section headers begin at 1352, and `.symtab` and `.dynsym` are sections 12 and 2.
 #[test]
 fn reads_the_symbols_of_a_file(rt: HostRuntime) {
     let mut bytes = *IMPORTER;
@@ -103,7 +108,7 @@ fn reads_the_symbols_of_a_file(rt: HostRuntime) {
     check_names(&rt, &bytes, 3, DYNAMIC);
     put(&mut bytes, 1352 + 2 * 64 + 4, &[1]);
     check_names(&rt, &bytes, 3, DYNAMIC);
-    put(&mut bytes, 40, &[0, 0]);
+    without_sections(&mut bytes);
     check_names(&rt, &bytes, 3, DYNAMIC);
     check_names(&rt, NARROW, 7, &[]);
 }
@@ -135,7 +140,7 @@ fn tells_why_a_file_has_no_symbols(rt: HostRuntime) {
         );
     }
     let mut bytes = *IMPORTER;
-    put(&mut bytes, 40, &[0, 0]);
+    without_sections(&mut bytes);
     put(&mut bytes, 0xb0, &[4]);
     let found = FileSymbols::read(&open(&rt, &bytes)).err();
     want(&rt, found, Some(LinkError::NoDynamic));
