@@ -401,7 +401,8 @@ fn plans_are_as_the_kernel_maps() {
     assert_eq!(planned, maps());
     let glibc: Vec<Mapping> = plan.mappings(crate::Loader::Glibc).collect();
     assert!(glibc.windows(2).all(|pair| pair[0].end == pair[1].start));
-    assert_eq!(file.load_plan_with(1 << 40, 0).map(|_| ()), Err(Error::LoadOverlap));
+    // Some linkers give segments addresses that are their offsets.
+    assert!(matches!(file.load_plan_with(1 << 40, 0), Err(Error::LoadOverlap | Error::LoadMisaligned)));
     assert_eq!(file.load_plan_with(0, 4096).map(|_| ()), Err(Error::LoadRange));
     assert_eq!(crate::ElfFile::new(&input[..64]).and_then(|file| file.load_plan().map(|_| ())), Err(Error::LoadTable));
 }
