@@ -1,7 +1,6 @@
 -- Which addresses are in a load: those from an address up to the first that is in none.
-use Rattle.std.proofs.Common.{◌≡◌, ℕ, zero, suc, ◌+◌, ◌<◌, ◌≤◌, nat_lt, nat_le, Bool, true, false, List, [], ◌∷◌, length, slice_index_or, if◌then◌else◌, inl, inr, refl, ap, ◌∙◌, arith}
-use Rattle.std.proofs.lemmas.Bool.{and_left, and_parts, cases_lt, le-ltb, leb-true, lt-leb, lt-ltb, ltb-true}
-use Rattle.std.specs.List.{Contains}
+use Rattle.std.proofs.Common.{◌≡◌, ℕ, zero, suc, ◌<◌, ◌≤◌, nat_lt, nat_le, Bool, true, false, List, [], ◌∷◌, if◌then◌else◌, inl, inr, refl, arith}
+use Rattle.std.proofs.lemmas.Bool.{and_left, and_parts, cases_lt, leb-true, lt-leb, ltb-true}
 use Rattle.xmas_elf.specs.Types.{ProgramHeader64}
 use Rattle.elf_loading.specs.FileCheck.{covered_to}
 use Rattle.elf_loading.specs.LoadCheck.{holds_address, load_end, load_start}

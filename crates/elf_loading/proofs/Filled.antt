@@ -1,15 +1,14 @@
 -- The bytes of an image, as they are copied from a file and cleared.
-use Rattle.std.proofs.Common.{◌≡◌, ℕ, zero, suc, get_or, replicate, ◌+◌, ◌-◌, ◌<◌, ◌≤◌, ◌&&◌, not, nat_lt, nat_le, Bool, true, false, List, [], ◌∷◌, length, slice_index, Option, Some, None, if◌then◌else◌, inl, inr, refl, sym, ap, ◌∙◌, arith}
+use Rattle.std.proofs.Common.{◌≡◌, ℕ, zero, suc, get_or, replicate, ◌+◌, ◌-◌, ◌<◌, ◌≤◌, ◌&&◌, not, nat_lt, nat_le, Bool, true, false, List, [], ◌∷◌, length, slice_index, Option, Some, None, if◌then◌else◌, inl, inr, refl, sym, ◌∙◌, arith}
 use Rattle.std.proofs.lemmas.Bool.{and_from, and_left, and_parts, and_right, cases_lt, le-leb, le-ltb, leb-true, lt-leb, lt-ltb, ltb-false, ltb-true}
 use Rattle.std.specs.Prelude.{option_map}
-use Rattle.std.specs.List.{find, list_all}
+use Rattle.std.specs.List.{find}
 use Rattle.xmas_elf.specs.Types.{ProgramHeader64}
 use Rattle.elf_loading.specs.Bytes.{byte_number, is_zeroed, load_byte, offset_at, zeroed_end}
 use Rattle.elf_loading.specs.LoadCheck.{fits_below, holds_address, load_end, load_start}
 use Rattle.elf_loading.specs.Mappings.{mapped_end}
 use Rattle.elf_loading.specs.Pages.{down}
 use Rattle.elf_loading.specs.Spans.{first_start, last_end}
-use Rattle.elf_loading.specs.declared.bytes.Byte.{Byte}
 use Rattle.elf_loading.specs.declared.bytes.Byte.TheVariants.{File, Zero}
 use Rattle.elf_loading.specs.declared.mapping.Loader.{Loader}
 use Rattle.elf_loading.specs.declared.mapping.Loader.TheVariants.{Kernel, Glibc}

@@ -1,5 +1,5 @@
 -- Each error is the first with its number.
-use Rattle.std.proofs.Common.{◌≡◌, ◌==◌, ℕ, List, [], ◌∷◌, Option, Some, refl, sym, subst}
+use Rattle.std.proofs.Common.{◌≡◌, ◌==◌, ℕ, List, [], ◌∷◌, Some, refl, subst}
 use Rattle.std.specs.List.{find}
 use Rattle.elf_loading.specs.Message.{load_number}
 use Rattle.elf_loading.specs.declared.error.LoadError.{LoadError}

@@ -1,14 +1,13 @@
 -- Why the error is that of what is read-only after relocation.
-use Rattle.std.proofs.Common.{◌≡◌, ℕ, ◌<◌, ◌+◌, nat_lt, Bool, true, false, List, [], ◌∷◌, length, Option, Some, None, ok_or, Result, Ok, Err, if◌then◌else◌, refl, sym, ap, ◌∙◌, subst, arith}
+use Rattle.std.proofs.Common.{◌≡◌, ℕ, ◌<◌, Bool, true, false, List, [], ◌∷◌, length, Option, Some, None, ok_or, Result, Ok, Err, if◌then◌else◌, refl, subst}
 use Rattle.std.proofs.lemmas.Bool.{ltb-true}
-use Rattle.std.specs.List.{AllByRecursion}
 use Rattle.std.specs.Prelude.{MatchOption}
 use Rattle.elf_base.specs.Refusal.{and_then, unless}
 use Rattle.xmas_elf.specs.Types.{ElfFile, ProgramHeader64}
-use Rattle.elf_loading.specs.FileCheck.{check_file, covered_to, header_rows, is_no_template, is_uncovered, segment_rows}
+use Rattle.elf_loading.specs.FileCheck.{check_file, covered_to, header_rows, is_uncovered, segment_rows}
 use Rattle.elf_loading.specs.LoadCheck.{check_load, check_loads, load_end, load_rows}
 use Rattle.elf_loading.specs.Pages.{down}
-use Rattle.elf_loading.specs.Segments.{loads_of, relro_of, tls_of}
+use Rattle.elf_loading.specs.Segments.{loads_of, relro_of}
 use Rattle.elf_loading.specs.Spans.{HasUncovered, relro_span}
 use Rattle.elf_loading.specs.declared.error.LoadError.{LoadError}
 use Rattle.elf_loading.specs.declared.error.LoadError.TheVariants as error

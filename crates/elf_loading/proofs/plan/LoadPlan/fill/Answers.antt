@@ -1,7 +1,7 @@
-use Rattle.std.proofs.Common.{rules, ◌≡◌, ◌≤◌, ◌<◌, ◌+◌, ℕ, length, get_or, true, nat_le, nat_lt, sym, ap, subst, ◌∙◌, arith}
+use Rattle.std.proofs.Common.{rules, ◌≡◌, ◌+◌, length, get_or, nat_le, nat_lt, sym, ap, subst, ◌∙◌, arith}
 use Rattle.std.proofs.lemmas.Bool.{and_parts, ltb-true}
 use Rattle.std.specs.List.{list_all}
-use Rattle.elf_loading.specs.LoadCheck.{fits_below, holds_address, load_end, load_start}
+use Rattle.elf_loading.specs.LoadCheck.{fits_below, load_end, load_start}
 use Rattle.elf_loading.specs.Loads.{loads_rest}
 use Rattle.elf_loading.specs.Plan.{plan_loads}
 use Rattle.elf_loading.specs.Spans.{first_start, last_end}

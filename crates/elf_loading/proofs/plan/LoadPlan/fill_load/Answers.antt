@@ -1,7 +1,4 @@
-use Rattle.std.proofs.Common.{◌≤◌, ◌+◌, ◌-◌, length, ◌∙◌, sym, ap, arith}
-use Rattle.elf_loading.specs.Bytes.{zeroed_end}
-use Rattle.elf_loading.specs.LoadCheck.{load_end, load_start}
-use Rattle.elf_loading.specs.Mappings.{mapped_end}
+use Rattle.std.proofs.Common.{◌∙◌, arith}
 use Rattle.elf_loading.proofs.Filled.{load_filled, places}
 use Rattle.elf_loading.proofs.plan.LoadPlan.fill_load.Goals as goal
 
