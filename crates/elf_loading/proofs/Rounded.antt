@@ -1,7 +1,7 @@
 -- Addresses rounded to pages.
-use Rattle.std.proofs.Common.{◌≡◌, ℕ, ◌+◌, ◌-◌, ◌*◌, ◌%◌, ◌/◌, ◌<◌, ◌≤◌, ◌==◌, nat_lt, Bool, true, false, if◌then◌else◌, inl, inr, refl, sym, ◌∙◌, arith}
+use Rattle.std.proofs.Common.{◌≡◌, ℕ, ◌+◌, ◌-◌, ◌*◌, ◌%◌, ◌/◌, ◌<◌, ◌≤◌, ◌==◌, nat_lt, Bool, true, false, if◌then◌else◌, inl, inr, refl, sym, ap, ◌∙◌, arith}
 use Rattle.std.proofs.lemmas.Bool.{cases_lt, eq-eqb, eqb-true, eqb-false, lt-ltb, le-ltb, ne_eqb}
-use Rattle.std.proofs.Math.Nat.{mul-mod_right, mul-le-mul_left}
+use Rattle.std.proofs.Math.Nat.{div-add-mod, mod-eq_of_lt, mul-add-mod_self_left, mul-le-mul_left, mul-mod_right}
 use Rattle.elf_loading.specs.Pages.{down, up}
 
 pub down_le : (p x : ℕ) → down p x ≤ x
@@ -123,3 +123,30 @@ past_is p limit x size h le = elim (cases_lt (down p limit - x) size) [
   | inl less ↦ lt-ltb (down p limit - x) size less ∙ sym (past_true p limit (x + size) h (omega arith))
   | inr within ↦ le-ltb (down p limit - x) size within ∙ sym (past_false p limit (x + size) h (omega arith))
 ]
+
+-- the remainder of a sum: that of the remainders, less the divisor if they reach it
+mod_is : (p q r x : ℕ) → x ≡ p * q + r → r < p → x % p ≡ r
+mod_is p q r x is below = ap (λ n. n % p) is ∙ mul-add-mod_self_left p q r ∙ mod-eq_of_lt below
+
+sum_is : (p s z : ℕ) → s + z ≡ p * (s / p + z / p) + (s % p + z % p)
+sum_is p s z =
+    let one : p * (s / p) + s % p ≡ s = div-add-mod s p in
+    let other : p * (z / p) + z % p ≡ z = div-add-mod z p in
+    omega (arith, one, other)
+
+pub end_inside : (p s z : ℕ) → 0 < p → s % p < p - z % p → s + z - (s % p + z % p) ≡ down p (s + z)
+unfolding down
+end_inside p s z h below =
+    let near : z % p < p = omega arith in
+    let rest : (s + z) % p ≡ s % p + z % p = mod_is p (s / p + z / p) (s % p + z % p) (s + z) (sum_is p s z) (omega (arith, below, near)) in
+    ap (λ n. s + z - n) (sym rest)
+
+pub end_over : (p s z : ℕ) → 0 < p → p - z % p ≤ s % p → s + z - (s % p - (p - z % p)) ≡ down p (s + z)
+unfolding down
+end_over p s z h above =
+    let near : z % p < p = omega arith in
+    let close : s % p < p = omega arith in
+    let sum : s + z ≡ p * (s / p + z / p) + (s % p + z % p) = sum_is p s z in
+    let next : p * (s / p + z / p + 1) ≡ p * (s / p + z / p) + p = omega arith in
+    let rest : (s + z) % p ≡ s % p - (p - z % p) = mod_is p (s / p + z / p + 1) (s % p - (p - z % p)) (s + z) (omega (arith, sum, next, above, near)) (omega (arith, close, near)) in
+    ap (λ n. s + z - n) (sym rest)

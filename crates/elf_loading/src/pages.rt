@@ -43,13 +43,20 @@ pub(crate) fn is_past(page: u64, limit: u64, address: u64, size: u64) -> bool
     size > last - address
 }
 
-// The last address up to the end of `size` bytes from `start` on at which a page begins.
-#[tactic(auto, unfolding(crate::specs::Pages::down))]
+// The last address up to the end of `size` bytes from `start` on at which a page begins. The remainder of the sum is that of
+// two numbers of 64 bits: a division of 128 bits would need a function of the compiler's own library.
+#[tactic(auto, using(crate::proofs::Rounded::end_inside, crate::proofs::Rounded::end_over))]
 #[inline(always)]
 pub(crate) fn end_down(page: u64, start: u64, size: u64) -> u128
     requires { 0 < page }
     ensures { result ≡ down page (start + size) }
 {
-    let end = u128::from(start) + u128::from(size);
-    end - end % u128::from(page)
+    let inside = start % page;
+    let left = page - size % page;
+    let over = if inside < left {
+        inside + size % page
+    } else {
+        inside - left
+    };
+    u128::from(start) + u128::from(size) - u128::from(over)
 }
