@@ -1,3 +1,4 @@
+pub mod lemmas
 pub mod Order
 pub mod Foremost
 pub mod ClaimsThere
@@ -7,3 +8,9 @@ pub mod Listed
 pub mod Sorted
 pub mod Lasting
 pub mod Build
+pub mod FileParts
+pub mod Runs
+pub mod NextClaim
+pub mod Behind
+pub mod HeldWords
+pub mod SizedRuns

@@ -6,3 +6,10 @@ pub mod SymbolClaims
 pub mod SymbolRanges
 pub mod SymbolAt
 pub mod SectionAt
+pub mod FileClaims
+pub mod PartRanges
+pub mod Owner
+pub mod Held
+pub mod Runs
+pub mod Pieces
+pub mod SymbolPieces
