@@ -1,3 +1,4 @@
+pub mod lemmas
 pub mod Order
 pub mod Foremost
 pub mod ClaimsThere
@@ -8,3 +9,9 @@ pub mod Sorted
 pub mod Lasting
 pub mod Build
 pub mod Reached
+pub mod FileParts
+pub mod Runs
+pub mod NextClaim
+pub mod Behind
+pub mod HeldWords
+pub mod SizedRuns

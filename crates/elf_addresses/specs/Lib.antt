@@ -9,3 +9,10 @@ pub mod SectionAt
 pub mod Reached
 pub mod Dladdr
 pub mod DladdrRanges
+pub mod FileClaims
+pub mod PartRanges
+pub mod Owner
+pub mod Held
+pub mod Runs
+pub mod Pieces
+pub mod SymbolPieces

@@ -11,7 +11,8 @@ mod order;
 
 use crate::claim::{Claim, nearer};
 use crate::claims::Claims;
-use crate::index::ask::{last_begun, over, reach};
+use crate::index::ask::{last_begun, over};
+pub(crate) use crate::index::ask::{count_begun, reach};
 pub(crate) use crate::index::build::parts;
 pub use crate::index::build::{build_index, index_words};
 use crate::index::lasting::are_lasting;

@@ -5,23 +5,36 @@
 //! section that an address is in. A `SymbolIndex` returns the same symbols for many addresses, by an
 //! index in words of the caller. They take no memory. `innermost`, `nearest` and
 //! `ClaimIndex` are the same for ranges of another kind, which implement `Claims`.
+//!
+//! `owner_of` returns the part of a file that a byte belongs to, and `Pieces` all runs of bytes that
+//! belong to one part. `SymbolPieces` returns the runs of addresses that belong to one symbol.
 #![tactic(auto)]
 
 mod claim;
 mod claims;
 pub mod dladdr;
 mod error;
+mod file_claims;
 mod find;
+mod held;
 mod index;
+mod next;
+mod owner;
+mod pieces;
 mod sections;
 mod symbol_index;
+mod symbol_pieces;
 mod symbols;
 
 pub use crate::claim::Claim;
 pub use crate::claims::{Claims, innermost, nearest};
 pub use crate::error::IndexError;
+pub use crate::file_claims::{SectionClaims, SegmentClaims};
 pub use crate::find::{At, open_below, symbol_at};
 pub use crate::index::{ClaimIndex, build_index, index_words};
+pub use crate::owner::{Owner, owner_of};
+pub use crate::pieces::{Piece, Pieces};
 pub use crate::sections::section_at;
 pub use crate::symbol_index::SymbolIndex;
+pub use crate::symbol_pieces::{SymbolPiece, SymbolPieces};
 pub use crate::symbols::{AddressSymbols, SymbolClaims};

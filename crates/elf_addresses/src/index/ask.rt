@@ -11,7 +11,7 @@ use crate::claims::{Claims, begun, covering};
 
 // How many words from the first on have ranges that begin at an address or below it, if the ranges
 // are in the order of their first addresses.
-fn count_begun<C: Claims>(claims: &C, words: &[u32], address: u64) -> usize
+pub(crate) fn count_begun<C: Claims>(claims: &C, words: &[u32], address: u64) -> usize
     ensures bound { result ≤ length words.now }
     ensures begun { (is_open : Bool) → IsWorstFirst (C.claim_of claims.now) is_open words.now
         → (k : ℕ) → k < result → (C.range_of claims.now (slice_index words.now k)).0 ≤ address }

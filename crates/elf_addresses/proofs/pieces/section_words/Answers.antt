@@ -1,0 +1,16 @@
+use Rattle.std.proofs.Common.{◌≡◌, ◌≤◌, length, subst, arith}
+use Rattle.elf_addresses.specs.FileClaims.{section_claim, section_parts}
+use Rattle.elf_addresses.specs.Index.{word_count}
+use Rattle.elf_addresses.proofs.FileParts.{section_words}
+use Rattle.elf_addresses.proofs.pieces.section_words.Goals as goal
+
+pub returns-clause-count : goal.returns-clause-count
+returns-clause-count c =
+    let few = section_words c.new.result.file.now in
+    let same : c.index_words.result ≡ word_count (section_claim c.new.result.file.now) (length (section_parts c.new.result.file.now)) = omega (arith, few, c.index_words.ensures) in
+    subst (λ f. c.index_words.result ≡ word_count (section_claim f) (length (section_parts f))) c.new.ensures same
+
+pub returns-clause-few : goal.returns-clause-few
+returns-clause-few c =
+    let few = section_words c.new.result.file.now in
+    omega (arith, few, c.index_words.ensures)
