@@ -29,7 +29,7 @@ part_ends range n (Some part) some = cut_ends n (range part) some
 
 claim_within : (n index : ℕ) (range : ℕ × ℕ) (claim : Claim) → (0 < range.1 → range.0 + range.1 ≤ n) → range_claim index range ≡ Some claim → IsWithin n claim
 claim_within n index range claim ends is =
-    let (some, same) = unless_some (range.1 == 0) (record { begin = range.0; size = range.1; rank = 0; index = index }) claim is in
+    let (some, same) = unless_some (range.1 == 0) (record { begin = range.0; size = range.1; extent = range.1; rank = 0; index = index }) claim is in
     let size : range.1 ≡ claim.size = ap (λ (k : Claim). k.size) same in
     let begin : range.0 ≡ claim.begin = ap (λ (k : Claim). k.begin) same in
     let sized : (claim.size == 0) ≡ false = subst (λ s. (s == 0) ≡ false) size some in
