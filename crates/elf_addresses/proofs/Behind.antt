@@ -1,8 +1,7 @@
 -- Claims that begin after a byte.
-use Rattle.std.proofs.Common.{◌≡◌, ◌↔◌, ℕ, ◌<◌, ◌==◌, ◌||◌, Bool, IsTrue, not, nat_lt, true, false, Option, None, Some, inl, inr, refl, subst, sym, arith}
+use Rattle.std.proofs.Common.{◌≡◌, ◌↔◌, ℕ, ◌<◌, ◌==◌, ◌||◌, Bool, IsTrue, not, nat_lt, true, false, Option, None, Some, inl, inr, refl, subst, sym}
 use Rattle.std.proofs.lemmas.Bool.{and_from, and_parts, both_ways, lt-ltb, ltb-true, not-true, not_from_false, or_cases, or_left, or_right, false≢true}
 use Rattle.xmas_elf.specs.Types.{ElfFile}
-use Rattle.elf_addresses.specs.Claims.{Among}
 use Rattle.elf_addresses.specs.FileClaims.{section_claim, segment_claim}
 use Rattle.elf_addresses.specs.Owner.{ClaimBegins, HasPartBehind, TableBegins, is_claim_behind}
 use Rattle.elf_addresses.specs.declared.claim.Claim.{Claim}

@@ -1,15 +1,15 @@
 -- The claims of a file are not empty, and end within the file.
-use Rattle.std.proofs.Common.{◌&&◌, Bool, not, nat_lt, length, [], lit<, if◌then◌else◌, ◌≡◌, ℕ, ◌<◌, ◌≤◌, ◌+◌, ◌-◌, ◌==◌, min, max, false, true, List, Option, None, Some, slice_get, refl, ap, subst, sym, ◌∙◌, arith, inl, inr}
+use Rattle.std.proofs.Common.{◌&&◌, Bool, not, nat_lt, length, [], lit<, if◌then◌else◌, ◌≡◌, ℕ, ◌<◌, ◌≤◌, ◌+◌, ◌==◌, false, true, List, Option, None, Some, slice_get, refl, ap, subst, arith}
 use Rattle.std.specs.Option.{option_map_or}
 use Rattle.std.proofs.lemmas.Bool.{and_parts, eqb-false, eqb-true, ltb-true}
 use Rattle.xmas_elf.specs.Types.{ElfFile}
-use Rattle.elf_addresses.specs.Claims.{Covers, claim_end}
+use Rattle.elf_addresses.specs.Claims.{claim_end}
 use Rattle.xmas_elf.specs.ProgramHeader.{program_list}
 use Rattle.elf_base.specs.FileHeader.{header_fields}
 use Rattle.xmas_elf.specs.SectionHeader.{program_count_of, section_count_of, section_list}
 use Rattle.elf_addresses.specs.Index.{IsKind, listed, word_count}
 use Rattle.elf_addresses.proofs.Listed.{length_listed-le}
-use Rattle.elf_addresses.specs.FileClaims.{byte_count, cut_range, is_whole, part_range, range_claim, section_claim, section_parts, section_range, section_range_at, segment_claim, segment_parts, segment_range, segment_range_at}
+use Rattle.elf_addresses.specs.FileClaims.{byte_count, cut_range, is_whole, range_claim, section_claim, section_parts, section_range, section_range_at, segment_claim, segment_parts, segment_range, segment_range_at}
 use Rattle.elf_addresses.specs.PartRanges.{unless_some}
 use Rattle.elf_addresses.specs.declared.claim.Claim.{Claim}
 

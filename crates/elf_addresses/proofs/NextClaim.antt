@@ -1,8 +1,7 @@
 -- The next begin of a claim, by an index whose words are in order.
-use Rattle.std.proofs.Common.{◌≡◌, ℕ, ◌<◌, ◌≤◌, ◌+◌, min, false, List, length, slice_index, Option, None, Some, refl, subst, sym, arith, inl, inr}
+use Rattle.std.proofs.Common.{◌≡◌, ℕ, ◌<◌, ◌≤◌, min, false, List, length, slice_index, Option, Some, subst, sym, arith, inl, inr}
 use Rattle.std.proofs.lemmas.Bool.{cases_lt}
-use Rattle.elf_addresses.specs.Claims.{Among}
-use Rattle.elf_addresses.specs.Index.{IsKind, IsWorstFirst, StandsAt}
+use Rattle.elf_addresses.specs.Index.{IsWorstFirst, StandsAt}
 use Rattle.elf_addresses.specs.Owner.{ClaimBegins}
 use Rattle.elf_addresses.specs.Runs.{IsNext}
 use Rattle.elf_addresses.specs.declared.claim.Claim.{Claim}

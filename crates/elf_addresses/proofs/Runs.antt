@@ -1,11 +1,10 @@
 -- Runs of bytes with one owner: up to the end of the innermost claim, or the next begin of a part before it.
-use Rattle.std.proofs.Common.{◌≡◌, ℕ, ◌<◌, ◌≤◌, ◌+◌, max, min, nat_lt, Bool, if◌then◌else◌, true, false, Option, None, Some, ◌⊎◌, inl, inr, refl, ap, subst, sym, ◌∙◌, arith}
-use Rattle.std.proofs.lemmas.Bool.{both_ways, cases_eq, cases_lt, ltb-false, ltb-true}
+use Rattle.std.proofs.Common.{◌≡◌, ℕ, ◌<◌, ◌≤◌, ◌+◌, min, nat_lt, Bool, if◌then◌else◌, true, false, Option, Some, ◌⊎◌, inl, inr, refl, ap, subst, sym, arith}
+use Rattle.std.proofs.lemmas.Bool.{both_ways, cases_lt, ltb-false, ltb-true}
 use Rattle.xmas_elf.specs.Types.{ElfFile}
 use Rattle.elf_addresses.specs.Claims.{Among, Covers, IsInnermost, claim_end, comes_before}
-use Rattle.elf_addresses.specs.Index.{IsKind}
 use Rattle.elf_addresses.specs.FileClaims.{byte_count, elf_header, program_headers, section_claim, section_headers, segment_claim}
-use Rattle.elf_addresses.specs.Owner.{ClaimBegins, HasPartBehind, IsFree, IsIn, IsInnermostAt, IsOwner, IsUncovered, OutsideHeaders, PartBegins, RangeBegins, SectionBegins, TableBegins}
+use Rattle.elf_addresses.specs.Owner.{ClaimBegins, IsFree, IsIn, IsInnermostAt, IsOwner, IsUncovered, OutsideHeaders, PartBegins, RangeBegins, SectionBegins, TableBegins}
 use Rattle.elf_addresses.specs.Runs.{IsNext, IsRun}
 use Rattle.elf_addresses.specs.declared.claim.Claim.{Claim}
 use Rattle.elf_addresses.specs.declared.owner.Owner.{Owner}

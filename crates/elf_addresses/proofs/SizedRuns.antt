@@ -1,5 +1,5 @@
 -- Runs of addresses in one claim with a size: up to its end, or the next begin of a claim before it.
-use Rattle.std.proofs.Common.{◌≡◌, ℕ, ◌<◌, ◌≤◌, ◌+◌, min, max, true, false, Option, None, Some, slice_get, option_map, refl, ap, subst, sym, arith, inl, inr}
+use Rattle.std.proofs.Common.{◌≡◌, ℕ, ◌<◌, ◌≤◌, min, false, Option, None, Some, slice_get, refl, subst, sym, arith, inl, inr}
 use Rattle.std.proofs.lemmas.Bool.{both_ways, cases_lt}
 use Rattle.std.proofs.lemmas.Option.{none-some, option_and_then_some, same_Some, slice_get_within}
 use Rattle.xmas_elf.specs.Symbol.{SymbolFields}

@@ -1,5 +1,5 @@
 -- The claim of a symbol that `dladdr` finds has its index and its range (this project's own).
-use Rattle.std.proofs.Common.{◌≡◌, ℕ, max, Option, None, Some, slice_get, ap, sym, ◌∙◌, length, ◌<◌}
+use Rattle.std.proofs.Common.{◌≡◌, ℕ, Option, Some, slice_get, ap, sym, ◌∙◌, length, ◌<◌}
 use Rattle.std.proofs.lemmas.Option.{option_and_then_some, slice_get_within}
 use Rattle.xmas_elf.specs.Symbol.{SymbolFields}
 use Rattle.xmas_elf.specs.Table.{table_items}

@@ -1,6 +1,6 @@
 -- The parts of a file and the bytes of the file that each claims (gABI, "ELF Header", "Sections" and "Program
 -- Header"; that a part is cut to the file, and which parts claim bytes, is this project's own).
-use Rattle.std.specs.Prelude.{◌≡◌, ℕ, ◌+◌, ◌-◌, ◌*◌, ◌==◌, ◌&&◌, ◌||◌, not, Bool, min, nat_lt, List, [], length, slice_get, Option, None, Some, if◌then◌else◌}
+use Rattle.std.specs.Prelude.{ℕ, ◌+◌, ◌-◌, ◌*◌, ◌==◌, ◌&&◌, ◌||◌, not, Bool, min, nat_lt, List, [], length, slice_get, Option, None, Some, if◌then◌else◌}
 use Rattle.std.specs.Option.{option_map_or}
 use Rattle.elf_base.specs.FileHeader.{header_fields, pt2_size}
 use Rattle.elf_records.specs.ProgramNumbers.{ph_type_number}

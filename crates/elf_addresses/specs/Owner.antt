@@ -4,7 +4,7 @@ use Rattle.std.specs.Prelude.{◌≡◌, ℕ, ◌+◌, ◌<◌, ◌≤◌, ◌�
 use Rattle.xmas_elf.specs.Types.{ElfFile}
 use Rattle.elf_addresses.specs.Claims.{Among, IsInnermost}
 use Rattle.elf_addresses.specs.Index.{IsKind}
-use Rattle.elf_addresses.specs.FileClaims.{byte_count, elf_header, program_headers, section_claim, section_headers, segment_claim}
+use Rattle.elf_addresses.specs.FileClaims.{elf_header, program_headers, section_claim, section_headers, segment_claim}
 use Rattle.elf_addresses.specs.declared.claim.Claim.{Claim}
 use Rattle.elf_addresses.specs.declared.owner.Owner.{Owner}
 use Rattle.elf_addresses.specs.declared.owner.Owner.TheVariants.{ElfHeader, ProgramHeaders, SectionHeaders, Section, Segment, Between, Behind}

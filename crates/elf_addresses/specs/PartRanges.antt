@@ -1,5 +1,5 @@
 -- The claim of a part has its index and its range, and is not empty (this project's own).
-use Rattle.std.proofs.Common.{◌≡◌, ℕ, ◌<◌, ◌==◌, Bool, true, false, List, length, Option, None, Some, slice_get, refl, ap, sym, ◌∙◌, if◌then◌else◌}
+use Rattle.std.proofs.Common.{◌≡◌, ℕ, ◌<◌, ◌==◌, Bool, true, false, List, length, Option, None, Some, slice_get, refl, ap, sym, if◌then◌else◌}
 use Rattle.std.proofs.lemmas.Option.{none-some, same_Some, slice_get_within}
 use Rattle.elf_addresses.specs.FileClaims.{part_range, range_claim}
 use Rattle.elf_addresses.specs.declared.claim.Claim.{Claim}

@@ -3,7 +3,6 @@ use Rattle.std.specs.Prelude.{◌≡◌, ℕ, ◌+◌, ◌-◌, ◌<◌, ◌≤�
 use Rattle.std.specs.Iterator.{Count, at_most}
 use Rattle.xmas_elf.specs.Types.{ElfFile}
 use Rattle.elf_addresses.specs.FileClaims.{byte_count}
-use Rattle.elf_addresses.specs.Owner.{IsOwner}
 use Rattle.elf_addresses.specs.Runs.{IsRun}
 use Rattle.elf_addresses.specs.declared.pieces.Piece.{Piece}
 use Rattle.elf_addresses.specs.declared.pieces.Pieces.{Pieces}

@@ -1,5 +1,5 @@
 -- Runs of bytes of a file with one owner, and the next begin of a part (this project's own).
-use Rattle.std.specs.Prelude.{◌≡◌, ℕ, ◌<◌, ◌≤◌}
+use Rattle.std.specs.Prelude.{ℕ, ◌<◌, ◌≤◌}
 use Rattle.xmas_elf.specs.Types.{ElfFile}
 use Rattle.elf_addresses.specs.FileClaims.{byte_count}
 use Rattle.elf_addresses.specs.Owner.{IsOwner}

@@ -1,9 +1,9 @@
 -- Of pieces that follow each other: each byte is in exactly one, and their sizes sum to the number of bytes.
-use Rattle.std.proofs.Common.{◌≡◌, ℕ, zero, suc, ◌<◌, ◌≤◌, ◌+◌, ◌-◌, List, [], ◌∷◌, length, Option, Some, None, slice_get, refl, ap, subst, sym, ◌∙◌, arith, inl, inr}
+use Rattle.std.proofs.Common.{◌≡◌, ℕ, zero, suc, ◌<◌, ◌≤◌, ◌+◌, ◌-◌, List, [], ◌∷◌, length, Some, slice_get, refl, ap, subst, sym, arith, inl, inr}
 use Rattle.std.proofs.lemmas.Bool.{cases_lt}
 use Rattle.std.proofs.lemmas.Option.{none-some, same_Some}
 use Rattle.xmas_elf.specs.Types.{ElfFile}
-use Rattle.elf_addresses.specs.FileClaims.{byte_count, section_claim, section_parts, section_range, segment_claim, segment_parts, segment_range}
+use Rattle.elf_addresses.specs.FileClaims.{byte_count, section_parts, section_range, segment_parts, segment_range}
 use Rattle.elf_addresses.specs.Owner.{IsOwner}
 use Rattle.elf_addresses.specs.PartRanges.{range_within}
 use Rattle.elf_addresses.specs.Pieces.{ArePieces, IsInPiece, IsPiece, PieceStep, bytes_left, piece_sizes, pieces_file, pieces_place}

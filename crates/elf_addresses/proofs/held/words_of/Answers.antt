@@ -1,5 +1,3 @@
-use Rattle.std.proofs.Common.{subst, sym}
-use Rattle.elf_addresses.specs.Held.{IsHeld}
 use Rattle.elf_addresses.proofs.HeldWords.{held}
 use Rattle.elf_addresses.proofs.held.words_of.Goals as goal
 

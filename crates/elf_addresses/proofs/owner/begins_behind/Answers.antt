@@ -1,4 +1,4 @@
-use Rattle.std.proofs.Common.{◌≡◌, ◌<◌, ℕ, true, false, refl, arith, below_more}
+use Rattle.std.proofs.Common.{◌≡◌, true, false, refl, arith, below_more}
 use Rattle.std.proofs.lemmas.Grind.{common_steps}
 use Rattle.std.proofs.lemmas.Bool.{false≢true}
 use Rattle.elf_addresses.specs.Owner.{is_claim_behind}

@@ -1,4 +1,4 @@
-use Rattle.std.proofs.Common.{◌≡◌, ◌≤◌, length, subst, arith}
+use Rattle.std.proofs.Common.{◌≡◌, length, subst, arith}
 use Rattle.elf_addresses.specs.FileClaims.{section_claim, section_parts}
 use Rattle.elf_addresses.specs.Index.{word_count}
 use Rattle.elf_addresses.proofs.FileParts.{section_words}

@@ -1,4 +1,3 @@
-use Rattle.std.proofs.Common.{◌≡◌, length}
 use Rattle.elf_addresses.specs.Reached.{AreStarts}
 use Rattle.elf_addresses.proofs.dladdr.reached.fill_starts.Given as goal
 

@@ -1,6 +1,6 @@
-use Rattle.std.proofs.Common.{nat_lt, if◌then◌else◌, subst}
+use Rattle.std.proofs.Common.{subst}
 use Rattle.elf_addresses.specs.Owner.{PartBegins}
-use Rattle.elf_addresses.specs.Runs.{IsNext, IsRun}
+use Rattle.elf_addresses.specs.Runs.{IsNext}
 use Rattle.elf_addresses.proofs.Runs.{free_piece}
 use Rattle.elf_addresses.proofs.pieces.Pieces.free_run.Goals as goal
 

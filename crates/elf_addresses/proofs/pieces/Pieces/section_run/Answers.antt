@@ -1,4 +1,4 @@
-use Rattle.std.proofs.Common.{◌≡◌, min, ap, ◌∙◌}
+use Rattle.std.proofs.Common.{min, ap, ◌∙◌}
 use Rattle.elf_addresses.specs.Claims.{claim_end}
 use Rattle.elf_addresses.proofs.Runs.{section_piece}
 use Rattle.elf_addresses.proofs.pieces.Pieces.section_run.Goals as goal
