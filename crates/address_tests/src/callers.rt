@@ -91,6 +91,17 @@ pub fn linked_name<'a, E: LinkedSymbol>(
     })
 }
 
+// The symbols that a hash table reaches, in words for GNU's.
+fn reach_by<'w>(table: &AnyTable<'_>, words: &'w mut [u32]) -> Reach<'w> {
+    match table {
+        AnyTable::Gnu(table) => {
+            fill_reached(table, words);
+            Reach::Buckets(words)
+        }
+        AnyTable::Sysv(table) => Reach::Chains(table.chain_count()),
+    }
+}
+
 /// The symbol that `dladdr` finds at an address, in a file of the class of `E`. There is a word for
 /// each dynamic symbol. The errors are those of `DynamicObject::read`.
 pub fn dladdr_in<E: LinkedSymbol>(
@@ -99,17 +110,10 @@ pub fn dladdr_in<E: LinkedSymbol>(
     address: u64,
 ) -> Result<Option<At<E>>, LinkError> {
     let object = DynamicObject::<E>::read(file)?;
-    let reach = match object.table() {
-        AnyTable::Gnu(table) => {
-            fill_reached(&table, words);
-            Reach::Buckets(words)
-        }
-        AnyTable::Sysv(table) => Reach::Chains(table.chain_count()),
-    };
     let symbols = DladdrSymbols {
         table: object.symbols().table(),
         strings: strings(file)?,
-        reach,
+        reach: reach_by(&object.table(), words),
     };
     Ok(symbols.symbol_at(address))
 }
