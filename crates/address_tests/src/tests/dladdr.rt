@@ -8,6 +8,7 @@ use elf_addresses::{ClaimIndex, build_index, index_words};
 use std::process::Abort;
 use std::test::Fail;
 use worked_files::linked::small::SMALL;
+use worked_files::places::put;
 use xmas_elf::ElfFile;
 use xmas_elf::bytes::{Order, Table};
 use xmas_elf::symbol_table::DynEntry64;
@@ -86,7 +87,7 @@ const CHAINS: &[(u8, u8, u32, bool)] = &[
 fn finds_exported_symbols_with_a_chain(rt: HostRuntime) -> Result<(), Fail> {
     for &(info, other, count, wanted) in CHAINS {
         let mut bytes = table_bytes(rt.alloc(), &[(F, info, 1, 4, 4)])?;
-        bytes[5] = other;
+        put(&mut bytes, 5, &[other]);
         let found = symbols(&rt, &bytes, Reach::Chains(count)).symbol_at(5);
         want_at(&rt, (info, other, count), found.is_some(), wanted);
     }

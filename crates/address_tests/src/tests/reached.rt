@@ -42,7 +42,14 @@ fn table_bytes(
     chains: &[u32],
 ) -> Result<Vec<u8>, AllocError> {
     let mut bytes = Vec::new(alloc);
-    for word in [buckets.len() as u32, first, 1, 6, 0, 0] {
+    for word in [
+        buckets.len().min(u32::MAX as usize) as u32,
+        first,
+        1,
+        6,
+        0,
+        0,
+    ] {
         bytes.extend_from_slice(&word.to_le_bytes())?;
     }
     for words in [buckets, chains] {

@@ -131,7 +131,7 @@ const REFUSED: &[(usize, &[u8], LinkError)] = &[
 fn tells_why_a_file_has_no_symbols(rt: HostRuntime) {
     for &(place, change, error) in REFUSED {
         let mut bytes = *IMPORTER;
-        put(&mut bytes, 1352 + place, change);
+        put(&mut bytes, 1352usize.wrapping_add(place), change);
         want_at(
             &rt,
             place,
