@@ -22,6 +22,7 @@
 
 namespace xmas_elf {
 
+class numbers;
 class section;
 class segment;
 
@@ -99,6 +100,18 @@ public:
     /// The versions that the file needs of libraries (DT_VERNEED).
     std::vector<version> version_needs() const { return versions(xmas_elf_version_needs); }
 
+    /// The dynamic entries up to that of tag 0, which is the last: those of the section of type SHT_DYNAMIC, or else of the
+    /// segment of type PT_DYNAMIC.
+    std::vector<xmas_elf_dynamic_t> dynamic() const;
+    /// The value of the first dynamic entry with a tag.
+    std::optional<std::uint64_t> dynamic_value(std::uint64_t tag) const;
+    /// The relocations of all sections of type SHT_RELA or SHT_REL, in their order: a symbol's index is one of the section
+    /// `link`. Of a file without such sections those of the dynamic segment (DT_RELA, DT_REL, DT_JMPREL), whose symbols are
+    /// `dynamic_symbols`.
+    std::vector<xmas_elf_relocation_t> relocations() const;
+    /// The addresses in the packed relative relocations of all sections of type SHT_RELR, or else of the dynamic segment (DT_RELR).
+    std::vector<std::uint64_t> packed_relocations() const;
+
     /// The notes of all sections of type SHT_NOTE; of a file without such sections, of all segments of type PT_NOTE.
     std::vector<note> notes() const;
     /// The build id: the description of the first note of GNU with type 3 in the sections of type SHT_NOTE, or else in the
@@ -130,6 +143,10 @@ private:
     friend class segment;
 
     static const std::uint8_t *raw(std::string_view text) noexcept { return reinterpret_cast<const std::uint8_t *>(text.data()); }
+
+    numbers numbers_of(bytes_view data, std::size_t count) const;
+    numbers table_of(std::uint64_t address_tag, std::uint64_t size_tag, std::size_t count) const;
+    void add_relocations(std::uint64_t address_tag, std::uint64_t size_tag, std::uint64_t kind, std::vector<xmas_elf_relocation_t> &found) const;
 
     /// All records of a call that begins anew each time; none if the file has no such list.
     template <class Record, class Call, class... Arguments> std::vector<Record> all(Call function, Arguments... arguments) const
@@ -399,5 +416,6 @@ inline std::optional<bytes_view> file::build_id() const
 } // namespace xmas_elf
 
 #include "xmas_elf_memory.hpp"
+#include "xmas_elf_tables.hpp"
 
 #endif
