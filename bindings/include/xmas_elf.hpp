@@ -247,7 +247,7 @@ public:
         if (xmas_elf_text(all.data(), all.size(), &names, header_.name, &range) != XMAS_ELF_OK) return std::nullopt;
         return file_->text(range);
     }
-    /// The data. Throws for type SHT_NULL, and for types that the reader doesn't know but SHT_RELR.
+    /// The data. Throws for type SHT_NULL and for types that the reader doesn't know.
     bytes_view data() const { return file_->part(range()); }
     /// The symbols; none if the section isn't a symbol table. Throws where the table is damaged.
     auto symbols() const
@@ -276,12 +276,7 @@ private:
     xmas_elf_range_t range() const
     {
         xmas_elf_range_t found{};
-        const std::uint32_t status = file_->call(xmas_elf_section_data, index_, &found);
-        const std::uint64_t size = file_->bytes().size();
-        // The library gives the addresses in a section of type SHT_RELR, and not its data.
-        if (status != XMAS_ELF_INVALID_SH_TYPE || header_.type != 19) check(status);
-        else if (header_.offset > size || header_.size > size - header_.offset) throw error(XMAS_ELF_DATA_RANGE);
-        else found = {header_.offset, header_.size};
+        check(file_->call(xmas_elf_section_data, index_, &found));
         return found;
     }
 
