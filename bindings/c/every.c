@@ -350,6 +350,22 @@ static void visit_any(const struct any *any, const struct asked *file, const uin
         }
 }
 
+/* A section of packed relocations has a name and data, and its type is known. */
+static void visit_packed(const struct asked *file)
+{
+    uint64_t index = section_of_type(file, PACKED), count = 0;
+    xmas_elf_section_t header;
+    xmas_elf_range_t data = {0, 0};
+    xmas_elf_name_t name = {{0, 0}, XMAS_ELF_NO_RECORD};
+    uint32_t status = xmas_elf_section(FILE_OF(file), index, &header);
+    if (status == XMAS_ELF_OK) status = xmas_elf_check_section(FILE_OF(file), index);
+    if (status == XMAS_ELF_OK) status = xmas_elf_section_data(FILE_OF(file), index, &data);
+    if (status == XMAS_ELF_OK) status = xmas_elf_section_names(FILE_OF(file), index, &name, 1, &count);
+    if (status != XMAS_ELF_OK || name.status != XMAS_ELF_OK) printf("packed relocations: status %u, of the name %u\n", status, name.status), faults++;
+    else if (data.offset != header.offset || data.size != header.size) printf("packed relocations: other data\n"), faults++;
+    else if (name.range.size != 9 || memcmp(file->bytes + name.range.offset, ".relr.dyn", 9) != 0) printf("packed relocations: another name\n"), faults++;
+}
+
 /* Exported, so that both hash tables have it. */
 #ifdef __GNUC__
 __attribute__((visibility("default"), used))
@@ -381,6 +397,7 @@ int main(int argc, char **argv)
     file.numbers[0] = found.symbol.value;
     for (size_t i = 0; i < sizeof rows / sizeof *rows; i++) visit(&rows[i], file, unaligned);
     for (size_t i = 0; i < sizeof every / sizeof *every; i++) visit_any(&every[i], &file, unaligned);
+    visit_packed(&file);
     free(bytes);
     if (sizeof rows / sizeof *rows != sizeof every / sizeof *every) printf("an export has no row\n"), faults++;
     printf("%zu exports, %d faults\n", sizeof every / sizeof *every, faults);

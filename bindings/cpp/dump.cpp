@@ -1,6 +1,7 @@
 // dump FILE NAME..: what a file needs, its build id, the symbols of its dynamic segment as `nm -D` prints them, the versions
-// that it defines and needs, its sections with the numbers of their relocations, and for each name, or name and version as
-// exp@GLIBC_2.2.5, the symbol's value. The number of a version has an `h` behind it if it is hidden.
+// that it defines and needs, its dynamic entries and relocations, its sections with the numbers of their relocations, and for
+// each name, or name and version as exp@GLIBC_2.2.5, the symbol's value. The number of a version has an `h` behind it if it is
+// hidden.
 #include <xmas_elf.hpp>
 
 #include <cstdio>
@@ -41,6 +42,22 @@ void print_dynamic(const xmas_elf::file &file)
         print("definition " + number(it) + " " + std::to_string(it.flags) + " " + std::string(*it.name));
 }
 
+void print_tables(const xmas_elf::file &file)
+{
+    const auto print_numbers = [](const char *word, const std::vector<std::uint64_t> &numbers) {
+        std::printf("%s", word);
+        for (const auto number : numbers) std::printf(" %llx", static_cast<unsigned long long>(number));
+        std::printf("\n");
+    };
+    for (const auto &entry : file.dynamic()) print_numbers("entry", {entry.tag, entry.value});
+    for (const auto &it : file.relocations()) {
+        const std::uint64_t info = std::uint64_t{it.symbol} << (file.is_64() ? 32 : 8) | it.type;
+        if (it.has_addend != 0) print_numbers("relocation", {it.offset, info, it.addend});
+        else print_numbers("relocation", {it.offset, info});
+    }
+    for (const auto address : file.packed_relocations()) print_numbers("address", {address});
+}
+
 void print_sections(const xmas_elf::file &file)
 {
     for (const auto &section : file.sections()) {
@@ -77,6 +94,7 @@ int main(int argc, char **argv)
         const xmas_elf::file file(bytes);
         file.check_header();
         print_dynamic(file);
+        print_tables(file);
         print_sections(file);
         for (int i = 2; i < argc; i++) print_found(file, argv[i]);
     } catch (const std::system_error &error) {

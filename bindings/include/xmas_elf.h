@@ -617,9 +617,9 @@ XMAS_ELF_NODISCARD uint32_t xmas_elf_names_index(const uint8_t *input, size_t in
 XMAS_ELF_NODISCARD uint32_t xmas_elf_section(const uint8_t *input, size_t input_size, const xmas_elf_header_t *header,
     uint64_t index, xmas_elf_section_t *out) XMAS_ELF_NOEXCEPT;
 
-/* Checks the section header at an index: that this reader knows its type. Where the data lie is not tested:
- * `xmas_elf_section_data` does that. Errors, in the order of the tests: XMAS_ELF_SHORT_SECTION_HEADER,
- * XMAS_ELF_UNKNOWN_CLASS, XMAS_ELF_SMALL_ENTRY, XMAS_ELF_INVALID_SH_TYPE. */
+/* Checks the section header at an index: that this reader knows its type, as it does 19 (SHT_RELR). Where the data
+ * lie is not tested: `xmas_elf_section_data` does that. Errors, in the order of the tests:
+ * XMAS_ELF_SHORT_SECTION_HEADER, XMAS_ELF_UNKNOWN_CLASS, XMAS_ELF_SMALL_ENTRY, XMAS_ELF_INVALID_SH_TYPE. */
 XMAS_ELF_NODISCARD uint32_t xmas_elf_check_section(const uint8_t *input, size_t input_size,
     const xmas_elf_header_t *header, uint64_t index) XMAS_ELF_NOEXCEPT;
 
@@ -629,8 +629,8 @@ XMAS_ELF_NODISCARD uint32_t xmas_elf_sections(const uint8_t *input, size_t input
     const xmas_elf_header_t *header, uint64_t first, xmas_elf_section_t *out, size_t out_count, uint64_t *count)
     XMAS_ELF_NOEXCEPT;
 
-/* The first section with a name. A section whose name can't be read is skipped, and a name that is not UTF-8 is never
- * found. Errors: XMAS_ELF_NOT_FOUND. */
+/* The first section with a name. A section of type 19 (SHT_RELR), or whose name can't be read, is skipped, and a name
+ * that is not UTF-8 is never found. Errors: XMAS_ELF_NOT_FOUND. */
 XMAS_ELF_NODISCARD uint32_t xmas_elf_find_section(const uint8_t *input, size_t input_size,
     const xmas_elf_header_t *header, const uint8_t *name, size_t name_size, xmas_elf_section_t *out)
     XMAS_ELF_NOEXCEPT;
@@ -650,11 +650,11 @@ XMAS_ELF_NODISCARD uint32_t xmas_elf_section_data(const uint8_t *input, size_t i
 
 /* The ranges of the names of sections from index `first` on, each with a status of its own, without the zero bytes
  * that end them. They are UTF-8. XMAS_ELF_NULL_NAME is for type SHT_NULL, which section 0 has,
- * XMAS_ELF_INVALID_SH_TYPE for a type that this reader does not know, such as 19 (SHT_RELR); `xmas_elf_names` and
- * `xmas_elf_text` give the names of these too. The call gives as many names as `xmas_elf_sections` gives headers.
- * Errors: XMAS_ELF_NO_RECORD. Errors of a record, in the order of the tests: XMAS_ELF_INVALID_SH_TYPE,
- * XMAS_ELF_NULL_NAME, XMAS_ELF_RESERVED_INDEX, XMAS_ELF_SHORT_SECTION_HEADER, XMAS_ELF_SHORT_SECTION_OFFSET,
- * XMAS_ELF_TEXT_START, XMAS_ELF_TEXT_END, XMAS_ELF_TEXT_UTF_8. */
+ * XMAS_ELF_INVALID_SH_TYPE for a type that this reader does not know; `xmas_elf_names` and `xmas_elf_text` give the
+ * names of these too. The call gives as many names as `xmas_elf_sections` gives headers. Errors: XMAS_ELF_NO_RECORD.
+ * Errors of a record, in the order of the tests: XMAS_ELF_INVALID_SH_TYPE, XMAS_ELF_NULL_NAME,
+ * XMAS_ELF_RESERVED_INDEX, XMAS_ELF_SHORT_SECTION_HEADER, XMAS_ELF_SHORT_SECTION_OFFSET, XMAS_ELF_TEXT_START,
+ * XMAS_ELF_TEXT_END, XMAS_ELF_TEXT_UTF_8. */
 XMAS_ELF_NODISCARD uint32_t xmas_elf_section_names(const uint8_t *input, size_t input_size,
     const xmas_elf_header_t *header, uint64_t first, xmas_elf_name_t *out, size_t out_count, uint64_t *count)
     XMAS_ELF_NOEXCEPT;

@@ -22,6 +22,7 @@
 
 namespace xmas_elf {
 
+class numbers;
 class section;
 class segment;
 
@@ -99,6 +100,18 @@ public:
     /// The versions that the file needs of libraries (DT_VERNEED).
     std::vector<version> version_needs() const { return versions(xmas_elf_version_needs); }
 
+    /// The dynamic entries up to that of tag 0, which is the last: those of the section of type SHT_DYNAMIC, or else of the
+    /// segment of type PT_DYNAMIC.
+    std::vector<xmas_elf_dynamic_t> dynamic() const;
+    /// The value of the first dynamic entry with a tag.
+    std::optional<std::uint64_t> dynamic_value(std::uint64_t tag) const;
+    /// The relocations of all sections of type SHT_RELA or SHT_REL, in their order: a symbol's index is one of the section
+    /// `link`. Of a file without such sections those of the dynamic segment (DT_RELA, DT_REL, DT_JMPREL), whose symbols are
+    /// `dynamic_symbols`.
+    std::vector<xmas_elf_relocation_t> relocations() const;
+    /// The addresses in the packed relative relocations of all sections of type SHT_RELR, or else of the dynamic segment (DT_RELR).
+    std::vector<std::uint64_t> packed_relocations() const;
+
     /// The notes of all sections of type SHT_NOTE; of a file without such sections, of all segments of type PT_NOTE.
     std::vector<note> notes() const;
     /// The build id: the description of the first note of GNU with type 3 in the sections of type SHT_NOTE, or else in the
@@ -130,6 +143,10 @@ private:
     friend class segment;
 
     static const std::uint8_t *raw(std::string_view text) noexcept { return reinterpret_cast<const std::uint8_t *>(text.data()); }
+
+    numbers numbers_of(bytes_view data, std::size_t count) const;
+    numbers table_of(std::uint64_t address_tag, std::uint64_t size_tag, std::size_t count) const;
+    void add_relocations(std::uint64_t address_tag, std::uint64_t size_tag, std::uint64_t kind, std::vector<xmas_elf_relocation_t> &found) const;
 
     /// All records of a call that begins anew each time; none if the file has no such list.
     template <class Record, class Call, class... Arguments> std::vector<Record> all(Call function, Arguments... arguments) const
@@ -230,7 +247,7 @@ public:
         if (xmas_elf_text(all.data(), all.size(), &names, header_.name, &range) != XMAS_ELF_OK) return std::nullopt;
         return file_->text(range);
     }
-    /// The data. Throws for type SHT_NULL, and for types that the reader doesn't know but SHT_RELR.
+    /// The data. Throws for type SHT_NULL and for types that the reader doesn't know.
     bytes_view data() const { return file_->part(range()); }
     /// The symbols; none if the section isn't a symbol table. Throws where the table is damaged.
     auto symbols() const
@@ -259,12 +276,7 @@ private:
     xmas_elf_range_t range() const
     {
         xmas_elf_range_t found{};
-        const std::uint32_t status = file_->call(xmas_elf_section_data, index_, &found);
-        const std::uint64_t size = file_->bytes().size();
-        // The library gives the addresses in a section of type SHT_RELR, and not its data.
-        if (status != XMAS_ELF_INVALID_SH_TYPE || header_.type != 19) check(status);
-        else if (header_.offset > size || header_.size > size - header_.offset) throw error(XMAS_ELF_DATA_RANGE);
-        else found = {header_.offset, header_.size};
+        check(file_->call(xmas_elf_section_data, index_, &found));
         return found;
     }
 
@@ -399,5 +411,6 @@ inline std::optional<bytes_view> file::build_id() const
 } // namespace xmas_elf
 
 #include "xmas_elf_memory.hpp"
+#include "xmas_elf_tables.hpp"
 
 #endif

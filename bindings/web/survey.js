@@ -1,6 +1,5 @@
 // What the file has: its header, sections, segments and notes. Each answer of the reader that is a refusal becomes
 // `{ status, message }` beside what is refused.
-import { RELR } from "./names.js";
 import { BATCH, STATUS } from "./reader.js";
 import { textOf } from "./text.js";
 
@@ -57,22 +56,10 @@ export async function sectionsOf(reader, turns) {
 
 function sectionOf(reader, header, index, names) {
   const named = names.record ? textAt(reader, names.record, header.name) : { refused: refusal(reader, names.status) };
-  const data = dataOf(reader, header, reader.one("section_data", { index }));
+  const data = reader.one("section_data", { index });
   const status = reader.call("check_section", { index });
   return { index, header, name: named.text ?? null, nameRefused: named.refused ?? null,
-    data: data.record ?? null, dataRefused: refusal(reader, data.status), check: isOfRelr(header, status) ? null : refusal(reader, status) };
-}
-
-// The reader gives the addresses in a section of type RELR, and calls the type itself unknown.
-function isOfRelr({ type }, status) {
-  return type === RELR && status === STATUS.INVALID_SH_TYPE;
-}
-
-function dataOf(reader, header, data) {
-  if (!isOfRelr(header, data.status)) return data;
-  const record = { offset: header.offset, size: header.size };
-  const fits = header.offset + header.size <= BigInt(reader.size);
-  return fits ? { status: STATUS.OK, record } : { status: STATUS.DATA_RANGE };
+    data: data.record ?? null, dataRefused: refusal(reader, data.status), check: refusal(reader, status) };
 }
 
 /** The segments in order, and why they end before their count, where they do. */

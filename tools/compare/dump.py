@@ -1,14 +1,15 @@
 #!/usr/bin/env python3
-"""Compares what bindings/cpp/dump.cpp, bindings/rust/examples/dump.rs and bindings/c/find.c print of files with what nm and
-readelf print.
+"""Compares what bindings/cpp/dump.cpp, bindings/rust/examples/dump.rs, bindings/c/find.c and bindings/c/dynamic.c print of files
+with what nm and readelf print.
 
     tools/compare/dump.py [--files N] [--jobs N] [FILE..]
 
 Takes FILE, else N files (300) spread over the small ones of /usr/bin and /usr/lib/x86_64-linux-gnu. Compared are, of each file
 and of a copy without section headers: the needed libraries, the name and the run path, the build id, the dynamic symbols with
-the names and numbers of their versions, and the versions needed and defined; of each file besides its sections; and for up to
-200 names with a version the symbol that is found by both, and by the name alone where the version is the default one. The
-program in C prints the build id and these symbols. A file without sections, or of debugging data alone, is passed over. The
+the names and numbers of their versions, the versions needed and defined, the dynamic entries and the relocations; of each file
+besides its sections; and for up to 200 names with a version the symbol that is found by both, and by the name alone where the
+version is the default one. The programs in C print the build id and these symbols, and the entries and relocations of the
+dynamic segment. A file without sections, or of debugging data alone, is passed over. The
 programs are built over the archive in crates/elf_c/out, or in the folder that XMAS_ELF_ARCHIVE names."""
 import concurrent.futures
 import functools
@@ -28,15 +29,15 @@ LARGEST = 400_000
 
 
 def built(room):
-    """The programs in C++ and Rust, and that in C."""
+    """The programs in C++ and Rust, and those in C."""
     archive = os.environ.get("XMAS_ELF_ARCHIVE", str(ROOT / "crates/elf_c/out"))
     if not os.path.exists(f"{archive}/libelf_c.a"):
         sys.exit(f"no libelf_c.a in {archive}: run `rt lib` in crates/elf_c")
     flags = ["-O2", "-Ibindings/include", f"{archive}/libelf_c.a", "-o"]
-    for command in (["g++", "bindings/cpp/dump.cpp", *flags, f"{room}/dump"], ["gcc", "bindings/c/find.c", *flags, f"{room}/find"],
+    for command in (["g++", "bindings/cpp/dump.cpp", *flags, f"{room}/dump"], *(["gcc", f"bindings/c/{it}.c", *flags, f"{room}/{it}"] for it in ("find", "dynamic")),
         ["cargo", "build", "--quiet", "--offline", "--release", "--manifest-path", "bindings/rust/Cargo.toml", "--example", "dump"]):
         subprocess.run(command, cwd=ROOT, env={**os.environ, "XMAS_ELF_ARCHIVE": archive, "CARGO_TARGET_DIR": room}, check=True)
-    return [f"{room}/dump", f"{room}/release/examples/dump"], f"{room}/find"
+    return [f"{room}/dump", f"{room}/release/examples/dump"], f"{room}/find", f"{room}/dynamic"
 
 
 def spread(wanted):
@@ -52,6 +53,33 @@ def numbered(number):
 def build_ids(path):
     """The line of the build id. Without section headers a note is found that lies in a segment."""
     return [f"build id {it}" for it in re.findall(r"'Build ID': '([0-9a-f]+)'", str(llvm(path, "-n").get("Notes")))[:1]]
+
+
+# The lines of the dynamic entries and of relocations.
+TABLES = ("entry ", "relocation ", "address ")
+
+
+def relocations(path, *options):
+    """The lines of the relocations, by sections or by the dynamic segment (-D)."""
+    found, has_addend = [], False
+    for line in run(["readelf", "-rW", *options, "--", path]).output.splitlines():
+        has_addend = line.endswith("Addend") if line.startswith(" ") and "Offset" in line else has_addend
+        if re.fullmatch("[0-9a-f]{16}|[0-9a-f]{8}", line):
+            found.append(f"address {int(line, 16):x}")
+        elif one := re.match("([0-9a-f]{8,16})  ([0-9a-f]{8,16}) R_(.*)", line):
+            # An addend stands last, after a sign where there is a symbol.
+            sign, addend = re.search(r"(?:([+-]) |\s)(-?[0-9a-f]+)$", one[3]).groups() if has_addend else ("", "0")
+            number = int(f"{'-' if sign == '-' else ''}{addend}", 16) % 16 ** len(one[1])
+            found.append(f"relocation {int(one[1], 16):x} {int(one[2], 16):x}" + (f" {number:x}" if has_addend else ""))
+    return found
+
+
+def entries(path, lines):
+    """The lines of the dynamic entries. Where readelf shows a text or flags, the number is that of our line."""
+    said = re.findall(r"^ 0x([0-9a-f]+) \(\w+\) +(.*)$", run(["readelf", "-dW", "--", path]).output, re.M)
+    number = lambda shown, ours: int(re.match(r"0x[0-9a-f]+|\d+", shown)[0], 0) if re.fullmatch(r"0x[0-9a-f]+|\d+( \(bytes\))?", shown) else ours
+    values = [int(it.split()[2], 16) for it in lines if it.startswith("entry ")]
+    return [f"entry {int(tag, 16):x} {number(shown, ours) or 0:x}" for (tag, shown), ours in itertools.zip_longest(said, values[: len(said)])]
 
 
 class Wanted:
@@ -100,7 +128,7 @@ def differing(tally, path, printed, wanted):
         tally.differ(path, "line", ours, theirs)
 
 
-def compare(programs, find, path):
+def compare(programs, find, dynamic, path):
     """Compares what the programs print of a file."""
     tally, wanted, data = Tally("dump"), Wanted(path), read_elf(path)
     if wanted.is_bare or not wanted.sections:
@@ -114,10 +142,16 @@ def compare(programs, find, path):
         for program, file in itertools.product(programs, (path, cut) if has_segments else (path,)):
             lines = tally.output(path, program, file, *(wanted.found if file == path else ())).split("\n")[:-1]
             found = [f"found {name} {value} {version}" for name, (value, version, _) in wanted.found.items()]
-            named = [it for it in lines if not it.startswith("section ")]
+            named = [it for it in lines if not it.startswith(("section ", *TABLES))]
+            tables = [it for it in lines if it.startswith(TABLES)]
+            differing(tally, f"{path} by {program}", tables, entries(file, tables) + relocations(file, *(() if file == path else ("-D",))))
             differing(tally, f"{path} by {program}", named, ids[file] + wanted.dynamic(named) + (found if file == path else []))
             if file == path:
                 differing(tally, f"{path} by {program}", [it for it in lines if it.startswith("section ")], wanted.sections)
+        for file in (path, cut) if has_segments else ():
+            lines = tally.output(path, dynamic, file).split("\n")[:-1]
+            wanted_of_c = [it for it in entries(file, lines) if it != "entry 0 0"] + relocations(file, "-D")
+            differing(tally, f"{path} by C", lines, wanted_of_c)
         for file in (path, cut):
             first, *lines = tally.output(path, find, file, *wanted.found).split("\n")[:-1]
             # A line has bytes at its end.

@@ -41,7 +41,7 @@ diff <(nm --undefined-only "$archive" | awk '$1 == "U" { print $2 }' | grep -vxE
 readelf --wide --sections --relocs "$archive" > "$room/archive"
 if grep -E 'eh_frame|R_X86_64_(32|32S|64) | WAT? ' "$room/archive"; then exit 1; fi
 
-for program in nm find addresses speed; do
+for program in nm find dynamic addresses speed; do
     gcc -std=c11 "${strict[@]}" "bindings/c/$program.c" "$archive" -o "$room/${program}_c"
 done
 cxx=(g++)
@@ -87,7 +87,7 @@ cargo build --quiet --offline --release --manifest-path bindings/rust/Cargo.toml
 grep -qx "#define XMAS_ELF_VERSION \"$(sed -n 's/^version = "\(.*\)"/\1/p' bindings/rust/Cargo.toml)\"" bindings/include/xmas_elf.h
 # C, C++ and Rust beside nm and readelf, over 300 files. A path that can't be opened is named.
 tools/compare/dump.py
-for program in "$room/nm_c" "$room/find_c" "$room/addresses_c" "$room/nm_g++" "$room/dump" "$room/memory" "$CARGO_TARGET_DIR"/release/examples/{nm,find,dump,addresses}; do
+for program in "$room/nm_c" "$room/find_c" "$room/dynamic_c" "$room/addresses_c" "$room/nm_g++" "$room/dump" "$room/memory" "$CARGO_TARGET_DIR"/release/examples/{nm,find,dump,addresses}; do
     { "$program" /no/such/file 2>&1 || true; } | grep -q '^/no/such/file: No such file or directory' || { echo "$program doesn't name its path"; exit 1; }
 done
 # The mappings of a program beside those of its process, in which those of zeros have no path; and the symbols of its functions
@@ -123,7 +123,17 @@ for program in "$room/addresses_c" "$CARGO_TARGET_DIR/release/examples/addresses
 done
 # Both kinds of hash tables, a file's own name and its folders, and libraries with many versions.
 echo 'int one(void) { return 1; }' | gcc -shared -fPIC -x c - -o "$room/libnamed.so" -Wl,-soname,libnamed.so.1 -Wl,-rpath,/a:/b -Wl,--enable-new-dtags
-tools/compare/dump.py "$room/every_gcc" "$room/libnamed.so" /lib/x86_64-linux-gnu/lib{c,m}.so.6
+# The tables of both classes and both orders, with and without addends, packed ones too.
+tables=()
+if command -v clang > /dev/null && command -v ld.lld > /dev/null; then
+    echo 'int f(int); int x, *a[] = {&x}; static int w[40], *s[] = {w, w + 1, w + 30}; int g(int b) { return f(b) + *a[b] + *s[b]; }' > "$room/tables.c"
+    for machine in i386 x86_64 powerpc powerpc64; do
+        clang "--target=$machine-linux-gnu" -fPIC -c "$room/tables.c" -o "$room/tables.o"
+        ld.lld -shared --pack-dyn-relocs=relr "$room/tables.o" -o "$room/tables_$machine.so"
+        tables+=("$room/tables_$machine.so")
+    done
+fi
+tools/compare/dump.py "$room/every_gcc" "$room/libnamed.so" "${tables[@]}" /lib/x86_64-linux-gnu/lib{c,m}.so.6
 for file in "$room/nm_c" /lib/x86_64-linux-gnu/libc.so.6; do
     "$room/nm_c" "$file" > "$room/of_c"
     "$CARGO_TARGET_DIR/release/examples/nm" "$file" | cmp - "$room/of_c"

@@ -42,7 +42,7 @@ mkdir -p "$dist/lib/pkgconfig" "$dist/include" "$dist/c" "$dist/python" "$dist/r
 cp "$XMAS_ELF_ARCHIVE/libelf_c.a" "$dist/lib/"
 cp "$XMAS_ELF_ARCHIVE/libelf_c.a" "$dist/rust/lib/$target/"
 cp bindings/include/* "$dist/include/"
-cp bindings/c/README.md bindings/c/addresses.c bindings/c/find.c bindings/c/nm.c bindings/cpp/nm.cpp "$dist/c/"
+cp bindings/c/README.md bindings/c/addresses.c bindings/c/dynamic.c bindings/c/find.c bindings/c/nm.c bindings/cpp/nm.cpp "$dist/c/"
 cp bindings/INSTALL.md "$dist/README.md"
 cp -r bindings/python/README.md bindings/python/examples "$dist/python/"
 cp LICENSE-APACHE LICENSE-MIT "$dist/"

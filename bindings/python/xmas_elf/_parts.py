@@ -7,11 +7,11 @@ from struct import Struct
 from typing import Any, Callable, Iterator, List, NamedTuple, Tuple, Type, TypeVar
 
 from . import _declarations as declared
-from ._archive import ElfError, check, library
-from ._declarations import Status, _document
+from ._archive import check, library
+from ._declarations import _document
 from ._numbers import unsigned
 from ._rows import NUMBER, Row, batches, one, rows
-from .constants import DT, PF, PF_R, PF_W, PF_X, PT, SHF, SHN, SHN_LORESERVE, SHN_UNDEF, SHT, SHT_RELR, STB, STT, STV
+from .constants import DT, PF, PF_R, PF_W, PF_X, PT, SHF, SHN, SHN_LORESERVE, SHN_UNDEF, SHT, STB, STT, STV
 
 _Record = TypeVar("_Record", bound=Tuple[Any, ...])
 
@@ -136,10 +136,8 @@ class Section(declared.SectionRecord):
         return f"<Section {self.index} {_short.repr(self.name)} {self.type} {self.flags}, {self.size} bytes at offset {self.offset:#x}>"
 
     def check(self) -> None:
-        """Raises if neither the reader nor the package knows the type."""
-        status = library.xmas_elf_check_section(*self.file._input, self.index)
-        if self.type != SHT_RELR or status != Status.INVALID_SH_TYPE:
-            check(status)
+        """Raises if the reader doesn't know the type."""
+        check(library.xmas_elf_check_section(*self.file._input, self.index))
 
     def data(self) -> memoryview:
         """The data. An error for type SHT_NULL and for types that the reader doesn't know; for type SHT_NOBITS these bytes
@@ -148,12 +146,7 @@ class Section(declared.SectionRecord):
         return self.file._view[offset : offset + size]
 
     def _data_range(self) -> Row:
-        if self.type != SHT_RELR:
-            return self.file._asked("xmas_elf_section_data", declared.RANGE, self.index)
-        # The archive gives the addresses of this type, and not the data.
-        if self.offset + self.size > len(self.file._view):
-            raise ElfError(Status.DATA_RANGE)
-        return self.offset, self.size
+        return self.file._asked("xmas_elf_section_data", declared.RANGE, self.index)
 
     def text(self, index: int) -> str:
         """The text that begins at an index of a string table, in bytes."""

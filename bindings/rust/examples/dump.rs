@@ -1,6 +1,7 @@
 //! dump FILE NAME..: what a file needs, its build id, the symbols of its dynamic segment as `nm -D` prints them, the versions
-//! that it defines and needs, its sections with the numbers of their relocations, and for each name, or name and version as
-//! exp@GLIBC_2.2.5, the symbol's value. The number of a version has an `h` behind it if it is hidden.
+//! that it defines and needs, its dynamic entries and relocations, its sections with the numbers of their relocations, and for
+//! each name, or name and version as exp@GLIBC_2.2.5, the symbol's value. The number of a version has an `h` behind it if it is
+//! hidden.
 
 use std::process::ExitCode;
 use xmas_elf_proved::constants::{STT_FILE, STT_SECTION};
@@ -45,11 +46,27 @@ fn print_versions(file: &ElfFile<'_>) -> Result<(), Error> {
     Ok(())
 }
 
+fn print_tables(file: &ElfFile<'_>) -> Result<(), Error> {
+    for entry in file.dynamic()? {
+        println!("entry {:x} {:x}", entry.tag, entry.value);
+    }
+    for it in file.relocations()? {
+        let info = u64::from(it.symbol) << (if file.is_64() { 32 } else { 8 }) | u64::from(it.type_);
+        let addend = if it.has_addend != 0 { format!(" {:x}", it.addend) } else { String::new() };
+        println!("relocation {:x} {info:x}{addend}", it.offset);
+    }
+    for address in file.packed_relocations()? {
+        println!("address {address:x}");
+    }
+    Ok(())
+}
+
 fn print(bytes: &[u8], names: &[String]) -> Result<(), Error> {
     let file = ElfFile::new(bytes)?;
     file.check_header()?;
     print_dynamic(&file)?;
     print_versions(&file)?;
+    print_tables(&file)?;
     for section in file.sections() {
         let relocations = section.relocations().len() + section.packed_relocations().count();
         println!("section {} {} {} {relocations}", section.index(), section.name().unwrap_or("?"), section.size);

@@ -129,9 +129,9 @@ pub(crate) fn section(input: &[u8], header: &Header, index: u64) -> Result<Secti
     answered(status, out)
 }
 
-/// Checks the section header at an index: that this reader knows its type. Where the data lie is not tested:
-/// `section_data` does that. Errors, in the order of the tests: `ShortSectionHeader`, `UnknownClass`, `SmallEntry`,
-/// `InvalidShType`.
+/// Checks the section header at an index: that this reader knows its type, as it does 19 (SHT_RELR). Where the data
+/// lie is not tested: `section_data` does that. Errors, in the order of the tests: `ShortSectionHeader`,
+/// `UnknownClass`, `SmallEntry`, `InvalidShType`.
 pub(crate) fn check_section(input: &[u8], header: &Header, index: u64) -> Result<(), Error> {
     // SAFETY: see the head of this file.
     let status = unsafe { xmas_elf_check_section(input.as_ptr(), input.len(), header, index) };
@@ -148,8 +148,8 @@ pub(crate) fn sections(input: &[u8], header: &Header, first: u64, out: &mut [Sec
     answered(status, count)
 }
 
-/// The first section with a name. A section whose name can't be read is skipped, and a name that is not UTF-8 is
-/// never found. Errors: `NotFound`.
+/// The first section with a name. A section of type 19 (SHT_RELR), or whose name can't be read, is skipped, and a
+/// name that is not UTF-8 is never found. Errors: `NotFound`.
 pub(crate) fn find_section(input: &[u8], header: &Header, name: &[u8]) -> Result<SectionHeader, Error> {
     let mut out = SectionHeader::default();
     // SAFETY: see the head of this file.
@@ -181,10 +181,9 @@ pub(crate) fn section_data(input: &[u8], header: &Header, index: u64) -> Result<
 
 /// The ranges of the names of sections from index `first` on, each with a status of its own, without the zero bytes
 /// that end them. They are UTF-8. `NullName` is for type SHT_NULL, which section 0 has, `InvalidShType` for a type
-/// that this reader does not know, such as 19 (SHT_RELR); `names` and `text` give the names of these too. The call
-/// gives as many names as `sections` gives headers. Errors: `NoRecord`. Errors of a record, in the order of the
-/// tests: `InvalidShType`, `NullName`, `ReservedIndex`, `ShortSectionHeader`, `ShortSectionOffset`, `TextStart`,
-/// `TextEnd`, `TextUtf8`.
+/// that this reader does not know; `names` and `text` give the names of these too. The call gives as many names as
+/// `sections` gives headers. Errors: `NoRecord`. Errors of a record, in the order of the tests: `InvalidShType`,
+/// `NullName`, `ReservedIndex`, `ShortSectionHeader`, `ShortSectionOffset`, `TextStart`, `TextEnd`, `TextUtf8`.
 pub(crate) fn section_names(input: &[u8], header: &Header, first: u64, out: &mut [Name]) -> Result<u64, Error> {
     let mut count = u64::default();
     // SAFETY: see the head of this file.

@@ -4,7 +4,7 @@ use crate::batch::{one, Batch};
 use crate::ffi;
 #[cfg(feature = "alloc")]
 use crate::SymbolMap;
-use crate::constants::{SHT_RELA, SHT_RELR};
+use crate::constants::SHT_RELA;
 use crate::{ByteRange, Dynamic, ElfFile, Entry, Error, HashTable, Name, Notes, ProgramHeader, Relocation, SectionHeader, Symbol, SymbolTable, Symbols};
 use core::fmt;
 use core::ops::Deref;
@@ -38,12 +38,9 @@ impl<'f, 'a> Section<'f, 'a> {
         self.index
     }
 
-    /// Whether the header makes sense: whether the reader or this crate knows its type.
+    /// Whether the header makes sense: whether the reader knows its type.
     pub fn check(&self) -> Result<(), Error> {
-        match ffi::check_section(self.file.input, &self.file.header, self.index) {
-            Err(Error::InvalidShType) if self.header.type_ == SHT_RELR => Ok(()),
-            checked => checked,
-        }
+        ffi::check_section(self.file.input, &self.file.header, self.index)
     }
 
     /// The name of the section, whatever its type.
@@ -52,22 +49,14 @@ impl<'f, 'a> Section<'f, 'a> {
         Ok(self.file.text(ffi::text(self.file.input, &names, u64::from(self.header.name))?))
     }
 
-    /// The data of the section. An error for type Null and for types that neither the reader nor this crate knows; for type
-    /// NoBits these bytes belong to other sections, or to none.
+    /// The data of the section. An error for type Null and for types that the reader doesn't know; for type NoBits
+    /// these bytes belong to other sections, or to none.
     pub fn data(&self) -> Result<&'a [u8], Error> {
         Ok(self.file.bytes(self.data_range()?))
     }
 
     fn data_range(&self) -> Result<ByteRange, Error> {
-        match ffi::section_data(self.file.input, &self.file.header, self.index) {
-            // The archive gives the addresses of this type, and not the data.
-            Err(Error::InvalidShType) if self.header.type_ == SHT_RELR => {
-                let end = self.header.offset.checked_add(self.header.size).ok_or(Error::DataRange)?;
-                let fits = end <= self.file.input.len() as u64;
-                fits.then_some(ByteRange { offset: self.header.offset, size: self.header.size }).ok_or(Error::DataRange)
-            }
-            range => range,
-        }
+        ffi::section_data(self.file.input, &self.file.header, self.index)
     }
 
     /// The symbols of the section, from index 0 on; none where it holds others.

@@ -70,14 +70,42 @@ fn checks_of_sections_and_segments() {
     assert_eq!(ffi::check_segment(&input, &header, header.ph_count.into()), Err(Error::NoProgramHeaders));
     let wide = Header { ph_entry_size: header.ph_entry_size + 1, ..header };
     assert_eq!(ffi::check_segment(&input, &wide, 0), Err(Error::PhSizeMismatch));
-    // The type of section 1 gets SHT_RELR, and segment 0 an odd address, then a size past all.
+    // The type of section 1 gets a number without a meaning, and segment 0 an odd address, then a size past all.
     let (section, segment) = (header.sh_offset as usize + usize::from(header.sh_entry_size), header.ph_offset as usize);
-    input[section + 4] = 19;
+    input[section + 4] = 12;
     assert_eq!(ffi::check_section(&input, &header, 1), Err(Error::InvalidShType));
     input[segment + 16] ^= 1;
     assert_eq!(ffi::check_segment(&input, &header, 0), Err(Error::BadAlign));
     input[segment + 32..segment + 40].fill(0xff);
     assert_eq!(ffi::check_segment(&input, &header, 0), Err(Error::EntryPointRange));
+}
+
+// Of this type section 1 keeps its name and its data; the range is compared with the input.
+#[test]
+fn sections_of_type_relr() {
+    let mut input = whole();
+    let header = ffi::open(&input).expect("an ELF file");
+    let read = |input: &[u8]| {
+        let mut names = [Name::default(); 2];
+        let filled = ffi::section_names(input, &header, 0, &mut names);
+        (ffi::check_section(input, &header, 1), ffi::section_data(input, &header, 1), filled, names.map(|name| name.range()))
+    };
+    let wanted = read(&input);
+    let (range, [null, name]) = (wanted.1, wanted.3);
+    assert!(range.is_ok_and(|range| range.size > 0) && name.is_ok_and(|name| name.size > 0));
+    assert_eq!((wanted.0, wanted.2, null), (Ok(()), Ok(2), Err(Error::NullName)));
+    let section = header.sh_offset as usize + usize::from(header.sh_entry_size);
+    input[section + 4] = SHT_RELR as u8;
+    assert_eq!(read(&input), wanted);
+    // Its offset and its size: up to the end of the input and one byte more, and sums of more than 64 bits.
+    let end = input.len() as u64;
+    for (offset, size, fits) in [(end, 0, true), (0, end, true), (end - 1, 1, true), (end, 1, false), (end + 1, 0, false), (1, u64::MAX, false), (u64::MAX, 1, false)] {
+        input[section + 24..section + 32].copy_from_slice(&offset.to_le_bytes());
+        input[section + 32..section + 40].copy_from_slice(&size.to_le_bytes());
+        let found = ffi::section_data(&input, &header, 1);
+        assert_eq!(found, if fits { Ok(Range { offset, size }) } else { Err(Error::DataRange) }, "{offset} {size}");
+        assert_eq!(ffi::check_section(&input, &header, 1), Ok(()));
+    }
 }
 
 #[test]

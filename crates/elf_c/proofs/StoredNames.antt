@@ -24,7 +24,7 @@ use Rattle.xmas_elf.specs.Symbol.{dyn_entry_32, dyn_entry_32_fields, dyn_entry_6
 use Rattle.xmas_elf.specs.Types.{ElfFile, SectionHeader}
 use Rattle.elf_c.specs.Batch.{Fills, FillsBy, IsBatch}
 use Rattle.elf_c.specs.DynamicTexts.{linked_name, range_in_strings, texts_with}
-use Rattle.elf_c.specs.Records.{AllLieIn, LiesIn, found_in, name_answer, name_range_by, range_at, section_range, taken_for, text_range}
+use Rattle.elf_c.specs.Records.{AllLieIn, LiesIn, found_in, is_null_type, is_relr_type, name_answer, name_range_by, range_at, section_range, taken_for, text_range}
 use Rattle.elf_c.specs.Status.{and_so}
 use Rattle.elf_c.specs.SymbolTables.{name_by, name_in, symbol_among, symbol_by}
 use Rattle.elf_c.specs.declared.names.Name.{Name}
@@ -95,19 +95,24 @@ data_in file header bytes is =
 
 pub found_lies : (file : ElfFile) (found : Result SectionHeader ElfError) → IfOk (and_then found (section_range file)) (LiesIn file.input.now)
 found_lies file (Err error) = tt
-found_lies file (Ok header) = by_data (section_data_of file header) refl
+found_lies file (Ok header) = by_type (is_relr_type header)
   where
-    by_data : (found : Result (List ℕ) ElfError) → section_data_of file header ≡ found → IfOk (and_then found (λ _. Ok (range_at (section_fields header).offset (section_fields header).size))) (LiesIn file.input.now)
-    by_data (Ok bytes) is = (part_within file.input.now (section_fields header).offset (section_fields header).size bytes (data_in file header bytes is)).0
-    by_data (Err error) is = tt
+    by_range : (found : Result (List ℕ) ElfError) → ((bytes : List ℕ) → found ≡ Ok bytes → range_of file.input.now (section_fields header).offset (section_fields header).size ≡ Ok bytes)
+        → IfOk (and_then found (λ _. Ok (range_at (section_fields header).offset (section_fields header).size))) (LiesIn file.input.now)
+    by_range (Ok bytes) is_range = (part_within file.input.now (section_fields header).offset (section_fields header).size bytes (is_range bytes refl)).0
+    by_range (Err error) is_range = tt
+
+    by_type : (b : Bool) → IfOk (and_then (if b then range_of file.input.now (section_fields header).offset (section_fields header).size else section_data_of file header) (λ _. Ok (range_at (section_fields header).offset (section_fields header).size))) (LiesIn file.input.now)
+    by_type true = by_range (range_of file.input.now (section_fields header).offset (section_fields header).size) (λ bytes is. is)
+    by_type false = by_range (section_data_of file header) (λ bytes is. data_in file header bytes is)
 
 pub in_range_of : (input : List ℕ) (start count : ℕ) → start + count ≤ length input → range_of input start count ≡ Ok (take count (drop start input))
 in_range_of input start count fits = ap (λ (b : Bool). if b then Err DataRange else Ok (take count (drop start input))) (le-ltb (length input) (start + count) fits)
 
 pub section_name_lies : (input : List ℕ) (names : Result Range ElfError) (section : SectionHeader) → LiesIn input (name_answer (name_range_by input names section)).range
 section_name_lies input names section = answer_lies input (name_range_by input names section)
-    (and_then_lies input (section_type section) (λ kind. if is_sh_type Null kind then Err NullName else and_then names (λ part. text_range input part (section_fields section).name))
-    (λ kind. unless_lies input (is_sh_type Null kind) NullName (and_then names (λ part. text_range input part (section_fields section).name))
+    (and_then_lies input (is_null_type section) (λ null. if null then Err NullName else and_then names (λ part. text_range input part (section_fields section).name))
+    (λ null. unless_lies input null NullName (and_then names (λ part. text_range input part (section_fields section).name))
     (and_then_lies input names (λ part. text_range input part (section_fields section).name) (λ part. text_lies input part (section_fields section).name))))
 
 if_ok : {T : Type 0} (b : Bool) (r : Result T Refusal) (why : Refusal) (x : T) → (if b then r else Err why) ≡ Ok x → r ≡ Ok x

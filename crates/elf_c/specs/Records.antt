@@ -1,14 +1,16 @@
 -- The records that the exports fill, by the values of the library (this project's own).
-use Rattle.std.specs.Prelude.{◌≡◌, ◌<◌, ◌≤◌, ℕ, ◌+◌, ◌-◌, ◌==◌, nat_lt, List, [], ◌∷◌, length, slice_get, Option, None, Some, Result, Ok, Err, if◌then◌else◌}
+use Rattle.std.specs.Prelude.{◌≡◌, ◌<◌, ◌≤◌, ℕ, ◌+◌, ◌-◌, ◌==◌, nat_lt, Bool, false, List, [], ◌∷◌, length, slice_get, Option, None, Some, Result, Ok, Err, if◌then◌else◌}
 use Rattle.std.specs.Str.{is_utf8}
 use Rattle.elf_base.specs.Message.{error_number}
 use Rattle.elf_base.specs.Refusal.{and_then, unless}
 use Rattle.elf_base.specs.Text.{text_of}
 use Rattle.elf_base.specs.declared.error.ElfError.{ElfError}
 use Rattle.elf_base.specs.declared.error.ElfError.TheVariants.{NullName, ShortSectionOffset}
+use Rattle.elf_linking.specs.declared.sections.TheConstants.{SHT_RELR}
 use Rattle.elf_records.specs.ProgramNumbers.{ph_type_number}
 use Rattle.elf_records.specs.SectionNumbers.{is_sh_type}
 use Rattle.elf_records.specs.declared.sections.ShType.TheVariants.{Null}
+use Rattle.xmas_elf.specs.Checks.{section_check}
 use Rattle.xmas_elf.specs.First.{IsFirstAt, NoneBelow}
 use Rattle.xmas_elf.specs.SectionHeader.{program_count_of, section_count_of, section_fields, section_list, section_type}
 use Rattle.xmas_elf.specs.NameTable.{HasName, names_section_of, section_named}
@@ -79,9 +81,23 @@ FindsIndex file name (Ok index) = IsFirstAt (λ section. HasName file section na
 FindsIndex file name (Err why) =
     (why ≡ NotFound) × NoneBelow (λ section. HasName file section name) (section_list file) (length (section_list file))
 
+-- a section is of type SHT_RELR (gABI, "Sections", sh_type), which the table of types of `xmas_elf` lacks
+abbrev pub is_relr_type : SectionHeader → Bool
+is_relr_type section = (section_fields section).type_ == SHT_RELR
+
+-- the only error in a section header: a type that is neither in that table nor SHT_RELR
+abbrev pub section_checked : SectionHeader → Result (Unit {0}) ElfError
+section_checked section = if is_relr_type section then Ok tt else section_check section
+
+-- the bytes of a section, or why it has none: for SHT_RELR the byte range of its offset and size
+abbrev pub section_bytes : ElfFile → SectionHeader → Result (List ℕ) ElfError
+section_bytes file section = if is_relr_type section
+    then range_of file.input.now (section_fields section).offset (section_fields section).size
+    else section_data_of file section
+
 -- the range of a section's data, or why it has none
 abbrev pub section_range : ElfFile → SectionHeader → Result Range ElfError
-section_range file section = and_then (section_data_of file section)
+section_range file section = and_then (section_bytes file section)
     (λ _. Ok (range_at (section_fields section).offset (section_fields section).size))
 
 -- the numbers of a program header
@@ -113,9 +129,13 @@ names_range file = and_then (names_section_of file) (λ section. unless (
     (nat_lt (length file.input.now) (section_fields section).offset, ShortSectionOffset)
     ∷ []) (range_at (section_fields section).offset (length file.input.now - (section_fields section).offset)))
 
+-- whether a section is of type SHT_NULL, or that its type is unknown
+abbrev pub is_null_type : SectionHeader → Result Bool ElfError
+is_null_type section = if is_relr_type section then Ok false else and_then (section_type section) (λ kind. Ok (is_sh_type Null kind))
+
 -- the range of a section's name by that of the name table, or why it has none: at the section's index there
 abbrev pub name_range_by : List ℕ → Result Range ElfError → SectionHeader → Result Range ElfError
-name_range_by input names section = and_then (section_type section) (λ kind. if is_sh_type Null kind then Err NullName
+name_range_by input names section = and_then (is_null_type section) (λ null. if null then Err NullName
     else and_then names (λ part. text_range input part (section_fields section).name))
 
 -- the range of a section's name by the name table of the file

@@ -1,14 +1,13 @@
 //! The sections of a file (gABI, "Sections").
 
-ghost use Rattle.std.specs.Prelude.{◌≡◌, ◌↔◌, ℕ, IfOk, IsTrue, Ok, Result};
+ghost use Rattle.std.specs.Prelude.{◌≡◌, ◌↔◌, ◌+◌, ◌≤◌, ℕ, IfOk, IsTrue, Ok, Result, length};
 ghost use Rattle.elf_base.specs.Refusal.{and_then};
 ghost use Rattle.elf_c.specs.Batch.{Fills};
 ghost use Rattle.elf_c.specs.Parsed.{file_of};
 ghost use Rattle.elf_c.specs.Records.{FindsIndex, found_in, found_section, section_range};
-ghost use Rattle.elf_c.specs.Records.{LiesIn, section_record};
+ghost use Rattle.elf_c.specs.Records.{LiesIn, is_relr_type, range_at, section_checked, section_record};
 ghost use Rattle.elf_c.specs.Status.{Gives, GivesHere};
 ghost use Rattle.elf_c.specs.declared.status.Refusal.{Refusal};
-ghost use Rattle.xmas_elf.specs.Checks.{section_check};
 ghost use Rattle.xmas_elf.specs.First.{FindsFirstAt};
 ghost use Rattle.xmas_elf.specs.NameTable.{HasName};
 ghost use Rattle.xmas_elf.specs.SectionHeader.{section_list, section_of};
@@ -19,6 +18,7 @@ use crate::file::Parsed;
 use crate::names::Range;
 use crate::status::{Refusal, give};
 use elf_base::ElfError;
+use elf_linking::sections::SHT_RELR;
 use std::str::from_utf8;
 use xmas_elf::ElfFile;
 use xmas_elf::sections::{SectionHeader, SectionTable, sanity_check};
@@ -93,19 +93,33 @@ pub extern "C" fn xmas_elf_section(
     give(section_at(&header.file(input), index), out)
 }
 
+// Whether a section is of type SHT_RELR.
+#[inline(always)]
+pub(crate) fn is_relr(section: &SectionHeader) -> bool
+    ensures { result ≡ is_relr_type section.now }
+{
+    section.type_().raw() == SHT_RELR
+}
+
 // Checks the section header at an index.
 #[inline(always)]
 fn check_at(file: &ElfFile<'_>, index: u64) -> Result<(), ElfError>
-    ensures { result ≡ and_then (section_of file.now index) section_check }
+    ensures { result ≡ and_then (section_of file.now index) section_checked }
 {
-    sanity_check(file.section_header_at(index)?, file)
+    let section = file.section_header_at(index)?;
+    if is_relr(&section) {
+        return Ok(());
+    }
+    sanity_check(section, file)
 }
 
-/// Checks the section header at an index. The errors are those of `ElfFile::section_header_at` and
-/// `sections::sanity_check`.
+/// Checks the section header at an index: that its type is known, `SHT_RELR` too.
+///
+/// Errors: those of `ElfFile::section_header_at`; those of `sections::sanity_check`, if the type is
+/// not `SHT_RELR`.
 #[unsafe(no_mangle)]
 pub extern "C" fn xmas_elf_check_section(input: &[u8], header: &Parsed, index: u64) -> u32
-    ensures { Gives (and_then (section_of (file_of input.entry header.now) index) section_check)
+    ensures { Gives (and_then (section_of (file_of input.entry header.now) index) section_checked)
         tt result tt }
 {
     give(check_at(&header.file(input), index), &mut ())
@@ -157,6 +171,24 @@ pub extern "C" fn xmas_elf_sections(
     give(fill(file.section_table(), first, out), count)
 }
 
+// The range of the data of a section of any type.
+#[inline(always)]
+fn file_range(section: &SectionHeader, file: &ElfFile<'_>) -> Result<(usize, usize), ElfError>
+    ensures exact { and_then result (λ range. Ok (range_at range.0 range.1))
+        ≡ section_range file.now section.now }
+    ensures within { IfOk result (λ range. range.0 + range.1 ≤ length file.now.input.now) }
+{
+    if !is_relr(section) {
+        return section.file_range(file);
+    }
+    let len = file.input.len() as u64;
+    let (offset, size) = (section.offset(), section.size());
+    if offset > len || size > len - offset {
+        return Err(ElfError::DataRange);
+    }
+    Ok((offset as usize, size as usize))
+}
+
 // The range of the data of the section at an index.
 #[inline(always)]
 pub(crate) fn section_range_at(file: &ElfFile<'_>, index: u64) -> Result<Range, ElfError>
@@ -164,15 +196,17 @@ pub(crate) fn section_range_at(file: &ElfFile<'_>, index: u64) -> Result<Range, 
     ensures within { IfOk result (LiesIn file.now.input.now) }
 {
     let section = file.section_header_at(index)?;
-    let range = section.file_range(file)?;
+    let range = file_range(&section, file)?;
     Ok(Range {
         offset: range.0 as u64,
         size: range.1 as u64,
     })
 }
 
-/// The input range of the data of the section at an index. The errors are those of
-/// `ElfFile::section_header_at` and `SectionHeader::file_range`.
+/// The input range of the data of the section at an index.
+///
+/// Errors: those of `ElfFile::section_header_at`; for type `SHT_RELR` `DataRange` if the section
+/// extends past the end of the input; for other types those of `SectionHeader::file_range`.
 #[unsafe(no_mangle)]
 pub extern "C" fn xmas_elf_section_data(
     input: &[u8],
@@ -202,8 +236,8 @@ fn section_with_name(file: &ElfFile<'_>, name: &[u8]) -> Result<Section, Refusal
     }
 }
 
-/// The first section with a name, as in `ElfFile::find_section_by_name`. `NotFound` if no section
-/// has it, or if it isn't UTF-8.
+/// The first section with a name, as in `ElfFile::find_section_by_name`, which skips type
+/// `SHT_RELR`. `NotFound` if no section has it, or if it isn't UTF-8.
 #[unsafe(no_mangle)]
 pub extern "C" fn xmas_elf_find_section(
     input: &[u8],
