@@ -82,9 +82,11 @@ fn write_relocations<E: LinkedSymbol, W: Write>(
         }
         writeln!(out)?;
     }
-    for place in view.relr(file).transpose()?.into_iter().flatten() {
-        let word = word_at(file, place).unwrap_or(0);
-        writeln!(out, "relr {:x} {:x}", place, word)?;
+    if let Some(places) = view.relr(file) {
+        for place in places? {
+            let word = word_at(file, place).unwrap_or(0);
+            writeln!(out, "relr {:x} {:x}", place, word)?;
+        }
     }
     Ok(())
 }

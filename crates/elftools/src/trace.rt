@@ -26,7 +26,10 @@ fn write_all<E: Entry + Record, W: Write>(
     SymbolIndex::build(&symbols, None, &mut words)?;
     let index = SymbolIndex::lend(&symbols, None, &words);
     for &address in addresses {
-        let section = section_at(file, address).map_or(0, |found| found.0 as u32);
+        let section = match section_at(file, address) {
+            Some((index, _)) => index.min(u32::MAX as usize) as u32,
+            None => 0,
+        };
         let found = match index.symbol_at(address) {
             Some(found) => Some(found),
             None => index.open_below(address, section),
