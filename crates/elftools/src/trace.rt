@@ -9,6 +9,14 @@ use xmas_elf::ElfFile;
 use xmas_elf::bytes::{Record, Table};
 use xmas_elf::symbol_table::{Entry, SymbolTable};
 
+// The index of the section at an address; 0 if there is none.
+fn section_number(file: &ElfFile<'_>, address: u64) -> u32 {
+    match section_at(file, address) {
+        Some(found) => found.0.min(u32::MAX as usize) as u32,
+        None => 0,
+    }
+}
+
 fn write_all<E: Entry + Record, W: Write>(
     alloc: Global,
     file: &ElfFile<'_>,
@@ -26,10 +34,7 @@ fn write_all<E: Entry + Record, W: Write>(
     SymbolIndex::build(&symbols, None, &mut words)?;
     let index = SymbolIndex::lend(&symbols, None, &words);
     for &address in addresses {
-        let section = match section_at(file, address) {
-            Some((index, _)) => index.min(u32::MAX as usize) as u32,
-            None => 0,
-        };
+        let section = section_number(file, address);
         let found = match index.symbol_at(address) {
             Some(found) => Some(found),
             None => index.open_below(address, section),
