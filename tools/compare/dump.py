@@ -59,18 +59,24 @@ def build_ids(path):
 TABLES = ("entry ", "relocation ", "address ")
 
 
-def relocations(path, *options):
-    """The lines of the relocations, by sections or by the dynamic segment (-D)."""
+def relocations(path, lines, *options):
+    """The lines of the relocations, by sections or by the dynamic segment (-D), beside our lines."""
     found, has_addend = [], False
+    ours = [it for it in lines if it.startswith(("relocation ", "address "))]
     for line in run(["readelf", "-rW", *options, "--", path]).output.splitlines():
         has_addend = line.endswith("Addend") if line.startswith(" ") and "Offset" in line else has_addend
         if re.fullmatch("[0-9a-f]{16}|[0-9a-f]{8}", line):
             found.append(f"address {int(line, 16):x}")
         elif one := re.match("([0-9a-f]{8,16})  ([0-9a-f]{8,16}) R_(.*)", line):
-            # An addend stands last, after a sign where there is a symbol.
-            sign, addend = re.search(r"(?:([+-]) |\s)(-?[0-9a-f]+)$", one[3]).groups() if has_addend else ("", "0")
-            number = int(f"{'-' if sign == '-' else ''}{addend}", 16) % 16 ** len(one[1])
-            found.append(f"relocation {int(one[1], 16):x} {int(one[2], 16):x}" + (f" {number:x}" if has_addend else ""))
+            said = f"relocation {int(one[1], 16):x} {int(one[2], 16):x}"
+            if has_addend and (shown := re.search(r"(?:([+-]) |\s)(-?[0-9a-f]+)$", one[3])):
+                # An addend stands last, after a sign where there is a symbol.
+                number = int(f"{'-' if shown[1] == '-' else ''}{shown[2]}", 16) % 16 ** len(one[1])
+                said += f" {number:x}"
+            elif has_addend:
+                # Of a symbol that it doesn't find readelf shows no addend: that of our line.
+                said += "".join(it.removeprefix(said) for it in ours[len(found) : len(found) + 1])
+            found.append(said)
     return found
 
 
@@ -144,13 +150,13 @@ def compare(programs, find, dynamic, path):
             found = [f"found {name} {value} {version}" for name, (value, version, _) in wanted.found.items()]
             named = [it for it in lines if not it.startswith(("section ", *TABLES))]
             tables = [it for it in lines if it.startswith(TABLES)]
-            differing(tally, f"{path} by {program}", tables, entries(file, tables) + relocations(file, *(() if file == path else ("-D",))))
+            differing(tally, f"{path} by {program}", tables, entries(file, tables) + relocations(file, tables, *(() if file == path else ("-D",))))
             differing(tally, f"{path} by {program}", named, ids[file] + wanted.dynamic(named) + (found if file == path else []))
             if file == path:
                 differing(tally, f"{path} by {program}", [it for it in lines if it.startswith("section ")], wanted.sections)
         for file in (path, cut) if has_segments else ():
             lines = tally.output(path, dynamic, file).split("\n")[:-1]
-            wanted_of_c = [it for it in entries(file, lines) if it != "entry 0 0"] + relocations(file, "-D")
+            wanted_of_c = [it for it in entries(file, lines) if it != "entry 0 0"] + relocations(file, lines, "-D")
             differing(tally, f"{path} by C", lines, wanted_of_c)
         for file in (path, cut):
             first, *lines = tally.output(path, find, file, *wanted.found).split("\n")[:-1]
