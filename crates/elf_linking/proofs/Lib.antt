@@ -17,6 +17,7 @@ pub mod NeededTexts
 pub mod ReferenceItems
 pub mod ViewTables
 pub mod SymbolCounts
+pub mod SymbolsInPlace
 pub mod SegmentSymbols
 pub mod Classes
 pub mod BuildIdSearch

@@ -5,15 +5,16 @@ use Rattle.std.specs.List.{find}
 use Rattle.std.specs.Borrow.{Bor}
 use Rattle.elf_base.specs.FileHeader.{file_class, file_order}
 use Rattle.elf_base.specs.Refusal.{and_then}
-use Rattle.elf_base.specs.Table.{table_data, table_order}
+use Rattle.elf_base.specs.Table.{table_bytes, table_data, table_order}
 use Rattle.elf_base.specs.declared.error.ElfError.TheVariants.{NotMultiple}
-use Rattle.elf_linking.specs.DynamicView.{as_link_error, counted_symbols_of, dynamic_entries_of, strings_by}
+use Rattle.elf_linking.specs.DynamicView.{LieAsSymbols, LiesAsStrings, as_link_error, counted_symbols_of, dynamic_entries_of, strings_by}
 use Rattle.elf_linking.specs.References.{IsReachedCount}
 use Rattle.elf_linking.specs.declared.error.LinkError.{LinkError}
 use Rattle.elf_linking.specs.declared.error.LinkError.TheVariants.{Elf, UnknownClass}
 use Rattle.elf_linking.specs.declared.symbols.FileSymbols.{FileSymbols}
 use Rattle.elf_linking.specs.declared.symbols.FileSymbols.TheVariants.{Narrow, Wide}
 use Rattle.elf_records.specs.declared.dynamic.Dynamic.{Dynamic}
+use Rattle.xmas_elf.specs.Place.{LiesAsSection}
 use Rattle.xmas_elf.specs.SectionData.{section_data_of}
 use Rattle.xmas_elf.specs.SectionHeader.{section_fields, section_list, section_of}
 use Rattle.xmas_elf.specs.SymbolTable.{carried_strings, carried_table, table_symbols}
@@ -65,6 +66,15 @@ abbrev pub lent_pair : Result (Bor (List ℕ) × Bor (List ℕ)) LinkError → R
 lent_pair (Ok pair) = Ok (pair.0.now, pair.1.now)
 lent_pair (Err error) = Err error
 
+-- where these two slices lie: at the offsets of the section and of the string table that it links to, or at those of
+-- the addresses in the dynamic segment
+pub data LieAsFileSymbols (file : ElfFile) (bytes strings : Bor (List ℕ)) : Type 0 where
+  as_section : (section linked : SectionHeader) → symbols_section_of file ≡ Some section
+      → section_of file (section_fields section).link ≡ Ok linked
+      → LiesAsSection file section bytes → LiesAsSection file linked strings → LieAsFileSymbols file bytes strings
+  as_segment : (entries : List (Dynamic ℕ)) → symbols_section_of file ≡ None → dynamic_entries_of file ≡ Ok entries
+      → LieAsSymbols file entries bytes → LiesAsStrings file entries strings → LieAsFileSymbols file bytes strings
+
 -- the symbols of a file, of a size, with their names in their string table
 pub record AreTableOf {E : Type 0} {e r : _} (size : ℕ) (file : ElfFile) (symbols : SymbolTable E e r) : Type 0 where
   pub strings : Bor (List ℕ)
@@ -72,6 +82,7 @@ pub record AreTableOf {E : Type 0} {e r : _} (size : ℕ) (file : ElfFile) (symb
   pub bytes_are : AreFileSymbols file size (Ok (table_data (carried_table symbols), strings.now))
   pub order_is : table_order (carried_table symbols) ≡ file_order file.header
   pub symbols_are : table_symbols symbols ≡ named_symbols e.fields strings.now (carried_table symbols)
+  pub lie : LieAsFileSymbols file (table_bytes (carried_table symbols)) strings
 
 -- why there are none: by the class of the file, whose symbols have 16 bytes or 24 (Elf32_Sym, Elf64_Sym)
 pub data NoFileSymbols (file : ElfFile) : LinkError → Type 0 where

@@ -1,10 +1,14 @@
 //! The symbols of a file, wherever it has them (gABI, "Sections", SHT_SYMTAB and SHT_DYNSYM, and
 //! "Dynamic Section", DT_SYMTAB).
 
-ghost use Rattle.std.specs.Prelude.{◌≡◌, ◌<◌, ◌≤◌, ◌%◌, Err, IfOk, MatchResult, length};
+ghost use Rattle.std.specs.Prelude.{◌≡◌, ◌<◌, ◌≤◌, ◌%◌, Err, IfOk, IsOkAnd, MatchResult, length};
+ghost use Rattle.elf_linking.specs.DynamicView.{LieAsSymbols, LiesAsStrings, dynamic_entries_of};
 ghost use Rattle.elf_linking.specs.FileSymbols.{AreFileSymbols, AreSegmentSymbols, AreSymbolsOf};
-ghost use Rattle.elf_linking.specs.FileSymbols.{AreTableOf, NoFileSymbols, first_of_type, is_of_type};
-ghost use Rattle.elf_linking.specs.FileSymbols.{lent_pair, section_symbols_of, symbols_section_of};
+ghost use Rattle.elf_linking.specs.FileSymbols.{AreTableOf, LieAsFileSymbols, NoFileSymbols};
+ghost use Rattle.elf_linking.specs.FileSymbols.{first_of_type, is_of_type, lent_pair};
+ghost use Rattle.elf_linking.specs.FileSymbols.{section_symbols_of, symbols_section_of};
+ghost use Rattle.xmas_elf.specs.Place.{LiesAsSection};
+ghost use Rattle.xmas_elf.specs.SectionHeader.{section_fields, section_of};
 
 use crate::LinkError;
 use crate::view::{DynamicView, LinkedSymbol};
@@ -35,7 +39,7 @@ impl<'a> FileSymbols<'a> {
     /// string table that the section links to. If there is no such section, they are those of the
     /// first section of type DynSym, such as `.dynsym`. If there is none either, as in a file
     /// without section headers, they are those of the dynamic segment: `DynamicView::reached_count`
-    /// symbols.
+    /// symbols. The symbols and their names are slices of the input.
     ///
     /// Errors: `UnknownClass` if the class is neither 1 nor 2. For a section: those of
     /// `SectionHeader::raw_data`; `Elf` with `NotMultiple` if its size is not a multiple of that of
@@ -71,6 +75,7 @@ fn parts_of<'a>(file: &ElfFile<'a>, size: u64) -> Result<(&'a [u8], &'a [u8]), L
     requires below { size ≤ 24 }
     ensures exact { AreFileSymbols file.now size (lent_pair result) }
     ensures whole { IfOk result (λ parts. length parts.0.now % size ≡ 0) }
+    ensures place { IfOk result (λ parts. LieAsFileSymbols file.now parts.0 parts.1) }
 {
     match symbols_section(file) {
         Some(section) => section_parts(file, &section, size),
@@ -88,6 +93,9 @@ fn section_parts<'a>(
     requires { 0 < size }
     ensures exact { lent_pair result ≡ section_symbols_of file.now size section.now }
     ensures whole { IfOk result (λ parts. length parts.0.now % size ≡ 0) }
+    ensures place { IfOk result (λ parts. LiesAsSection file.now section.now parts.0
+        × IsOkAnd (section_of file.now (section_fields section.now).link)
+        (λ linked. LiesAsSection file.now linked parts.1)) }
 {
     let bytes = section.raw_data(file)?;
     if bytes.len() as u64 % size != 0 {
@@ -104,6 +112,8 @@ fn segment_parts<'a>(file: &ElfFile<'a>, size: u64) -> Result<(&'a [u8], &'a [u8
     requires below { size ≤ 24 }
     ensures exact { AreSegmentSymbols file.now size (lent_pair result) }
     ensures whole { IfOk result (λ parts. length parts.0.now % size ≡ 0) }
+    ensures place { IfOk result (λ parts. IsOkAnd (dynamic_entries_of file.now)
+        (λ entries. LieAsSymbols file.now entries parts.0 × LiesAsStrings file.now entries parts.1)) }
 {
     let view = DynamicView::read(file)?;
     let count = view.reached_count(file)?;
