@@ -108,7 +108,7 @@ def compare(copy: Path, path: str, elfsym: str, tally: Tally) -> None:
 
 
 if __name__ == "__main__":
-    counted = ("of them copies without section headers", "names with a symbol", "of them with several values",
+    counted = ("files", "of them copies without section headers", "names with a symbol", "of them with several values",
         "names with a version that has a symbol", "others", "needed libraries")
     with tempfile.TemporaryDirectory() as folder:
-        sys.exit(compare_all(__doc__, Tally("elfsym", *counted), functools.partial(compare, Path(folder, "copy"))))
+        sys.exit(compare_all(__doc__, Tally("elfsym", *counted), functools.partial(compare, Path(folder, "copy")), "elfsym"))

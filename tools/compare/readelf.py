@@ -184,4 +184,4 @@ def compare(path: str, elfinfo: str, tally: Tally) -> None:
 
 
 if __name__ == "__main__":
-    sys.exit(compare_all(__doc__, Tally("elfinfo", "sections", "segments", "expected errors"), compare))
+    sys.exit(compare_all(__doc__, Tally("elfinfo", "files", "sections", "segments", "expected errors"), compare, "elfinfo"))

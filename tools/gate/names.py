@@ -1,12 +1,10 @@
 #!/usr/bin/env python3
-"""Wants the built elfsections and elfsym to write names of any bytes as readelf does in the C locale, and elfnm as they
-stand.
+"""Wants the built elfsym to write names of any bytes with the escapes of readelf in the C locale, and elfnm as they are.
 
 Names of files that the repository keeps get control characters, and bytes that aren't UTF-8. `readelf` of GNU
 binutils must show each name with the escapes that are made here; of needed libraries it shows the bytes as they
-stand. Each build of a program must write what it writes of the file as it is kept, but for these names and for what
-is wanted of a hash table whose names have other hash numbers. Run it at the top of the repository, once the programs
-are built: tools/gate/names.py [PROGRAM..]
+are. Each build of a program must write what it writes of the file as it is kept, but for these names. Run it at the
+top of the repository, once the programs are built: tools/gate/names.py [PROGRAM..]
 """
 import dataclasses
 import os
@@ -27,31 +25,14 @@ class Case:
     words: list
     readelf: str
     names: dict
-    # What the program writes of the file as it is kept, and parts of that which change apart from names.
+    # What the program writes of the file as it is kept.
     kept: bytes
-    changed: dict = dataclasses.field(default_factory=dict)
-
-
-def stored_part(program: str, first: bytes, end: bytes) -> bytes:
-    """The lines of a stored run from one on, up to another."""
-    stored = (CRATES / program / "stdout").read_bytes()
-    start = stored.index(first)
-    return stored[start : stored.index(end, start) if end else len(stored)]
 
 
 CASES = [
     Case("elfnm", "elfnm/data/add.o", ["names.elf"], "-sSW",
         {b".data": b".\x01\x7f\xc3\xff", b".bss": b"\x1f\x80\xa9_", b"twice": b"t\t\xfe\ne", b"total": b"\xc3\xa9\x02\x7f\x1b"},
         (CRATES / "elfnm" / "stdout").read_bytes()),
-    Case("elfsections", "elfsections/data/wide.so", ["names.elf"], "-nSW",
-        {b".note.gnu.build-id": b".note\x01gnu\xffbuild\x7fid", b".relr.dyn": b".re\x1f\xc3\xa9dyn", b".gnu.hash": b"\xc3\xa9\t\xff_hash",
-            b"GNU": b"G\xfe\x02"},
-        stored_part("elfsections", b"wide.so\n", b"symbols.so\n").replace(b"wide.so\n", b"names.elf\n")),
-    # A name with another hash number isn't found, and nor is one that isn't UTF-8.
-    Case("elfsections", "elfsections/data/symbols.so", ["names.elf"], "-SW --dyn-syms",
-        {b"outer": b"o\xff\x01\x7fr", b"third": b"t\x7f\x02rd", b"fifth": b"f\xc3fth"},
-        stored_part("elfsections", b"symbols.so\n", b"").replace(b"symbols.so\n", b"names.elf\n"),
-        {b"\nok\n": b"\n! Symbol is missing from the GNU hash table\n", b"2 2 third": b"2 - third", b"3 3 fifth": b"3 - fifth"}),
     Case("elfsym", "elfsym/data/needs.so", ["--needed", "names.elf"], "-dW",
         {b"libneed.so": b"l\x01\x1f\x7f\x80\xff\xc3\t\n."}, b"libneed.so\n"),
 ]
@@ -85,7 +66,7 @@ def unlike(case: Case, built: dict, room: str) -> int:
             count += 1
             print(f"readelf shows {name!r} OTHERWISE than as {wanted!r}")
     written = {old: new if case.program == "elfnm" else escaped(new) for old, new in case.names.items()}
-    wanted = replaced(replaced(case.kept, case.changed), written)
+    wanted = replaced(case.kept, written)
     for program in built[case.program]:
         ran = run(program, case.words, room)
         is_well = (ran.returncode, ran.stdout, ran.stderr) == (0, wanted, b"")

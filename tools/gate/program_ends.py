@@ -152,7 +152,6 @@ BIND_ENDS = ends_of(
     a_refused_second_file=failing("elfbind", ["caller", "zeros.elf"], "zeros.elf: Did not find ELF magic number"),
     a_refused_first_file=failing("elfbind", ["zeros.elf", "caller"], "zeros.elf: Did not find ELF magic number"),
     a_file_without_a_dynamic_segment=failing("elfbind", ["caller", "link.elf"], "link.elf: No dynamic segment"),
-    a_file_of_another_class=failing("elfbind", ["caller", "narrow.so"], "narrow.so: Class is neither 1 nor 2"),
     the_libraries_in_the_other_order=(["caller", "libsecond.so", "libfirst.so"], 0, (BOUND / "bound_other.txt").read_bytes(), b""),
     a_program_and_two_libraries_of_class_32=(NARROW_BOUND, 0, (BOUND / "bound_32.txt").read_bytes(), b""),
     files_of_both_classes=failing("elfbind", ["caller", "libfirst_32.so"], "libfirst_32.so: Class is neither 1 nor 2"),
@@ -311,8 +310,7 @@ def long_ends(program, built, room):
 def unlike(program, built: pathlib.Path) -> int:
     """Prints how a build of a program ends, and returns how often that is not as it must be."""
     count = 0
-    files = {NOT_UTF8: STRTAB, b"cut.so": CUT_VERSIONS, b"narrow.so": (CRATES / "elfsections" / "data" / "narrow.so").read_bytes(),
-        b"strtab.elf": STRTAB, b"empty.elf": b"", b"zeros.elf": bytes(16), b"three.elf": STRTAB[:3], b"link.elf": debug_link(),
+    files = {NOT_UTF8: STRTAB, b"cut.so": CUT_VERSIONS, b"strtab.elf": STRTAB, b"empty.elf": b"", b"zeros.elf": bytes(16), b"three.elf": STRTAB[:3], b"link.elf": debug_link(),
         b"hash.elf": hash_file(), b"far.elf": larger(FAR, 2), b"long.elf": larger(52, MANY), b"linked.so": LINKED, b"needs.so": NEEDS,
         b"places.so": PLACES,
         b"stripped.so": (CRATES / "elfsym" / "data" / "stripped.so").read_bytes(),
