@@ -3,23 +3,12 @@
 
     tools/compare/fuzz_bindings.py [--elfbind PATH] [--elfsym PATH] [--seed N] [--count N]
 
-A copy is a file of crates/elfbind/data of class 64, or a library that gcc makes here, in which one to three numbers were
-changed, at random from the seed; docs/TESTS.md says which. The linker makes a table of versions with a place for each number.
-So a symbol has no number past those of the file, for which it would read past that table, and no two versions have one
-number, of which it would take the last.
-
-For each of the N copies of a program or of one of its two libraries, elfbind is run on the three files, and they are compared
-as by tools/compare/bindings.py. Where the linker ends early, as where it copies from an address that isn't there, what it
-has printed is compared. For each of N copies of a library, elfsym, dlsym and dlvsym are asked for each name, for each name
-with each version, and for each name with a version that the file doesn't have. Compared are whether a symbol is found, and
-its address; of thread-local symbols only the first. No copy for this has a symbol of the type STT_GNU_IFUNC, whose resolver
-dlsym would run.
-
-Not compared, and counted apart: names with a unique symbol (STB_GNU_UNIQUE), which glibc merges by name over a process;
-copies of which a program of this repository says that their hash table or their versions fail a check; those that the
-linker doesn't load; and names that dlsym finds in a library that the file needs, in which elfsym does not look.
-
-Objects of class 32 are not tried: the linker for them is on few systems.
+docs/TESTS.md says what is changed at random from the seed, and what isn't compared. elfbind is run on N copies of a program or
+of one of its two libraries, and compared as by tools/compare/bindings.py; where the linker ends early, as where it copies from
+an address that isn't there, what it has printed is compared. Of N copies of a library elfsym, dlsym and dlvsym are asked for
+each name, for each name with each version, and for each name with a version that the file doesn't have. Compared are whether a
+symbol is found, and its address; of thread-local symbols only the first. No copy for this has a symbol of the type
+STT_GNU_IFUNC, whose resolver dlsym would run. Objects of class 32 are not tried: the linker for them is on few systems.
 """
 import random
 import subprocess

@@ -243,11 +243,13 @@ class Loaded:
     base: int
     is_protected: bool = False
 
-    def flags(self, line: Mapping, address: int) -> str:
-        """The permissions of a page."""
-        if self.is_protected and self.plan.relro and self.plan.relro[0] <= address - self.base < self.plan.relro[1]:
-            return "r--"
-        return line.flags
+    def parts(self, line: Mapping) -> Iterator[Mapping]:
+        """A mapping of the plan at its addresses in the process, with the pages of relro apart."""
+        relro = self.plan.relro if self.is_protected and self.plan.relro else (0, 0)
+        places = sorted({line.start, line.end, *(it for it in relro if line.start < it < line.end)})
+        for start, end in zip(places, places[1:]):
+            flags = "r--" if relro[0] <= start < relro[1] else line.flags
+            yield Mapping(self.base + start, self.base + end, flags, line.offset + start - line.start, line.holds)
 
 
 @functools.lru_cache(maxsize=None)
@@ -260,64 +262,46 @@ def content_of(path: str) -> bytes:
     return Path(path).read_bytes()
 
 
-def split(loaded: Loaded, line: Mapping) -> Iterator[Tuple[int, int, str]]:
-    """The parts of a line with the same permissions, by their addresses in the process."""
-    start, end = loaded.base + line.start, loaded.base + line.end
-    places = {start, end}
-    if loaded.is_protected and loaded.plan.relro:
-        places |= {loaded.base + it for it in loaded.plan.relro if line.start < it < line.end}
-    ordered = sorted(places)
-    for one, other in zip(ordered, ordered[1:]):
-        yield one, other, loaded.flags(line, one)
-
-
-def as_mapped(mapping: Mapping, loaded: Loaded, line: Mapping, start: int, flags: str) -> bool:
-    """Whether a mapping is as the line says, from an address of both on."""
-    if mapping.flags != flags:
-        return False
-    if line.holds == "file":
-        at = line.offset + start - loaded.base - line.start
-        return mapping.holds == loaded.path and mapping.offset + start - mapping.start == at
-    return line.holds == "none" or mapping.holds in ("", "[heap]")
+def as_mapped(mapping: Mapping, path: str, part: Mapping) -> bool:
+    """Whether a mapping is as a part of the plan of a file says."""
+    if part.holds == "file":
+        is_same = mapping.holds == path and mapping.offset - mapping.start == part.offset - part.start
+    else:
+        is_same = part.holds == "none" or mapping.holds in ("", "[heap]")
+    return is_same and mapping.flags == part.flags
 
 
 def compare_line(maps: List[Mapping], loaded: Loaded, line: Mapping, name: str, tally: Plans) -> None:
     """Compares the pages of a line."""
     starts = [it.start for it in maps]
-    for start, end, flags in split(loaded, line):
-        at = start
-        while at < end:
+    for part in loaded.parts(line):
+        at = part.start
+        while at < part.end:
             index = bisect.bisect_right(starts, at) - 1
             mapping = maps[index] if index >= 0 and at < maps[index].end else None
-            if mapping is None or not as_mapped(mapping, loaded, line, at, flags):
-                tally.fault(f"{name}: {loaded.path}: elfload says {line} at {at - loaded.base:x} ({flags}), maps say {mapping}")
+            if mapping is None or not as_mapped(mapping, loaded.path, part):
+                tally.fault(f"{name}: {loaded.path}: elfload says {line} at {at - loaded.base:x} ({part.flags}), maps say {mapping}")
                 return
-            at = min(end, mapping.end)
+            at = min(part.end, mapping.end)
     tally["mappings"] += 1
 
 
 def compare_bytes(process: Stopped, loaded: Loaded, line: Mapping, all_bytes: bool, name: str, tally: Plans) -> None:
     """Compares the bytes of a line that is not writable, or of any line at exec."""
-    for start, end, flags in split(loaded, line):
-        if line.holds == "none" or flags[0] != "r" or ("w" in line.flags and not all_bytes):
+    for part in loaded.parts(line):
+        size, is_writable = part.end - part.start, "w" in line.flags
+        if part.holds == "none" or part.flags[0] != "r" or (is_writable and not all_bytes):
             continue
-        held = process.memory(start, end - start)
-        wanted = b""
-        if line.holds == "file":
-            at = line.offset + start - loaded.base - line.start
-            wanted = content_of(loaded.path)[at : at + end - start]
-        # Of pages of the file past its end there are no bytes.
-        last = -(-len(wanted) // PAGE) * PAGE if line.holds == "file" else end - start
-        wanted = wanted.ljust(min(last, end - start), b"\0")
-        if held != wanted and not ("w" in line.flags and line.holds == "file" and ends_in_zeros(held, wanted)):
+        held, wanted = process.memory(part.start, size), bytes(size)
+        if part.holds == "file":
+            wanted = content_of(loaded.path)[part.offset : part.offset + size]
+            # Of pages of the file past its end there are no bytes.
+            wanted = wanted.ljust(min(-(-len(wanted) // PAGE) * PAGE, size), b"\0")
+        # In writable pages of a file zeros may begin before its bytes end.
+        last = len(held.rstrip(b"\0")) if is_writable and part.holds == "file" else len(held)
+        if len(held) != len(wanted) or held[:last] != wanted[:last]:
             tally.fault(f"{name}: {loaded.path}: bytes of {line} are others")
         tally["bytes"] += len(held)
-
-
-def ends_in_zeros(held: bytes, wanted: bytes) -> bool:
-    """Whether bytes are these up to a place, and zero from there on."""
-    last = len(held.rstrip(b"\0"))
-    return len(held) == len(wanted) and held[:last] == wanted[:last]
 
 
 def compare_loaded(process: Stopped, maps: List[Mapping], loaded: Loaded, at_exec: bool, name: str, tally: Plans) -> None:
@@ -331,8 +315,7 @@ def compare_loaded(process: Stopped, maps: List[Mapping], loaded: Loaded, at_exe
         if is_new:
             compare_bytes(process, loaded, line, at_exec, name, tally)
     for mapping in maps:
-        if mapping.holds == loaded.path and not any(
-            loaded.base + it.start <= mapping.start and mapping.start < loaded.base + it.end for it in lines):
+        if mapping.holds == loaded.path and not any(it.start <= mapping.start - loaded.base < it.end for it in lines):
             tally.fault(f"{name}: {loaded.path}: elfload has no mapping at {mapping}")
 
 
