@@ -219,7 +219,7 @@ def compare_others(elfaddr: str, path: str, count: int, tables: Dict[str, collec
 
 
 def main() -> int:
-    given = parser_of(__doc__, "elfaddr", libraries=60, addresses=20000, each=3000).parse_args()
+    given = parser_of(__doc__, "elfaddr", files="*", libraries=60, addresses=20000, each=3000).parse_args()
     tally, tables = Tally("elfaddr", "libraries"), collections.defaultdict(collections.Counter)
     libraries = sorted({os.path.realpath(it) for it in glob.glob("/usr/lib/x86_64-linux-gnu/*.so.*")}, key=lambda it: (-os.path.getsize(it), it))
     for path in libraries:

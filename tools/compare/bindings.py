@@ -173,7 +173,7 @@ def print_times(programs: List[Tuple[int, Program]], elfbind: str) -> None:
 
 
 def main() -> int:
-    given = parser_of(__doc__, "elfbind", damaged=0, seed=1, times=0).parse_args()
+    given = parser_of(__doc__, "elfbind", files="*", damaged=0, seed=1, times=0).parse_args()
     tally, most = Tally("elfbind", "programs", "left out", "bindings compared", "unresolved"), []
     for path in programs_in(given.files):
         if program := read_program(path):

@@ -63,13 +63,16 @@ class Tally(collections.Counter):
         return done.output if done.status == 0 else ""
 
     def __str__(self) -> str:
-        others = (it for it in self if it not in (*self.names, "differences"))
-        return ", ".join(f"{self[name]} {name}" for name in (*self.names, *others, "differences"))
+        names = dict.fromkeys((*self.names, *self))
+        return ", ".join(f"{self[name]} {name}" for name in (*(it for it in names if it != "differences"), "differences"))
 
     def ended(self) -> int:
         """Prints the counts, and gives the status."""
         print(self)
         return 1 if self["differences"] else 0
+
+
+ended = Tally.ended
 
 
 def run(command: List[str], seconds=600, **variables: str) -> Finished:
@@ -228,8 +231,9 @@ def files_of(paths: List[str]) -> Iterator[str]:
             yield from (it for it in inside if os.path.isfile(it) and not os.path.islink(it))
 
 
-def parser_of(doc: Optional[str], *programs: str, files: str = "*", **numbers: int) -> argparse.ArgumentParser:
-    """A reader of arguments, with an option for the path of each of these programs and for each of these numbers."""
+def parser_of(doc: Optional[str], *programs: str, files: str = "", **numbers: int) -> argparse.ArgumentParser:
+    """A reader of arguments, with an option for the path of each of these programs and for each of these numbers, and with files
+    where their number is given, as `*`."""
     # Names that aren't UTF-8 go out as they came in.
     sys.stdout.reconfigure(encoding="utf-8", errors="surrogateescape", line_buffering=True)
     parser = argparse.ArgumentParser(description=doc, formatter_class=argparse.RawDescriptionHelpFormatter)

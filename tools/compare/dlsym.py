@@ -96,7 +96,7 @@ def compare(path: str) -> Tally:
 
 
 def main() -> int:
-    given, total = parser_of(__doc__, jobs=2).parse_args(), Tally("", "libraries")
+    given, total = parser_of(__doc__, files="*", jobs=2).parse_args(), Tally("", "libraries")
     files = given.files or sorted({os.path.realpath(path) for path in glob.glob("/usr/lib/x86_64-linux-gnu/*.so.*")})
     with concurrent.futures.ThreadPoolExecutor(given.jobs) as pool:
         for tally in pool.map(compare, filter(read_elf, files)):

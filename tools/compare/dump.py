@@ -158,7 +158,7 @@ def compare(programs, find, dynamic, path):
 
 
 def main():
-    given, total = parser_of(__doc__ + ABOUT).parse_args(), Tally("dump", "files", "lines")
+    given, total = parser_of(__doc__ + ABOUT, files="*").parse_args(), Tally("dump", "files", "lines")
     files = filter(read_elf, files_of(given.files)) if given.files else spread()
     with tempfile.TemporaryDirectory() as room, concurrent.futures.ThreadPoolExecutor(os.cpu_count()) as pool:
         for tally in pool.map(functools.partial(compare, *built(room)), files):

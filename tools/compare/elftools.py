@@ -228,7 +228,7 @@ def compare_bind(ours: str, path: str, tally: Tally) -> None:
 
 
 def main() -> int:
-    given = parser_of(__doc__, "elftools").parse_args()
+    given = parser_of(__doc__, "elftools", files="*").parse_args()
     tally = Tally("elftools", "files", "sizes", "addresses", "relocations", "pages", "bindings")
     system = [it for it in SYSTEM if os.path.exists(it)]
     for path in given.files or [*system, str(ROOT / "crates/elftools/data/prog")]:

@@ -141,7 +141,7 @@ class Fuzzing:
 
 
 def main() -> int:
-    options = parser_of(__doc__, files="", seed=1, count=500).parse_args()
+    options = parser_of(__doc__, seed=1, count=500).parse_args()
     resource.setrlimit(resource.RLIMIT_AS, (ROOM, ROOM))
     began = time.monotonic()
     with tempfile.TemporaryDirectory(dir="/dev/shm" if os.path.isdir("/dev/shm") else None) as room:

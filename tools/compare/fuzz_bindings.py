@@ -142,7 +142,7 @@ def compare_symbols(comparison: Comparison, chance: random.Random, count: int) -
 
 
 def main() -> int:
-    given = parser_of(__doc__, "elfbind", "elfsym", files="", seed=1, count=3000).parse_args()
+    given = parser_of(__doc__, "elfbind", "elfsym", seed=1, count=3000).parse_args()
     tally = Tally("", "copies", "results compared")
     with tempfile.TemporaryDirectory() as room:
         comparison = Comparison(given.elfbind, given.elfsym, room, tally)

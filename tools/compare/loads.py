@@ -469,7 +469,7 @@ def smallest(paths: List[str]) -> str:
 
 
 def main() -> int:
-    given = parser_of(__doc__, "elfload", damaged=0, seed=1).parse_args()
+    given = parser_of(__doc__, "elfload", files="*", damaged=0, seed=1).parse_args()
     if not can_trace():
         print("0 programs, 0 differences: processes can't be traced here")
         return 0
