@@ -1,7 +1,7 @@
 //! Recipes: what the page for new users quotes. Each is proved not to panic. Those for the
 //! segment of an address and for the instructions say in a contract what they return; the
 //! others carry no claim. All read files of both classes but `print_build_id` and `first_symbols`,
-//! which read those of class 64. `tools/compare/elftools.py` compares what they print with `readelf`.
+//! which read those of class 64. `tools/compare/recipes.py` compares what they print with `readelf`.
 
 ghost use Rattle.std.specs.Prelude.{◌↔◌, IfNone, IfSome, IsTrue, codes, ℕ};
 ghost use Rattle.elf_callers.specs.LoadedAt.{IsLoadedAt};

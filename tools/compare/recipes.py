@@ -1,0 +1,124 @@
+#!/usr/bin/env python3
+"""Compares what the recipes of crates/elf_callers/src/recipes.rt print with readelf, over real files.
+
+    tools/compare/recipes.py [--elftools PATH] [FILE..]
+
+`elftools recipes` runs each recipe over a file. Without files it takes the programs and libraries of SYSTEM, and what gcc
+makes of a small source here: an object file, a program and a shared object of class 64, and by -m32 of class 32 an
+object file and, by -nostdlib, a shared object. Files that it doesn't read count as differences.
+"""
+import re
+import subprocess
+import sys
+import tempfile
+from pathlib import Path
+
+from comparing import LOAD, ROOT, SECTION, Tally, build_ids, llvm, parser_of, parts, raw, relocation_tables, texts_of
+
+SYSTEM = ["/bin/ls", "/usr/bin/readelf", "/bin/bash", "/lib/x86_64-linux-gnu/libc.so.6", "/lib/x86_64-linux-gnu/libm.so.6"]
+OURS = ["crates/elfnm/data/add.o", "crates/elfbind/data/libfirst.so", "crates/elfbind/data/libfirst_32.so", "crates/elfsym/data/stripped.so"]
+
+SOURCE = """
+extern int far(int);
+int shared_number = 3;
+static int hidden(int x) { return far(x) + shared_number; }
+int near(int x) { return hidden(x) * 2; }
+"""
+MAIN = "int far(int x) { return x; } int near(int); int main(void) { return near(0) & 1; }"
+
+# What is made of SOURCE, by the arguments of gcc.
+MADE = {
+    "object_64.o": ["-c", "near.c"],
+    "program_64": ["near.c", "main.c"],
+    "static_64": ["-static", "near.c", "main.c"],
+    "shared_64.so": ["-shared", "-fPIC", "near.c", "-lm", "-Wl,--no-as-needed,-lm,--hash-style=both"],
+    "object_32.o": ["-m32", "-c", "near.c"],
+    "shared_32.so": ["-m32", "-shared", "-fPIC", "-nostdlib", "near.c", "-Wl,--allow-shlib-undefined"],
+    "needs_32.so": ["-m32", "-shared", "-fPIC", "-nostdlib", "near.c", "-Wl,--no-as-needed", "./shared_32.so"],
+}
+
+NO_BITS = 8
+
+
+def make(folder: Path) -> list:
+    """The files that gcc makes here; one that it can't make is told of and left out."""
+    (folder / "near.c").write_text(SOURCE)
+    (folder / "main.c").write_text(MAIN)
+    made = []
+    for name, arguments in MADE.items():
+        done = subprocess.run(["gcc", "-O1", *arguments, "-o", name], cwd=folder, capture_output=True, text=True)
+        made += [str(folder / name)] if done.returncode == 0 else []
+        if done.returncode != 0:
+            print(f"gcc makes no {name}: {done.stderr.strip().splitlines()[-1:]}")
+    return made
+
+
+def symbols(said: list, is_dynamic: bool) -> list:
+    """The value, size and name of each symbol."""
+    found = []
+    for it in said:
+        # The name of a section's symbol is that of the section for readelf, and a version is no part of one.
+        name = "" if raw(it["Type"]) == SECTION else it["Name"]["Value"]
+        found.append((it["Value"], it["Size"], name.split("@")[0] if is_dynamic else name))
+    return found
+
+
+def relocations(path: str, is_wide: bool, sections: list, tables: dict) -> list:
+    """The lines of the relocations of all sections."""
+    bits, kinds = (32, 0xFFFFFFFF) if is_wide else (8, 0xFF)
+    links, names, found = {it["Name"]["Value"]: it["Link"] for it in sections}, [it["Name"]["Value"] for it in sections], []
+    for table in relocation_tables(path):
+        link = links.get(table.section)
+        symbols = tables.get(names[link]) if link else None
+        for it in table.rows:
+            name = symbols[it.info >> bits][2] if symbols else "?"
+            found.append(f"{it.offset:x} {it.info & kinds} {name}" + (f" {it.addend}" if table.has_addends else ""))
+    return found
+
+
+def wanted(path: str) -> dict:
+    """What readelf says of a file, in the form in which the recipes print it."""
+    said = llvm(path, "-h", "-S", "-l", "--symbols", "--dyn-syms")
+    header, sections, needed = said["ElfHeader"], parts(said, "Sections", "Section"), texts_of(path, "NEEDED")
+    is_wide, names = raw(header["Ident"]["Class"]) == 2, [it["Name"]["Value"] for it in sections]
+    tables = {".symtab": symbols(parts(said, "Symbols", "Symbol"), False), ".dynsym": symbols(parts(said, "DynamicSymbols", "Symbol"), True)}
+    loads = [it for it in parts(said, "ProgramHeaders", "ProgramHeader") if raw(it["Type"]) == LOAD]
+    entry = [it for it in loads if it["VirtualAddress"] <= header["Entry"] < it["VirtualAddress"] + it["MemSize"]]
+    text = [it["Size"] for it in sections if it["Name"]["Value"] == ".text" and raw(it["Type"]) != NO_BITS]
+    own = tables[".symtab"] if ".symtab" in names else []
+    return {
+        "sections": [f"{index} {it['Size']} {it['Name']['Value']}" for index, it in enumerate(sections)],
+        "symbols": [f"{value:x} {size} {name}" for value, size, name in own],
+        "relocations": relocations(path, is_wide, sections, tables),
+        "needed": needed if ".dynamic" in names else [],
+        "needed by segments": needed if loads else [],
+        "build id": build_ids(path) if is_wide and ".note.gnu.build-id" in names else [],
+        "segment of the entry point": [f"{it['VirtualAddress']:x} {it['MemSize']}" for it in entry[:1]],
+        "text": [str(text[0])] if text else [],
+        "first symbols": [str(len(own))] if is_wide and ".symtab" in names else [],
+    }
+
+
+def compare(tally: Tally, program: str, path: str) -> None:
+    """Compares what the recipes print of a file, each behind a line with its name."""
+    tally["files"] += 1
+    printed = re.split(r"^\[([\w ]+)\]\n", tally.output(path, program, "recipes", path), flags=re.M)
+    said = dict(zip(printed[1::2], (part.splitlines() for part in printed[2::2])))
+    for name, lines in wanted(path).items():
+        ours = said.get(name, [])
+        if ours != lines:
+            at = next((it for it, (one, other) in enumerate(zip(ours, lines)) if one != other), min(len(ours), len(lines)))
+            tally.differ(path, f"{name}, line {at + 1} of {len(ours)} and {len(lines)}", ours[at : at + 1], lines[at : at + 1])
+
+
+def main() -> int:
+    given, tally = parser_of(__doc__, "elftools", files="*").parse_args(), Tally("elftools", "files")
+    with tempfile.TemporaryDirectory() as room:
+        files = given.files or [*(str(ROOT / it) for it in OURS), *make(Path(room)), *(it for it in SYSTEM if Path(it).exists())]
+        for path in files:
+            compare(tally, given.elftools, path)
+    return tally.ended() or int(not tally["files"])
+
+
+if __name__ == "__main__":
+    sys.exit(main())
