@@ -39,7 +39,7 @@ from pathlib import Path
 from typing import Dict, Iterator, List, NamedTuple, Optional, Set, Tuple
 
 from bindings import linker_of, programs_in, real
-from comparing import UNDEFINED, Tally, dynamic_symbols, parser_of, read_elf, run
+from comparing import UNDEFINED, Finished, Tally, dynamic_symbols, parser_of, read_elf, run
 
 PAGE = 4096
 LONGEST = 2.0
@@ -82,14 +82,6 @@ class Plan(NamedTuple):
     by: Dict[str, List[Mapping]]
 
 
-class Said(NamedTuple):
-    """How a run of elfload ended, and the plan if it printed one."""
-
-    status: int
-    errors: str
-    plan: Optional[Plan]
-
-
 def mapping_of(found: "re.Match") -> Mapping:
     """The mapping of a line."""
     start, end, flags, offset, holds = found.groups()
@@ -111,9 +103,10 @@ def plan_of(text: str) -> Plan:
     return Plan(relro and tuple(relro), span[0], by)
 
 
-def said_of(elfload: str, path: str) -> Said:
+def said_of(elfload: str, path: str) -> Tuple[Finished, Optional[Plan]]:
+    """How a run of elfload ended, and the plan if it printed one."""
     done = run([elfload, path])
-    return Said(done.status, done.errors, plan_of(done.output) if done.status == 0 else None)
+    return done, plan_of(done.output) if done.status == 0 else None
 
 
 class Stopped:
@@ -225,10 +218,9 @@ class Plans(Tally):
     def plan(self, path: str) -> Optional[Plan]:
         """The plan of a file; one that is refused is a difference."""
         if path not in self.plans:
-            said = said_of(self.program, path)
-            if said.plan is None:
+            said, self.plans[path] = said_of(self.program, path)
+            if said.status != 0:
                 self.fault(f"{path}: elfload: status {said.status}: {said.errors.strip()}")
-            self.plans[path] = said.plan
             self["files"] += 1
         return self.plans[path]
 
@@ -404,7 +396,7 @@ def cause_of(text: str) -> Optional[str]:
     return next((name for name, words in ALLOWED.items() if re.search(words, text)), None)
 
 
-def load_copy(copy: str, program: str, by: str, tally: Plans) -> None:
+def load_copy(copy: str, plan: Plan, program: str, by: str, tally: Plans) -> None:
     """Has a copy loaded that elfload accepts, and compares its mappings."""
     is_program = by == "kernel"
     process = Stopped(copy if is_program else program, **({} if is_program else {"LD_PRELOAD": copy}))
@@ -415,7 +407,6 @@ def load_copy(copy: str, program: str, by: str, tally: Plans) -> None:
             process.to_read_only()
             is_there = process.is_stopped()
         maps = process.maps() if is_there else []
-        plan = said_of(tally.program, copy).plan
         base = base_of(maps, copy, plan)
         if base is None:
             text = process.end()
@@ -442,14 +433,14 @@ def try_damaged(files: Dict[str, str], program: str, copies: int, seed: int, tal
                 Path(copy).write_bytes(changed(content, chance))
                 os.chmod(copy, 0o755)
                 began = time.monotonic()
-                said = said_of(tally.program, copy)
+                said, plan = said_of(tally.program, copy)
                 longest = max(longest, time.monotonic() - began)
                 if said.status not in (0, 1) or longest > LONGEST or (said.status == 1) != bool(said.errors):
                     tally.fault(f"damaged copy {number} of {source}: status {said.status}, {longest:.1f} s at most")
                 tally["damaged copies"] += 1
-                if said.plan is not None:
+                if plan is not None:
                     tally["accepted"] += 1
-                    load_copy(copy, program, by, tally)
+                    load_copy(copy, plan, program, by, tally)
                 os.unlink(copy)
     print(f"damaged copies: {longest:.2f} s at most")
 
