@@ -46,6 +46,7 @@ DONE = re.compile(r"done in this run: (\d+ of the \d+) proofs")
 MACHINE = re.compile(r"^-- (\d+) processors, (.*)$", re.M)
 TOTAL = re.compile(r"^\| \*\*total\*\* \|.*\| ([\d.]+) \|$", re.M)
 KINDS = ("proof", "tests", "must-fail", "batches")
+HEAD = "| Part | proof | tests | must-fail | batches | together |\n|---|---:|---:|---:|---:|---:|"
 
 
 def part_of(process: int):
@@ -180,8 +181,6 @@ def measured(output: str) -> str:
     took = f"{minutes(wall)} minutes, {how}{huge}; {kit}, {datetime.date.today()}."
     return f"Measured at {commit} by `.ci/run` on x86-64 with {where}: {took} The table lists processor minutes by part.{share}"
 
-
-HEAD = "| Part | proof | tests | must-fail | batches | together |\n|---|---:|---:|---:|---:|---:|"
 
 def write(paths) -> int:
     output = "\n".join(pathlib.Path(it).read_text(encoding="utf-8", errors="replace") for it in paths)
