@@ -311,7 +311,8 @@ def long_ends(program, built, room):
 def unlike(program, built: pathlib.Path) -> int:
     """Prints how a build of a program ends, and returns how often that is not as it must be."""
     count = 0
-    files = {NOT_UTF8: STRTAB, b"cut.so": CUT_VERSIONS, b"strtab.elf": STRTAB, b"empty.elf": b"", b"zeros.elf": bytes(16), b"three.elf": STRTAB[:3], b"link.elf": debug_link(),
+    files = {NOT_UTF8: STRTAB, b"cut.so": CUT_VERSIONS,
+        b"strtab.elf": STRTAB, b"empty.elf": b"", b"zeros.elf": bytes(16), b"three.elf": STRTAB[:3], b"link.elf": debug_link(),
         b"hash.elf": hash_file(), b"far.elf": larger(FAR, 2), b"long.elf": larger(52, MANY), b"linked.so": LINKED, b"needs.so": NEEDS,
         b"places.so": PLACES,
         b"stripped.so": (CRATES / "elfsym" / "data" / "stripped.so").read_bytes(),
