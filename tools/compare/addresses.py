@@ -31,7 +31,7 @@ import shutil
 import subprocess
 import sys
 import tempfile
-from typing import Dict, List, Tuple
+from typing import Callable, Dict, List, Tuple
 
 from comparing import INDIRECT, LOAD, LOCAL, ROOT, Symbol, Tally, dynamic_symbols, llvm, parser_of, parts, raw, read_elf, symbols_of
 from loading import named
@@ -121,21 +121,14 @@ def by_gdb(path: str, addresses: List[int]) -> List[str]:
     return ["" if it.startswith("No symbol") else re.split(r" \+ \d+ in section | in section ", it)[0] for it in kept]
 
 
-def by_eu(path: str, addresses: List[int]) -> List[str]:
-    said = answers(["eu-addr2line", "-S", "-e", path], addresses, "0x{:x}\n")
-    # A symbol, with an offset where there is one, and a line with the source.
-    return [re.sub(r"\+0x[0-9a-f]+$", "", it).replace("??", "") if it[:1] != "(" else "" for it in said[::2]]
+def by_lines(*command: str) -> Callable[[str, List[int]], List[str]]:
+    """A tool that writes two lines for each address: a name with an offset where there is one, and the source."""
 
+    def ask(path: str, addresses: List[int]) -> List[str]:
+        names = [it for it in answers([*command, path], addresses, "0x{:x}\n") if it][::2]
+        return ["" if it == "??" or it[0] == "(" else re.sub(r"\+0x[0-9a-f]+$", "", it) for it in names]
 
-def by_llvm(path: str, addresses: List[int]) -> List[str]:
-    said = answers(["llvm-symbolizer", "--obj=" + path, "--functions=linkage", "--no-demangle", "--no-inlines", "--output-style=GNU"], addresses, "0x{:x}\n")
-    # Two lines for each, with or without an empty one.
-    names = [it for it in said if it]
-    return ["" if it == "??" else it for it in names[::2]]
-
-
-def by_addr2line(path: str, addresses: List[int]) -> List[str]:
-    return ["" if it == "??" else it for it in answers(["addr2line", "-f", "-e", path], addresses)[::2]]
+    return ask
 
 
 def by_nm(path: str, addresses: List[int]) -> List[str]:
@@ -150,7 +143,10 @@ def by_nm(path: str, addresses: List[int]) -> List[str]:
     return [rows[place][1] if place >= 0 else "" for place in places]
 
 
-TOOLS = {"eu-addr2line": by_eu, "gdb": by_gdb, "llvm-symbolizer": by_llvm, "nm": by_nm, "addr2line": by_addr2line}
+TOOLS = {
+    "eu-addr2line": by_lines("eu-addr2line", "-S", "-e"), "gdb": by_gdb,
+    "llvm-symbolizer": by_lines("llvm-symbolizer", "--functions=linkage", "--no-demangle", "--no-inlines", "--output-style=GNU", "-e"),
+    "nm": by_nm, "addr2line": by_lines("addr2line", "-f", "-e")}
 
 
 class Names:
