@@ -4,7 +4,7 @@
     bench/instructions.py            fails where an item of a pass takes 3 % more or less than stored
     bench/instructions.py --write    stores the counts
 
-The passes are those of bindings/c/speed.c, through the exports for C, and the one over sections that the built `elfsections`
+The passes are those of bindings/c/speed.c, through the exports for C, and the one over sections that the built `elfnm`
 makes by an iterator. The files are made here. valgrind's callgrind counts what the library's code executes, which is the
 same in each run of the same library. A pass that takes less fails too, as a later loss would hide in the gain: store it.
 Counts that another kit's code gave are printed and fail nothing.
@@ -28,13 +28,13 @@ from hostile import NAME, gnu_number, gnu_table
 STORED = ROOT / "bench" / "instructions.toml"
 SPEED = ROOT / "bindings" / "c" / "speed.c"
 ARCHIVE = Path(os.environ.get("XMAS_ELF_ARCHIVE") or ROOT / "crates" / "elf_c" / "out").resolve() / "libelf_c.a"
-ELFSECTIONS = ROOT / "crates" / "elfsections" / "out" / "elfsections"
-BY_ITERATOR = "sections without names, by an iterator (elfsections)"
+ELFNM = ROOT / "crates" / "elfnm" / "out" / "elfnm"
+BY_ITERATOR = "sections with their data, by an iterator, and their lines (elfnm)"
 
 # How much a count may differ from the stored one.
 SHARE = 0.03
 
-# How many sections without symbols the file has, and the larger one that elfsections reads too.
+# How many sections without symbols the file has, and the larger one that elfnm reads too.
 PARTS, MORE_PARTS = 200, 700
 SYMBOLS, EXPORTS, SEGMENTS = 400, 300, 100
 
@@ -139,7 +139,7 @@ def counts(room: Path) -> dict:
     own = []
     for parts in (PARTS + 1, MORE_PARTS + 1):
         (room / "sections").write_bytes(made(parts))
-        own.append(own_count(watched(room, ELFSECTIONS, "sections")[1], ELFSECTIONS))
+        own.append(own_count(watched(room, ELFNM, "sections")[1], ELFNM))
     return {**found, BY_ITERATOR: (MORE_PARTS - PARTS, own[1] - own[0])}
 
 
@@ -177,9 +177,9 @@ def main() -> int:
     if shutil.which("valgrind") is None:
         print("no valgrind here: instructions aren't counted")
         return 0
-    missing = [str(it) for it in (ARCHIVE, ELFSECTIONS) if not it.exists()]
+    missing = [str(it) for it in (ARCHIVE, ELFNM) if not it.exists()]
     if missing:
-        sys.exit(f"not built: {', '.join(missing)}: run `rt lib` in crates/elf_c and `rt run` in crates/elfsections first")
+        sys.exit(f"not built: {', '.join(missing)}: run `rt lib` in crates/elf_c and `rt run` in crates/elfnm first")
     with tempfile.TemporaryDirectory() as folder:
         found = counts(Path(folder))
     if sys.argv[1:] == ["--write"]:

@@ -1,19 +1,19 @@
 #!/usr/bin/env python3
 """Compare what elfbind says of references with what the system's dynamic linker does.
 
-    tools/compare/bindings.py [--elfbind PATH] [--dir DIR].. [--damaged N] [--seed S] [--times N] PROGRAM..
+    tools/compare/bindings.py [--elfbind PATH] [--damaged N] [--seed N] [--times N] FILE..
 
-The programs are those given, and all dynamically linked ELF programs in the folders DIR. The files of each are the
+The programs are the dynamically linked ones among the files, and in the folders among them. The files of each are the
 program and its libraries in the order in which the linker lists them (as ldd does), without linux-vdso. elfbind is run on
 them, and the linker binds all references at once and prints each (BINDINGS), so that it runs nothing. The two are compared
 as sets of a file, the file it is bound to, the name and the version. Left out on both sides are the linker's own look-ups
 (`is_own`). Status 1 of elfbind and an undefined symbol that the linker reports must come together.
 
-Each difference is a line with its cause: `unique`, since glibc merges symbols of type STB_GNU_UNIQUE by name over the
-process; `ifunc`, an indirect function; or `unexplained`, for which the exit status is 1.
+Another binding is a line with its cause: `unique`, since glibc merges symbols of type STB_GNU_UNIQUE by name over the
+process; `ifunc`, an indirect function; or `unexplained`, which is a difference.
 
 --damaged N runs elfbind on N copies of the files of the program with fewest bindings, with one damaged, at random
-from the seed S: it must end within two seconds, with status 0 or 1. --times N prints for the N programs with most
+from the seed: it must end within two seconds, with status 0 or 1. --times N prints for the N programs with most
 bindings the least time of five runs of elfbind, and of the linker, with and without binding (it prints only the
 libraries then).
 """
@@ -30,7 +30,7 @@ from pathlib import Path
 from typing import Dict, List, NamedTuple, Optional, Set, Tuple
 
 import damage
-from comparing import INDIRECT, UNIQUE, Finished, dynamic_symbols, parser_of, read_elf, run
+from comparing import INDIRECT, UNIQUE, Finished, Tally, dynamic_symbols, parser_of, read_elf, run
 
 LISTED = re.compile(r"^\t(?:.* => )?(/.*) \(0x[0-9a-f]+\)$", re.M)
 BOUND = re.compile(r"^ *\d+:\tbinding file (.*) \[\d+\] to (.*) \[\d+\]: \w+ symbol `(.*)'(?: \[(.*)\])?$", re.M)
@@ -53,23 +53,6 @@ class Program(NamedTuple):
     files: List[str]
 
 
-class Tally:
-    """Counts what was compared."""
-
-    def __init__(self) -> None:
-        self.counts, self.causes = Counter(), Counter()
-        self.most: List[Tuple[int, Program]] = []
-
-    def differ(self, cause: str, line: str) -> None:
-        self.causes[cause] += 1
-        print(line)
-
-    def __str__(self) -> str:
-        said = [f"{self.counts[name]} {name}" for name in ("programs", "left out", "bindings compared", "unresolved")]
-        causes = ", ".join(f"{count} {cause}" for cause, count in sorted(self.causes.items())) or "none"
-        return ", ".join([*said, f"differences: {causes}"])
-
-
 def linker_of(path: str) -> Optional[str]:
     """The linker that a dynamically linked program names, if the file is one."""
     said = run(["readelf", "-lW", "--", path]).output if read_elf(path) else ""
@@ -88,10 +71,10 @@ def read_program(path: str) -> Optional[Program]:
     return Program(path, linker, [path, *LISTED.findall(listed.output)])
 
 
-def programs_in(folder: str) -> List[str]:
-    """The files of a folder, each once."""
-    found = {real(it.path): it.path for it in sorted(os.scandir(folder), key=lambda it: it.name) if it.is_file()}
-    return sorted(found)
+def programs_in(paths: List[str]) -> List[str]:
+    """The dynamically linked programs among these and in the folders among these, each once."""
+    files = [[path] if not os.path.isdir(path) else sorted({real(it.path) for it in os.scandir(path) if it.is_file()}) for path in paths]
+    return [it for it in dict.fromkeys(real(it) for some in files for it in some) if linker_of(it)]
 
 
 def is_own(program: Program, file: str, name: str) -> bool:
@@ -137,24 +120,29 @@ def cause_of(name: str, files: Set[str]) -> str:
     return "ifunc" if any(it.kind == INDIRECT for it in found) else "unexplained"
 
 
-def compare(program: Program, elfbind: str, tally: Tally) -> None:
-    """Compares the bindings of a program."""
+def compare(program: Program, elfbind: str, tally: Tally) -> int:
+    """Compares the bindings of a program, and returns how many there are."""
     said = run([elfbind, *program.files])
     own = read_elfbind(program, said)
     if said.errors:
-        tally.differ("refused", f"{program.path}: {said.errors.strip()}")
-        return
+        tally.fault(f"{program.path}: {said.errors.strip()}")
+        return 0
     reads = read_linker(program, run([program.linker, program.path], **BINDINGS))
     count = sum(map(len, own.bound.values()))
-    tally.counts.update({"programs": 1, "bindings compared": count, "unresolved": own.unresolved})
-    tally.most.append((count, program))
+    tally.update({"programs": 1, "bindings compared": count, "unresolved": own.unresolved})
     for key in sorted(own.bound.keys() | reads.bound.keys()):
         says, does = own.bound.get(key, set()), reads.bound.get(key, set())
         if says != does:
             cause = cause_of(key[1], says | does)
-            tally.differ(cause, f"{program.path}: {' '.join(key)}: elfbind says {sorted(says)}, the linker {sorted(does)}: {cause}")
+            line = f"{program.path}: {' '.join(key)}: elfbind says {sorted(says)}, the linker {sorted(does)}: {cause}"
+            if cause == "unexplained":
+                tally.fault(line)
+            else:
+                print(line)
+                tally[cause] += 1
     if own.missing != reads.missing:
-        tally.differ("unexplained", f"{program.path}: elfbind ends with {said.status}, a missing symbol for the linker: {reads.missing}")
+        tally.fault(f"{program.path}: elfbind ends with {said.status}, a missing symbol for the linker: {reads.missing}")
+    return count
 
 
 def try_damaged(program: Program, elfbind: str, copies: int, seed: int, tally: Tally) -> None:
@@ -170,7 +158,7 @@ def try_damaged(program: Program, elfbind: str, copies: int, seed: int, tally: T
             longest = max(longest, time.monotonic() - began)
             statuses["accepted" if not said.errors else "refused"] += 1
             if said.status not in (0, 1) or longest > LONGEST:
-                tally.differ("unexplained", f"damaged copy {number} of {file}: status {said.status}, {longest:.1f} s at most")
+                tally.fault(f"damaged copy {number} of {file}: status {said.status}, {longest:.1f} s at most")
     print(f"{copies} damaged copies: {dict(statuses)}, {longest:.2f} s at most")
 
 
@@ -185,26 +173,19 @@ def print_times(programs: List[Tuple[int, Program]], elfbind: str) -> None:
 
 
 def main() -> int:
-    parser = parser_of(__doc__, "elfbind")
-    parser.add_argument("--dir", action="append", default=[], metavar="DIR")
-    parser.add_argument("--damaged", type=int, default=0, metavar="N")
-    parser.add_argument("--seed", type=int, default=1, metavar="S")
-    parser.add_argument("--times", type=int, default=0, metavar="N")
-    parser.add_argument("programs", nargs="*", metavar="PROGRAM")
-    arguments, tally = parser.parse_args(), Tally()
-    paths = arguments.programs + [path for folder in arguments.dir for path in programs_in(folder)]
-    for path in filter(linker_of, dict.fromkeys(real(it) for it in paths)):
+    given = parser_of(__doc__, "elfbind", files="*", damaged=0, seed=1, times=0).parse_args()
+    tally, most = Tally("elfbind", "programs", "left out", "bindings compared", "unresolved"), []
+    for path in programs_in(given.files):
         if program := read_program(path):
-            compare(program, arguments.elfbind, tally)
+            most.append((compare(program, given.elfbind, tally), program))
         else:
-            tally.counts["left out"] += 1
+            tally["left out"] += 1
             print(f"{path}: left out, since the linker does not load it")
-    tally.most.sort(key=lambda it: -it[0])
-    if arguments.damaged and tally.most:
-        try_damaged(tally.most[-1][1], arguments.elfbind, arguments.damaged, arguments.seed, tally)
-    print_times(tally.most[: arguments.times], arguments.elfbind)
-    print(tally)
-    return 1 if tally.causes["unexplained"] + tally.causes["refused"] else 0
+    most.sort(key=lambda it: -it[0])
+    if given.damaged and most:
+        try_damaged(most[-1][1], given.elfbind, given.damaged, given.seed, tally)
+    print_times(most[: given.times], given.elfbind)
+    return tally.ended()
 
 
 if __name__ == "__main__":

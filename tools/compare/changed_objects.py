@@ -4,7 +4,10 @@ import random
 import struct
 from typing import Callable, Dict, Iterable, List, NamedTuple, Set, Tuple
 
-INDIRECT, THREAD, UNIQUE, SYMBOLIC = 10, 6, 10, 2
+from comparing import UNIQUE
+
+# The flag DF_SYMBOLIC of the entry DT_FLAGS.
+SYMBOLIC = 2
 
 
 class Change(NamedTuple):

@@ -26,6 +26,8 @@ one, and 2 if the comparison couldn't be run.
 UNDEFINED, ABSOLUTE = 0, 0xFFF1
 SECTION, THREAD, INDIRECT = 3, 6, 10
 LOCAL, UNIQUE = 0, 10
+# The type of a segment that is loaded.
+LOAD = 1
 
 
 class Finished(NamedTuple):
@@ -39,14 +41,19 @@ class Finished(NamedTuple):
 class Tally(collections.Counter):
     """Counts what was compared, by its name, and prints each difference as it is met."""
 
-    def __init__(self, program: str, *names: str) -> None:
+    def __init__(self, program: str = "", *names: str) -> None:
         super().__init__()
-        self.program, self.names = program, ("files", *names, "differences")
+        # These names are told first, and also where nothing was counted.
+        self.program, self.names = program, names
 
-    def differ(self, path: str, what: str, says: object, reads: object) -> None:
+    def fault(self, line: str) -> None:
         """Counts a difference and prints its line."""
         self["differences"] += 1
-        print(f"{path}: {what}: {self.program} says {says}"[:600] + f", readelf says {reads}"[:600])
+        print(line[:1200])
+
+    def differ(self, path: str, what: str, says: object, reads: object) -> None:
+        """Counts a difference between what the program says of a file and what readelf says."""
+        self.fault(f"{path}: {what}: {self.program} says {says}"[:600] + f", readelf says {reads}"[:600])
 
     def output(self, path: str, *command: str) -> str:
         """What a program says of a file; a status other than 0 is a difference."""
@@ -56,7 +63,16 @@ class Tally(collections.Counter):
         return done.output if done.status == 0 else ""
 
     def __str__(self) -> str:
-        return ", ".join(f"{self[name]} {name}" for name in self.names)
+        names = dict.fromkeys((*self.names, *self))
+        return ", ".join(f"{self[name]} {name}" for name in (*(it for it in names if it != "differences"), "differences"))
+
+    def ended(self) -> int:
+        """Prints the counts, and gives the status."""
+        print(self)
+        return 1 if self["differences"] else 0
+
+
+ended = Tally.ended
 
 
 def run(command: List[str], seconds=600, **variables: str) -> Finished:
@@ -125,6 +141,16 @@ class Symbol(NamedTuple):
     section: int
 
 
+def symbol_of(said: dict, name: str, version: str = "", is_shown: bool = True) -> Symbol:
+    """A symbol that llvm-readelf lists, by its name and version."""
+    return Symbol(name, version, is_shown, said["Value"], said["Size"], *(raw(said[field]) for field in ("Type", "Binding", "Section")))
+
+
+def symbols_of(path: str) -> List[Symbol]:
+    """The symbols of .symtab that llvm-readelf lists."""
+    return [symbol_of(it, it["Name"]["Value"]) for it in parts(llvm(path, "--symbols"), "Symbols", "Symbol")]
+
+
 @functools.lru_cache(maxsize=8)
 def dynamic_symbols(path: str) -> Tuple[Symbol, ...]:
     """The dynamic symbols that llvm-readelf lists."""
@@ -134,9 +160,8 @@ def dynamic_symbols(path: str) -> Tuple[Symbol, ...]:
     found = []
     for index, it in enumerate(parts(said, "DynamicSymbols", "Symbol")):
         name, at, version = it["Name"]["Value"].partition("@")
-        version = version.lstrip("@")
         is_shown = "@@" in it["Name"]["Value"] or bool(at) and numbers[index] in needs
-        found.append(Symbol(name, version, is_shown, it["Value"], it["Size"], *(raw(it[field]) for field in ("Type", "Binding", "Section"))))
+        found.append(symbol_of(it, name, version.lstrip("@"), is_shown))
     return tuple(found)
 
 
@@ -145,17 +170,53 @@ def texts_of(path: str, *tags: str) -> List[str]:
     return re.findall(rf"\((?:{'|'.join(tags)})\) +[^\[]*\[(.*)\]$", run(["readelf", "-dW", "--", path]).output, re.M)
 
 
-def sections_of(output: str) -> List[Tuple[str, str, List[str]]]:
-    """What elfsections prints of a file: for each section what it holds (`notes`, `relr` or `hash`), its name and its lines."""
-    found: List[Tuple[str, str, List[str]]] = []
-    for line in output.rstrip("\n").split("\n")[1:]:
-        kind, _, name = line.partition(" ")
-        if kind in ("notes", "relr", "hash"):
-            found.append((kind, name, []))
-        elif found:
-            found[-1][2].append(line)
-        else:
-            raise ValueError(line)
+def build_ids(path: str) -> List[str]:
+    """The build id that llvm-readelf shows, in a list, if there is one."""
+    return re.findall(r"'Build ID': '([0-9a-f]+)'", str(llvm(path, "-n").get("Notes")))[:1]
+
+
+class Relocation(NamedTuple):
+    """A relocation: how many digits its offset has, the offset, its type and symbol as one number, the name of its type, and its
+    addend, if the table has addends and readelf shows this one."""
+
+    digits: int
+    offset: int
+    info: int
+    kind: str
+    addend: Optional[int]
+
+
+class RelocationTable(NamedTuple):
+    """A table of relocations: the name of its section, whether it has addends, its relocations, and the addresses of packed ones."""
+
+    section: str
+    has_addends: bool
+    rows: List[Relocation]
+    packed: List[int]
+
+
+def relocation_of(row: "re.Match", has_addends: bool) -> Relocation:
+    """The relocation of a line of readelf."""
+    digits, addend = len(row[1]), None
+    # An addend stands last, after a sign where there is a symbol, and else as a number of the width of an address.
+    if has_addends and (shown := re.search(r"(?:([+-]) |\s)(-?[0-9a-f]+)$", row[4])):
+        addend = int((shown[1] or "") + shown[2], 16)
+        addend -= 16**digits if not shown[1] and addend >= 16**digits // 2 else 0
+    return Relocation(digits, int(row[1], 16), int(row[2], 16), row[3], addend)
+
+
+def relocation_tables(path: str, *options: str) -> List[RelocationTable]:
+    """The tables that GNU's readelf lists, of sections or (-D) of the dynamic segment: llvm-readelf writes none in JSON."""
+    found: List[RelocationTable] = []
+    for line in run(["readelf", "-rW", *options, "--", path]).output.splitlines():
+        if start := re.match(r"Relocation section '(.*)' at |'\w+' relocation section at ", line):
+            found.append(RelocationTable(start[1] or "", False, [], []))
+        elif re.match(" +Offset ", line):
+            found[-1] = found[-1]._replace(has_addends=line.endswith("Addend"))
+        elif re.fullmatch("[0-9a-f]{16}|[0-9a-f]{8}", line):
+            found[-1].packed.append(int(line, 16))
+        elif row := re.match(r"([0-9a-f]{8,16}) +([0-9a-f]{8,16}) (\S+)(.*)$", line):
+            found[-1].rows.append(relocation_of(row, found[-1].has_addends))
     return found
 
 
@@ -170,30 +231,27 @@ def files_of(paths: List[str]) -> Iterator[str]:
             yield from (it for it in inside if os.path.isfile(it) and not os.path.islink(it))
 
 
-def parser_of(doc: Optional[str], *programs: str) -> argparse.ArgumentParser:
-    """A reader of arguments, with an option for the path of each of these programs."""
+def parser_of(doc: Optional[str], *programs: str, files: str = "", **numbers: int) -> argparse.ArgumentParser:
+    """A reader of arguments, with an option for the path of each of these programs and for each of these numbers, and with files
+    where their number is given, as `*`."""
     # Names that aren't UTF-8 go out as they came in.
     sys.stdout.reconfigure(encoding="utf-8", errors="surrogateescape", line_buffering=True)
     parser = argparse.ArgumentParser(description=doc, formatter_class=argparse.RawDescriptionHelpFormatter)
     for name in programs:
         parser.add_argument(f"--{name}", default=str(ROOT / "crates" / name / "out" / name), metavar="PATH")
+    for name, number in numbers.items():
+        parser.add_argument(f"--{name}", type=int, default=number, metavar="N")
+    if files:
+        parser.add_argument("files", nargs=files, metavar="FILE")
     return parser
 
 
-def ended(tally: Tally) -> int:
-    """Prints the counts, and gives the status."""
-    print(tally)
-    return 1 if tally["differences"] else 0
-
-
-def compare_all(doc: Optional[str], tally: Tally, compare: Callable[[str, str, Tally], None]) -> int:
-    """Compares each file that is given by its path, the program's and the tally."""
-    parser = parser_of((doc or "") + ABOUT, tally.program)
-    parser.add_argument("files", nargs="+", metavar="FILE")
-    arguments = parser.parse_args()
-    for path in filter(read_elf, files_of(arguments.files)):
+def compare_all(doc: Optional[str], tally: Tally, compare: Callable[..., None], *programs: str) -> int:
+    """Compares each file that is given by its path, by that of the program, if one is named, and the tally."""
+    given = parser_of((doc or "") + ABOUT, *programs, files="+").parse_args()
+    for path in filter(read_elf, files_of(given.files)):
         try:
-            compare(path, vars(arguments)[tally.program], tally)
+            compare(path, *(vars(given)[it] for it in programs), tally)
         except ValueError as strange:
             tally.differ(path, "output", f"'{strange}'", "no such line")
-    return ended(tally)
+    return tally.ended()

@@ -1,9 +1,9 @@
 #!/usr/bin/env python3
 """Compare the symbols that the static library finds by name and version with those of dlsym and dlvsym.
 
-    tools/compare/dlsym.py [--jobs N] [--differences N] [FILE..]
+    tools/compare/dlsym.py [--jobs N] [FILE..]
 
-Takes the shared libraries FILE, else those of the system: /usr/lib/x86_64-linux-gnu/*.so.*. Each is loaded in a process of
+Takes the shared libraries FILE, else those of the system: /usr/lib/x86_64-linux-gnu/*.so.*; N side by side (2). Each is loaded in a process of
 its own; one that can't be loaded, or whose process doesn't end by itself, is passed over and counted. Asked for are each name
 of `llvm-readelf --dyn-syms` without a version, and with each version listed with it; and each name that has a version with
 two versions of other names of the file, which should find nothing. Compared are whether a symbol is found in the library
@@ -16,14 +16,13 @@ library, since the dynamic linker keeps one of each name for the whole process, 
 
 The static library is called by way of bindings/python, whose shared object bindings/python/wheel_backend.py links.
 """
-import collections
 import concurrent.futures
 import glob
 import os
 import sys
 from typing import Dict, List, NamedTuple, Optional, Tuple
 
-from comparing import ABSOLUTE, INDIRECT, ROOT, THREAD, UNDEFINED, UNIQUE, dynamic_symbols, parser_of, read_elf
+from comparing import ABSOLUTE, INDIRECT, ROOT, THREAD, UNDEFINED, UNIQUE, Tally, dynamic_symbols, parser_of, read_elf
 from loading import asked
 
 sys.path.insert(1, str(ROOT / "bindings" / "python"))
@@ -70,15 +69,16 @@ def verdict(symbol, loaded: str) -> str:
     return "same" if symbol.value == offset and place != "elsewhere" else "different"
 
 
-def compare(path: str) -> Tuple[collections.Counter, List[str]]:
-    """Compares the answers about one library: the counts, and the differences."""
+def compare(path: str) -> Tally:
+    """Compares the answers about one library."""
     from xmas_elf import ElfError, ElfFile
 
-    queries, several = queries_of(path)
+    (queries, several), tally = queries_of(path), Tally()
     loaded = asked(path, [query[:2] for query in queries])
     if loaded is None:
-        return collections.Counter({"libraries not loaded": 1}), []
-    counts, lines = collections.Counter({"libraries": 1, "names with several versions": several}), []
+        tally["libraries not loaded"] += 1
+        return tally
+    tally.update({"libraries": 1, "names with several versions": several})
     with ElfFile.load_from_path(path) as file:
         for (name, version, is_absent), said in zip(queries, loaded):
             kind = "names" if version is None else "absent pairs" if is_absent else "pairs"
@@ -87,31 +87,21 @@ def compare(path: str) -> Tuple[collections.Counter, List[str]]:
                 found = verdict(symbol, said)
             except ElfError as error:
                 symbol, found = error, "different"
-            counts[kind] += 1
+            tally[kind] += 1
             if found == "different":
-                counts["differences"] += 1
-                lines.append(f"{path}: {name} {version or ''}: {'dlvsym' if version else 'dlsym'} {said}, find_symbol {symbol}")
+                tally.fault(f"{path}: {name} {version or ''}: {'dlvsym' if version else 'dlsym'} {said}, find_symbol {symbol}")
             elif found != "same" or said != "none":
-                counts[f"{kind} {'found' if found == 'same' else found}"] += 1
-    return counts, lines
+                tally[f"{kind} {'found' if found == 'same' else found}"] += 1
+    return tally
 
 
 def main() -> int:
-    parser = parser_of(__doc__)
-    parser.add_argument("--jobs", type=int, default=2, help="how many libraries are compared side by side")
-    parser.add_argument("--differences", type=int, default=40, help="how many differences are printed")
-    parser.add_argument("files", nargs="*", metavar="FILE")
-    arguments = parser.parse_args()
-    files = arguments.files or sorted({os.path.realpath(path) for path in glob.glob("/usr/lib/x86_64-linux-gnu/*.so.*")})
-    total, lines = collections.Counter({"differences": 0}), []
-    with concurrent.futures.ProcessPoolExecutor(arguments.jobs) as pool:
-        for counts, some in pool.map(compare, filter(read_elf, files)):
-            total.update(counts)
-            lines += some
-    for line in lines[: arguments.differences]:
-        print(line)
-    print(", ".join(f"{number} {name}" for name, number in sorted(total.items(), key=lambda item: item[0] == "differences")))
-    return 1 if total["differences"] else 0
+    given, total = parser_of(__doc__, files="*", jobs=2).parse_args(), Tally("", "libraries")
+    files = given.files or sorted({os.path.realpath(path) for path in glob.glob("/usr/lib/x86_64-linux-gnu/*.so.*")})
+    with concurrent.futures.ThreadPoolExecutor(given.jobs) as pool:
+        for tally in pool.map(compare, filter(read_elf, files)):
+            total.update(tally)
+    return total.ended()
 
 
 if __name__ == "__main__":

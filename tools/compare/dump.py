@@ -2,15 +2,15 @@
 """Compares what bindings/cpp/dump.cpp, bindings/rust/examples/dump.rs, bindings/c/find.c and bindings/c/dynamic.c print of files
 with what nm and readelf print.
 
-    tools/compare/dump.py [--files N] [--jobs N] [FILE..]
+    tools/compare/dump.py [FILE..]
 
-Takes FILE, else N files (300) spread over the small ones of /usr/bin and /usr/lib/x86_64-linux-gnu. Compared are, of each file
-and of a copy without section headers: the needed libraries, the name and the run path, the build id, the dynamic symbols with
-the names and numbers of their versions, the versions needed and defined, the dynamic entries and the relocations; of each file
+Takes FILE, else 300 files spread over the small ones of /usr/bin and /usr/lib/x86_64-linux-gnu. Compared are, of each file and
+of a copy without section headers: the needed libraries, the name and the run path, the build id, the dynamic symbols with the
+names and numbers of their versions, the versions needed and defined, the dynamic entries and the relocations; of each file
 besides its sections; and for up to 200 names with a version the symbol that is found by both, and by the name alone where the
 version is the default one. The programs in C print the build id and these symbols, and the entries and relocations of the
-dynamic segment. A file without sections, or of debugging data alone, is passed over. The
-programs are built over the archive in crates/elf_c/out, or in the folder that XMAS_ELF_ARCHIVE names."""
+dynamic segment. A file without sections, or of debugging data alone, is passed over. The programs are built over the archive
+in crates/elf_c/out, or in the folder that XMAS_ELF_ARCHIVE names."""
 import concurrent.futures
 import functools
 import itertools
@@ -22,10 +22,10 @@ import tempfile
 from collections import Counter
 from pathlib import Path
 
-from comparing import ABOUT, ROOT, Tally, dynamic_symbols, ended, files_of, llvm, parser_of, parts, raw, read_elf, run, texts_of
+from comparing import ABOUT, ROOT, Tally, build_ids, dynamic_symbols, files_of, llvm, parser_of, parts, raw, read_elf, relocation_tables, run, texts_of
 from elfsym import stripped
 
-LARGEST = 400_000
+FILES, LARGEST = 300, 400_000
 
 
 def built(room):
@@ -40,19 +40,14 @@ def built(room):
     return [f"{room}/dump", f"{room}/release/examples/dump"], f"{room}/find", f"{room}/dynamic"
 
 
-def spread(wanted):
+def spread():
     files = (it for folder in ("/usr/bin", "/usr/lib/x86_64-linux-gnu") for it in sorted(Path(folder).iterdir()))
     found = [it for it in files if it.is_file() and not it.is_symlink() and it.stat().st_size < LARGEST and read_elf(it)[4:5] == b"\2"]
-    return found[:: max(1, len(found) // wanted)][:wanted]
+    return found[:: max(1, len(found) // FILES)][:FILES]
 
 
 def numbered(number):
     return f"{number % 0x8000}{'h' if number >= 0x8000 else ''}"
-
-
-def build_ids(path):
-    """The line of the build id. Without section headers a note is found that lies in a segment."""
-    return [f"build id {it}" for it in re.findall(r"'Build ID': '([0-9a-f]+)'", str(llvm(path, "-n").get("Notes")))[:1]]
 
 
 # The lines of the dynamic entries and of relocations.
@@ -61,19 +56,14 @@ TABLES = ("entry ", "relocation ", "address ")
 
 def relocations(path, lines, *options):
     """The lines of the relocations, by sections or by the dynamic segment (-D), beside our lines."""
-    found, has_addend = [], False
-    ours = [it for it in lines if it.startswith(("relocation ", "address "))]
-    for line in run(["readelf", "-rW", *options, "--", path]).output.splitlines():
-        has_addend = line.endswith("Addend") if line.startswith(" ") and "Offset" in line else has_addend
-        if re.fullmatch("[0-9a-f]{16}|[0-9a-f]{8}", line):
-            found.append(f"address {int(line, 16):x}")
-        elif one := re.match("([0-9a-f]{8,16})  ([0-9a-f]{8,16}) R_(.*)", line):
-            said = f"relocation {int(one[1], 16):x} {int(one[2], 16):x}"
-            if has_addend and (shown := re.search(r"(?:([+-]) |\s)(-?[0-9a-f]+)$", one[3])):
-                # An addend stands last, after a sign where there is a symbol.
-                number = int(f"{'-' if shown[1] == '-' else ''}{shown[2]}", 16) % 16 ** len(one[1])
-                said += f" {number:x}"
-            elif has_addend:
+    found, ours = [], [it for it in lines if it.startswith(("relocation ", "address "))]
+    for table in relocation_tables(path, *options):
+        found += [f"address {it:x}" for it in table.packed]
+        for it in table.rows:
+            said = f"relocation {it.offset:x} {it.info:x}"
+            if it.addend is not None:
+                said += f" {it.addend % 16**it.digits:x}"
+            elif table.has_addends:
                 # Of a symbol that it doesn't find readelf shows no addend: that of our line.
                 said += "".join(it.removeprefix(said) for it in ours[len(found) : len(found) + 1])
             found.append(said)
@@ -92,7 +82,7 @@ class Wanted:
     """What nm and readelf say of a file."""
 
     def __init__(self, path):
-        said, printed = llvm(path, "-SV"), run(["readelf", "-rVW", "--", path]).output
+        said, printed = llvm(path, "-SV"), run(["readelf", "-VW", "--", path]).output
         # The values of dynamic symbols, with their names and the names of their versions.
         rows = re.findall(r"^([0-9a-f]+| +) \S (.*)$", run(["nm", "-D", "--", path]).output, re.M)
         self.symbols = [(f"{int(value.strip() or '0', 16):016x}", name) for value, name in rows]
@@ -106,7 +96,7 @@ class Wanted:
             *(f"run path {it}" for it in texts_of(path, "RUNPATH", "RPATH")[:1]),
             *(f"need {number(it)} {library} {it['Name']}" for library, it in needs),
             *(f"definition {number(it)} {it['Name']}" for it in parts(said, "VersionDefinitions", "Definition"))]
-        packed = dict(re.findall(r"^Relocation section '(.*)' at .*\n +(\d+) offsets", printed, re.M))
+        packed = {it.section: len(it.packed) for it in relocation_tables(path)}
         count = lambda it: it["Size"] // it["EntrySize"] if raw(it["Type"]) in (4, 9) and it["EntrySize"] else packed.get(it["Name"]["Value"], 0)
         # A file of debugging data alone has not the bytes of its dynamic segment.
         self.is_bare = any(raw(it["Type"]) == 8 and it["Name"]["Value"] == ".dynamic" for it in parts(said, "Sections", "Section"))
@@ -144,7 +134,8 @@ def compare(programs, find, dynamic, path):
     with tempfile.TemporaryDirectory() as room:
         cut = Path(room, "cut")
         cut.write_bytes(stripped(data))
-        ids = {it: build_ids(it) for it in (path, cut)}
+        # Without section headers a note is found that lies in a segment.
+        ids = {it: [f"build id {id}" for id in build_ids(str(it))] for it in (path, cut)}
         for program, file in itertools.product(programs, (path, cut) if has_segments else (path,)):
             lines = tally.output(path, program, file, *(wanted.found if file == path else ())).split("\n")[:-1]
             found = [f"found {name} {value} {version}" for name, (value, version, _) in wanted.found.items()]
@@ -167,16 +158,12 @@ def compare(programs, find, dynamic, path):
 
 
 def main():
-    parser = parser_of(__doc__ + ABOUT)
-    parser.add_argument("--files", type=int, default=300)
-    parser.add_argument("--jobs", type=int, default=os.cpu_count())
-    parser.add_argument("paths", nargs="*", metavar="FILE")
-    asked, total = parser.parse_args(), Tally("dump", "lines")
-    files = [it for it in files_of(asked.paths) if read_elf(it)] if asked.paths else spread(asked.files)
-    with tempfile.TemporaryDirectory() as room, concurrent.futures.ThreadPoolExecutor(asked.jobs) as pool:
+    given, total = parser_of(__doc__ + ABOUT, files="*").parse_args(), Tally("dump", "files", "lines")
+    files = filter(read_elf, files_of(given.files)) if given.files else spread()
+    with tempfile.TemporaryDirectory() as room, concurrent.futures.ThreadPoolExecutor(os.cpu_count()) as pool:
         for tally in pool.map(functools.partial(compare, *built(room)), files):
             total.update(tally)
-    return ended(total)
+    return total.ended()
 
 
 if __name__ == "__main__":

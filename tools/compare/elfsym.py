@@ -20,7 +20,7 @@ import sys
 import tempfile
 from collections import defaultdict
 from pathlib import Path
-from typing import Dict, List, NamedTuple, Set, Tuple
+from typing import List, Set, Tuple
 
 from comparing import ABSOLUTE, LOCAL, THREAD, UNDEFINED, Symbol, Tally, compare_all, dynamic_symbols, read_elf, run, texts_of
 
@@ -31,22 +31,16 @@ TYPES = {0, 1, 2, 5, 6, 10}
 AT_ONCE = 300
 
 
-class Listing(NamedTuple):
+class Listing:
     """What readelf lists: the versions of each name, the symbols that count of each, and what is needed."""
 
-    names: Dict[str, Set[str]]
-    symbols: Dict[str, List[Symbol]]
-    needed: List[str]
-
-
-def read_symbols(path: str) -> Listing:
-    listing = Listing(defaultdict(set), defaultdict(list), texts_of(path, "NEEDED"))
-    for it in filter(lambda it: it.name, dynamic_symbols(path)):
-        listing.names[it.name] |= {it.version, ""}
-        has_place = it.value or it.section == ABSOLUTE or (it.kind == THREAD and it.section != UNDEFINED)
-        if it.kind in TYPES and has_place and it.binding != LOCAL:
-            listing.symbols[it.name].append(it)
-    return listing
+    def __init__(self, path: str) -> None:
+        self.names, self.symbols, self.needed = defaultdict(set), defaultdict(list), texts_of(path, "NEEDED")
+        for it in filter(lambda it: it.name, dynamic_symbols(path)):
+            self.names[it.name] |= {it.version, ""}
+            has_place = it.value or it.section == ABSOLUTE or (it.kind == THREAD and it.section != UNDEFINED)
+            if it.kind in TYPES and has_place and it.binding != LOCAL:
+                self.symbols[it.name].append(it)
 
 
 def wanted_of(symbols: List[Symbol], version: str) -> Set[Tuple[int, int]]:
@@ -98,7 +92,7 @@ def stripped(content: bytes) -> bytes:
 
 def compare(copy: Path, path: str, elfsym: str, tally: Tally) -> None:
     """Compares a file with dynamic symbols, and a copy of it without section headers."""
-    reads = read_symbols(path)
+    reads = Listing(path)
     if not reads.names:
         return
     compare_file(path, path, elfsym, reads, tally)
@@ -108,7 +102,7 @@ def compare(copy: Path, path: str, elfsym: str, tally: Tally) -> None:
 
 
 if __name__ == "__main__":
-    counted = ("of them copies without section headers", "names with a symbol", "of them with several values",
+    counted = ("files", "of them copies without section headers", "names with a symbol", "of them with several values",
         "names with a version that has a symbol", "others", "needed libraries")
     with tempfile.TemporaryDirectory() as folder:
-        sys.exit(compare_all(__doc__, Tally("elfsym", *counted), functools.partial(compare, Path(folder, "copy"))))
+        sys.exit(compare_all(__doc__, Tally("elfsym", *counted), functools.partial(compare, Path(folder, "copy")), "elfsym"))

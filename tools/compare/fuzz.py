@@ -1,7 +1,7 @@
 #!/usr/bin/env python3
 """Runs the built programs on damaged files, under limits of time and memory.
 
-    tools/compare/fuzz.py --seed S --count N [--start K]
+    tools/compare/fuzz.py --seed S --count N
 
 File K of a seed is `damage.damaged(S, K)`, the same each time; the long files of `long_files` come first.
 Wanted of `elfinfo` and `elfanswers`: each ends with status 0 or 1, writes nothing else where it is built by
@@ -141,10 +141,7 @@ class Fuzzing:
 
 
 def main() -> int:
-    parser = parser_of(__doc__)
-    for name, number in (("seed", 1), ("count", 500), ("start", 0)):
-        parser.add_argument(f"--{name}", type=int, default=number)
-    options = parser.parse_args()
+    options = parser_of(__doc__, seed=1, count=500).parse_args()
     resource.setrlimit(resource.RLIMIT_AS, (ROOM, ROOM))
     began = time.monotonic()
     with tempfile.TemporaryDirectory(dir="/dev/shm" if os.path.isdir("/dev/shm") else None) as room:
@@ -156,8 +153,7 @@ def main() -> int:
         # A check that walks along the chain for each name would take minutes.
         pathlib.Path(room, "shared").write_bytes(shared_chain(200_000))
         fuzzing.check("elfinfo", ["200,000 buckets that share one chain of 200,000 names"], [f"{room}/shared"])
-        numbers = range(options.start, options.start + options.count)
-        for some in (numbers[at : at + AT_ONCE] for at in range(0, options.count, AT_ONCE)):
+        for some in (range(options.count)[at : at + AT_ONCE] for at in range(0, options.count, AT_ONCE)):
             fuzzing.files_at_once([(f"damage.damaged({options.seed}, {k})", damage.damaged(options.seed, k)) for k in some])
         fuzzing.told(time.monotonic() - began)
     return 1 if fuzzing.faults else 0

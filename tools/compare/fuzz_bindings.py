@@ -1,27 +1,15 @@
 #!/usr/bin/env python3
 """Compare elfbind and elfsym with the system's dynamic linker over small objects whose bytes were changed.
 
-    tools/compare/fuzz_bindings.py [--elfbind PATH] [--elfsym PATH] [--seed S] [--count N] [--differences N]
+    tools/compare/fuzz_bindings.py [--elfbind PATH] [--elfsym PATH] [--seed N] [--count N]
 
-A copy is a file of crates/elfbind/data of class 64, or a library that gcc makes here, in which one to three numbers were
-changed, at random from the seed; docs/TESTS.md says which. The linker makes a table of versions with a place for each number.
-So a symbol has no number past those of the file, for which it would read past that table, and no two versions have one
-number, of which it would take the last.
-
-For each of the N copies of a program or of one of its two libraries, elfbind is run on the three files, and they are compared
-as by tools/compare/bindings.py. Where the linker ends early, as where it copies from an address that isn't there, what it
-has printed is compared. For each of N copies of a library, elfsym, dlsym and dlvsym are asked for each name, for each name
-with each version, and for each name with a version that the file doesn't have. Compared are whether a symbol is found, and
-its address; of thread-local symbols only the first. No copy for this has a symbol of the type STT_GNU_IFUNC, whose resolver
-dlsym would run.
-
-Not compared, and counted apart: names with a unique symbol (STB_GNU_UNIQUE), which glibc merges by name over a process;
-copies of which a program of this repository says that their hash table or their versions fail a check; those that the
-linker doesn't load; and names that dlsym finds in a library that the file needs, in which elfsym does not look.
-
-Objects of class 32 are not tried: the linker for them is on few systems.
+docs/TESTS.md says what is changed at random from the seed, and what isn't compared. elfbind is run on N copies of a program or
+of one of its two libraries, and compared as by tools/compare/bindings.py; where the linker ends early, as where it copies from
+an address that isn't there, what it has printed is compared. Of N copies of a library elfsym, dlsym and dlvsym are asked for
+each name, for each name with each version, and for each name with a version that the file doesn't have. Compared are whether a
+symbol is found, and its address; of thread-local symbols only the first. No copy for this has a symbol of the type
+STT_GNU_IFUNC, whose resolver dlsym would run. Objects of class 32 are not tried: the linker for them is on few systems.
 """
-import collections
 import random
 import subprocess
 import sys
@@ -30,8 +18,8 @@ from pathlib import Path
 from typing import Dict, List
 
 from bindings import BINDINGS, Program, read_elfbind, read_linker
-from changed_objects import INDIRECT, THREAD, Change, Object, changed, unique_names
-from comparing import ROOT, parser_of, run
+from changed_objects import Change, Object, changed, unique_names
+from comparing import INDIRECT, ROOT, THREAD, Tally, parser_of, run
 from loading import asked
 
 DATA = ROOT / "crates"
@@ -57,16 +45,10 @@ def told(changes: List[Change]) -> str:
 
 
 class Comparison:
-    """The counts and the differences of a run."""
+    """The programs of a run, the folder of the copies, and the counts."""
 
-    def __init__(self, elfbind: str, elfsym: str, room: str) -> None:
-        self.elfbind, self.elfsym, self.room = elfbind, elfsym, room
-        self.counts: collections.Counter = collections.Counter(answers=0, differences=0)
-        self.lines: List[str] = []
-
-    def differ(self, line: str) -> None:
-        self.counts["differences"] += 1
-        self.lines.append(line)
+    def __init__(self, elfbind: str, elfsym: str, room: str, tally: Tally) -> None:
+        self.elfbind, self.elfsym, self.room, self.tally = elfbind, elfsym, room, tally
 
     def bindings(self, files: Dict[str, bytes], file: str, changes: List[Change]) -> None:
         """Compares the bindings of a program one of whose files was changed."""
@@ -75,23 +57,23 @@ class Comparison:
         program = Program(paths[0], LINKER, paths)
         said = run([self.elfbind, *paths])
         if said.errors:
-            self.counts["refused by elfbind"] += 1
+            self.tally["refused by elfbind"] += 1
             return
         linked = run([LINKER, paths[0]], **BINDINGS, LD_LIBRARY_PATH=self.room)
         own, reads = read_elfbind(program, said), read_linker(program, linked)
         whole = linked.status == 0
-        self.counts["bindings until the linker ended early"] += 0 if whole else sum(map(len, reads.bound.values()))
+        self.tally["bindings until the linker ended early"] += 0 if whole else sum(map(len, reads.bound.values()))
         unique = unique_names(list(files.values()))
         for key in sorted(reads.bound.keys() | (own.bound.keys() if whole else set())):
             says, does = own.bound.get(key, set()), reads.bound.get(key, set())
             if key[1] in unique:
-                self.counts["bindings of unique names"] += 1
+                self.tally["bindings of unique names"] += 1
                 continue
-            self.counts["answers"] += max(len(says) if whole else 0, len(does))
+            self.tally["results compared"] += max(len(says) if whole else 0, len(does))
             if says != does if whole else not does <= says:
-                self.differ(f"{file}: {' '.join(key)}: elfbind says {sorted(says)}, the linker {sorted(does)}: {told(changes)}")
+                self.tally.fault(f"{file}: {' '.join(key)}: elfbind says {sorted(says)}, the linker {sorted(does)}: {told(changes)}")
         if whole and own.missing != reads.missing:
-            self.differ(f"{file}: elfbind ends with {said.status}, a missing symbol for the linker: {reads.missing}: {told(changes)}")
+            self.tally.fault(f"{file}: elfbind ends with {said.status}, a missing symbol for the linker: {reads.missing}: {told(changes)}")
 
     def symbols(self, path: Path, content: bytes, changes: List[Change]) -> None:
         """Compares what is found by name and version in a library that was changed."""
@@ -103,22 +85,22 @@ class Comparison:
         queries = [(name, version) for name in names for version in (None, *versions)]
         loaded = asked(str(copy), queries, 10, LD_LIBRARY_PATH=self.room)
         if loaded is None:
-            self.counts["not loaded"] += 1
+            self.tally["not loaded"] += 1
             return
         said = run([self.elfsym, str(copy), *(name + (f"@{version}" if version else "") for name, version in queries)])
         if said.errors:
-            self.counts["refused by elfsym"] += 1
+            self.tally["refused by elfsym"] += 1
             return
         unique, threads = unique_names([content]), held.names_with(lambda info: info % 16 == THREAD)
         for (name, version), line, other in zip(queries, said.output.split("\n"), loaded):
             if name in unique:
-                self.counts["results of unique names"] += 1
+                self.tally["results of unique names"] += 1
             elif other.startswith("elsewhere") and line.endswith(": none"):
-                self.counts["results in a library that the file needs"] += 1
+                self.tally["results in a library that the file needs"] += 1
             else:
-                self.counts["answers"] += 1
+                self.tally["results compared"] += 1
                 if not self.agree(line, other, name in threads):
-                    self.differ(f"{path.name}: {name}{'@' + version if version else ''}: elfsym says {line!r}, {'dlvsym' if version else 'dlsym'} {other}: {told(changes)}")
+                    self.tally.fault(f"{path.name}: {name}{'@' + version if version else ''}: elfsym says {line!r}, {'dlvsym' if version else 'dlsym'} {other}: {told(changes)}")
 
     @staticmethod
     def agree(line: str, other: str, is_thread: bool) -> bool:
@@ -139,6 +121,7 @@ def compare_bindings(comparison: Comparison, chance: random.Random, count: int) 
         place.write_bytes(content)
         place.chmod(0o755)
     for _ in range(count):
+        comparison.tally["copies"] += 1
         file = chance.choice(SCOPE)
         content, changes = changed(sources[file], chance, [0, 1, 2, 3, 5, THREAD, INDIRECT, 7])
         comparison.bindings({**sources, file: content}, file, changes)
@@ -152,27 +135,20 @@ def compare_symbols(comparison: Comparison, chance: random.Random, count: int) -
         words = ["-Os", "-fPIC", "-shared", "-nostdlib", f"-Wl,--version-script=versions.map,-soname={name}", "-o", name, "-x", "c", "-", "-x", "none"]
         subprocess.run(["gcc", *words, *needed], cwd=comparison.room, input=source.encode(), check=True)
     for _ in range(count):
+        comparison.tally["copies"] += 1
         path = chance.choice((FIRST, Path(comparison.room, "libv.so")))
         content, changes = changed(path.read_bytes(), chance, [0, 1, 2, 3, 5, THREAD, 7])
         comparison.symbols(path, content, changes)
 
 
 def main() -> int:
-    parser = parser_of(__doc__, "elfbind", "elfsym")
-    parser.add_argument("--seed", type=int, default=1, metavar="S")
-    parser.add_argument("--count", type=int, default=3000, metavar="N")
-    parser.add_argument("--differences", type=int, default=40, metavar="N", help="how many differences are printed")
-    given = parser.parse_args()
+    given = parser_of(__doc__, "elfbind", "elfsym", seed=1, count=3000).parse_args()
+    tally = Tally("", "copies", "results compared")
     with tempfile.TemporaryDirectory() as room:
-        comparison = Comparison(given.elfbind, given.elfsym, room)
+        comparison = Comparison(given.elfbind, given.elfsym, room, tally)
         compare_bindings(comparison, random.Random(given.seed), given.count)
         compare_symbols(comparison, random.Random(given.seed), given.count)
-    for line in comparison.lines[: given.differences]:
-        print(line)
-    counts = comparison.counts
-    others = ", ".join(f"{number} {name}" for name, number in sorted(counts.items()) if name not in ("answers", "differences"))
-    print(f"{2 * given.count} copies: {counts['answers']} results compared, {others}, {counts['differences']} differences")
-    return 1 if counts["differences"] else 0
+    return tally.ended()
 
 
 if __name__ == "__main__":

@@ -1,9 +1,12 @@
-"""What dlsym and dlvsym of the C library say of the names of a library, which is loaded in a process of its own.
+"""What the C library says of the names and the addresses of a library, which is loaded in a process of its own.
 
     asked("/usr/lib/x86_64-linux-gnu/libm.so.6", [("exp", "GLIBC_2.29"), ("exp", None)])
+    named("/usr/lib/x86_64-linux-gnu/libm.so.6", [0x10000])
 
-For each name the answer is `none`, or where it is found (`here`, `elsewhere` in another library, or `nowhere`), its offset in
-the library, and its address. Of a library that can't be loaded, or whose process doesn't end by itself, it is None.
+`asked` calls dlsym and dlvsym. For each name the answer is `none`, or where it is found (`here`, `elsewhere` in another
+library, or `nowhere`), its offset in the library, and its address. `named` calls dladdr. For each address of the file the
+answer is a name with an offset, `none`, or `outside` where the address is in no or in another library. Of a library that can't
+be loaded, or whose process doesn't end by itself, both are None.
 """
 import ctypes
 import os
@@ -11,52 +14,82 @@ import resource
 import subprocess
 import sys
 import tempfile
-from typing import List, Optional, Sequence, Tuple
+from typing import Iterator, List, Optional, Sequence, Tuple
 
 # The numbers RTLD_DI_LINKMAP and RTLD_DL_LINKMAP.
 LINK_MAP = 2
 
 
+class Found(ctypes.Structure):
+    """Dl_info of the C library."""
+
+    _fields_ = [("path", ctypes.c_char_p), ("base", ctypes.c_void_p), ("name", ctypes.c_char_p), ("address", ctypes.c_void_p)]
+
+
 def asked(path: str, names: Sequence[Tuple[str, Optional[str]]], seconds: int = 240, **variables: str) -> Optional[List[str]]:
-    lines = "".join(f"{name} {version}\n" if version else f"{name}\n" for name, version in names).encode("utf-8", "surrogateescape")
+    return said_of(path, [f"{name} {version or ''}" for name, version in names], seconds, variables)
+
+
+def named(path: str, addresses: Sequence[int]) -> Optional[List[str]]:
+    return said_of(path, [f"{it:x}" for it in addresses], 300, {})
+
+
+def said_of(path: str, lines: List[str], seconds: int, variables: dict) -> Optional[List[str]]:
+    """What the process says of each line: a name with a blank and its version, or an address."""
+    text = "".join(f"{it}\n" for it in lines).encode("utf-8", "surrogateescape")
     with tempfile.TemporaryDirectory() as room:
         environment = {"PATH": os.environ.get("PATH", ""), "HOME": room, "LC_ALL": "C", **variables}
         try:
             done = subprocess.run(
-                [sys.executable, "-IS", __file__, path], input=lines, cwd=room, env=environment, timeout=seconds, capture_output=True, check=False)
+                [sys.executable, "-IS", __file__, path], input=text, cwd=room, env=environment, timeout=seconds, capture_output=True, check=False)
         except subprocess.TimeoutExpired:
             return None
-    said = done.stdout.decode("ascii").split("\n")
-    return said[: len(names)] if said[len(names) :] == ["end", ""] else None
+    said = done.stdout.decode("utf-8", "surrogateescape").split("\n")
+    return said[: len(lines)] if said[len(lines) :] == ["end", ""] else None
 
 
-def answers(path: str) -> List[str]:
-    """Loads a library, and asks for the names of the standard input."""
-    found, other, libc = ctypes.c_void_p(), ctypes.c_void_p(), ctypes.CDLL(None)
-    libc.dlopen.restype = libc.dlsym.restype = libc.dlvsym.restype = libc.dlerror.restype = ctypes.c_void_p
-    library = ctypes.c_void_p(libc.dlopen(os.fsencode(path), os.RTLD_NOW | os.RTLD_LOCAL))
-    if not library or libc.dlinfo(library, LINK_MAP, ctypes.byref(found)):
-        os._exit(3)
-    start, lines = ctypes.c_ulong.from_address(found.value or 0).value, []
-    for line in sys.stdin.buffer.read().split(b"\n")[:-1]:
-        name, _, version = line.partition(b" ")
-        libc.dlerror()
-        address = (libc.dlvsym(library, name, version) if version else libc.dlsym(library, name)) or 0
-        if libc.dlerror():
-            lines.append("none")
-            continue
-        is_known = libc.dladdr1(ctypes.c_void_p(address), (ctypes.c_void_p * 4)(), ctypes.byref(other), LINK_MAP)
-        place = "nowhere" if not is_known else "here" if other.value == found.value else "elsewhere"
-        lines.append(f"{place} {(address - start) % 2**64:x} {address:x}")
-    return lines
+class Library:
+    """A library that is loaded."""
+
+    def __init__(self, path: str) -> None:
+        self.libc, found = ctypes.CDLL(None), ctypes.c_void_p()
+        self.libc.dlopen.restype = self.libc.dlsym.restype = self.libc.dlvsym.restype = self.libc.dlerror.restype = ctypes.c_void_p
+        self.library = ctypes.c_void_p(self.libc.dlopen(os.fsencode(path), os.RTLD_NOW | os.RTLD_LOCAL))
+        if not self.library or self.libc.dlinfo(self.library, LINK_MAP, ctypes.byref(found)):
+            os._exit(3)
+        self.map, self.start = found.value, ctypes.c_ulong.from_address(found.value or 0).value
+
+    def at(self, address: int) -> Tuple[Found, str]:
+        """What dladdr finds at an address, and where."""
+        info, other = Found(), ctypes.c_void_p()
+        is_known = self.libc.dladdr1(ctypes.c_void_p(address), ctypes.byref(info), ctypes.byref(other), LINK_MAP)
+        return info, "nowhere" if not is_known else "here" if other.value == self.map else "elsewhere"
+
+    def answer(self, line: bytes) -> bytes:
+        name, is_name, version = line.partition(b" ")
+        if not is_name:
+            address = self.start + int(name, 16)
+            info, place = self.at(address)
+            return b"outside" if place != "here" else b"none" if info.name is None else info.name + b"+0x%x" % (address - info.address)
+        self.libc.dlerror()
+        address = (self.libc.dlvsym(self.library, name, version) if version else self.libc.dlsym(self.library, name)) or 0
+        if self.libc.dlerror():
+            return b"none"
+        return b"%s %x %x" % (self.at(address)[1].encode(), (address - self.start) % 2**64, address)
+
+
+def answers(path: str) -> Iterator[bytes]:
+    """Loads a library, and answers the lines of the standard input."""
+    library = Library(path)
+    yield from map(library.answer, sys.stdin.buffer.read().split(b"\n")[:-1])
+    yield b"end"
 
 
 if __name__ == "__main__":
     # Libraries may write to the standard output when they are loaded.
-    output = os.dup(1)
+    output = os.fdopen(os.dup(1), "wb")
     os.dup2(os.open(os.devnull, os.O_WRONLY), 1)
     resource.setrlimit(resource.RLIMIT_CORE, (0, 0))
-    text = "\n".join([*answers(sys.argv[1]), "end", ""]).encode("ascii")
-    while text:
-        text = text[os.write(output, text) :]
+    output.writelines(it + b"\n" for it in answers(sys.argv[1]))
+    output.flush()
     os._exit(0)

@@ -1,9 +1,9 @@
 #!/usr/bin/env python3
 """Compare what elfload prints of programs and libraries with what Linux and the dynamic linker map.
 
-    tools/compare/loads.py [--elfload PATH] [--dir DIR].. [--damaged N] [--seed S] [PROGRAM..]
+    tools/compare/loads.py [--elfload PATH] [--damaged N] [--seed N] FILE..
 
-The programs are those given, and all dynamically linked ELF programs in the folders DIR. Each is run in a process that is
+The programs are the dynamically linked ones among the files, and in the folders among them. Each is run in a process that is
 stopped by ptrace, and never comes to its own code:
 
 - at exec, where Linux has mapped the program and its interpreter (the lines under `kernel`);
@@ -15,7 +15,7 @@ file; and no other page of the file is mapped. Of each file once at each stop, r
 those of the file at that offset, or zero where the file has ended; at exec the last bytes of writable pages may be zero instead.
 
 --damaged N runs elfload on N damaged copies of the smallest of the programs, and as many of the smallest of its libraries,
-at random from the seed S: bytes of the ELF header and of program headers are changed. It must end within two seconds with
+at random from the seed: bytes of the ELF header and of program headers are changed. It must end within two seconds with
 status 0 or 1. The copies that it accepts are run, or loaded by LD_PRELOAD, and stopped in the same way. Where Linux or the
 linker doesn't load one, the cause is counted; the only ones allowed are those of ALLOWED.
 
@@ -23,7 +23,6 @@ A difference is a line, and the exit status is then 1. It needs ptrace on x86-64
 another, the script says so, and passes.
 """
 import bisect
-import collections
 import ctypes
 import dataclasses
 import functools
@@ -40,7 +39,7 @@ from pathlib import Path
 from typing import Dict, Iterator, List, NamedTuple, Optional, Set, Tuple
 
 from bindings import linker_of, programs_in, real
-from comparing import parser_of, read_elf, run
+from comparing import UNDEFINED, Finished, Tally, dynamic_symbols, parser_of, read_elf, run
 
 PAGE = 4096
 LONGEST = 2.0
@@ -64,8 +63,9 @@ ALLOWED = {
 }
 
 
-class Line(NamedTuple):
-    """A mapping as elfload prints it."""
+class Mapping(NamedTuple):
+    """A mapping: its addresses, its permissions, its offset in the file, and what it holds: for elfload `file`, `zero` or `none`,
+    in /proc/PID/maps the path of a file."""
 
     start: int
     end: int
@@ -79,30 +79,13 @@ class Plan(NamedTuple):
 
     relro: Optional[Tuple[int, int]]
     start: int
-    by: Dict[str, List[Line]]
+    by: Dict[str, List[Mapping]]
 
 
-class Mapping(NamedTuple):
-    """A line of /proc/PID/maps."""
-
-    start: int
-    end: int
-    flags: str
-    offset: int
-    path: str
-
-
-class Said(NamedTuple):
-    """How a run of elfload ended, and the plan if it printed one."""
-
-    status: int
-    errors: str
-    plan: Optional[Plan]
-
-
-def span_of(text: str) -> Tuple[int, int]:
-    start, end = text.split("-")
-    return int(start, 16), int(end, 16)
+def mapping_of(found: "re.Match") -> Mapping:
+    """The mapping of a line."""
+    start, end, flags, offset, holds = found.groups()
+    return Mapping(int(start, 16), int(end, 16), flags, int(offset, 16), holds)
 
 
 def plan_of(text: str) -> Plan:
@@ -115,15 +98,15 @@ def plan_of(text: str) -> Plan:
             name, _, held = line.partition(" ")
             heads[name] = held
         else:
-            start, end, flags, offset, holds = LINE.match(line).groups()
-            lines.append(Line(int(start, 16), int(end, 16), flags, int(offset, 16), holds))
-    relro = None if heads["relro"] == "none" else span_of(heads["relro"])
-    return Plan(relro, span_of(heads["span"])[0], by)
+            lines.append(mapping_of(LINE.match(line)))
+    relro, span = ([int(it, 16) for it in heads[name].split("-")] if heads[name] != "none" else None for name in ("relro", "span"))
+    return Plan(relro and tuple(relro), span[0], by)
 
 
-def said_of(elfload: str, path: str) -> Said:
+def said_of(elfload: str, path: str) -> Tuple[Finished, Optional[Plan]]:
+    """How a run of elfload ended, and the plan if it printed one."""
     done = run([elfload, path])
-    return Said(done.status, done.errors, plan_of(done.output) if done.status == 0 else None)
+    return done, plan_of(done.output) if done.status == 0 else None
 
 
 class Stopped:
@@ -205,11 +188,7 @@ class Stopped:
 
     def maps(self) -> List[Mapping]:
         lines = Path(f"/proc/{self.pid}/maps").read_text("utf-8", "surrogateescape").split("\n")
-        found = []
-        for line in lines[:-1]:
-            start, end, flags, offset, path = MAPPED.match(line).groups()
-            found.append(Mapping(int(start, 16), int(end, 16), flags, int(offset, 16), path))
-        return found
+        return [mapping_of(MAPPED.match(it)) for it in lines[:-1]]
 
     def auxiliary(self, kind: int) -> int:
         """An entry of the auxiliary vector, as 7, AT_BASE."""
@@ -227,26 +206,22 @@ class Stopped:
         return said
 
 
-class Tally:
-    """Counts what was compared, and prints each difference."""
+class Plans(Tally):
+    """Counts what was compared, and keeps the plan of each file."""
 
     def __init__(self, elfload: str) -> None:
-        self.elfload, self.counts, self.plans = elfload, collections.Counter(differences=0), {}
+        super().__init__(elfload)
+        self.plans: Dict[str, Optional[Plan]] = {}
         # The files and stops whose bytes were compared.
         self.compared: Set[Tuple[str, str]] = set()
-
-    def differ(self, what: str) -> None:
-        self.counts["differences"] += 1
-        print(what[:500])
 
     def plan(self, path: str) -> Optional[Plan]:
         """The plan of a file; one that is refused is a difference."""
         if path not in self.plans:
-            said = said_of(self.elfload, path)
-            if said.plan is None:
-                self.differ(f"{path}: elfload: status {said.status}: {said.errors.strip()}")
-            self.plans[path] = said.plan
-            self.counts["files"] += 1
+            said, self.plans[path] = said_of(self.program, path)
+            if said.status != 0:
+                self.fault(f"{path}: elfload: status {said.status}: {said.errors.strip()}")
+            self["files"] += 1
         return self.plans[path]
 
 
@@ -260,11 +235,13 @@ class Loaded:
     base: int
     is_protected: bool = False
 
-    def flags(self, line: Line, address: int) -> str:
-        """The permissions of a page."""
-        if self.is_protected and self.plan.relro and self.plan.relro[0] <= address - self.base < self.plan.relro[1]:
-            return "r--"
-        return line.flags
+    def parts(self, line: Mapping) -> Iterator[Mapping]:
+        """A mapping of the plan at its addresses in the process, with the pages of relro apart."""
+        relro = self.plan.relro if self.is_protected and self.plan.relro else (0, 0)
+        places = sorted({line.start, line.end, *(it for it in relro if line.start < it < line.end)})
+        for start, end in zip(places, places[1:]):
+            flags = "r--" if relro[0] <= start < relro[1] else line.flags
+            yield Mapping(self.base + start, self.base + end, flags, line.offset + start - line.start, line.holds)
 
 
 @functools.lru_cache(maxsize=None)
@@ -277,67 +254,49 @@ def content_of(path: str) -> bytes:
     return Path(path).read_bytes()
 
 
-def split(loaded: Loaded, line: Line) -> Iterator[Tuple[int, int, str]]:
-    """The parts of a line with the same permissions, by their addresses in the process."""
-    start, end = loaded.base + line.start, loaded.base + line.end
-    places = {start, end}
-    if loaded.is_protected and loaded.plan.relro:
-        places |= {loaded.base + it for it in loaded.plan.relro if line.start < it < line.end}
-    ordered = sorted(places)
-    for one, other in zip(ordered, ordered[1:]):
-        yield one, other, loaded.flags(line, one)
+def as_mapped(mapping: Mapping, path: str, part: Mapping) -> bool:
+    """Whether a mapping is as a part of the plan of a file says."""
+    if part.holds == "file":
+        is_same = mapping.holds == path and mapping.offset - mapping.start == part.offset - part.start
+    else:
+        is_same = part.holds == "none" or mapping.holds in ("", "[heap]")
+    return is_same and mapping.flags == part.flags
 
 
-def as_mapped(mapping: Mapping, loaded: Loaded, line: Line, start: int, flags: str) -> bool:
-    """Whether a mapping is as the line says, from an address of both on."""
-    if mapping.flags != flags:
-        return False
-    if line.holds == "file":
-        at = line.offset + start - loaded.base - line.start
-        return mapping.path == loaded.path and mapping.offset + start - mapping.start == at
-    return line.holds == "none" or mapping.path in ("", "[heap]")
-
-
-def compare_line(maps: List[Mapping], loaded: Loaded, line: Line, name: str, tally: Tally) -> None:
+def compare_line(maps: List[Mapping], loaded: Loaded, line: Mapping, name: str, tally: Plans) -> None:
     """Compares the pages of a line."""
     starts = [it.start for it in maps]
-    for start, end, flags in split(loaded, line):
-        at = start
-        while at < end:
+    for part in loaded.parts(line):
+        at = part.start
+        while at < part.end:
             index = bisect.bisect_right(starts, at) - 1
             mapping = maps[index] if index >= 0 and at < maps[index].end else None
-            if mapping is None or not as_mapped(mapping, loaded, line, at, flags):
-                tally.differ(f"{name}: {loaded.path}: elfload says {line} at {at - loaded.base:x} ({flags}), maps say {mapping}")
+            if mapping is None or not as_mapped(mapping, loaded.path, part):
+                tally.fault(f"{name}: {loaded.path}: elfload says {line} at {at - loaded.base:x} ({part.flags}), maps say {mapping}")
                 return
-            at = min(end, mapping.end)
-    tally.counts["mappings"] += 1
+            at = min(part.end, mapping.end)
+    tally["mappings"] += 1
 
 
-def compare_bytes(process: Stopped, loaded: Loaded, line: Line, all_bytes: bool, name: str, tally: Tally) -> None:
+def compare_bytes(process: Stopped, loaded: Loaded, line: Mapping, all_bytes: bool, name: str, tally: Plans) -> None:
     """Compares the bytes of a line that is not writable, or of any line at exec."""
-    for start, end, flags in split(loaded, line):
-        if line.holds == "none" or flags[0] != "r" or ("w" in line.flags and not all_bytes):
+    for part in loaded.parts(line):
+        size, is_writable = part.end - part.start, "w" in line.flags
+        if part.holds == "none" or part.flags[0] != "r" or (is_writable and not all_bytes):
             continue
-        held = process.memory(start, end - start)
-        wanted = b""
-        if line.holds == "file":
-            at = line.offset + start - loaded.base - line.start
-            wanted = content_of(loaded.path)[at : at + end - start]
-        # Of pages of the file past its end there are no bytes.
-        last = -(-len(wanted) // PAGE) * PAGE if line.holds == "file" else end - start
-        wanted = wanted.ljust(min(last, end - start), b"\0")
-        if held != wanted and not ("w" in line.flags and line.holds == "file" and ends_in_zeros(held, wanted)):
-            tally.differ(f"{name}: {loaded.path}: bytes of {line} are others")
-        tally.counts["bytes"] += len(held)
+        held, wanted = process.memory(part.start, size), bytes(size)
+        if part.holds == "file":
+            wanted = content_of(loaded.path)[part.offset : part.offset + size]
+            # Of pages of the file past its end there are no bytes.
+            wanted = wanted.ljust(min(-(-len(wanted) // PAGE) * PAGE, size), b"\0")
+        # In writable pages of a file zeros may begin before its bytes end.
+        last = len(held.rstrip(b"\0")) if is_writable and part.holds == "file" else len(held)
+        if len(held) != len(wanted) or held[:last] != wanted[:last]:
+            tally.fault(f"{name}: {loaded.path}: bytes of {line} are others")
+        tally["bytes"] += len(held)
 
 
-def ends_in_zeros(held: bytes, wanted: bytes) -> bool:
-    """Whether bytes are these up to a place, and zero from there on."""
-    last = len(held.rstrip(b"\0"))
-    return len(held) == len(wanted) and held[:last] == wanted[:last]
-
-
-def compare_loaded(process: Stopped, maps: List[Mapping], loaded: Loaded, at_exec: bool, name: str, tally: Tally) -> None:
+def compare_loaded(process: Stopped, maps: List[Mapping], loaded: Loaded, at_exec: bool, name: str, tally: Plans) -> None:
     """Compares all pages of a file."""
     lines = loaded.plan.by[loaded.by]
     stop = name.rpartition(": ")[2]
@@ -348,23 +307,22 @@ def compare_loaded(process: Stopped, maps: List[Mapping], loaded: Loaded, at_exe
         if is_new:
             compare_bytes(process, loaded, line, at_exec, name, tally)
     for mapping in maps:
-        if mapping.path == loaded.path and not any(
-            loaded.base + it.start <= mapping.start and mapping.start < loaded.base + it.end for it in lines):
-            tally.differ(f"{name}: {loaded.path}: elfload has no mapping at {mapping}")
+        if mapping.holds == loaded.path and not any(it.start <= mapping.start - loaded.base < it.end for it in lines):
+            tally.fault(f"{name}: {loaded.path}: elfload has no mapping at {mapping}")
 
 
 def base_of(maps: List[Mapping], path: str, plan: Plan) -> Optional[int]:
     """The base of a file in a process, by its first mapping."""
-    first = min((it.start for it in maps if it.path == path), default=None)
+    first = min((it.start for it in maps if it.holds == path), default=None)
     return None if first is None else first - plan.start
 
 
-def files_of(process: Stopped, maps: List[Mapping], program: str, tally: Tally, is_protected: bool) -> List[Loaded]:
+def files_of(process: Stopped, maps: List[Mapping], program: str, tally: Plans, is_protected: bool) -> List[Loaded]:
     """The files that a process has mapped."""
     base = process.auxiliary(7)
-    interpreter = next((it.path for it in maps if it.start <= base < it.end), "")
+    interpreter = next((it.holds for it in maps if it.start <= base < it.end), "")
     found = []
-    for path in dict.fromkeys(it.path for it in maps if it.path.startswith("/") and is_elf(it.path)):
+    for path in dict.fromkeys(it.holds for it in maps if it.holds.startswith("/") and is_elf(it.holds)):
         by = "kernel" if path in (program, interpreter) else "glibc"
         plan = tally.plan(path)
         if plan is not None:
@@ -375,37 +333,35 @@ def files_of(process: Stopped, maps: List[Mapping], program: str, tally: Tally, 
 @functools.lru_cache(maxsize=None)
 def value_of(path: str, name: str) -> Optional[int]:
     """The value of a dynamic symbol, as readelf says."""
-    said = run(["readelf", "-W", "--dyn-syms", "--", path]).output
-    found = re.search(rf" ([0-9a-f]+) +\d+ FUNC .* {name}(?:@\S+)?$", said, re.M)
-    return int(found[1], 16) if found else None
+    return next((it.value for it in dynamic_symbols(path) if it.name == name and it.section != UNDEFINED), None)
 
 
-def compare_stop(process: Stopped, program: str, stop: str, tally: Tally) -> None:
+def compare_stop(process: Stopped, program: str, stop: str, tally: Plans) -> None:
     maps = process.maps()
     for loaded in files_of(process, maps, program, tally, stop == "after relro"):
         compare_loaded(process, maps, loaded, stop == "exec", f"{program}: {stop}", tally)
-        tally.counts[f"objects {stop}"] += 1
+        tally[f"objects {stop}"] += 1
 
 
-def compare(path: str, tally: Tally) -> None:
+def compare(path: str, tally: Plans) -> None:
     """Compares a program and its libraries at each stop."""
     process = Stopped(path)
     try:
         if process.signal() != signal.SIGTRAP:
-            tally.counts["not run"] += 1
+            tally["not run"] += 1
             return
-        tally.counts["programs"] += 1
+        tally["programs"] += 1
         compare_stop(process, path, "exec", tally)
         if not process.to_read_only():
-            tally.counts["without relro"] += 1
+            tally["without relro"] += 1
             return
         compare_stop(process, path, "before relro", tally)
         base = process.auxiliary(7)
-        linker = next(it.path for it in process.maps() if it.start <= base < it.end)
+        linker = next(it.holds for it in process.maps() if it.start <= base < it.end)
         state = value_of(linker, "_dl_debug_state")
         # The linker calls it before it maps libraries, and once relocation is done.
         if state is None or not process.to_address(base + state):
-            tally.counts["not relocated"] += 1
+            tally["not relocated"] += 1
             return
         compare_stop(process, path, "after relro", tally)
     finally:
@@ -440,34 +396,33 @@ def cause_of(text: str) -> Optional[str]:
     return next((name for name, words in ALLOWED.items() if re.search(words, text)), None)
 
 
-def load_copy(copy: str, program: str, by: str, tally: Tally) -> None:
+def load_copy(copy: str, plan: Plan, program: str, by: str, tally: Plans) -> None:
     """Has a copy loaded that elfload accepts, and compares its mappings."""
     is_program = by == "kernel"
     process = Stopped(copy if is_program else program, **({} if is_program else {"LD_PRELOAD": copy}))
-    before = tally.counts["differences"]
+    before = tally["differences"]
     try:
         is_there = process.signal() == signal.SIGTRAP
         if is_there and not is_program:
             process.to_read_only()
             is_there = process.is_stopped()
         maps = process.maps() if is_there else []
-        plan = said_of(tally.elfload, copy).plan
         base = base_of(maps, copy, plan)
         if base is None:
             text = process.end()
             cause = cause_of(text) or ("killed at exec" if is_program else None)
-            tally.counts[f"{'programs' if is_program else 'libraries'} not loaded: {cause or 'unexplained'}"] += 1
+            tally[f"{'programs' if is_program else 'libraries'} not loaded: {cause or 'unexplained'}"] += 1
             if cause is None:
-                tally.differ(f"damaged copy {copy}: accepted and not loaded: {text.strip()}")
+                tally.fault(f"damaged copy {copy}: accepted and not loaded: {text.strip()}")
             return
         compare_loaded(process, maps, Loaded(copy, plan, by, base), is_program, "damaged copy", tally)
-        tally.counts[f"{'programs' if is_program else 'libraries'} as planned"] += tally.counts["differences"] == before
+        tally[f"{'programs' if is_program else 'libraries'} as planned"] += tally["differences"] == before
     finally:
         if not process.errors.closed:
             process.end()
 
 
-def try_damaged(files: Dict[str, str], program: str, copies: int, seed: int, tally: Tally) -> None:
+def try_damaged(files: Dict[str, str], program: str, copies: int, seed: int, tally: Plans) -> None:
     """Runs elfload on damaged copies of a program and of a library, and has those loaded that it accepts."""
     chance, longest = random.Random(seed), 0.0
     with tempfile.TemporaryDirectory() as room:
@@ -478,14 +433,14 @@ def try_damaged(files: Dict[str, str], program: str, copies: int, seed: int, tal
                 Path(copy).write_bytes(changed(content, chance))
                 os.chmod(copy, 0o755)
                 began = time.monotonic()
-                said = said_of(tally.elfload, copy)
+                said, plan = said_of(tally.program, copy)
                 longest = max(longest, time.monotonic() - began)
                 if said.status not in (0, 1) or longest > LONGEST or (said.status == 1) != bool(said.errors):
-                    tally.differ(f"damaged copy {number} of {source}: status {said.status}, {longest:.1f} s at most")
-                tally.counts["damaged copies"] += 1
-                if said.plan is not None:
-                    tally.counts["accepted"] += 1
-                    load_copy(copy, program, by, tally)
+                    tally.fault(f"damaged copy {number} of {source}: status {said.status}, {longest:.1f} s at most")
+                tally["damaged copies"] += 1
+                if plan is not None:
+                    tally["accepted"] += 1
+                    load_copy(copy, plan, program, by, tally)
                 os.unlink(copy)
     print(f"damaged copies: {longest:.2f} s at most")
 
@@ -505,27 +460,18 @@ def smallest(paths: List[str]) -> str:
 
 
 def main() -> int:
-    parser = parser_of(__doc__, "elfload")
-    parser.add_argument("--dir", action="append", default=[], metavar="DIR")
-    parser.add_argument("--damaged", type=int, default=0, metavar="N")
-    parser.add_argument("--seed", type=int, default=1, metavar="S")
-    parser.add_argument("programs", nargs="*", metavar="PROGRAM")
-    given = parser.parse_args()
+    given = parser_of(__doc__, "elfload", files="*", damaged=0, seed=1).parse_args()
     if not can_trace():
         print("0 programs, 0 differences: processes can't be traced here")
         return 0
-    tally = Tally(given.elfload)
-    paths = given.programs + [path for folder in given.dir for path in programs_in(folder)]
-    programs = [it for it in dict.fromkeys(map(real, paths)) if linker_of(it)]
+    tally, programs = Plans(given.elfload), programs_in(given.files)
     for path in programs:
         compare(path, tally)
     if given.damaged and programs:
         program = smallest(programs)
         libraries = [it for it in tally.plans if ".so" in os.path.basename(it) and real(linker_of(program) or "") != it]
         try_damaged({"kernel": program, "glibc": smallest(libraries)}, program, given.damaged, given.seed, tally)
-    counts = tally.counts
-    print(", ".join(f"{number} {name}" for name, number in counts.items() if name != "differences") + f", {counts['differences']} differences")
-    return 1 if counts["differences"] else 0
+    return tally.ended()
 
 
 if __name__ == "__main__":

@@ -13,10 +13,10 @@ import sys
 import tempfile
 from pathlib import Path
 
-from comparing import ROOT, SECTION, Tally, ended, llvm, parser_of, parts, raw, run, texts_of
+from comparing import LOAD, ROOT, SECTION, Tally, build_ids, llvm, parser_of, parts, raw, relocation_tables, texts_of
 
 SYSTEM = ["/bin/ls", "/usr/bin/readelf", "/bin/bash", "/lib/x86_64-linux-gnu/libc.so.6", "/lib/x86_64-linux-gnu/libm.so.6"]
-OURS = ["crates/elfnm/data/add.o", "crates/elfsections/data/narrow.so", "crates/elfsections/data/wide.so", "crates/elfsym/data/stripped.so"]
+OURS = ["crates/elfnm/data/add.o", "crates/elfbind/data/libfirst.so", "crates/elfbind/data/libfirst_32.so", "crates/elfsym/data/stripped.so"]
 
 SOURCE = """
 extern int far(int);
@@ -37,8 +37,7 @@ MADE = {
     "needs_32.so": ["-m32", "-shared", "-fPIC", "-nostdlib", "near.c", "-Wl,--no-as-needed", "./shared_32.so"],
 }
 
-RELOCATION = re.compile(r"([0-9a-f]{8,16}) +([0-9a-f]{8,16}) (\w+) *(.*)$")
-NO_BITS, LOAD = 8, 1
+NO_BITS = 8
 
 
 def make(folder: Path) -> list:
@@ -64,41 +63,27 @@ def symbols(said: list, is_dynamic: bool) -> list:
     return found
 
 
-def addend(text: str) -> int:
-    """The addend at the end of a line of readelf -r: a signed number behind a symbol, or 64 bits alone."""
-    if signed := re.search(r" ([+-]) ([0-9a-f]+)$", text):
-        return int(signed[1] + signed[2], 16)
-    alone = int(text.split()[-1], 16)
-    return alone - (alone >> 63 << 64)
-
-
 def relocations(path: str, is_wide: bool, sections: list, tables: dict) -> list:
-    """The lines of the relocations of all sections, which llvm-readelf doesn't write in JSON."""
-    kinds = (32, 0xFFFFFFFF) if is_wide else (8, 0xFF)
-    links, names = {it["Name"]["Value"]: it["Link"] for it in sections}, [it["Name"]["Value"] for it in sections]
-    found, here, is_added = [], [], False
-    for line in run(["readelf", "-rW", path]).output.splitlines():
-        if start := re.match(r"Relocation section '(.*)' at", line):
-            link = links.get(start[1])
-            here = tables.get(names[link]) if link else None
-        elif "Offset" in line:
-            is_added = "Addend" in line
-        elif row := RELOCATION.match(line):
-            offset, info = int(row[1], 16), int(row[2], 16)
-            name = here[info >> kinds[0]][2] if here else "?"
-            found.append(f"{offset:x} {info & kinds[1]} {name}" + (f" {addend(row[4])}" if is_added else ""))
+    """The lines of the relocations of all sections."""
+    bits, kinds = (32, 0xFFFFFFFF) if is_wide else (8, 0xFF)
+    links, names, found = {it["Name"]["Value"]: it["Link"] for it in sections}, [it["Name"]["Value"] for it in sections], []
+    for table in relocation_tables(path):
+        link = links.get(table.section)
+        symbols = tables.get(names[link]) if link else None
+        for it in table.rows:
+            name = symbols[it.info >> bits][2] if symbols else "?"
+            found.append(f"{it.offset:x} {it.info & kinds} {name}" + (f" {it.addend}" if table.has_addends else ""))
     return found
 
 
 def wanted(path: str) -> dict:
     """What readelf says of a file, in the form in which the recipes print it."""
-    said = llvm(path, "-h", "-S", "-l", "--symbols", "--dyn-syms", "-n")
+    said = llvm(path, "-h", "-S", "-l", "--symbols", "--dyn-syms")
     header, sections, needed = said["ElfHeader"], parts(said, "Sections", "Section"), texts_of(path, "NEEDED")
     is_wide, names = raw(header["Ident"]["Class"]) == 2, [it["Name"]["Value"] for it in sections]
     tables = {".symtab": symbols(parts(said, "Symbols", "Symbol"), False), ".dynsym": symbols(parts(said, "DynamicSymbols", "Symbol"), True)}
     loads = [it for it in parts(said, "ProgramHeaders", "ProgramHeader") if raw(it["Type"]) == LOAD]
     entry = [it for it in loads if it["VirtualAddress"] <= header["Entry"] < it["VirtualAddress"] + it["MemSize"]]
-    ids = re.findall(r"'Build ID': '([0-9a-f]+)'", str(said.get("Notes")))
     text = [it["Size"] for it in sections if it["Name"]["Value"] == ".text" and raw(it["Type"]) != NO_BITS]
     own = tables[".symtab"] if ".symtab" in names else []
     return {
@@ -107,7 +92,7 @@ def wanted(path: str) -> dict:
         "relocations": relocations(path, is_wide, sections, tables),
         "needed": needed if ".dynamic" in names else [],
         "needed by segments": needed if loads else [],
-        "build id": ids[:1] if is_wide and ".note.gnu.build-id" in names else [],
+        "build id": build_ids(path) if is_wide and ".note.gnu.build-id" in names else [],
         "segment of the entry point": [f"{it['VirtualAddress']:x} {it['MemSize']}" for it in entry[:1]],
         "text": [str(text[0])] if text else [],
         "first symbols": [str(len(own))] if is_wide and ".symtab" in names else [],
@@ -116,14 +101,10 @@ def wanted(path: str) -> dict:
 
 def compare(tally: Tally, program: str, path: str) -> None:
     """Compares what the recipes print of a file, each behind a line with its name."""
-    done, read = run([program, "recipes", path]), wanted(path)
     tally["files"] += 1
-    if done.status != 0:
-        tally.differ(path, "the run", "a fault", "a file")
-        return
-    printed = re.split(r"^\[([\w ]+)\]\n", done.output, flags=re.M)
+    printed = re.split(r"^\[([\w ]+)\]\n", tally.output(path, program, "recipes", path), flags=re.M)
     said = dict(zip(printed[1::2], (part.splitlines() for part in printed[2::2])))
-    for name, lines in read.items():
+    for name, lines in wanted(path).items():
         ours = said.get(name, [])
         if ours != lines:
             at = next((it for it, (one, other) in enumerate(zip(ours, lines)) if one != other), min(len(ours), len(lines)))
@@ -131,14 +112,12 @@ def compare(tally: Tally, program: str, path: str) -> None:
 
 
 def main() -> int:
-    parser, tally = parser_of(__doc__, "elftools"), Tally("elftools")
-    parser.add_argument("files", nargs="*", metavar="FILE")
-    arguments = parser.parse_args()
+    given, tally = parser_of(__doc__, "elftools", files="*").parse_args(), Tally("elftools", "files")
     with tempfile.TemporaryDirectory() as room:
-        files = arguments.files or [*(str(ROOT / it) for it in OURS), *make(Path(room)), *(it for it in SYSTEM if Path(it).exists())]
+        files = given.files or [*(str(ROOT / it) for it in OURS), *make(Path(room)), *(it for it in SYSTEM if Path(it).exists())]
         for path in files:
-            compare(tally, arguments.elftools, path)
-    return ended(tally) or int(not tally["files"])
+            compare(tally, given.elftools, path)
+    return tally.ended() or int(not tally["files"])
 
 
 if __name__ == "__main__":

@@ -5,8 +5,7 @@
 
 `sizes` is compared with the size of the file, with readelf -S and with nm; `trace` with nm, at the first and the middle
 byte of each function; `plan` with readelf -r, and for a program with /proc/PID/maps of a process that runs it; `bind` with
-what the dynamic linker prints under LD_DEBUG=bindings when it runs the program with the argument --version. Without files it
-takes the programs and libraries of SYSTEM.
+what the dynamic linker prints under LD_DEBUG=bindings. Without files it takes the programs and libraries of SYSTEM.
 """
 import collections
 import os
@@ -16,11 +15,11 @@ import sys
 import time
 from pathlib import Path
 
-from comparing import ROOT, Tally, ended, parser_of, run
+from bindings import BINDINGS, read_linker, read_program, real
+from comparing import ROOT, Tally, llvm, parser_of, parts, relocation_tables, run
 
 SYSTEM = ["/bin/sleep", "/bin/ls", "/usr/bin/readelf", "/lib/x86_64-linux-gnu/libm.so.6", "/lib/x86_64-linux-gnu/libc.so.6"]
 PAGE = 4096
-BINDING = re.compile(r"binding file (\S+) \[0\] to (\S+) \[0\]: normal symbol `([^']+)'(?: \[(.*)\])?")
 
 
 def nm(path: str) -> list:
@@ -36,14 +35,9 @@ def nm(path: str) -> list:
     return found
 
 
-def sections(path: str) -> set:
-    """The names and sizes of the sections."""
-    lines = run(["readelf", "-SW", path]).output.splitlines()
-    return {(it[1], int(it[2], 16)) for line in lines if (it := re.match(r"\s*\[ *\d+\] (\S+)\s+\S+\s+[0-9a-f]+ [0-9a-f]+ ([0-9a-f]+) ", line))}
-
-
 def compare_sizes(ours: str, path: str, tally: Tally) -> None:
-    known = {"section": sections(path), "symbol": {(name, size) for _, size, _, name in nm(path)}}
+    sections = {(it["Name"]["Value"], it["Size"]) for it in parts(llvm(path, "-S"), "Sections", "Section")}
+    known = {"section": sections, "symbol": {(name, size) for _, size, _, name in nm(path)}}
     rows = [line.split(None, 3) for line in tally.output(path, ours, "sizes", path).splitlines()]
     total = sum(int(it[0]) for it in rows[:-1])
     if not rows or total != os.path.getsize(path) or rows[-1] != [str(total), "sum"]:
@@ -73,28 +67,13 @@ def compare_trace(ours: str, path: str, tally: Tally) -> None:
             tally.differ(path, "addresses", len(said), len(part))
 
 
-def relocations(path: str) -> collections.Counter:
-    """The types and the offsets of the dynamic relocations, and the places of those that are packed."""
-    found, is_packed = collections.Counter(), False
-    for line in run(["readelf", "-rW", path]).output.splitlines():
-        if line.startswith("Relocation section"):
-            is_packed = ".relr.dyn" in line
-        elif is_packed and (it := re.match(r"([0-9a-f]{16})$", line)):
-            found["relr", int(it[1], 16)] += 1
-        elif not is_packed and (it := re.match(r"([0-9a-f]{8,16}) +[0-9a-f]{8,16} (R_\S+)", line)):
-            found[it[2], int(it[1], 16)] += 1
-    return found
-
-
 def compare_relocations(said: list, path: str, tally: Tally) -> None:
-    own = collections.Counter((it[0], int(it[1], 16)) for it in said if it[0].startswith("R_") or it[0] == "relr")
-    theirs = relocations(path)
-    # readelf writes no places of packed relocations before version 2.41.
-    kinds = {kind for kind, _ in theirs}
-    own = collections.Counter({key: n for key, n in own.items() if key[0] != "relr" or "relr" in kinds})
-    # It cuts names of types to 22 letters.
-    own = collections.Counter({(kind[:22], at): n for (kind, at), n in own.items()})
-    theirs = collections.Counter({(kind[:22], at): n for (kind, at), n in theirs.items()})
+    # readelf cuts names of types to 22 letters.
+    own = collections.Counter((it[0][:22], int(it[1], 16)) for it in said if it[0].startswith("R_") or it[0] == "relr")
+    theirs = collections.Counter()
+    for table in relocation_tables(path):
+        theirs.update((it.kind[:22], it.offset) for it in table.rows)
+        theirs.update(("relr", it) for it in table.packed)
     tally["relocations"] += sum(own.values())
     for key in list((own - theirs) + (theirs - own))[:3]:
         tally.differ(path, f"relocation {key}", own[key], theirs[key])
@@ -135,28 +114,23 @@ def compare_plan(ours: str, path: str, tally: Tally) -> None:
 
 
 def compare_bind(ours: str, path: str, tally: Tally) -> None:
-    if ".so" in os.path.basename(path):
+    program = None if ".so" in os.path.basename(path) else read_program(path)
+    if not program:
         return
     own = collections.defaultdict(set)
     for line in tally.output(path, ours, "bind", path).splitlines():
         asked, _, to = line.partition(" -> ")
         file, name, version = (asked.split(" ") + [""])[:3]
-        own[os.path.realpath(file), name, version].add(os.path.realpath(to))
-    said = run([path, "--version"], LD_DEBUG="bindings", LD_BIND_NOW="1").errors
-    for file, to, name, version in BINDING.findall(said):
-        if "vdso" in to or "ld-linux" in file:
-            continue
+        own[real(file), name, version].add(real(to))
+    for key, found in read_linker(program, run([program.linker, path], **BINDINGS)).bound.items():
         tally["bindings"] += 1
-        found = own[os.path.realpath(file), name, version]
-        if os.path.realpath(to) not in found:
-            tally.differ(path, f"{file} {name} {version}", found, to)
+        if not found <= own[key]:
+            tally.differ(path, " ".join(key), sorted(own[key]), sorted(found))
 
 
 def main() -> int:
-    parser = parser_of(__doc__, "elftools")
-    parser.add_argument("files", nargs="*", metavar="FILE")
-    given = parser.parse_args()
-    tally = Tally("elftools", "sizes", "addresses", "relocations", "pages", "bindings")
+    given = parser_of(__doc__, "elftools", files="*").parse_args()
+    tally = Tally("elftools", "files", "sizes", "addresses", "relocations", "pages", "bindings")
     for path in given.files or [it for it in SYSTEM if os.path.exists(it)] + [str(ROOT / "crates/elftools/data/prog")]:
         tally["files"] += 1
         compare_sizes(given.elftools, path, tally)
@@ -164,7 +138,7 @@ def main() -> int:
         compare_plan(given.elftools, path, tally)
         if not path.startswith(str(ROOT)):
             compare_bind(given.elftools, path, tally)
-    return ended(tally)
+    return tally.ended()
 
 
 if __name__ == "__main__":

@@ -2,7 +2,8 @@
 """What the gate costs, in processor minutes by part.
 
     tools/gate/budget.py run COMMAND..   runs a part of `.ci/run`, and says behind its output what it took
-    tools/gate/budget.py write OUTPUT..  writes docs/GATE.md from the stored output of `.ci/run`, or of its parts
+    tools/gate/budget.py write OUTPUT..  writes the part of docs/GATE.md between `<!-- gate -->` and `<!-- /gate -->` from the
+                                         stored output of `.ci/run`, or of its parts
     tools/gate/budget.py check           fails where that table's total passes the budget, or its numbers don't add up
 
 `rt ci` proves, tests and tries edits of many crates side by side and doesn't say what each took. So while it runs,
@@ -26,7 +27,7 @@ import time
 
 ROOT = pathlib.Path(__file__).resolve().parents[2]
 PAGE = ROOT / "docs" / "GATE.md"
-HEADING = "# What the gate costs"
+PLACE = re.compile(r"(?<=<!-- gate -->\n).*(?=\n<!-- /gate -->)", re.S)
 
 # In processor minutes: 130 for what there was when this was set, and 60 for later crates.
 BUDGET = 190
@@ -45,6 +46,7 @@ DONE = re.compile(r"done in this run: (\d+ of the \d+) proofs")
 MACHINE = re.compile(r"^-- (\d+) processors, (.*)$", re.M)
 TOTAL = re.compile(r"^\| \*\*total\*\* \|.*\| ([\d.]+) \|$", re.M)
 KINDS = ("proof", "tests", "must-fail", "batches")
+HEAD = "| Part | proof | tests | must-fail | batches | together |\n|---|---:|---:|---:|---:|---:|"
 
 
 def part_of(process: int):
@@ -180,18 +182,13 @@ def measured(output: str) -> str:
     return f"Measured at {commit} by `.ci/run` on x86-64 with {where}: {took} The table lists processor minutes by part.{share}"
 
 
-HEAD = "| Part | proof | tests | must-fail | batches | together |\n|---|---:|---:|---:|---:|---:|"
-ABOUT = f"""`tools/gate/budget.py write OUTPUT` writes this page from the output of `.ci/run`, without the paragraphs that were added by hand. `.ci/run` checks that the total is at most {BUDGET} processor minutes. Measure in a copy where nothing was proved before. If the kit's `rt ci` keeps proofs, use `rt ci --anew`.
-
-As root, `.ci/run` turns on transparent huge pages for the time of its run. It gives each check one job. Two checks of `elf_base` side by side, with one job each, took 178 and 186 processor seconds with huge pages, and 235 each without. One check with two jobs took 252 with huge pages. Measured at 5d99415 by `rt verdict` on x86-64, on two of four processors; rattle-kit-13f."""
-
-
 def write(paths) -> int:
     output = "\n".join(pathlib.Path(it).read_text(encoding="utf-8", errors="replace") for it in paths)
     if not TOOK.search(output):
         print(f"{', '.join(paths)}: no part of the gate stands there")
         return 1
-    PAGE.write_text("\n\n".join([HEADING, ABOUT, measured(output), table(output)]) + "\n", encoding="utf-8")
+    page = PAGE.read_text(encoding="utf-8")
+    PAGE.write_text(PLACE.sub(lambda _: f"{measured(output)}\n\n{table(output)}", page), encoding="utf-8")
     return check()
 
 

@@ -3,7 +3,8 @@
 and elfload end.
 
 It runs each program as each compiler built it, on files that are good, refused, missing or unreadable,
-and into outputs that fail. Run it at the top of the repository once the programs are built, or give it
+and into outputs that fail. elfsym must also write names of any bytes with the escapes of `readelf`, and elfnm as
+they are. Run it at the top of the repository once the programs are built, or give it
 other builds of them: tools/gate/program_ends.py [PROGRAM..]
 """
 import dataclasses
@@ -152,7 +153,6 @@ BIND_ENDS = ends_of(
     a_refused_second_file=failing("elfbind", ["caller", "zeros.elf"], "zeros.elf: Did not find ELF magic number"),
     a_refused_first_file=failing("elfbind", ["zeros.elf", "caller"], "zeros.elf: Did not find ELF magic number"),
     a_file_without_a_dynamic_segment=failing("elfbind", ["caller", "link.elf"], "link.elf: No dynamic segment"),
-    a_file_of_another_class=failing("elfbind", ["caller", "narrow.so"], "narrow.so: Class is neither 1 nor 2"),
     the_libraries_in_the_other_order=(["caller", "libsecond.so", "libfirst.so"], 0, (BOUND / "bound_other.txt").read_bytes(), b""),
     a_program_and_two_libraries_of_class_32=(NARROW_BOUND, 0, (BOUND / "bound_32.txt").read_bytes(), b""),
     files_of_both_classes=failing("elfbind", ["caller", "libfirst_32.so"], "libfirst_32.so: Class is neither 1 nor 2"),
@@ -311,7 +311,7 @@ def long_ends(program, built, room):
 def unlike(program, built: pathlib.Path) -> int:
     """Prints how a build of a program ends, and returns how often that is not as it must be."""
     count = 0
-    files = {NOT_UTF8: STRTAB, b"cut.so": CUT_VERSIONS, b"narrow.so": (CRATES / "elfsections" / "data" / "narrow.so").read_bytes(),
+    files = {NOT_UTF8: STRTAB, b"cut.so": CUT_VERSIONS,
         b"strtab.elf": STRTAB, b"empty.elf": b"", b"zeros.elf": bytes(16), b"three.elf": STRTAB[:3], b"link.elf": debug_link(),
         b"hash.elf": hash_file(), b"far.elf": larger(FAR, 2), b"long.elf": larger(52, MANY), b"linked.so": LINKED, b"needs.so": NEEDS,
         b"places.so": PLACES,
@@ -331,6 +331,45 @@ def unlike(program, built: pathlib.Path) -> int:
     return count
 
 
+# Names in files of the repository that get control characters and bytes that aren't UTF-8: by the program that prints them, its
+# words, the file, how `readelf` in the C locale shows them, their new names, and what the program prints of the file as it is kept.
+NAMES = (
+    ("elfnm", ["names.elf"], "elfnm/data/add.o", "-sSW", {b".data": b".\x01\x7f\xc3\xff", b".bss": b"\x1f\x80\xa9_",
+        b"twice": b"t\t\xfe\ne", b"total": b"\xc3\xa9\x02\x7f\x1b"}, (CRATES / "elfnm" / "stdout").read_bytes()),
+    ("elfsym", ["--needed", "names.elf"], "elfsym/data/needs.so", "-dW", {b"libneed.so": b"l\x01\x1f\x7f\x80\xff\xc3\t\n."}, b"libneed.so\n"))
+
+
+def escaped(name: bytes) -> bytes:
+    """The bytes of a name with its control characters escaped, as `readelf` shows names of sections and symbols."""
+    return b"".join(b"^%c" % (byte + 0x40) if byte < 0x20 or byte == 0x7F else b"%c" % byte for byte in name)
+
+
+def replaced(text: bytes, parts: dict) -> bytes:
+    """A text with each of these parts replaced, which must stand in it."""
+    for old, new in parts.items():
+        if old not in text:
+            sys.exit(f"{old!r} isn't in {text[:400]!r}")
+        text = text.replace(old, new)
+    return text
+
+
+def odd_names(name, words, file, options, names, kept, builds) -> int:
+    """Prints what `readelf` and each build of a program say of such names, and returns how often that isn't as it must be."""
+    with tempfile.TemporaryDirectory() as room:
+        changed = replaced((CRATES / file).read_bytes(), {old + b"\0": new + b"\0" for old, new in names.items()})
+        pathlib.Path(room, "names.elf").write_bytes(changed)
+        shown = subprocess.run(["readelf", options, "names.elf"], cwd=room, capture_output=True, env={**os.environ, "LC_ALL": "C"}, check=False).stdout
+        # Of needed libraries it shows the bytes as they are, and elfnm prints them so.
+        faults = [f"readelf shows {it!r} OTHERWISE" for it in names.values() if (it if options == "-dW" else escaped(it)) not in shown]
+        wanted = [0, replaced(kept, {old: new if name == "elfnm" else escaped(new) for old, new in names.items()}), b""]
+        for built in builds:
+            ended = run(built, words, room)
+            came = [ended.returncode, ended.stdout, ended.stderr]
+            faults += [f"{built.name} NOT AS IT MUST: names in {file}: wanted {wanted}, but got {came}"[:1800]] if came != wanted else []
+    print("\n".join(faults or [f"{name} writes names of any bytes as it must: {file}"]))
+    return len(faults)
+
+
 def builds_of(names: list[str]) -> dict[str, list[pathlib.Path]]:
     """The builds of each program: those that the command names, or else all that there are."""
     given = [pathlib.Path(it).resolve() for it in sys.argv[1:]]
@@ -342,8 +381,9 @@ def builds_of(names: list[str]) -> dict[str, list[pathlib.Path]]:
 
 
 def main() -> int:
-    builds = builds_of([it.name for it in PROGRAMS])
+    builds = builds_of([*(it.name for it in PROGRAMS), "elfnm"])
     count = sum(unlike(program, it) for program in PROGRAMS for it in builds[program.name])
+    count += sum(odd_names(*it, builds[it[0]]) for it in NAMES)
     return 1 if count else 0
 
 

@@ -1,22 +1,9 @@
 #!/usr/bin/env python3
 """Wants the prover to refuse each wrong body of crates/NAME/wrong-bodies/TOPIC/*.edit.
 
-How they are tried, many in one check of a copy of their crate, stands in docs/WRONG_BODIES.md.
-
-    tools/gate/wrong_bodies.py [--jobs N] [NAME..]    a NAME is that of a crate, a topic or an edit; none: all
-    tools/gate/wrong_bodies.py --since COMMIT         those of functions that changed since this commit, or of which a
-                                                      definition changed that the clauses lead to, and new edits
-    tools/gate/wrong_bodies.py --gate                 those of docs/wrong_bodies.txt, and those since the commit that
-                                                      docs/wrong_bodies_commit.txt names; all where it isn't known here
-    tools/gate/wrong_bodies.py --all                  all, and stores the commit there if each is refused
-    tools/gate/wrong_bodies.py --proved [NAME..]      behind `rt ci`: no crate is checked first as it stands
-    tools/gate/wrong_bodies.py --list [NAME..]        the batches, and nothing is tried
-    tools/gate/wrong_bodies.py --compile [NAME..]     only whether each edit compiles, some ten seconds a batch
-    tools/gate/wrong_bodies.py --right [NAME..]       whether each right body is proved beside itself, as the wrong ones are tried
-    tools/gate/wrong_bodies.py --self-test            whether the script itself tells right from wrong
-
-Each crate must be proved as it stands, and is checked first, unless `rt ci` has just proved it. At the end stand what
-the checks of each crate took, and the slowest ones. The last line is `N refused, M failed`.
+How they are tried, many in one check of a copy of their crate, stands in docs/WRONG_BODIES.md. Each crate must be proved as it
+stands, and is checked first, unless `rt ci` has just proved it. At the end stand what the checks of each crate took, and the
+slowest ones. The last line is `N refused, M failed`.
 """
 import argparse
 import collections
@@ -40,6 +27,16 @@ REFUSED_AT = ROOT / "docs" / "wrong_bodies_commit.txt"
 
 # How many checks are listed at the end.
 SLOWEST = 12
+
+FLAGS = {
+    "gate": "those of docs/wrong_bodies.txt, and those since the commit of docs/wrong_bodies_commit.txt; all where it isn't known here",
+    "all": "all, and stores the commit there if each is refused",
+    "proved": "behind `rt ci`: no crate is checked first as it stands",
+    "list": "the batches, and nothing is tried",
+    "compile": "only whether each edit compiles, some ten seconds a batch",
+    "right": "whether each right body is proved beside itself, as the wrong ones are tried",
+    "self-test": "whether the script itself tells right from wrong",
+}
 
 
 @dataclasses.dataclass
@@ -291,10 +288,11 @@ def store() -> int:
 def main() -> int:
     words = argparse.ArgumentParser(description=__doc__, formatter_class=argparse.RawDescriptionHelpFormatter)
     words.add_argument("--jobs", type=int, default=2, help="how many checks run side by side (each takes some 2 GB)")
-    words.add_argument("--since", metavar="COMMIT")
-    for flag in ("gate", "all", "proved", "list", "compile", "right", "self-test"):
-        words.add_argument(f"--{flag}", action="store_true")
-    words.add_argument("names", nargs="*", metavar="NAME", help="a crate, a topic or an edit")
+    words.add_argument("--since", metavar="COMMIT", help="those of functions that changed since then, or of which a definition changed that "
+                       "the clauses lead to, and new edits")
+    for flag, said in FLAGS.items():
+        words.add_argument(f"--{flag}", action="store_true", help=said)
+    words.add_argument("names", nargs="*", metavar="NAME", help="a crate, a topic or an edit; none: all")
     given = words.parse_args()
     if given.self_test:
         return self_test()

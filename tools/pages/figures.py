@@ -22,9 +22,9 @@ from pages.sources import ROOT, below, crates
 PAGES = ("README.md", "CONTRIBUTING.md", "CALLING.md", "docs", "bindings", "bench")
 
 # The crate of the program that a comparison runs, by the name of its script.
-PROGRAMS = {"readelf": "elfinfo", "notes": "elfsections", "symbols": "elfsections", "recipes": "elftools", "tools": "elftools", "elfsym": "elfsym", "bindings": "elfbind",
-    "rust": "elfanswers", "fuzz": "elfanswers", "dump": "elf_c", "dlsym": "elf_c", "fuzz_bindings": "elfbind",
-    "addresses": "elfaddr", "loads": "elfload"}
+PROGRAMS = {"readelf": "elfinfo", "recipes": "elftools", "tools": "elftools", "elfsym": "elfsym", "bindings": "elfbind", "rust": "elfanswers",
+    "fuzz": "elfanswers", "sections": "elf_c", "dump": "elf_c", "dlsym": "elf_c", "fuzz_bindings": "elfbind", "addresses": "elfaddr",
+    "loads": "elfload"}
 
 
 def of(crate: str, *others: str) -> tuple:

@@ -2,9 +2,9 @@
 """Writes the lists of docs/READING.md: the definitions that must be believed for a headline, callees first.
 
     tools/pages/reading.py            writes the lists and the bytes into the page
-    tools/pages/reading.py --check    fails where they aren't what the sources give, or where a call needs more definitions
-                                than its bound; writes nothing
-    tools/pages/reading.py --closures prints how many definitions the contracts of some calls lead to, beside their bounds
+    tools/pages/reading.py --check    fails where they aren't what the sources give; writes nothing
+
+Both print how many definitions the contracts of some calls lead to, and fail where there are more than the call's bound.
 
 The page is written by hand but for two kinds of rooms. One names calls, by `<!-- read CRATE::MODULE CALL .. -->`,
 and takes a row for each definition that their clauses lead to (tools/pages/definitions.py), but for those that stand
@@ -99,12 +99,7 @@ def closures() -> int:
 
 
 def main() -> int:
-    parser = parser_of(__doc__)
-    parser.add_argument("--closures", action="store_true", help="print the numbers of definitions, and write nothing")
-    given = parser.parse_args()
-    if given.closures:
-        return min(closures(), 1)
-    lists, text = Lists(), PAGE.read_text(encoding="utf-8")
+    given, lists, text = parser_of(__doc__).parse_args(), Lists(), PAGE.read_text(encoding="utf-8")
     wanted = ROOM.sub(lambda room: room[1] + (lists.read(room[3]) if room[2] == "read" else bytes_of(room[3])) + room[4], text)
     faults = differing({PAGE: wanted}, given.check)
     print("\n".join([*faults, f"docs/READING.md: {len(ROOM.findall(text))} rooms, {len(lists.above)} definitions, {len(faults)} faults"]))

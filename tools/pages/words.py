@@ -1,8 +1,7 @@
 #!/usr/bin/env python3
-"""Counts words that pages and comments should not use, and fails if a page has more of them than it may.
+"""Fails where a page or a comment has a word that it should not use, and prints each with its line.
 
-    tools/pages/words.py            prints the total; for a page with too many, each of its words with its line
-    tools/pages/words.py --write    stores the counts of now as the greatest allowed ones
+    tools/pages/words.py
 
 The words are those of WORDS. A page says instead that a call returns a value or an error, that the prover rejects a
 body, or that code follows a chain. Code blocks, text in backquotes, link targets, comments and the generated parts of
@@ -10,7 +9,6 @@ pages are not counted, since a word may be a name there.
 
 The comments of each crate count too, those above definitions and items, and those of the exports, which the header has.
 """
-import argparse
 import pathlib
 import re
 import sys
@@ -38,10 +36,6 @@ PARTS = (
     re.compile(r"\]\([^)\s]+\)"),
 )
 
-# The greatest count of each page, and of the comments of each crate; what isn't here may have none.
-MOST = {
-}
-
 
 def prose_of(page: pathlib.Path) -> str:
     """A page with blanks in the place of all that isn't prose."""
@@ -60,35 +54,16 @@ def comments_of(path: pathlib.Path) -> str:
 def words_in(path: pathlib.Path, text: str) -> list:
     """The words in a text, each with its file and line."""
     name = path.relative_to(ROOT)
-    return [(f"{name}:{number}", word[0]) for number, line in enumerate(text.splitlines(), 1) for word in WORDS.finditer(line)]
-
-
-def write(found: dict):
-    """Stores the counts in this script."""
-    lines = "".join(f'    "{name}": {len(words)},\n' for name, words in found.items() if words)
-    script = pathlib.Path(__file__)
-    text = re.sub(r"^MOST = \{\n.*?^\}$", f"MOST = {{\n{lines}}}", script.read_text(encoding="utf-8"), flags=re.M | re.S)
-    script.write_text(text, encoding="utf-8")
+    return [f"{name}:{number}: {word[0]}" for number, line in enumerate(text.splitlines(), 1) for word in WORDS.finditer(line)]
 
 
 def main() -> int:
-    parser = argparse.ArgumentParser(description=__doc__, formatter_class=argparse.RawDescriptionHelpFormatter)
-    parser.add_argument("--write", action="store_true")
-    is_write = parser.parse_args().write
     pages = [it for names in PAGES for it in sorted(ROOT.glob(names)) if not OTHERS & set(it.relative_to(ROOT).parts)]
-    found = {it.relative_to(ROOT).as_posix(): words_in(it, prose_of(it)) for it in pages}
-    for path in sorted([*ROOT.glob("crates/*/specs/**/*.antt"), *ROOT.glob("crates/*/src/**/*.rt"), ROOT / "bindings/exports.toml"]):
-        name = "/".join(path.relative_to(ROOT).parts[:2])
-        found[name] = found.get(name, []) + words_in(path, comments_of(path))
-    if is_write:
-        write(found)
-        MOST.update({name: len(words) for name, words in found.items()})
-    failed = [name for name, words in found.items() if len(words) > MOST.get(name, 0)]
-    for name in failed:
-        print(f"{name}: {len(found[name])} words, and at most {MOST.get(name, 0)} are allowed")
-        print("\n".join(f"{place}: {word}" for place, word in found[name]))
-    print(f"{sum(map(len, found.values()))} of the words on {len(pages)} pages and in comments, {len(failed)} with too many")
-    return 1 if failed else 0
+    sources = sorted([*ROOT.glob("crates/*/specs/**/*.antt"), *ROOT.glob("crates/*/src/**/*.rt"), ROOT / "bindings/exports.toml"])
+    texts = [*((it, prose_of(it)) for it in pages), *((it, comments_of(it)) for it in sources)]
+    found = [place for path, text in texts for place in words_in(path, text)]
+    print("\n".join([*found, f"{len(found)} of the words on {len(pages)} pages and in comments"]))
+    return 1 if found else 0
 
 
 if __name__ == "__main__":
