@@ -5,7 +5,7 @@ ghost use Rattle.elf_addresses.specs.Claims.{Covers, FindsOpenBelow, IsClaimAt, 
 ghost use Rattle.elf_addresses.specs.Claims.{IsNearest, NoneAt};
 ghost use Rattle.elf_addresses.specs.declared.claim.Claim.{Claim};
 
-use crate::claim::{Claim, further_in, nearer};
+use crate::claim::{Claim, covers_range, further_in, nearer};
 
 /// Claims by index, such as those of the symbols of a table.
 pub trait Claims {
@@ -45,7 +45,7 @@ pub trait Claims {
         ensures { result ≡ range_of self.now index };
 }
 
-// The claim at an index, if it covers an address.
+// The claim at an index, if it covers an address. The range is read first, since it may be faster.
 #[inline(always)]
 pub(crate) fn covering<C: Claims>(claims: &C, index: usize, address: u64) -> Option<Claim>
     ensures { MatchOption result
@@ -53,6 +53,10 @@ pub(crate) fn covering<C: Claims>(claims: &C, index: usize, address: u64) -> Opt
         (λ claim. IsClaimAt (C.claim_of claims.now) index claim × Covers claim address
         × (claim.index ≡ index)) }
 {
+    let (begin, size) = claims.range(index);
+    if !covers_range(begin, size, address) {
+        return None;
+    }
     let claim = claims.claim(index)?;
     if claim.covers(address) {
         Some(claim)

@@ -34,7 +34,7 @@ pub struct ClaimIndex<'c, 'w, C: Claims> {
 
 impl<'c, 'w, C: Claims> ClaimIndex<'c, 'w, C> {
     /// The index in words: in the first of them, if there are more than it takes. The words may be
-    /// any; `check` returns whether they are those of `build_index`, or as good. Two passes over the
+    /// any; `check` returns whether they are those of `build_index`, or as good. One pass over the
     /// claims.
     pub fn lend(claims: &'c C, words: &'w [u32]) -> ClaimIndex<'c, 'w, C>
         ensures claims { result.claims.now ≡ claims.now }

@@ -46,7 +46,7 @@ impl<'s, 'a, 'w, E: Entry + Record> SymbolIndex<'s, 'a, 'w, E> {
 
     /// Builds the index in words: in the first of them, if there are more than it takes.
     ///
-    /// Passes over the table, and a sort of the words. It takes no memory. The errors are
+    /// Two passes over the table, and a sort of the words. It takes no memory. The errors are
     /// `ManySymbols`, then `FewWords`; after an error the words are as they were.
     pub fn build(
         symbols: &AddressSymbols<'_, E>,
@@ -69,8 +69,8 @@ impl<'s, 'a, 'w, E: Entry + Record> SymbolIndex<'s, 'a, 'w, E> {
         build_index(&SymbolClaims { symbols, within }, words)
     }
 
-    /// The index in words: in the first of them, if there are more than it takes. Passes over the
-    /// table to count the symbols.
+    /// The index in words: in the first of them, if there are more than it takes. A pass over the
+    /// table counts the symbols.
     pub fn lend(
         symbols: &'s AddressSymbols<'a, E>,
         within: Option<u32>,

@@ -1,1 +1,3 @@
+mod AskedParts
 mod LineLists
+mod Printed

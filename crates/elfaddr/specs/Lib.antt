@@ -1,3 +1,5 @@
+pub mod Asked
+pub mod Ends
 pub mod Lines
 pub mod Symtab
 pub mod Tables

@@ -1,13 +1,11 @@
 -- The dynamic symbols of a file, and those of them that its hash table reaches.
 use Rattle.std.specs.Prelude.{◌≡◌, ℕ, ◌⊎◌, List, [], length, Ok, Err}
-use Rattle.std.specs.Borrow.{Bor}
-use Rattle.elf_base.specs.Table.{table_data, table_items}
+use Rattle.elf_base.specs.Table.{table_data}
 use Rattle.elf_addresses.specs.Reached.{AreReached}
-use Rattle.elf_addresses.specs.declared.dladdr.DladdrSymbols.{DladdrSymbols}
 use Rattle.elf_addresses.specs.declared.dladdr.Reach.{Reach}
 use Rattle.elf_addresses.specs.declared.dladdr.Reach.TheVariants.{Buckets, Chains}
 use Rattle.elf_addresses.specs.declared.symbols.AddressSymbols.{AddressSymbols}
-use Rattle.elf_linking.specs.DynamicObject.{IsObject, IsObjectRefused, object_records, object_table}
+use Rattle.elf_linking.specs.DynamicObject.{IsObject, IsObjectRefused, object_records}
 use Rattle.elf_linking.specs.DynamicView.{dynamic_strings_of}
 use Rattle.elf_linking.specs.References.{file_machine}
 use Rattle.elf_linking.specs.declared.any_table.AnyTable.{AnyTable}
@@ -36,11 +34,3 @@ IsReach (Gnu table) count (Buckets words) = AreReached table words.now × (lengt
 IsReach (Gnu table) count (Chains chains) = ⊥
 IsReach (Sysv table) count (Buckets words) = ⊥
 IsReach (Sysv table) count (Chains chains) = chains ≡ chain_count_of table
-
--- the symbols of the dynamic segment, and what the hash table reaches
-pub record AreDladdr {E : Type 0} {r : _} (class size : ℕ) (file : ElfFile) (symbols : DladdrSymbols E r) : Type 0 where
-  pub object : DynamicObject E r
-  pub is_object : IsObject class size file object
-  pub table : symbols.table ≡ object_records object
-  pub strings : dynamic_strings_of file ≡ Ok symbols.strings.now
-  pub reach : IsReach (object_table object) (length (table_items symbols.table)) symbols.reach

@@ -7,12 +7,17 @@
 //! before the path asks for the latter, and `--dladdr` for the symbols that `dladdr` finds.
 #![tactic(auto)]
 
-ghost use Rattle.std.specs.Prelude.{◌≡◌, ◌≤◌, IfOk, IfSome, IsOk, IsSomeAnd};
+ghost use Rattle.std.specs.Prelude.{◌≡◌, ◌≤◌, IfErr, IfOk, IfSome, IsOk, IsSomeAnd, MatchResult};
+ghost use Rattle.std.specs.Prelude.{OnOk, Result};
 ghost use Rattle.elf_base.specs.FileHeader.{header_of};
+ghost use Rattle.elfaddr.specs.Ends.{AreInputLines, AreInputRefused, AreInputThere, IsEnd, IsFault};
+ghost use Rattle.elfaddr.specs.Ends.{OfFile, fault_of, status_of};
+ghost use Rattle.elfaddr.specs.declared.Fault.{Fault};
+ghost use Rattle.program_ends.specs.Appended.{AppendsSome};
 
 use crate::print::print_file;
 use elf_linking::LinkError;
-use program_ends::{read_whole, say};
+use program_ends::{Stop, read_whole, say};
 use std::alloc::Global;
 use std::convert::AsStr;
 use std::fs::File;
@@ -59,8 +64,9 @@ pub enum Source {
 /// exit status.
 ///
 /// `file` is `None` where the path does not open. The status is 0 once all is written and flushed,
-/// and 1 otherwise. The contract says that the status is 0 only for a file that is accepted, and
-/// nothing of what `out` and `err` hold.
+/// and 1 otherwise. The contract says which fault there can be then: the error of the file or of its
+/// symbols; a write that failed, if they have none; that the file can't be read; or that memory is
+/// short. It says nothing of what `out` and `err` hold.
 pub fn run<R: Read + Drop, W: Write, E: Write>(
     alloc: Global,
     path: &str,
@@ -73,16 +79,37 @@ pub fn run<R: Read + Drop, W: Write, E: Write>(
     ensures bound { result ≤ 1 }
     ensures accepted { result ≡ 0 → IsSomeAnd file (λ reader.
         IfSome (R.remaining reader) (λ bytes. IsOk (header_of bytes))) }
+    ensures ends { (end : Result (Unit {0}) Fault)
+        × IsEnd path.entry source addresses.now R.remaining file end × (result ≡ status_of end) }
 {
-    match answer(alloc, path, source, addresses, file, &mut *out) {
-        Ok(_) => 0,
+    match answer(alloc, path, source, addresses, file, out) {
+        Ok(()) => 0,
         Err(fault) => say(&fault, err),
     }
 }
 
-// Writes a line for each address of the file that is all that the reader has left, and gives the
+// Reads the file whole, and writes a line for each address.
+fn answer<'a, R: Read + Drop, W: Write>(
+    alloc: Global,
+    path: &'a str,
+    source: Source,
+    addresses: &[u64],
+    file: Option<R>,
+    out: &mut W,
+) -> Result<(), Fault<'a>>
+    ensures accepted { OnOk result (IsSomeAnd file (λ reader.
+        IfSome (R.remaining reader) (λ bytes. IsOk (header_of bytes)))) }
+    ensures end { IsEnd path.entry source addresses.now R.remaining file result }
+{
+    match print_addresses(alloc, path, source, addresses, file, &mut *out) {
+        Ok(_) => Ok(()),
+        Err(fault) => Err(fault),
+    }
+}
+
+// Writes a line for each address by the file that is all that the reader has left, and gives the
 // writer back.
-fn answer<'a, R: Read + Drop, W: Write + Drop>(
+fn print_addresses<'a, R: Read + Drop, W: Write + Drop>(
     alloc: Global,
     path: &'a str,
     source: Source,
@@ -90,18 +117,54 @@ fn answer<'a, R: Read + Drop, W: Write + Drop>(
     file: Option<R>,
     out: W,
 ) -> Result<W, Fault<'a>>
-    ensures accepted { IfOk result (λ _. IsSomeAnd file (λ reader.
-        IfSome (R.remaining reader) (λ bytes. IsOk (header_of bytes)))) }
+    ensures written { IfOk result (λ back. OfFile R.remaining file (λ input.
+        AppendsSome (AreInputLines source addresses.now input)
+        (W.contents out) (W.contents back))) }
+    ensures fault { IfErr result (IsFault path.entry
+        (λ error. OfFile R.remaining file (λ input. AreInputRefused source input error))
+        (OfFile R.remaining file (λ input. AreInputThere source input))) }
 {
     let Some(input) = read_whole(alloc, file) else {
         return Err(Fault::Read { path });
     };
-    match ElfFile::new(&input) {
+    match print_input(alloc, path, &input, source, addresses, out) {
+        Ok(out) => Ok(out),
+        Err(fault) => Err(fault),
+    }
+}
+
+// Writes a line for each address by the file that these bytes are, and gives the writer back.
+fn print_input<'a, W: Write + Drop>(
+    alloc: Global,
+    path: &'a str,
+    input: &[u8],
+    source: Source,
+    addresses: &[u64],
+    out: W,
+) -> Result<W, Fault<'a>>
+    ensures { MatchResult result
+        (λ back. AppendsSome (AreInputLines source addresses.now input.entry)
+        (W.contents out) (W.contents back))
+        (IsFault path.entry (AreInputRefused source input.entry)
+        (AreInputThere source input.entry)) }
+{
+    match ElfFile::new(input) {
         Ok(file) => print_file(alloc, path, &file, source, addresses, out),
         Err(error) => Err(Fault::Refused {
             path,
             error: LinkError::Elf(error),
         }),
+    }
+}
+
+// What the program says where an output isn't written to its end.
+fn fault_of(stop: Stop<LinkError>, path: &str) -> Fault<'_>
+    ensures { result ≡ fault_of path.entry stop }
+{
+    match stop {
+        Stop::Refused(error) => Fault::Refused { path, error },
+        Stop::Write => Fault::Write,
+        Stop::Memory => Fault::Memory,
     }
 }
 

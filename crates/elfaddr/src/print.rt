@@ -1,19 +1,26 @@
 //! The lines of a file by the symbols that are asked for.
 
-ghost use Rattle.std.specs.Prelude.{IfOk, MatchResult, length};
-ghost use Rattle.elfaddr.specs.Lines.{AreLines};
+ghost use Rattle.std.specs.Prelude.{◌≡◌, MatchResult, Ok, length, ⊤};
+ghost use Rattle.elf_addresses.specs.SymbolClaims.{symbol_items};
+ghost use Rattle.elf_linking.specs.DynamicObject.{IsObject};
+ghost use Rattle.elf_linking.specs.DynamicView.{dynamic_strings_of};
+ghost use Rattle.elfaddr.specs.Asked.{AreAsked, AreLinesBy, AreOfFile, AreRefused, AreRefusedOfFile};
+ghost use Rattle.elfaddr.specs.Asked.{AreThere, FromDladdr, FromDynamic, FromSymtab, IsSymtabError};
+ghost use Rattle.elfaddr.specs.Asked.{claims_of, kind, parts_in};
+ghost use Rattle.elfaddr.specs.Ends.{IsFault};
+ghost use Rattle.elfaddr.specs.Lines.{AreLines, name_in};
 ghost use Rattle.elfaddr.specs.Tables.{AreDynamic, IsDynamicRefused, IsReach};
 ghost use Rattle.program_ends.specs.Appended.{AppendsSome};
 
 use crate::lines::Lines;
 use crate::names::Named;
 use crate::symtab::{symtab_at, symtab_index};
-use crate::{Fault, Source};
+use crate::{Fault, Source, fault_of};
 use elf_addresses::dladdr::{DladdrSymbols, Reach, fill_reached};
 use elf_addresses::{AddressSymbols, SymbolClaims};
 use elf_linking::view::{LinkedSymbol, strings};
 use elf_linking::{AnyTable, DynamicObject, LinkError};
-use program_ends::{Stop, write_buffered};
+use program_ends::write_buffered;
 use std::alloc::Global;
 use std::io::Write;
 use xmas_elf::ElfFile;
@@ -28,7 +35,12 @@ pub(crate) fn print_file<'a, W: Write + Drop>(
     source: Source,
     addresses: &[u64],
     out: W,
-) -> Result<W, Fault<'a>> {
+) -> Result<W, Fault<'a>>
+    ensures { let asked = AreOfFile file.now source in
+        MatchResult result (λ back. AppendsSome (AreLinesBy asked file.now addresses.now)
+        (W.contents out) (W.contents back))
+        (IsFault path.entry (AreRefusedOfFile file.now source) (AreThere asked)) }
+{
     if file.header.pt1.class.raw() == 1 {
         return print_by::<Entry32, DynEntry32, W>(alloc, path, file, source, addresses, out);
     }
@@ -44,7 +56,13 @@ fn print_by<'a, S: Entry + Record, D: LinkedSymbol, W: Write + Drop>(
     source: Source,
     addresses: &[u64],
     out: W,
-) -> Result<W, Fault<'a>> {
+) -> Result<W, Fault<'a>>
+    ensures { let asked = AreAsked D.CLASS (kind S.SIZE S.value S.fields)
+        (kind D.SIZE D.value D.fields) file.now source in
+        MatchResult result (λ back. AppendsSome (AreLinesBy asked file.now addresses.now)
+        (W.contents out) (W.contents back))
+        (IsFault path.entry (AreRefused D.CLASS S.SIZE D.SIZE file.now source) (AreThere asked)) }
+{
     match source {
         Source::Symtab => match symtab_index(file) {
             Some(index) => print_symtab::<S, W>(alloc, path, file, index, addresses, out),
@@ -63,21 +81,19 @@ fn print_symtab<'a, S: Entry + Record, W: Write + Drop>(
     index: usize,
     addresses: &[u64],
     out: W,
-) -> Result<W, Fault<'a>> {
-    let symbols = match symtab_at::<S>(file, index) {
-        Ok(symbols) => symbols,
-        Err(error) => {
-            return Err(Fault::Refused {
-                path,
-                error: LinkError::Elf(error),
-            });
-        }
-    };
-    let claims = SymbolClaims {
-        symbols: &symbols,
-        within: None,
-    };
-    print_lines(alloc, file, &claims, addresses, out)
+) -> Result<W, Fault<'a>>
+    ensures { let asked = FromSymtab (kind S.SIZE S.value S.fields) file.now index in
+        MatchResult result (λ back. AppendsSome (AreLinesBy asked file.now addresses.now)
+        (W.contents out) (W.contents back))
+        (IsFault path.entry (IsSymtabError S.SIZE file.now index) (AreThere asked)) }
+{
+    match symtab_at::<S>(file, index) {
+        Ok(symbols) => print_symbols(alloc, path, file, &symbols, addresses, out),
+        Err(error) => Err(Fault::Refused {
+            path,
+            error: LinkError::Elf(error),
+        }),
+    }
 }
 
 // The lines by the dynamic symbols.
@@ -87,16 +103,38 @@ fn print_dynamic<'a, D: LinkedSymbol, W: Write + Drop>(
     file: &ElfFile<'_>,
     addresses: &[u64],
     out: W,
-) -> Result<W, Fault<'a>> {
-    let symbols = match dynamic_symbols::<D>(file) {
-        Ok(symbols) => symbols,
-        Err(error) => return Err(Fault::Refused { path, error }),
-    };
+) -> Result<W, Fault<'a>>
+    ensures { let asked = FromDynamic D.CLASS (kind D.SIZE D.value D.fields) file.now in
+        MatchResult result (λ back. AppendsSome (AreLinesBy asked file.now addresses.now)
+        (W.contents out) (W.contents back))
+        (IsFault path.entry (IsDynamicRefused D.CLASS D.SIZE file.now) (AreThere asked)) }
+{
+    match dynamic_symbols::<D>(file) {
+        Ok(symbols) => print_symbols(alloc, path, file, &symbols, addresses, out),
+        Err(error) => Err(Fault::Refused { path, error }),
+    }
+}
+
+// The lines by symbols with their names.
+fn print_symbols<'a, E: Entry + Record, W: Write + Drop>(
+    alloc: Global,
+    path: &'a str,
+    file: &ElfFile<'_>,
+    symbols: &AddressSymbols<'_, E>,
+    addresses: &[u64],
+    out: W,
+) -> Result<W, Fault<'a>>
+    ensures { MatchResult result
+        (λ back. AppendsSome (AreLines (claims_of E.fields (parts_in symbols.now))
+        (name_in E.fields (symbol_items symbols.now) symbols.now.strings.now) file.now
+        addresses.now) (W.contents out) (W.contents back))
+        (IsFault path.entry (λ error. ⊥) ⊤) }
+{
     let claims = SymbolClaims {
-        symbols: &symbols,
+        symbols,
         within: None,
     };
-    print_lines(alloc, file, &claims, addresses, out)
+    print_lines(alloc, path, file, &claims, addresses, out)
 }
 
 // The dynamic symbols, with their names.
@@ -126,25 +164,64 @@ fn print_dladdr<'a, D: LinkedSymbol, W: Write + Drop>(
     file: &ElfFile<'_>,
     addresses: &[u64],
     out: W,
-) -> Result<W, Fault<'a>> {
-    let object = match DynamicObject::<D>::read(file) {
-        Ok(object) => object,
-        Err(error) => return Err(Fault::Refused { path, error }),
-    };
-    let strings = match strings(file) {
-        Ok(strings) => strings,
-        Err(error) => return Err(Fault::Refused { path, error }),
-    };
+) -> Result<W, Fault<'a>>
+    ensures { let asked = FromDladdr D.CLASS (kind D.SIZE D.value D.fields) file.now in
+        MatchResult result (λ back. AppendsSome (AreLinesBy asked file.now addresses.now)
+        (W.contents out) (W.contents back))
+        (IsFault path.entry (IsDynamicRefused D.CLASS D.SIZE file.now) (AreThere asked)) }
+{
+    match object_with_strings::<D>(file) {
+        Ok((object, strings)) => {
+            print_reached(alloc, path, file, &object, strings, addresses, out)
+        }
+        Err(error) => Err(Fault::Refused { path, error }),
+    }
+}
+
+// A file as an object with dynamic symbols, and the string table of its dynamic segment.
+fn object_with_strings<'a, D: LinkedSymbol>(
+    file: &ElfFile<'a>,
+) -> Result<(DynamicObject<'a, D>, &'a [u8]), LinkError>
+    ensures { MatchResult result
+        (λ parts. IsObject D.CLASS D.SIZE file.now parts.0
+        × (dynamic_strings_of file.now ≡ Ok parts.1.now))
+        (IsDynamicRefused D.CLASS D.SIZE file.now) }
+{
+    let object = DynamicObject::<D>::read(file)?;
+    let strings = strings(file)?;
+    Ok((object, strings))
+}
+
+// The lines by those symbols of an object that its hash table reaches.
+fn print_reached<'a, 'f, D: LinkedSymbol, W: Write + Drop>(
+    alloc: Global,
+    path: &'a str,
+    file: &ElfFile<'_>,
+    object: &DynamicObject<'f, D>,
+    strings: &'f [u8],
+    addresses: &[u64],
+    out: W,
+) -> Result<W, Fault<'a>>
+    requires object { IsObject D.CLASS D.SIZE file.now object.now }
+    requires strings { dynamic_strings_of file.now ≡ Ok strings.now }
+    ensures { let asked = FromDladdr D.CLASS (kind D.SIZE D.value D.fields) file.now in
+        MatchResult result (λ back. AppendsSome (AreLinesBy asked file.now addresses.now)
+        (W.contents out) (W.contents back))
+        (IsFault path.entry (IsDynamicRefused D.CLASS D.SIZE file.now) (AreThere asked)) }
+{
     let table = object.symbols().table();
-    let Ok(mut words) = vec![in alloc; 0u32; table.len()] else {
+    let count = table.len();
+    let Ok(mut words) = vec![in alloc; 0u32; count] else {
         return Err(Fault::Memory);
     };
+    let hash = object.table();
+    let reach = reach_by(&hash, &mut words);
     let symbols = DladdrSymbols {
         table,
         strings,
-        reach: reach_by(&object.table(), &mut words),
+        reach,
     };
-    print_lines(alloc, file, &symbols, addresses, out)
+    print_lines(alloc, path, file, &symbols, addresses, out)
 }
 
 // The symbols that a hash table reaches, in words for GNU's.
@@ -163,13 +240,16 @@ fn reach_by<'w>(table: &AnyTable<'_>, words: &'w mut [u32]) -> Reach<'w>
 // A line for each address by these symbols.
 fn print_lines<'a, C: Named, W: Write + Drop>(
     alloc: Global,
+    path: &'a str,
     file: &ElfFile<'_>,
     claims: &C,
     addresses: &[u64],
     out: W,
 ) -> Result<W, Fault<'a>>
-    ensures { IfOk result (λ back. AppendsSome (AreLines (C.claim_of claims.now)
-        (C.name_of claims.now) file.now addresses.now) (W.contents out) (W.contents back)) }
+    ensures { MatchResult result
+        (λ back. AppendsSome (AreLines (C.claim_of claims.now) (C.name_of claims.now) file.now
+        addresses.now) (W.contents out) (W.contents back))
+        (IsFault path.entry (λ error. ⊥) ⊤) }
 {
     let lines = Lines {
         alloc,
@@ -179,7 +259,6 @@ fn print_lines<'a, C: Named, W: Write + Drop>(
     };
     match write_buffered(alloc, &lines, out) {
         Ok(out) => Ok(out),
-        Err(Stop::Memory) => Err(Fault::Memory),
-        Err(_) => Err(Fault::Write),
+        Err(stop) => Err(fault_of(stop, path)),
     }
 }

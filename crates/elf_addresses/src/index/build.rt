@@ -8,7 +8,7 @@ ghost use Rattle.elf_addresses.specs.declared.error.IndexError.TheVariants.{FewW
 use crate::claims::Claims;
 use crate::error::IndexError;
 use crate::index::lasting::fill_lasting;
-use crate::index::order::{count_kind, fill_order};
+use crate::index::order::{count_kinds, fill_orders};
 
 /// The number of words that an index takes: two for each sized claim, and one for each open one.
 /// If it is 2 to the 64 or more, one less than that.
@@ -16,15 +16,13 @@ pub fn index_words<C: Claims>(claims: &C) -> usize
     ensures { result
         ≡ min (word_count (C.claim_of claims.now) (C.count claims.now)) (2 ^ 64 - 1) }
 {
-    let sized = count_kind(claims, false);
-    sized
-        .saturating_add(sized)
-        .saturating_add(count_kind(claims, true))
+    let (sized, starts) = count_kinds(claims);
+    sized.saturating_add(sized).saturating_add(starts)
 }
 
 /// Builds an index in words: in the first of them, if there are more than it takes.
 ///
-/// Four passes over the claims, and two sorts of words. It takes no memory. The errors are
+/// Two passes over the claims, and two sorts of words. It takes no memory. The errors are
 /// `ManySymbols`, then `FewWords`; after an error the words are as they were.
 pub fn build_index<C: Claims>(claims: &C, words: &mut [u32]) -> Result<(), IndexError>
     ensures many { 2 ^ 32 ≤ C.count claims.now → result ≡ Err ManySymbols }
@@ -41,17 +39,15 @@ pub fn build_index<C: Claims>(claims: &C, words: &mut [u32]) -> Result<(), Index
     if claims.count() > u32::MAX as usize {
         return Err(IndexError::ManySymbols);
     }
-    let sized = count_kind(claims, false);
-    let open = count_kind(claims, true);
+    let (sized, open) = count_kinds(claims);
     if words.len() < sized + sized + open {
         return Err(IndexError::FewWords);
     }
     let (order, rest) = words.split_at_mut(sized);
     let (lasting, rest) = rest.split_at_mut(sized);
     let (starts, _rest) = rest.split_at_mut(open);
-    fill_order(claims, order, false);
+    fill_orders(claims, order, starts);
     fill_lasting(claims, order, lasting);
-    fill_order(claims, starts, true);
     Ok(())
 }
 
@@ -69,10 +65,10 @@ pub(crate) fn parts<'w, C: Claims>(
         ≡ take (length (listed (C.claim_of claims.now) true (C.count claims.now)))
         (drop sized (drop sized words.now)) }
 {
-    let count = count_kind(claims, false);
+    let (count, open) = count_kinds(claims);
     let (sized, rest) = split(words, count);
     let (lasting, rest) = split(rest, count);
-    let (starts, _rest) = split(rest, count_kind(claims, true));
+    let (starts, _rest) = split(rest, open);
     (sized, lasting, starts)
 }
 

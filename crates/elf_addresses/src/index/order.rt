@@ -22,6 +22,24 @@ pub(crate) fn count_kind<C: Claims>(claims: &C, is_open: bool) -> usize
     count
 }
 
+// How many claims are sized, and how many are open, by one pass.
+pub(crate) fn count_kinds<C: Claims>(claims: &C) -> (usize, usize)
+    ensures sized { result.0 ≡ length (listed (C.claim_of claims.now) false (C.count claims.now)) }
+    ensures starts { result.1 ≡ length (listed (C.claim_of claims.now) true (C.count claims.now)) }
+    ensures sized_bound { result.0 ≤ C.count claims.now }
+    ensures starts_bound { result.1 ≤ C.count claims.now }
+{
+    let (mut sized, mut starts) = (0, 0);
+    for index in 0..claims.count() {
+        let here = claims.claim(index);
+        let has_size = is_kind(here, false);
+        let has_none = is_kind(here, true);
+        sized += one_if(has_size);
+        starts += one_if(has_none);
+    }
+    (sized, starts)
+}
+
 // Whether there is a claim, and it is open or sized as is asked.
 #[inline(always)]
 fn is_kind(claim: Option<Claim>, is_open: bool) -> bool
@@ -85,18 +103,25 @@ fn is_behind(one: Option<Claim>, other: Option<Claim>) -> bool
     }
 }
 
-// Writes the indices of the open claims, or of the sized ones, into words of that number.
-fn list_words<C: Claims>(claims: &C, words: &mut [u32], is_open: bool)
+// Writes the indices of the sized claims, and those of the open ones, into words of these numbers.
+fn list_words<C: Claims>(claims: &C, sized: &mut [u32], starts: &mut [u32])
     requires few { C.count claims.now < 2 ^ 32 }
-    requires room { length words.old
-        ≡ length (listed (C.claim_of claims.now) is_open (C.count claims.now)) }
-    ensures { words.new ≡ listed (C.claim_of claims.now) is_open (C.count claims.now) }
+    requires room { length sized.old
+        ≡ length (listed (C.claim_of claims.now) false (C.count claims.now)) }
+    requires starts_room { length starts.old
+        ≡ length (listed (C.claim_of claims.now) true (C.count claims.now)) }
+    ensures sized { sized.new ≡ listed (C.claim_of claims.now) false (C.count claims.now) }
+    ensures starts { starts.new ≡ listed (C.claim_of claims.now) true (C.count claims.now) }
 {
-    let mut place = 0;
+    let (mut place, mut start) = (0, 0);
     for index in 0..claims.count() {
-        let wanted = is_kind(claims.claim(index), is_open);
-        put_if(words, place, index as u32, wanted);
-        place += one_if(wanted);
+        let here = claims.claim(index);
+        let has_size = is_kind(here, false);
+        put_if(sized, place, index as u32, has_size);
+        place += one_if(has_size);
+        let has_none = is_kind(here, true);
+        put_if(starts, start, index as u32, has_none);
+        start += one_if(has_none);
     }
 }
 
@@ -128,26 +153,36 @@ fn order_of<C: Claims>(claims: &C, one: u32, other: u32) -> Ordering
 {
     let begin = claims.range(one as usize).0;
     let other_begin = claims.range(other as usize).0;
-    if begin < other_begin {
-        return Ordering::Less;
+    // Few ranges begin at the same address, so a processor predicts this branch. `less_if` has none.
+    if begin == other_begin {
+        return less_if(is_behind(claims.claim(one as usize), claims.claim(other as usize)));
     }
-    if begin > other_begin {
-        return Ordering::Greater;
-    }
-    if is_behind(claims.claim(one as usize), claims.claim(other as usize)) {
+    less_if(begin < other_begin)
+}
+
+// `Less` for true, and `Greater` for false.
+#[inline(always)]
+fn less_if(first: bool) -> Ordering
+    ensures { is_lt result ≡ first }
+{
+    if first {
         Ordering::Less
     } else {
         Ordering::Greater
     }
 }
 
-// Writes the indices of the open claims, or of the sized ones, in order.
-pub(crate) fn fill_order<C: Claims>(claims: &C, words: &mut [u32], is_open: bool)
+// Writes the indices of the sized claims in order, and those of the open ones.
+pub(crate) fn fill_orders<C: Claims>(claims: &C, sized: &mut [u32], starts: &mut [u32])
     requires few { C.count claims.now < 2 ^ 32 }
-    requires room { length words.old
-        ≡ length (listed (C.claim_of claims.now) is_open (C.count claims.now)) }
-    ensures { IsWorstFirst (C.claim_of claims.now) is_open words.new }
+    requires room { length sized.old
+        ≡ length (listed (C.claim_of claims.now) false (C.count claims.now)) }
+    requires starts_room { length starts.old
+        ≡ length (listed (C.claim_of claims.now) true (C.count claims.now)) }
+    ensures sized { IsWorstFirst (C.claim_of claims.now) false sized.new }
+    ensures starts { IsWorstFirst (C.claim_of claims.now) true starts.new }
 {
-    list_words(claims, words, is_open);
-    sort_words(claims, words);
+    list_words(claims, sized, starts);
+    sort_words(claims, sized);
+    sort_words(claims, starts);
 }

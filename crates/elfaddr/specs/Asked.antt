@@ -1,0 +1,179 @@
+-- The symbols that are asked for (this project's own): the ranges of addresses that they claim, and their names.
+use Rattle.std.specs.Prelude.{◌≡◌, ◌≢◌, ℕ, List, [], Option, None, Some, Ok, if◌then◌else◌, length, slice_get}
+use Rattle.std.specs.Option.{option_and_then}
+use Rattle.elf_addresses.specs.Candidates.{is_candidate}
+use Rattle.elf_addresses.specs.Dladdr.{dladdr_claim, is_found, reach_of}
+use Rattle.elf_addresses.specs.SymbolClaims.{symbol_claim, symbol_items}
+use Rattle.elf_addresses.specs.declared.claim.Claim.{Claim}
+use Rattle.elf_addresses.specs.declared.dladdr.Reach.{Reach}
+use Rattle.elf_addresses.specs.declared.symbols.AddressSymbols.{AddressSymbols}
+use Rattle.elf_base.specs.FileHeader.{file_class, file_order}
+use Rattle.elf_base.specs.Number.{number}
+use Rattle.elf_base.specs.Table.{records, table_items}
+use Rattle.elf_base.specs.declared.bytes.Order.{Order}
+use Rattle.elf_linking.specs.DynamicObject.{AreDynamicSymbols}
+use Rattle.elf_linking.specs.DynamicView.{dynamic_strings_of}
+use Rattle.elf_linking.specs.Find.{DynamicSymbols}
+use Rattle.elf_linking.specs.References.{file_machine}
+use Rattle.elf_linking.specs.declared.error.LinkError.{LinkError}
+use Rattle.elf_linking.specs.declared.error.LinkError.TheVariants.{Elf}
+use Rattle.elfaddr.specs.Lines.{AreLines, name_in}
+use Rattle.elfaddr.specs.Symtab.{IsIndexData, IsSymtabRefused, IsSymtabSection, parts_of}
+use Rattle.elfaddr.specs.Tables.{IsDynamicRefused, IsReach}
+use Rattle.elfaddr.specs.declared.Source.{Source}
+use Rattle.elfaddr.specs.declared.Source.TheVariants.{Dladdr, Dynamic, Symtab}
+use Rattle.xmas_elf.specs.First.{FindsFirstAt}
+use Rattle.xmas_elf.specs.SectionHeader.{section_list}
+use Rattle.xmas_elf.specs.Symbol.{SymbolFields, dyn_entry_32, dyn_entry_32_fields, dyn_entry_64, dyn_entry_64_fields, entry_32, entry_32_fields, entry_64, entry_64_fields}
+use Rattle.xmas_elf.specs.Types.{ElfFile}
+
+-- how the symbols of a type are read: the size of one, the symbol that bytes are in a byte order, and its fields
+pub record Kind (E : Type 0) : Type 0 where
+  pub size : ℕ
+  pub entry : Order → List ℕ → E
+  pub fields : E → SymbolFields
+
+-- the same by its parts
+abbrev pub kind : {E : Type 0} → ℕ → (Order → List ℕ → E) → (E → SymbolFields) → Kind E
+kind size entry fields = record { size = size; entry = entry; fields = fields }
+
+-- the symbols of a table, the string table of their names, their section indices, and the machine of the file
+pub record Parts (E : Type 0) : Type 0 where
+  pub items : List E
+  pub strings : List ℕ
+  pub words : List ℕ
+  pub machine : ℕ
+
+-- the same of symbols that name addresses
+abbrev pub parts_in : {E : Type 0} → {r : _} → AddressSymbols E r → Parts E
+parts_in symbols = record {
+  items = symbol_items symbols;
+  strings = symbols.strings.now;
+  words = table_items symbols.indices;
+  machine = symbols.machine;
+}
+
+-- the claim of a symbol with its index, if it names addresses
+abbrev pub claim_in : {E : Type 0} → (E → SymbolFields) → Parts E → ℕ → E → Option Claim
+claim_in fields parts index symbol =
+    if is_candidate parts.machine parts.strings parts.words None index (fields symbol)
+    then Some (symbol_claim index (fields symbol)) else None
+
+-- the claims of the symbols that name addresses
+abbrev pub claims_of : {E : Type 0} → (E → SymbolFields) → Parts E → ℕ → Option Claim
+claims_of fields parts index = option_and_then (claim_in fields parts index) (slice_get parts.items index)
+
+-- the claim of a symbol with its index, if `dladdr` finds it
+abbrev pub claim_reached : {E : Type 0} → (E → SymbolFields) → List ℕ → Reach → ℕ → E → Option Claim
+claim_reached fields strings reach index symbol =
+    if is_found strings (reach_of reach index (fields symbol)) (fields symbol)
+    then Some (dladdr_claim (reach_of reach index (fields symbol)) index (fields symbol)) else None
+
+-- the claims of the symbols that `dladdr` finds
+abbrev pub claims_reached : {E : Type 0} → (E → SymbolFields) → List E → List ℕ → Reach → ℕ → Option Claim
+claims_reached fields items strings reach index =
+    option_and_then (claim_reached fields strings reach index) (slice_get items index)
+
+-- the symbols of the section at an index
+pub record ArePartsAt {E : Type 0} (kind : Kind E) (file : ElfFile) (index : ℕ) (parts : Parts E) : Type 0 where
+  pub bytes : List ℕ
+  pub bytes_are : parts_of file index ≡ Ok (bytes, parts.strings)
+  pub items_are : parts.items ≡ records kind.size (kind.entry (file_order file.header)) bytes
+  pub index_bytes : List ℕ
+  pub index_bytes_are : IsIndexData file index index_bytes
+  pub words_are : parts.words ≡ records 4 (number (file_order file.header) 4 0) index_bytes
+  pub machine_is : parts.machine ≡ file_machine file
+
+-- the symbols of the dynamic segment of a file of a class; they have no words
+pub record AreDynamicParts {E : Type 0} (class : ℕ) (kind : Kind E) (file : ElfFile) (parts : Parts E) : Type 0 where
+  pub all : DynamicSymbols E
+  pub all_are : AreDynamicSymbols class kind.size kind.entry kind.fields file all
+  pub items_are : parts.items ≡ all.symbols.items
+  pub strings_are : dynamic_strings_of file ≡ Ok parts.strings
+  pub words_are : parts.words ≡ []
+  pub machine_is : parts.machine ≡ file_machine file
+
+-- the same with what the hash table reaches
+pub record AreReachedParts {E : Type 0} (class : ℕ) (kind : Kind E) (file : ElfFile) (items : List E) (strings : List ℕ) (reach : Reach) : Type 0 where
+  pub all : DynamicSymbols E
+  pub all_are : AreDynamicSymbols class kind.size kind.entry kind.fields file all
+  pub items_are : items ≡ all.symbols.items
+  pub strings_are : dynamic_strings_of file ≡ Ok strings
+  pub reach_is : IsReach all.table (length items) reach
+
+-- the claims and the names are those of the symbols of the section at an index
+pub data FromSymtab {E : Type 0} (kind : Kind E) (file : ElfFile) (index : ℕ) : (ℕ → Option Claim) → (ℕ → List ℕ) → Type 0 where
+  from_symtab : (parts : Parts E) → ArePartsAt kind file index parts
+      → FromSymtab kind file index (claims_of kind.fields parts) (name_in kind.fields parts.items parts.strings)
+
+-- they are those of the dynamic symbols of a file of a class
+pub data FromDynamic {E : Type 0} (class : ℕ) (kind : Kind E) (file : ElfFile) : (ℕ → Option Claim) → (ℕ → List ℕ) → Type 0 where
+  from_dynamic : (parts : Parts E) → AreDynamicParts class kind file parts
+      → FromDynamic class kind file (claims_of kind.fields parts) (name_in kind.fields parts.items parts.strings)
+
+-- they are those of the dynamic symbols that `dladdr` finds
+pub data FromDladdr {E : Type 0} (class : ℕ) (kind : Kind E) (file : ElfFile) : (ℕ → Option Claim) → (ℕ → List ℕ) → Type 0 where
+  from_dladdr : (items : List E) (strings : List ℕ) (reach : Reach)
+      → AreReachedParts class kind file items strings reach
+      → FromDladdr class kind file (claims_reached kind.fields items strings reach) (name_in kind.fields items strings)
+
+-- they are those of the symbols that are asked for, by the class of the file: of the first section of type
+-- SHT_SYMTAB, or else of the dynamic segment; or of the latter at once
+pub data AreAsked {S D : Type 0} (class : ℕ) (symtab : Kind S) (dynamic : Kind D) (file : ElfFile) : Source → (ℕ → Option Claim) → (ℕ → List ℕ) → Type 0 where
+  in_symtab : (index : ℕ) (claim_of : ℕ → Option Claim) (name_of : ℕ → List ℕ)
+      → FindsFirstAt IsSymtabSection (section_list file) (Some index) → FromSymtab symtab file index claim_of name_of
+      → AreAsked class symtab dynamic file Symtab claim_of name_of
+  in_no_symtab : (claim_of : ℕ → Option Claim) (name_of : ℕ → List ℕ)
+      → FindsFirstAt IsSymtabSection (section_list file) None → FromDynamic class dynamic file claim_of name_of
+      → AreAsked class symtab dynamic file Symtab claim_of name_of
+  in_dynamic : (claim_of : ℕ → Option Claim) (name_of : ℕ → List ℕ)
+      → FromDynamic class dynamic file claim_of name_of → AreAsked class symtab dynamic file Dynamic claim_of name_of
+  in_dladdr : (claim_of : ℕ → Option Claim) (name_of : ℕ → List ℕ)
+      → FromDladdr class dynamic file claim_of name_of → AreAsked class symtab dynamic file Dladdr claim_of name_of
+
+-- the same of a file, of either class
+pub data AreOfFile (file : ElfFile) (source : Source) (claim_of : ℕ → Option Claim) (name_of : ℕ → List ℕ) : Type 0 where
+  narrow : file_class file.header ≡ 1
+      → AreAsked 1 (kind 16 entry_32 entry_32_fields) (kind 16 dyn_entry_32 dyn_entry_32_fields) file source claim_of name_of
+      → AreOfFile file source claim_of name_of
+  wide : file_class file.header ≢ 1
+      → AreAsked 2 (kind 24 entry_64 entry_64_fields) (kind 24 dyn_entry_64 dyn_entry_64_fields) file source claim_of name_of
+      → AreOfFile file source claim_of name_of
+
+-- there are such symbols
+pub record AreThere (Asked : (ℕ → Option Claim) → (ℕ → List ℕ) → Type 0) : Type 0 where
+  pub claim_of : ℕ → Option Claim
+  pub name_of : ℕ → List ℕ
+  pub asked : Asked claim_of name_of
+
+-- the text is a line for each address by such symbols
+pub record AreLinesBy (Asked : (ℕ → Option Claim) → (ℕ → List ℕ) → Type 0) (file : ElfFile) (addresses : List ℕ) (text : List ℕ) : Type 0 where
+  pub claim_of : ℕ → Option Claim
+  pub name_of : ℕ → List ℕ
+  pub asked : Asked claim_of name_of
+  pub lines : AreLines claim_of name_of file addresses text
+
+-- Why there are no such symbols.
+
+-- the section at an index has no symbols of a size
+abbrev pub IsSymtabError : ℕ → ElfFile → ℕ → LinkError → Type 0
+IsSymtabError size file index (Elf error) = IsSymtabRefused size file index error
+IsSymtabError size file index _ = ⊥
+
+-- by the class of the file: the error of the section, or of the dynamic segment
+pub data AreRefused (class symtab_size dynamic_size : ℕ) (file : ElfFile) : Source → LinkError → Type 0 where
+  by_symtab : (index : ℕ) (error : LinkError) → FindsFirstAt IsSymtabSection (section_list file) (Some index)
+      → IsSymtabError symtab_size file index error → AreRefused class symtab_size dynamic_size file Symtab error
+  by_no_symtab : (error : LinkError) → FindsFirstAt IsSymtabSection (section_list file) None
+      → IsDynamicRefused class dynamic_size file error → AreRefused class symtab_size dynamic_size file Symtab error
+  by_dynamic : (error : LinkError) → IsDynamicRefused class dynamic_size file error
+      → AreRefused class symtab_size dynamic_size file Dynamic error
+  by_dladdr : (error : LinkError) → IsDynamicRefused class dynamic_size file error
+      → AreRefused class symtab_size dynamic_size file Dladdr error
+
+-- the same of a file, of either class
+pub data AreRefusedOfFile (file : ElfFile) (source : Source) (error : LinkError) : Type 0 where
+  narrow_refused : file_class file.header ≡ 1 → AreRefused 1 16 16 file source error
+      → AreRefusedOfFile file source error
+  wide_refused : file_class file.header ≢ 1 → AreRefused 2 24 24 file source error
+      → AreRefusedOfFile file source error
