@@ -1,6 +1,7 @@
 pub mod Rounded
 pub mod Fits
 pub mod Lists
+pub mod Others
 pub mod LoadChecks
 pub mod FileChecks
 pub mod Apart

@@ -8,25 +8,7 @@ use Rattle.elf_loading.specs.FileCheck.{covered_to, holder_in, holds_offset}
 use Rattle.elf_loading.specs.LoadCheck.{fits_below, holds_address}
 use Rattle.elf_loading.specs.LoadCheck as check
 use Rattle.elf_loading.specs.Spans.{first_start}
-use Rattle.elf_loading.specs.Segments.{is_load, is_of_type, last_in, loads_in, segments_in}
-
-pub last_kept : (kind size : ℕ) (before : Option ProgramHeader64) (items others : List ProgramHeader) (p : ProgramHeader) → items ≡ p ∷ others → is_of_type kind size (program_fields p) ≡ true → last_in kind size before items ≡ last_in kind size (Some (program_fields p)) others
-last_kept kind size before items others p is hit = ap (last_in kind size before) is ∙ rw hit refl
-
-pub last_skipped : (kind size : ℕ) (before : Option ProgramHeader64) (items others : List ProgramHeader) (p : ProgramHeader) → items ≡ p ∷ others → is_of_type kind size (program_fields p) ≡ false → last_in kind size before items ≡ last_in kind size before others
-last_skipped kind size before items others p is miss = ap (last_in kind size before) is ∙ rw miss refl
-
-pub last_end : (kind size : ℕ) (before : Option ProgramHeader64) (items : List ProgramHeader) → items ≡ [] → last_in kind size before items ≡ before
-last_end kind size before items is = ap (last_in kind size before) is
-
-pub found_kept : (kind size : ℕ) (items others : List ProgramHeader) (p : ProgramHeader) → items ≡ p ∷ others → is_of_type kind size (program_fields p) ≡ true → find (is_of_type kind size) (segments_in items) ≡ Some (program_fields p)
-found_kept kind size items others p is hit = ap (λ l. find (is_of_type kind size) (segments_in l)) is ∙ rw hit refl
-
-pub found_skipped : (kind size : ℕ) (items others : List ProgramHeader) (p : ProgramHeader) → items ≡ p ∷ others → is_of_type kind size (program_fields p) ≡ false → find (is_of_type kind size) (segments_in items) ≡ find (is_of_type kind size) (segments_in others)
-found_skipped kind size items others p is miss = ap (λ l. find (is_of_type kind size) (segments_in l)) is ∙ rw miss refl
-
-pub found_end : (kind size : ℕ) (items : List ProgramHeader) → items ≡ [] → find (is_of_type kind size) (segments_in items) ≡ None
-found_end kind size items is = ap (λ l. find (is_of_type kind size) (segments_in l)) is
+use Rattle.elf_loading.specs.Segments.{is_load, loads_in}
 
 pub load_kept : (items others : List ProgramHeader) (p : ProgramHeader) → items ≡ p ∷ others → is_load (program_fields p) ≡ true → loads_in items ≡ program_fields p ∷ loads_in others
 load_kept items others p is hit = ap loads_in is ∙ rw hit refl

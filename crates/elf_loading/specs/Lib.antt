@@ -4,6 +4,7 @@ pub mod Segments
 pub mod LoadCheck
 pub mod FileCheck
 pub mod Loads
+pub mod Others
 pub mod Spans
 pub mod Plan
 pub mod Mappings

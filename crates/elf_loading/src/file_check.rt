@@ -9,14 +9,15 @@ ghost use Rattle.elf_loading.specs.FileCheck.{holds_offset, holds_template, is_m
 ghost use Rattle.elf_loading.specs.FileCheck.{is_no_template, is_uncovered, kind_of};
 ghost use Rattle.elf_loading.specs.FileCheck.{segment_rows, table_size};
 ghost use Rattle.elf_loading.specs.LoadCheck.{fits_below};
-ghost use Rattle.elf_loading.specs.Segments.{interpreter_of, loads_of, phdr_of, relro_of, tls_of};
+ghost use Rattle.elf_loading.specs.Others.{AreOthersOf};
+ghost use Rattle.elf_loading.specs.Segments.{interpreter_of, loads_of};
 ghost use Rattle.elf_loading.specs.Spans.{first_start};
 ghost use Rattle.xmas_elf.specs.ProgramHeader.{program_header_size};
 
 use crate::LoadError;
 use crate::load_check::{check_loads, holds_address, load_end};
 use crate::pages::{down, end_down};
-use crate::segments::{first_interpreter, last_phdr, last_relro, last_tls, loads_of};
+use crate::segments::{Others, loads_of};
 use xmas_elf::ElfFile;
 use xmas_elf::bytes::Record;
 use xmas_elf::header::Header;
@@ -114,11 +115,12 @@ fn is_put_at(offset: u64, address: u64, load: &ProgramHeader64) -> bool
 }
 
 // Whether the loads put the program header table elsewhere than PT_PHDR says.
-fn is_misplaced(file: &ElfFile<'_>) -> bool
-    ensures { result ≡ is_misplaced file.now (phdr_of file.now) }
+fn is_misplaced(file: &ElfFile<'_>, others: &Others) -> bool
+    requires { others.now.interpreter ≡ interpreter_of file.now }
+    ensures { result ≡ is_misplaced file.now others.now.phdr }
 {
-    let Some(phdr) = last_phdr(file) else {
-        return kind_of(&file.header) == 3 && first_interpreter(file).is_some();
+    let Some(phdr) = others.phdr else {
+        return kind_of(&file.header) == 3 && others.interpreter.is_some();
     };
     let offset = file.header.pt2.ph_offset();
     match holder_of(offset, file) {
@@ -128,17 +130,17 @@ fn is_misplaced(file: &ElfFile<'_>) -> bool
 }
 
 // Whether the path of the interpreter is not one.
-fn is_no_path(file: &ElfFile<'_>) -> bool
-    ensures { result ≡ is_no_path file.now.input.now (interpreter_of file.now) }
+fn is_no_path(input: &[u8], interpreter: Option<ProgramHeader64>) -> bool
+    ensures { result ≡ is_no_path input.now interpreter }
 {
-    let Some(segment) = first_interpreter(file) else {
+    let Some(segment) = interpreter else {
         return false;
     };
     let size = segment.file_size;
-    if size < 2 || size > 4096 || is_past_end(file.input, segment.offset, size) {
+    if size < 2 || size > 4096 || is_past_end(input, segment.offset, size) {
         return true;
     }
-    file.input[(segment.offset + size - 1) as usize] != 0
+    input[(segment.offset + size - 1) as usize] != 0
 }
 
 // The first page from `address` on that is in no load.
@@ -158,12 +160,12 @@ fn covered_to(page: u64, limit: u64, address: u64, file: &ElfFile<'_>) -> u64
 }
 
 // Whether a page of what is read-only after relocation is in no load.
-fn is_uncovered(page: u64, limit: u64, file: &ElfFile<'_>) -> bool
+fn is_uncovered(page: u64, limit: u64, file: &ElfFile<'_>, relro: Option<ProgramHeader64>) -> bool
     requires page { 0 < page }
     requires fit { list_all (fits_below page limit) (loads_of file.now) ≡ true }
-    ensures { result ≡ is_uncovered page (loads_of file.now) (relro_of file.now) }
+    ensures { result ≡ is_uncovered page (loads_of file.now) relro }
 {
-    let Some(relro) = last_relro(file) else {
+    let Some(relro) = relro else {
         return false;
     };
     let covered = covered_to(page, limit, down(page, relro.virtual_addr), file);
@@ -194,10 +196,10 @@ fn has_holder(tls: &ProgramHeader64, file: &ElfFile<'_>) -> bool
 }
 
 // Whether the template of thread-local storage can't be used.
-fn is_no_template(file: &ElfFile<'_>) -> bool
-    ensures { result ≡ is_no_template (loads_of file.now) (tls_of file.now) }
+fn is_no_template(file: &ElfFile<'_>, tls: Option<ProgramHeader64>) -> bool
+    ensures { result ≡ is_no_template (loads_of file.now) tls }
 {
-    let Some(tls) = last_tls(file) else {
+    let Some(tls) = tls else {
         return false;
     };
     if tls.mem_size < tls.file_size || !tls.align.is_power_of_two() {
@@ -207,21 +209,27 @@ fn is_no_template(file: &ElfFile<'_>) -> bool
 }
 
 // Whether the segments other than loads can be used.
-fn check_segments(page: u64, limit: u64, file: &ElfFile<'_>) -> Result<(), LoadError>
+fn check_segments(
+    page: u64,
+    limit: u64,
+    file: &ElfFile<'_>,
+    others: &Others,
+) -> Result<(), LoadError>
     requires page { 0 < page }
+    requires found { AreOthersOf file.now others.now }
     requires fit { list_all (fits_below page limit) (loads_of file.now) ≡ true }
     ensures { result ≡ unless (segment_rows file.now page) tt }
 {
-    if is_misplaced(file) {
+    if is_misplaced(file, others) {
         return Err(LoadError::Headers);
     }
-    if is_no_path(file) {
+    if is_no_path(file.input, others.interpreter) {
         return Err(LoadError::Interpreter);
     }
-    if is_uncovered(page, limit, file) {
+    if is_uncovered(page, limit, file, others.relro) {
         return Err(LoadError::Relro);
     }
-    if is_no_template(file) {
+    if is_no_template(file, others.tls) {
         return Err(LoadError::Tls);
     }
     Ok(())
@@ -229,8 +237,14 @@ fn check_segments(page: u64, limit: u64, file: &ElfFile<'_>) -> Result<(), LoadE
 
 // The end of the last load of a file, or the first reason why the file can't be loaded.
 #[tactic(auto, unfolding(crate::specs::FileCheck::check_file), using(crate::proofs::LoadChecks::loads_fit))]
-pub(crate) fn check_file(page: u64, limit: u64, file: &ElfFile<'_>) -> Result<u64, LoadError>
-    requires { 0 < page }
+pub(crate) fn check_file(
+    page: u64,
+    limit: u64,
+    file: &ElfFile<'_>,
+    others: &Others,
+) -> Result<u64, LoadError>
+    requires page { 0 < page }
+    requires found { AreOthersOf file.now others.now }
     ensures { result ≡ check_file file.now page limit }
 {
     check_header(page, file)?;
@@ -238,7 +252,7 @@ pub(crate) fn check_file(page: u64, limit: u64, file: &ElfFile<'_>) -> Result<u6
     let Some(end) = last else {
         return Err(LoadError::NoLoad);
     };
-    check_segments(page, limit, file)?;
+    check_segments(page, limit, file, others)?;
     Ok(end)
 }
 

@@ -7,7 +7,7 @@ ghost use Rattle.elf_loading.specs.LoadCheck.{is_inside_page, is_past_data, load
 ghost use Rattle.elf_loading.specs.Segments.{loads_of};
 
 use crate::LoadError;
-use crate::pages::{down, is_past, up};
+use crate::pages::{down, inside, is_past, up};
 use crate::segments::loads_of;
 use xmas_elf::ElfFile;
 use xmas_elf::program::{FLAG_R, FLAG_W, ProgramHeader64};
@@ -56,7 +56,7 @@ fn is_inside_page(page: u64, load: &ProgramHeader64) -> bool
     requires { 0 < page }
     ensures { result ≡ is_inside_page page load.now }
 {
-    load.virtual_addr % page != 0
+    inside(page, load.virtual_addr) != 0
 }
 
 // Whether the first load has no bytes in the file, or a load has none in memory and begins inside a
@@ -119,7 +119,7 @@ fn check_load(
     if is_empty(page, before.is_none(), load) {
         return Err(LoadError::Empty);
     }
-    if address % page != load.offset % page {
+    if inside(page, address) != inside(page, load.offset) {
         return Err(LoadError::Misaligned);
     }
     if !is_alignment(load.align) {

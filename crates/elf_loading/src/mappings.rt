@@ -9,7 +9,7 @@ ghost use Rattle.elf_loading.specs.Segments.{loads_from};
 use crate::load_check::load_end;
 use crate::mapping::{Loader, Mapping, Parts};
 use crate::plan::LoadPlan;
-use crate::segments::Loads;
+use crate::segments::{fields, is_load};
 use xmas_elf::ElfFile;
 use xmas_elf::program::{ProgramHeader64, ProgramIter};
 
@@ -65,18 +65,22 @@ impl<'a> LoadPlan<'a> {
 }
 
 // The first load from a program header on, and the index of the program header after it.
+#[tactic(auto, using(crate::proofs::Lists::load_kept, crate::proofs::Lists::load_skipped, crate::proofs::Lists::load_end))]
 #[inline(always)]
 fn load_from(file: &ElfFile<'_>, index: u32) -> (Option<ProgramHeader64>, u32)
     ensures { YieldsFirst (loads_from file.now) index result.0 result.1 }
 {
-    let mut loads = Loads {
-        programs: ProgramIter {
-            file,
-            next_index: index,
-        },
+    let mut programs = ProgramIter {
+        file,
+        next_index: index,
     };
-    let load = loads.step();
-    (load, loads.programs.next_index)
+    while let Some(program) = programs.next() {
+        let segment = fields(&program);
+        if is_load(&segment) {
+            return (Some(segment), programs.next_index);
+        }
+    }
+    (None, programs.next_index)
 }
 
 impl Iterator for Mappings<'_> {
