@@ -5,6 +5,7 @@ pub mod LoadCheck
 pub mod FileCheck
 pub mod Loads
 pub mod Others
+pub mod LoadPass
 pub mod Spans
 pub mod Plan
 pub mod Mappings

@@ -1,0 +1,7 @@
+use Rattle.elf_loading.proofs.LoadPasses.{IsLeft}
+use Rattle.elf_loading.specs.Loads.{loads_rest}
+use Rattle.elf_loading.specs.Segments.{loads_of}
+use Rattle.elf_loading.proofs.load_pass.pass_loads.Given as goal
+
+abbrev pub invariant-loop-load : goal.invariant-loop-load
+invariant-loop-load l = IsLeft l.page l.limit l.len l.wanted (loads_of l.file) l.pass (loads_rest l.load-iterator)
