@@ -1,5 +1,5 @@
 -- The segments other than loads, segment by segment.
-use Rattle.std.proofs.Common.{◌≡◌, ℕ, ◌&&◌, Bool, true, false, List, [], ◌∷◌, Option, Some, None, if◌then◌else◌, refl, sym, ap, ◌∙◌}
+use Rattle.std.proofs.Common.{◌≡◌, ℕ, Bool, true, false, List, [], ◌∷◌, Option, Some, None, if◌then◌else◌, refl, sym, ap, ◌∙◌}
 use Rattle.std.specs.List.{filter, find, last_or}
 use Rattle.xmas_elf.specs.ProgramHeader.{program_fields, program_list}
 use Rattle.xmas_elf.specs.Types.{ElfFile, ProgramHeader, ProgramHeader64}

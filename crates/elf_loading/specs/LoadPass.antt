@@ -1,12 +1,13 @@
 -- What one pass over the loads of a file finds (this project's own).
-use Rattle.std.specs.Prelude.{◌≡◌, ℕ, ◌+◌, ◌==◌, ◌&&◌, ◌||◌, not, nat_lt, Bool, false, List, Option, Some, None, if◌then◌else◌}
+use Rattle.std.specs.Prelude.{◌≡◌, ℕ, ◌+◌, ◌==◌, ◌&&◌, ◌||◌, not, nat_lt, Bool, false, List, Option, Some, None, is_none, if◌then◌else◌}
 use Rattle.std.specs.Int.{is_power_of_two}
 use Rattle.std.specs.List.{list_any}
 use Rattle.elf_base.specs.FileHeader.{header_fields}
 use Rattle.xmas_elf.specs.Types.{ElfFile, ProgramHeader64}
 use Rattle.elf_loading.specs.FileCheck.{covered_to, holder_in, holds_offset, holds_template}
-use Rattle.elf_loading.specs.LoadCheck.{holds_address, load_end}
+use Rattle.elf_loading.specs.LoadCheck.{holds_address, load_end, load_start}
 use Rattle.elf_loading.specs.Pages.{down}
+use Rattle.elf_loading.specs.Spans.{first_start}
 use Rattle.elf_loading.specs.declared.load_pass.Pass.{Pass}
 use Rattle.elf_loading.specs.declared.load_pass.Wanted.{Wanted}
 use Rattle.elf_loading.specs.declared.segments.Others.{Others}
@@ -36,6 +37,7 @@ covered_with page covered load = if holds_address page covered load then load_en
 -- what is found, after one more load
 abbrev pub pass_with : ℕ → Wanted → Pass → ProgramHeader64 → Pass
 pass_with page wanted pass load = record {
+  start = if is_none pass.end then load_start page load else pass.start;
   end = Some (load_end page load);
   holder = if holds_offset wanted.offset load then Some load else pass.holder;
   covered = covered_with page pass.covered load;
@@ -44,6 +46,7 @@ pass_with page wanted pass load = record {
 
 -- what is found of these loads
 pub record IsPassOf (page : ℕ) (wanted : Wanted) (loads : List ProgramHeader64) (pass : Pass) : Type 0 where
+  pub start_is : pass.start ≡ first_start page loads
   pub holder_is : pass.holder ≡ holder_in wanted.offset None loads
   pub covered_is : pass.covered ≡ covered_to page wanted.first loads
   pub held_is : pass.is_held ≡ list_any (holds_some wanted.tls) loads

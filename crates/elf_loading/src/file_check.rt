@@ -1,6 +1,6 @@
 //! Whether a file can be loaded.
 
-ghost use Rattle.std.specs.Prelude.{◌≡◌, ◌≤◌, ◌<◌, ◌+◌, ◌-◌, ◌==◌, nat_lt, length, None};
+ghost use Rattle.std.specs.Prelude.{◌≡◌, ◌≤◌, ◌<◌, ◌+◌, ◌-◌, ◌==◌, nat_lt, length, Err, IfOk, MatchResult, None, Ok};
 ghost use Rattle.elf_base.specs.FileHeader.{file_class, header_fields};
 ghost use Rattle.elf_base.specs.Refusal.{unless};
 ghost use Rattle.elf_loading.specs.FileCheck.{check_file, header_rows, holder_in, is_misplaced};
@@ -11,15 +11,17 @@ ghost use Rattle.elf_loading.specs.Others.{AreOthersOf};
 ghost use Rattle.elf_loading.specs.Segments.{interpreter_of, loads_of};
 ghost use Rattle.elf_loading.specs.Spans.{first_start};
 ghost use Rattle.xmas_elf.specs.ProgramHeader.{program_header_size};
+ghost use Rattle.xmas_elf.specs.ProgramTable.{program_table_file};
 
 use crate::LoadError;
 use crate::load_pass::{Pass, Wanted, pass_loads};
-use crate::pages::{down, end_down};
-use crate::segments::{Others, loads_of};
+use crate::pages::end_down;
+use crate::segments::Others;
+use crate::span::Span;
 use xmas_elf::ElfFile;
 use xmas_elf::bytes::Record;
 use xmas_elf::header::Header;
-use xmas_elf::program::{ProgramHeader32, ProgramHeader64};
+use xmas_elf::program::{ProgramHeader32, ProgramHeader64, ProgramTable};
 
 // The type of a file, as a number.
 #[inline(always)]
@@ -178,36 +180,31 @@ fn check_segments(
     Ok(())
 }
 
-// The end of the last load of a file, or the first reason why the file can't be loaded.
+// The pages from the first load of a file to the last, or the first reason why the file can't be loaded.
 #[tactic(auto, unfolding(crate::specs::FileCheck::check_file))]
 pub(crate) fn check_file(
     page: u64,
     limit: u64,
     file: &ElfFile<'_>,
+    table: ProgramTable<'_, '_>,
     others: &Others,
-) -> Result<u64, LoadError>
+) -> Result<Span, LoadError>
     requires page { 0 < page }
+    requires table { program_table_file table ≡ file.now }
     requires found { AreOthersOf file.now others.now }
-    ensures { result ≡ check_file file.now page limit }
+    ensures checked { MatchResult result (λ span. check_file file.now page limit ≡ Ok span.end)
+        (λ error. check_file file.now page limit ≡ Err error) }
+    ensures start { IfOk result (λ span. span.start ≡ first_start page (loads_of file.now)) }
 {
     check_header(page, file)?;
     let wanted = Wanted::of(page, file, others);
-    let pass = pass_loads(page, limit, &wanted, file)?;
+    let pass = pass_loads(page, limit, &wanted, file.input.len() as u64, table)?;
     let Some(end) = pass.end else {
         return Err(LoadError::NoLoad);
     };
     check_segments(page, file, others, &pass)?;
-    Ok(end)
-}
-
-// The start of the pages of the first load.
-#[tactic(auto, using(crate::proofs::Lists::first_is, crate::proofs::Lists::first_none))]
-pub(crate) fn first_start(page: u64, file: &ElfFile<'_>) -> u64
-    requires { 0 < page }
-    ensures { result ≡ first_start page (loads_of file.now) }
-{
-    match loads_of(file).next() {
-        Some(load) => down(page, load.virtual_addr),
-        None => 0,
-    }
+    Ok(Span {
+        start: pass.start,
+        end,
+    })
 }

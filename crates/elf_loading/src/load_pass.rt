@@ -1,18 +1,19 @@
 //! One pass over the load segments: their checks, and what the checks of the other segments ask of them.
 
-ghost use Rattle.std.specs.Prelude.{◌≡◌, ◌<◌, Err, IfOk, MatchResult, None, Ok, length};
+ghost use Rattle.std.specs.Prelude.{◌≡◌, ◌<◌, Err, IfOk, MatchResult, None, Ok};
 ghost use Rattle.elf_loading.specs.FileCheck.{holds_offset, holds_template};
 ghost use Rattle.elf_loading.specs.LoadCheck.{check_loads, load_end};
 ghost use Rattle.elf_loading.specs.LoadPass.{IsPassOf, covered_with, first_of, holds_some};
 ghost use Rattle.elf_loading.specs.LoadPass.{pass_with, wanted_of};
 ghost use Rattle.elf_loading.specs.Segments.{loads_of};
+ghost use Rattle.xmas_elf.specs.ProgramTable.{program_table_file};
 
 use crate::LoadError;
 use crate::load_check::check_load;
 use crate::pages::down;
 use crate::segments::{Others, loads_of};
 use xmas_elf::ElfFile;
-use xmas_elf::program::ProgramHeader64;
+use xmas_elf::program::{ProgramHeader64, ProgramTable};
 
 // What the checks of the other segments ask of the loads.
 #[derive(Clone, Copy, Debug)]
@@ -43,6 +44,8 @@ impl Wanted {
 // What a pass has found.
 #[derive(Clone, Copy, Debug)]
 pub(crate) struct Pass {
+    // The start of the pages of the first load, or 0 if there is none.
+    pub(crate) start: u64,
     // The end of the last load.
     pub(crate) end: Option<u64>,
     // The last load with the first byte of the program header table.
@@ -116,6 +119,9 @@ impl Pass {
         requires end { end ≡ load_end page load.now }
         ensures { self.new ≡ pass_with page wanted.now self.old load.now }
     {
+        if self.end.is_none() {
+            self.start = down(page, load.virtual_addr);
+        }
         self.end = Some(end);
         if holds_offset(wanted.offset, load) {
             self.holder = Some(*load);
@@ -125,31 +131,32 @@ impl Pass {
     }
 }
 
-// What a pass over the loads of a file finds, or the first reason why a load can't be mapped.
+// What a pass over the loads of a file with `len` bytes finds, or the first reason why a load can't be
+// mapped.
 #[tactic(auto, using(crate::proofs::LoadPasses::all_passed, crate::proofs::LoadPasses::rest_passed, crate::proofs::LoadPasses::none_passed))]
 #[inline(always)]
 pub(crate) fn pass_loads(
     page: u64,
     limit: u64,
     wanted: &Wanted,
-    file: &ElfFile<'_>,
+    len: u64,
+    table: ProgramTable<'_, '_>,
 ) -> Result<Pass, LoadError>
     requires { 0 < page }
-    ensures checked { MatchResult result
-        (λ pass. check_loads page limit (length file.now.input.now) None (loads_of file.now)
-        ≡ Ok pass.end)
-        (λ error. check_loads page limit (length file.now.input.now) None (loads_of file.now)
-        ≡ Err error) }
-    ensures found { IfOk result (IsPassOf page wanted.now (loads_of file.now)) }
+    ensures checked { let loads = loads_of (program_table_file table.entry) in MatchResult result
+        (λ pass. check_loads page limit len None loads ≡ Ok pass.end)
+        (λ error. check_loads page limit len None loads ≡ Err error) }
+    ensures found { IfOk result
+        (IsPassOf page wanted.now (loads_of (program_table_file table.entry))) }
 {
-    let len = file.input.len() as u64;
     let mut pass = Pass {
+        start: 0,
         end: None,
         holder: None,
         covered: wanted.first,
         is_held: false,
     };
-    for load in loads_of(file) {
+    for load in loads_of(table) {
         match check_load(page, limit, len, pass.end, &load) {
             Ok(end) => pass.keep(page, end, wanted, &load),
             Err(error) => return Err(error),

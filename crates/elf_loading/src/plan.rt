@@ -7,7 +7,7 @@ ghost use Rattle.elf_loading.specs.Segments.{loads_of};
 ghost use Rattle.elf_loading.specs.Spans.{ends_at, first_start};
 
 use crate::LoadError;
-use crate::file_check::{check_file, first_start};
+use crate::file_check::check_file;
 use crate::pages::{down, end_down};
 use crate::segments::{Others, others_of};
 use crate::span::Span;
@@ -73,9 +73,9 @@ impl<'a> LoadPlan<'a> {
         ensures relro { IfErr result (λ error. error ≡ Relro → MatchOption (relro_of file.now) ⊥
             (λ relro. HasUncovered page (loads_of file.now) (relro_span page relro))) }
     {
-        let others = others_of(file);
-        let end = check_file(page, limit, file, &others)?;
-        let start = first_start(page, file);
+        let table = file.program_table();
+        let others = others_of(table);
+        let span = check_file(page, limit, file, table, &others)?;
         Ok(LoadPlan {
             file: ElfFile {
                 input: file.input,
@@ -83,8 +83,8 @@ impl<'a> LoadPlan<'a> {
             },
             page,
             limit,
-            start,
-            end,
+            start: span.start,
+            end: span.end,
             others,
         })
     }

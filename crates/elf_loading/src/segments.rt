@@ -6,9 +6,11 @@ ghost use Rattle.elf_loading.specs.Loads.{loads_rest};
 ghost use Rattle.elf_loading.specs.Others.{AreOthersOf, first_with, last_with, others_with};
 ghost use Rattle.elf_loading.specs.Segments.{is_load, is_of_type, loads_of};
 ghost use Rattle.xmas_elf.specs.ProgramHeader.{program_fields};
+ghost use Rattle.xmas_elf.specs.ProgramTable.{program_table_file};
 
-use xmas_elf::ElfFile;
-use xmas_elf::program::{ProgramHeader, ProgramHeader64, ProgramTableIter, TYPE_GNU_RELRO};
+use xmas_elf::program::{
+    ProgramHeader, ProgramHeader64, ProgramTable, ProgramTableIter, TYPE_GNU_RELRO,
+};
 
 const PT_LOAD: u32 = 1;
 
@@ -110,8 +112,8 @@ impl Others {
 // The segments other than loads of a file, in one pass over its program headers.
 #[tactic(auto, using(crate::proofs::Others::all_left, crate::proofs::Others::rest_left, crate::proofs::Others::none_left))]
 #[inline(always)]
-pub(crate) fn others_of(file: &ElfFile<'_>) -> Others
-    ensures { AreOthersOf file.now result }
+pub(crate) fn others_of(table: ProgramTable<'_, '_>) -> Others
+    ensures { AreOthersOf (program_table_file table.entry) result }
 {
     let mut others = Others {
         phdr: None,
@@ -120,7 +122,7 @@ pub(crate) fn others_of(file: &ElfFile<'_>) -> Others
         tls: None,
         interpreter: None,
     };
-    for program in file.program_table().iter() {
+    for program in table.iter() {
         others.keep(&program);
     }
     others
@@ -132,13 +134,13 @@ pub(crate) struct Loads<'b, 'a> {
     pub(crate) programs: ProgramTableIter<'b, 'a>,
 }
 
-// All loads of a file.
+// All loads of a file, by its program headers.
 #[inline(always)]
-pub(crate) fn loads_of<'b, 'a>(file: &'b ElfFile<'a>) -> Loads<'b, 'a>
-    ensures { loads_rest result ≡ loads_of file.now }
+pub(crate) fn loads_of<'b, 'a>(table: ProgramTable<'b, 'a>) -> Loads<'b, 'a>
+    ensures { loads_rest result ≡ loads_of (program_table_file table.entry) }
 {
     Loads {
-        programs: file.program_table().iter(),
+        programs: table.iter(),
     }
 }
 
