@@ -1,7 +1,9 @@
 pub mod Rounded
 pub mod Fits
 pub mod Lists
+pub mod Others
 pub mod LoadChecks
+pub mod LoadPasses
 pub mod FileChecks
 pub mod Apart
 pub mod Follows

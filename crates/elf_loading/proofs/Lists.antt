@@ -1,32 +1,11 @@
 -- Searches of the segments of a file, segment by segment.
-use Rattle.std.proofs.Common.{◌≡◌, ℕ, Bool, true, false, List, [], ◌∷◌, Option, Some, None, refl, ap, ◌∙◌}
+use Rattle.std.proofs.Common.{◌≡◌, ℕ, Bool, true, false, List, [], ◌∷◌, Some, None, refl, ap, ◌∙◌}
 use Rattle.std.proofs.lemmas.Bool.{and_parts}
-use Rattle.std.specs.List.{find, list_all, list_any}
+use Rattle.std.specs.List.{find, list_all}
 use Rattle.xmas_elf.specs.ProgramHeader.{program_fields}
 use Rattle.xmas_elf.specs.Types.{ProgramHeader, ProgramHeader64}
-use Rattle.elf_loading.specs.FileCheck.{covered_to, holder_in, holds_offset}
 use Rattle.elf_loading.specs.LoadCheck.{fits_below, holds_address}
-use Rattle.elf_loading.specs.LoadCheck as check
-use Rattle.elf_loading.specs.Spans.{first_start}
-use Rattle.elf_loading.specs.Segments.{is_load, is_of_type, last_in, loads_in, segments_in}
-
-pub last_kept : (kind size : ℕ) (before : Option ProgramHeader64) (items others : List ProgramHeader) (p : ProgramHeader) → items ≡ p ∷ others → is_of_type kind size (program_fields p) ≡ true → last_in kind size before items ≡ last_in kind size (Some (program_fields p)) others
-last_kept kind size before items others p is hit = ap (last_in kind size before) is ∙ rw hit refl
-
-pub last_skipped : (kind size : ℕ) (before : Option ProgramHeader64) (items others : List ProgramHeader) (p : ProgramHeader) → items ≡ p ∷ others → is_of_type kind size (program_fields p) ≡ false → last_in kind size before items ≡ last_in kind size before others
-last_skipped kind size before items others p is miss = ap (last_in kind size before) is ∙ rw miss refl
-
-pub last_end : (kind size : ℕ) (before : Option ProgramHeader64) (items : List ProgramHeader) → items ≡ [] → last_in kind size before items ≡ before
-last_end kind size before items is = ap (last_in kind size before) is
-
-pub found_kept : (kind size : ℕ) (items others : List ProgramHeader) (p : ProgramHeader) → items ≡ p ∷ others → is_of_type kind size (program_fields p) ≡ true → find (is_of_type kind size) (segments_in items) ≡ Some (program_fields p)
-found_kept kind size items others p is hit = ap (λ l. find (is_of_type kind size) (segments_in l)) is ∙ rw hit refl
-
-pub found_skipped : (kind size : ℕ) (items others : List ProgramHeader) (p : ProgramHeader) → items ≡ p ∷ others → is_of_type kind size (program_fields p) ≡ false → find (is_of_type kind size) (segments_in items) ≡ find (is_of_type kind size) (segments_in others)
-found_skipped kind size items others p is miss = ap (λ l. find (is_of_type kind size) (segments_in l)) is ∙ rw miss refl
-
-pub found_end : (kind size : ℕ) (items : List ProgramHeader) → items ≡ [] → find (is_of_type kind size) (segments_in items) ≡ None
-found_end kind size items is = ap (λ l. find (is_of_type kind size) (segments_in l)) is
+use Rattle.elf_loading.specs.Segments.{is_load, loads_in}
 
 pub load_kept : (items others : List ProgramHeader) (p : ProgramHeader) → items ≡ p ∷ others → is_load (program_fields p) ≡ true → loads_in items ≡ program_fields p ∷ loads_in others
 load_kept items others p is hit = ap loads_in is ∙ rw hit refl
@@ -36,24 +15,6 @@ load_skipped items others p is miss = ap loads_in is ∙ rw miss refl
 
 pub load_end : (items : List ProgramHeader) → items ≡ [] → loads_in items ≡ []
 load_end items is = ap loads_in is
-
-pub holder_kept : (offset : ℕ) (before : Option ProgramHeader64) (items others : List ProgramHeader64) (load : ProgramHeader64) → items ≡ load ∷ others → holds_offset offset load ≡ true → holder_in offset before items ≡ holder_in offset (Some load) others
-holder_kept offset before items others load is hit = ap (holder_in offset before) is ∙ rw hit refl
-
-pub holder_skipped : (offset : ℕ) (before : Option ProgramHeader64) (items others : List ProgramHeader64) (load : ProgramHeader64) → items ≡ load ∷ others → holds_offset offset load ≡ false → holder_in offset before items ≡ holder_in offset before others
-holder_skipped offset before items others load is miss = ap (holder_in offset before) is ∙ rw miss refl
-
-pub holder_end : (offset : ℕ) (before : Option ProgramHeader64) (items : List ProgramHeader64) → items ≡ [] → holder_in offset before items ≡ before
-holder_end offset before items is = ap (holder_in offset before) is
-
-pub any_first : (test : ProgramHeader64 → Bool) (items others : List ProgramHeader64) (load : ProgramHeader64) → items ≡ load ∷ others → test load ≡ true → list_any test items ≡ true
-any_first test items others load is hit = ap (list_any test) is ∙ rw hit refl
-
-pub any_rest : (test : ProgramHeader64 → Bool) (items others : List ProgramHeader64) (load : ProgramHeader64) → items ≡ load ∷ others → test load ≡ false → list_any test items ≡ list_any test others
-any_rest test items others load is miss = ap (list_any test) is ∙ rw miss refl
-
-pub any_end : (test : ProgramHeader64 → Bool) (items : List ProgramHeader64) → items ≡ [] → list_any test items ≡ false
-any_end test items is = ap (list_any test) is
 
 pub all_first : (test : ProgramHeader64 → Bool) (items others : List ProgramHeader64) (load : ProgramHeader64) → items ≡ load ∷ others → list_all test items ≡ true → test load ≡ true
 all_first test items others load is all = (and_parts (test load) (list_all test others) (rw is at all)).0
@@ -66,21 +27,6 @@ fits_first page limit = all_first (fits_below page limit)
 
 pub fits_rest : (page limit : ℕ) (items others : List ProgramHeader64) (load : ProgramHeader64) → items ≡ load ∷ others → list_all (fits_below page limit) items ≡ true → list_all (fits_below page limit) others ≡ true
 fits_rest page limit = all_rest (fits_below page limit)
-
-pub covered_by : (page address : ℕ) (items others : List ProgramHeader64) (load : ProgramHeader64) → items ≡ load ∷ others → holds_address page address load ≡ true → covered_to page address items ≡ covered_to page (check.load_end page load) others
-covered_by page address items others load is hit = ap (covered_to page address) is ∙ rw hit refl
-
-pub covered_past : (page address : ℕ) (items others : List ProgramHeader64) (load : ProgramHeader64) → items ≡ load ∷ others → holds_address page address load ≡ false → covered_to page address items ≡ covered_to page address others
-covered_past page address items others load is miss = ap (covered_to page address) is ∙ rw miss refl
-
-pub covered_end : (page address : ℕ) (items : List ProgramHeader64) → items ≡ [] → covered_to page address items ≡ address
-covered_end page address items is = ap (covered_to page address) is
-
-pub first_is : (page : ℕ) (items others : List ProgramHeader64) (load : ProgramHeader64) → items ≡ load ∷ others → first_start page items ≡ check.load_start page load
-first_is page items others load is = ap (first_start page) is
-
-pub first_none : (page : ℕ) (items : List ProgramHeader64) → items ≡ [] → first_start page items ≡ 0
-first_none page items is = ap (first_start page) is
 
 pub held_first : (page address : ℕ) (items others : List ProgramHeader64) (load : ProgramHeader64) → items ≡ load ∷ others → holds_address page address load ≡ true → find (holds_address page address) items ≡ Some load
 held_first page address items others load is hit = ap (find (holds_address page address)) is ∙ rw hit refl

@@ -4,6 +4,8 @@ pub mod Segments
 pub mod LoadCheck
 pub mod FileCheck
 pub mod Loads
+pub mod Others
+pub mod LoadPass
 pub mod Spans
 pub mod Plan
 pub mod Mappings

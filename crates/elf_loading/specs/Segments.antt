@@ -1,11 +1,9 @@
 -- The segments that a loader asks for, by their type (gABI, "Program Header", p_type; PT_GNU_STACK and
 -- PT_GNU_RELRO are GNU's).
-use Rattle.std.specs.Prelude.{ℕ, ◌==◌, ◌&&◌, nat_le, Bool, List, map, Option, None}
+use Rattle.std.specs.Prelude.{ℕ, ◌==◌, ◌&&◌, nat_le, drop, Bool, List, map, Option, None}
 use Rattle.std.specs.List.{filter, find, last_or}
 use Rattle.elf_records.specs.ProgramNumbers.{ph_type_number}
-use Rattle.xmas_elf.specs.ProgramHeader.{program_fields, program_list, program_of}
-use Rattle.xmas_elf.specs.HeaderTable.{header_rest}
-use Rattle.xmas_elf.specs.SectionHeader.{program_count_of}
+use Rattle.xmas_elf.specs.ProgramHeader.{program_fields, program_list}
 use Rattle.xmas_elf.specs.Types.{ElfFile, ProgramHeader, ProgramHeader64}
 
 -- the segments of a list of program headers, in the fields of class 64
@@ -30,7 +28,7 @@ loads_of file = loads_in (program_list file)
 
 -- the loads of a file from a program header on
 abbrev pub loads_from : ElfFile → ℕ → List ProgramHeader64
-loads_from file index = loads_in (header_rest (program_of file) (program_count_of file) index)
+loads_from file index = loads_in (drop index (program_list file))
 
 -- the last segment of a type with at least this size, or `before` if there is none
 abbrev pub last_in : ℕ → ℕ → Option ProgramHeader64 → List ProgramHeader → Option ProgramHeader64

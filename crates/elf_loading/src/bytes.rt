@@ -133,7 +133,7 @@ impl<'a> LoadPlan<'a> {
             (plan_loads self.now) }
     {
         let len = self.file.input.len() as u64;
-        for load in loads_of(&self.file) {
+        for load in loads_of(self.file.program_table()) {
             if holds_address(self.page, self.limit, address, &load) {
                 return Some(load_byte(self.page, self.limit, by, len, address, &load));
             }
@@ -209,7 +209,7 @@ impl<'a> LoadPlan<'a> {
             return Err(LoadError::ImageSize);
         }
         image.fill(0);
-        for load in loads_of(&self.file) {
+        for load in loads_of(self.file.program_table()) {
             self.fill_load(by, span.start, &load, image);
         }
         Ok(())

@@ -1,26 +1,27 @@
 //! Whether a file can be loaded.
 
-ghost use Rattle.std.specs.Prelude.{◌≡◌, ◌≤◌, ◌<◌, ◌+◌, ◌-◌, ◌==◌, nat_lt, length, true, None};
-ghost use Rattle.std.specs.List.{list_all, list_any};
-ghost use Rattle.elf_base.specs.FileHeader.{file_class};
+ghost use Rattle.std.specs.Prelude.{◌≡◌, ◌≤◌, ◌<◌, ◌+◌, ◌-◌, ◌==◌, nat_lt, length, Err, IfOk, MatchResult, None, Ok};
+ghost use Rattle.elf_base.specs.FileHeader.{file_class, header_fields};
 ghost use Rattle.elf_base.specs.Refusal.{unless};
-ghost use Rattle.elf_loading.specs.FileCheck.{check_file, covered_to, header_rows, holder_in};
-ghost use Rattle.elf_loading.specs.FileCheck.{holds_offset, holds_template, is_misplaced, is_no_path};
-ghost use Rattle.elf_loading.specs.FileCheck.{is_no_template, is_uncovered, kind_of};
-ghost use Rattle.elf_loading.specs.FileCheck.{segment_rows, table_size};
-ghost use Rattle.elf_loading.specs.LoadCheck.{fits_below};
-ghost use Rattle.elf_loading.specs.Segments.{interpreter_of, loads_of, phdr_of, relro_of, tls_of};
+ghost use Rattle.elf_loading.specs.FileCheck.{check_file, header_rows, holder_in, is_misplaced};
+ghost use Rattle.elf_loading.specs.FileCheck.{is_no_path, kind_of, segment_rows, table_size};
+ghost use Rattle.elf_loading.specs.LoadPass.{IsPassOf, is_past_covered, is_wrong_template};
+ghost use Rattle.elf_loading.specs.LoadPass.{wanted_of};
+ghost use Rattle.elf_loading.specs.Others.{AreOthersOf};
+ghost use Rattle.elf_loading.specs.Segments.{interpreter_of, loads_of};
 ghost use Rattle.elf_loading.specs.Spans.{first_start};
 ghost use Rattle.xmas_elf.specs.ProgramHeader.{program_header_size};
+ghost use Rattle.xmas_elf.specs.ProgramTable.{program_table_file};
 
 use crate::LoadError;
-use crate::load_check::{check_loads, holds_address, load_end};
-use crate::pages::{down, end_down};
-use crate::segments::{first_interpreter, last_phdr, last_relro, last_tls, loads_of};
+use crate::load_pass::{Pass, Wanted, pass_loads};
+use crate::pages::end_down;
+use crate::segments::Others;
+use crate::span::Span;
 use xmas_elf::ElfFile;
 use xmas_elf::bytes::Record;
 use xmas_elf::header::Header;
-use xmas_elf::program::{ProgramHeader32, ProgramHeader64};
+use xmas_elf::program::{ProgramHeader32, ProgramHeader64, ProgramTable};
 
 // The type of a file, as a number.
 #[inline(always)]
@@ -82,28 +83,6 @@ fn check_header(page: u64, file: &ElfFile<'_>) -> Result<(), LoadError>
     Ok(())
 }
 
-// Whether the bytes that a load has in the file contain the byte at an offset.
-#[inline(always)]
-fn holds_offset(offset: u64, load: &ProgramHeader64) -> bool
-    ensures { result ≡ holds_offset offset load.now }
-{
-    load.offset <= offset && offset - load.offset < load.file_size
-}
-
-// The last load with the byte at an offset.
-#[tactic(auto, using(crate::proofs::Lists::holder_kept, crate::proofs::Lists::holder_skipped, crate::proofs::Lists::holder_end))]
-fn holder_of(offset: u64, file: &ElfFile<'_>) -> Option<ProgramHeader64>
-    ensures { result ≡ holder_in offset None (loads_of file.now) }
-{
-    let mut last = None;
-    for load in loads_of(file) {
-        if holds_offset(offset, &load) {
-            last = Some(load);
-        }
-    }
-    last
-}
-
 // Whether a load puts the byte at an offset, which it has, at an address.
 #[inline(always)]
 fn is_put_at(offset: u64, address: u64, load: &ProgramHeader64) -> bool
@@ -114,142 +93,118 @@ fn is_put_at(offset: u64, address: u64, load: &ProgramHeader64) -> bool
 }
 
 // Whether the loads put the program header table elsewhere than PT_PHDR says.
-fn is_misplaced(file: &ElfFile<'_>) -> bool
-    ensures { result ≡ is_misplaced file.now (phdr_of file.now) }
+fn is_misplaced(file: &ElfFile<'_>, others: &Others, holder: Option<ProgramHeader64>) -> bool
+    requires interpreter { others.now.interpreter ≡ interpreter_of file.now }
+    requires holder { holder ≡ holder_in (header_fields file.now.header.pt2).ph_offset None
+        (loads_of file.now) }
+    ensures { result ≡ is_misplaced file.now others.now.phdr }
 {
-    let Some(phdr) = last_phdr(file) else {
-        return kind_of(&file.header) == 3 && first_interpreter(file).is_some();
+    let Some(phdr) = others.phdr else {
+        return kind_of(&file.header) == 3 && others.interpreter.is_some();
     };
     let offset = file.header.pt2.ph_offset();
-    match holder_of(offset, file) {
+    match holder {
         Some(load) => !is_put_at(offset, phdr.virtual_addr, &load),
         None => true,
     }
 }
 
 // Whether the path of the interpreter is not one.
-fn is_no_path(file: &ElfFile<'_>) -> bool
-    ensures { result ≡ is_no_path file.now.input.now (interpreter_of file.now) }
+fn is_no_path(input: &[u8], interpreter: Option<ProgramHeader64>) -> bool
+    ensures { result ≡ is_no_path input.now interpreter }
 {
-    let Some(segment) = first_interpreter(file) else {
+    let Some(segment) = interpreter else {
         return false;
     };
     let size = segment.file_size;
-    if size < 2 || size > 4096 || is_past_end(file.input, segment.offset, size) {
+    if size < 2 || size > 4096 || is_past_end(input, segment.offset, size) {
         return true;
     }
-    file.input[(segment.offset + size - 1) as usize] != 0
+    input[(segment.offset + size - 1) as usize] != 0
 }
 
-// The first page from `address` on that is in no load.
-#[tactic(auto, using(crate::proofs::Lists::covered_by, crate::proofs::Lists::covered_past, crate::proofs::Lists::covered_end, crate::proofs::Lists::fits_first, crate::proofs::Lists::fits_rest))]
-fn covered_to(page: u64, limit: u64, address: u64, file: &ElfFile<'_>) -> u64
-    requires page { 0 < page }
-    requires fit { list_all (fits_below page limit) (loads_of file.now) ≡ true }
-    ensures { result ≡ covered_to page address (loads_of file.now) }
+// Whether what is read-only after relocation extends past the first page from its start on that is in
+// no load.
+#[inline(always)]
+fn is_uncovered(page: u64, relro: Option<ProgramHeader64>, covered: u64) -> bool
+    requires { 0 < page }
+    ensures { result ≡ is_past_covered page covered relro }
 {
-    let mut covered = address;
-    for load in loads_of(file) {
-        if holds_address(page, limit, covered, &load) {
-            covered = load_end(page, limit, &load);
-        }
-    }
-    covered
-}
-
-// Whether a page of what is read-only after relocation is in no load.
-fn is_uncovered(page: u64, limit: u64, file: &ElfFile<'_>) -> bool
-    requires page { 0 < page }
-    requires fit { list_all (fits_below page limit) (loads_of file.now) ≡ true }
-    ensures { result ≡ is_uncovered page (loads_of file.now) (relro_of file.now) }
-{
-    let Some(relro) = last_relro(file) else {
+    let Some(relro) = relro else {
         return false;
     };
-    let covered = covered_to(page, limit, down(page, relro.virtual_addr), file);
     u128::from(covered) < end_down(page, relro.virtual_addr, relro.mem_size)
 }
 
-// Whether the bytes of a template are in the memory of a load.
+// Whether the template of thread-local storage can't be used, where `is_held` says whether its bytes
+// are in the memory of one load.
 #[inline(always)]
-fn holds_template(tls: &ProgramHeader64, load: &ProgramHeader64) -> bool
-    ensures { result ≡ holds_template tls.now load.now }
+fn is_no_template(tls: Option<ProgramHeader64>, is_held: bool) -> bool
+    ensures { result ≡ is_wrong_template is_held tls }
 {
-    let end = u128::from(tls.virtual_addr) + u128::from(tls.file_size);
-    load.virtual_addr <= tls.virtual_addr
-        && end <= u128::from(load.virtual_addr) + u128::from(load.mem_size)
-}
-
-// Whether the bytes of a template are in the memory of one load.
-#[tactic(auto, using(crate::proofs::Lists::any_first, crate::proofs::Lists::any_rest, crate::proofs::Lists::any_end))]
-fn has_holder(tls: &ProgramHeader64, file: &ElfFile<'_>) -> bool
-    ensures { result ≡ list_any (holds_template tls.now) (loads_of file.now) }
-{
-    for load in loads_of(file) {
-        if holds_template(tls, &load) {
-            return true;
-        }
-    }
-    false
-}
-
-// Whether the template of thread-local storage can't be used.
-fn is_no_template(file: &ElfFile<'_>) -> bool
-    ensures { result ≡ is_no_template (loads_of file.now) (tls_of file.now) }
-{
-    let Some(tls) = last_tls(file) else {
+    let Some(tls) = tls else {
         return false;
     };
     if tls.mem_size < tls.file_size || !tls.align.is_power_of_two() {
         return true;
     }
-    tls.file_size != 0 && !has_holder(&tls, file)
+    tls.file_size != 0 && !is_held
 }
 
 // Whether the segments other than loads can be used.
-fn check_segments(page: u64, limit: u64, file: &ElfFile<'_>) -> Result<(), LoadError>
+#[tactic(auto, using(crate::proofs::LoadPasses::uncovered_is, crate::proofs::LoadPasses::template_is))]
+#[inline(always)]
+fn check_segments(
+    page: u64,
+    file: &ElfFile<'_>,
+    others: &Others,
+    pass: &Pass,
+) -> Result<(), LoadError>
     requires page { 0 < page }
-    requires fit { list_all (fits_below page limit) (loads_of file.now) ≡ true }
+    requires found { AreOthersOf file.now others.now }
+    requires passed { IsPassOf page (wanted_of page file.now others.now) (loads_of file.now) pass.now }
     ensures { result ≡ unless (segment_rows file.now page) tt }
 {
-    if is_misplaced(file) {
+    if is_misplaced(file, others, pass.holder) {
         return Err(LoadError::Headers);
     }
-    if is_no_path(file) {
+    if is_no_path(file.input, others.interpreter) {
         return Err(LoadError::Interpreter);
     }
-    if is_uncovered(page, limit, file) {
+    if is_uncovered(page, others.relro, pass.covered) {
         return Err(LoadError::Relro);
     }
-    if is_no_template(file) {
+    if is_no_template(others.tls, pass.is_held) {
         return Err(LoadError::Tls);
     }
     Ok(())
 }
 
-// The end of the last load of a file, or the first reason why the file can't be loaded.
-#[tactic(auto, unfolding(crate::specs::FileCheck::check_file), using(crate::proofs::LoadChecks::loads_fit))]
-pub(crate) fn check_file(page: u64, limit: u64, file: &ElfFile<'_>) -> Result<u64, LoadError>
-    requires { 0 < page }
-    ensures { result ≡ check_file file.now page limit }
+// The pages from the first load of a file to the last, or the first reason why the file can't be loaded.
+#[tactic(auto, unfolding(crate::specs::FileCheck::check_file))]
+pub(crate) fn check_file(
+    page: u64,
+    limit: u64,
+    file: &ElfFile<'_>,
+    table: ProgramTable<'_, '_>,
+    others: &Others,
+) -> Result<Span, LoadError>
+    requires page { 0 < page }
+    requires table { program_table_file table ≡ file.now }
+    requires found { AreOthersOf file.now others.now }
+    ensures checked { MatchResult result (λ span. check_file file.now page limit ≡ Ok span.end)
+        (λ error. check_file file.now page limit ≡ Err error) }
+    ensures start { IfOk result (λ span. span.start ≡ first_start page (loads_of file.now)) }
 {
     check_header(page, file)?;
-    let last = check_loads(page, limit, file)?;
-    let Some(end) = last else {
+    let wanted = Wanted::of(page, file, others);
+    let pass = pass_loads(page, limit, &wanted, file.input.len() as u64, table)?;
+    let Some(end) = pass.end else {
         return Err(LoadError::NoLoad);
     };
-    check_segments(page, limit, file)?;
-    Ok(end)
-}
-
-// The start of the pages of the first load.
-#[tactic(auto, using(crate::proofs::Lists::first_is, crate::proofs::Lists::first_none))]
-pub(crate) fn first_start(page: u64, file: &ElfFile<'_>) -> u64
-    requires { 0 < page }
-    ensures { result ≡ first_start page (loads_of file.now) }
-{
-    match loads_of(file).next() {
-        Some(load) => down(page, load.virtual_addr),
-        None => 0,
-    }
+    check_segments(page, file, others, &pass)?;
+    Ok(Span {
+        start: pass.start,
+        end,
+    })
 }

@@ -10,6 +10,7 @@ mod bytes;
 mod error;
 mod file_check;
 mod load_check;
+mod load_pass;
 mod mapping;
 mod mappings;
 mod pages;

@@ -1,15 +1,12 @@
 //! Whether each load segment can be mapped.
 
-ghost use Rattle.std.specs.Prelude.{◌≡◌, ◌≤◌, ◌<◌, None, length, true};
-ghost use Rattle.elf_loading.specs.LoadCheck.{check_load, check_loads, file_end, fits_below};
+ghost use Rattle.std.specs.Prelude.{◌≡◌, ◌≤◌, ◌<◌, IfOk, true};
+ghost use Rattle.elf_loading.specs.LoadCheck.{check_load, file_end, fits_below};
 ghost use Rattle.elf_loading.specs.LoadCheck.{has_shut_zeros, holds_address, is_alignment, is_empty_load};
 ghost use Rattle.elf_loading.specs.LoadCheck.{is_inside_page, is_past_data, load_end};
-ghost use Rattle.elf_loading.specs.Segments.{loads_of};
 
 use crate::LoadError;
-use crate::pages::{down, is_past, up};
-use crate::segments::loads_of;
-use xmas_elf::ElfFile;
+use crate::pages::{down, inside, is_past, up};
 use xmas_elf::program::{FLAG_R, FLAG_W, ProgramHeader64};
 
 // The end of the pages of a load that fits below a limit.
@@ -56,7 +53,7 @@ fn is_inside_page(page: u64, load: &ProgramHeader64) -> bool
     requires { 0 < page }
     ensures { result ≡ is_inside_page page load.now }
 {
-    load.virtual_addr % page != 0
+    inside(page, load.virtual_addr) != 0
 }
 
 // Whether the first load has no bytes in the file, or a load has none in memory and begins inside a
@@ -102,7 +99,7 @@ fn has_shut_zeros(load: &ProgramHeader64) -> bool
 // The end of a load, or why it can't be mapped; `before` is the end of the load before it.
 #[tactic(auto, unfolding(crate::specs::LoadCheck::check_load))]
 #[inline(always)]
-fn check_load(
+pub(crate) fn check_load(
     page: u64,
     limit: u64,
     len: u64,
@@ -110,7 +107,8 @@ fn check_load(
     load: &ProgramHeader64,
 ) -> Result<u64, LoadError>
     requires { 0 < page }
-    ensures { result ≡ check_load page limit len before load.now }
+    ensures value { result ≡ check_load page limit len before load.now }
+    ensures end { IfOk result (λ end. end ≡ load_end page load.now) }
 {
     let (address, size) = (load.virtual_addr, load.mem_size);
     if load.file_size > size {
@@ -119,7 +117,7 @@ fn check_load(
     if is_empty(page, before.is_none(), load) {
         return Err(LoadError::Empty);
     }
-    if address % page != load.offset % page {
+    if inside(page, address) != inside(page, load.offset) {
         return Err(LoadError::Misaligned);
     }
     if !is_alignment(load.align) {
@@ -138,27 +136,4 @@ fn check_load(
         return Err(LoadError::Zeros);
     }
     Ok(up(page, address + size))
-}
-
-// The end of the last load of a file, if there is one, or the first reason why a load can't be
-// mapped.
-#[tactic(auto, using(crate::proofs::LoadChecks::checked_load, crate::proofs::LoadChecks::refused_load, crate::proofs::LoadChecks::checked_end))]
-pub(crate) fn check_loads(
-    page: u64,
-    limit: u64,
-    file: &ElfFile<'_>,
-) -> Result<Option<u64>, LoadError>
-    requires { 0 < page }
-    ensures { result ≡ check_loads page limit (length file.now.input.now) None
-        (loads_of file.now) }
-{
-    let len = file.input.len() as u64;
-    let mut before = None;
-    for load in loads_of(file) {
-        match check_load(page, limit, len, before, &load) {
-            Ok(end) => before = Some(end),
-            Err(error) => return Err(error),
-        }
-    }
-    Ok(before)
 }

@@ -1,17 +1,18 @@
 //! The mappings of a file, in the order of their addresses.
 
-ghost use Rattle.std.specs.Prelude.{◌≡◌, ◌<◌, true};
+ghost use Rattle.std.specs.Prelude.{◌≡◌, ◌∷◌, ◌<◌, [], MatchOption, drop, true};
 ghost use Rattle.std.specs.List.{list_all};
 ghost use Rattle.elf_loading.specs.LoadCheck.{fits_below};
 ghost use Rattle.std.specs.Iterator.{YieldsFirst};
 ghost use Rattle.elf_loading.specs.Segments.{loads_from};
+ghost use Rattle.xmas_elf.specs.ProgramTable.{table_program_headers};
 
 use crate::load_check::load_end;
 use crate::mapping::{Loader, Mapping, Parts};
 use crate::plan::LoadPlan;
-use crate::segments::Loads;
+use crate::segments::{fields, is_load};
 use xmas_elf::ElfFile;
-use xmas_elf::program::{ProgramHeader64, ProgramIter};
+use xmas_elf::program::{ProgramHeader, ProgramHeader64, ProgramTable};
 
 /// An iterator over the mappings of a file, in the order of their addresses.
 #[derive(Debug, Drop)]
@@ -21,7 +22,7 @@ pub struct Mappings<'a> {
     pub(crate) limit: u64,
     pub(crate) by: Loader,
     // The index of the next program header.
-    pub(crate) next_index: u32,
+    pub(crate) next_index: usize,
     // The end of the load before it.
     pub(crate) before: Option<u64>,
     pub(crate) parts: Parts,
@@ -64,19 +65,35 @@ impl<'a> LoadPlan<'a> {
     }
 }
 
-// The first load from a program header on, and the index of the program header after it.
+// The program header at an index, and the next index.
 #[inline(always)]
-fn load_from(file: &ElfFile<'_>, index: u32) -> (Option<ProgramHeader64>, u32)
+fn step(table: &ProgramTable<'_, '_>, index: usize) -> Option<(ProgramHeader, usize)>
+    ensures { MatchOption result (drop index (table_program_headers table.now) ≡ [])
+        (λ step. drop index (table_program_headers table.now)
+        ≡ step.0 ∷ drop step.1 (table_program_headers table.now)) }
+{
+    let program = table.get(index)?;
+    // This tells the proof that the sum is a number of 64 bits.
+    prove!(index < table.len());
+    Some((program, index + 1))
+}
+
+// The first load from a program header on, and the index of the program header after it.
+#[tactic(auto, using(crate::proofs::Lists::load_kept, crate::proofs::Lists::load_skipped, crate::proofs::Lists::load_end))]
+#[inline(always)]
+fn load_from(file: &ElfFile<'_>, index: usize) -> (Option<ProgramHeader64>, usize)
     ensures { YieldsFirst (loads_from file.now) index result.0 result.1 }
 {
-    let mut loads = Loads {
-        programs: ProgramIter {
-            file,
-            next_index: index,
-        },
-    };
-    let load = loads.step();
-    (load, loads.programs.next_index)
+    let table = file.program_table();
+    let mut next_index = index;
+    while let Some((program, next)) = step(&table, next_index) {
+        next_index = next;
+        let segment = fields(&program);
+        if is_load(&segment) {
+            return (Some(segment), next_index);
+        }
+    }
+    (None, next_index)
 }
 
 impl Iterator for Mappings<'_> {
@@ -89,6 +106,7 @@ impl Iterator for Mappings<'_> {
 
     ghost remaining = { item_count mappings_left };
 
+    #[inline(always)]
     #[tactic(auto, using(crate::proofs::Lists::fits_first, crate::proofs::Lists::fits_rest, crate::proofs::PartsLeft::parts_none, crate::proofs::PartsLeft::parts_first, crate::proofs::PartsLeft::parts_load, crate::proofs::PartsLeft::no_loads))]
     fn next(&mut self) -> Option<Mapping> {
         let mut parts = self.parts;

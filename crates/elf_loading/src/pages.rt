@@ -1,7 +1,22 @@
 //! Addresses and pages (gABI, "Program Loading").
 
-ghost use Rattle.std.specs.Prelude.{◌≡◌, ◌+◌, ◌<◌, ◌≤◌, ◌^◌, false, nat_lt};
+ghost use Rattle.std.specs.Prelude.{◌≡◌, ◌+◌, ◌%◌, ◌<◌, ◌≤◌, ◌^◌, false, nat_lt};
 ghost use Rattle.elf_loading.specs.Pages.{down, up};
+
+// The place of an address in its page. The usual size has a case of its own: a remainder by a constant
+// takes no division.
+#[inline(always)]
+pub(crate) fn inside(page: u64, address: u64) -> u64
+    requires { 0 < page }
+    ensures value { result ≡ address % page }
+    ensures bound { result ≤ address }
+    ensures near { result < page }
+{
+    if page == 4096 {
+        return address % 4096;
+    }
+    address % page
+}
 
 // The last address up to `address` at which a page begins.
 #[tactic(auto, unfolding(crate::specs::Pages::down))]
@@ -10,8 +25,7 @@ pub(crate) fn down(page: u64, address: u64) -> u64
     requires { 0 < page }
     ensures { result ≡ down page address }
 {
-    let inside = address % page;
-    address - inside
+    address - inside(page, address)
 }
 
 // The first address from `address` on at which a page begins.
@@ -22,10 +36,11 @@ pub(crate) fn up(page: u64, address: u64) -> u64
     requires fits { up page address < 2 ^ 64 }
     ensures { result ≡ up page address }
 {
-    if address % page == 0 {
+    let inside = inside(page, address);
+    if inside == 0 {
         return address;
     }
-    address - address % page + page
+    address - inside + page
 }
 
 // Whether the pages of `size` bytes from `address` on extend past a limit.
@@ -51,12 +66,12 @@ pub(crate) fn end_down(page: u64, start: u64, size: u64) -> u128
     requires { 0 < page }
     ensures { result ≡ down page (start + size) }
 {
-    let inside = start % page;
-    let left = page - size % page;
-    let over = if inside < left {
-        inside + size % page
+    let (first, last) = (inside(page, start), inside(page, size));
+    let left = page - last;
+    let over = if first < left {
+        first + last
     } else {
-        inside - left
+        first - left
     };
     u128::from(start) + u128::from(size) - u128::from(over)
 }

@@ -2,17 +2,18 @@
 
 ghost use Rattle.std.specs.Prelude.{◌<◌, ◌≡◌, true};
 ghost use Rattle.elf_loading.specs.FileCheck.{check_file};
+ghost use Rattle.elf_loading.specs.Others.{AreOthersOf};
 ghost use Rattle.elf_loading.specs.Segments.{loads_of};
 ghost use Rattle.elf_loading.specs.Spans.{ends_at, first_start};
 
 use crate::LoadError;
-use crate::file_check::{check_file, first_start};
+use crate::file_check::check_file;
 use crate::pages::{down, end_down};
-use crate::segments::{first_interpreter, last_relro, last_stack, last_tls};
+use crate::segments::{Others, others_of};
 use crate::span::Span;
 use xmas_elf::ElfFile;
 use xmas_elf::bytes::bytes_up_to_zero;
-use xmas_elf::program::Flags;
+use xmas_elf::program::{Flags, ProgramHeader64};
 
 /// What a loader puts into memory for a file that Linux and glibc load.
 ///
@@ -26,9 +27,11 @@ pub struct LoadPlan<'a> {
     pub(crate) limit: u64,
     pub(crate) start: u64,
     pub(crate) end: u64,
+    pub(crate) others: Others,
     ghost paged: { 0 < page },
     ghost checked: { ends_at (check_file file page limit) end ≡ true },
     ghost begins: { first_start page (loads_of file) ≡ start },
+    ghost found: { AreOthersOf file others },
 }
 
 /// The template of thread-local storage (gABI, "Thread-Local Storage").
@@ -70,8 +73,9 @@ impl<'a> LoadPlan<'a> {
         ensures relro { IfErr result (λ error. error ≡ Relro → MatchOption (relro_of file.now) ⊥
             (λ relro. HasUncovered page (loads_of file.now) (relro_span page relro))) }
     {
-        let end = check_file(page, limit, file)?;
-        let start = first_start(page, file);
+        let table = file.program_table();
+        let others = others_of(table);
+        let span = check_file(page, limit, file, table, &others)?;
         Ok(LoadPlan {
             file: ElfFile {
                 input: file.input,
@@ -79,8 +83,9 @@ impl<'a> LoadPlan<'a> {
             },
             page,
             limit,
-            start,
-            end,
+            start: span.start,
+            end: span.end,
+            others,
         })
     }
 
@@ -103,6 +108,38 @@ impl<'a> LoadPlan<'a> {
         self.file.header.pt2.entry_point()
     }
 
+    // The last PT_GNU_RELRO.
+    #[inline(always)]
+    fn last_relro(&self) -> Option<ProgramHeader64>
+        ensures { result ≡ relro_of self.now.file }
+    {
+        self.others.relro
+    }
+
+    // The last PT_GNU_STACK.
+    #[inline(always)]
+    fn last_stack(&self) -> Option<ProgramHeader64>
+        ensures { result ≡ stack_of self.now.file }
+    {
+        self.others.stack
+    }
+
+    // The last PT_TLS that is not empty.
+    #[inline(always)]
+    fn last_tls(&self) -> Option<ProgramHeader64>
+        ensures { result ≡ tls_of self.now.file }
+    {
+        self.others.tls
+    }
+
+    // The first PT_INTERP.
+    #[inline(always)]
+    fn first_interpreter(&self) -> Option<ProgramHeader64>
+        ensures { result ≡ interpreter_of self.now.file }
+    {
+        self.others.interpreter
+    }
+
     /// The pages that are only readable after relocation: of the last PT_GNU_RELRO, both ends
     /// rounded down to pages. The bytes after the last whole page stay writable.
     #[tactic(auto, using(crate::proofs::FileChecks::passes_relro_fits))]
@@ -112,7 +149,7 @@ impl<'a> LoadPlan<'a> {
     {
         // This tells the proof that the limit is a number of 64 bits.
         let _limit = self.limit;
-        let relro = last_relro(&self.file)?;
+        let relro = self.last_relro()?;
         Some(Span {
             start: down(self.page, relro.virtual_addr),
             end: end_down(self.page, relro.virtual_addr, relro.mem_size) as u64,
@@ -128,7 +165,7 @@ impl<'a> LoadPlan<'a> {
           align = tls.align;
         }) (tls_of self.now.file) }
     {
-        let tls = last_tls(&self.file)?;
+        let tls = self.last_tls()?;
         Some(Tls {
             address: tls.virtual_addr,
             file_size: tls.file_size,
@@ -144,14 +181,14 @@ impl<'a> LoadPlan<'a> {
     pub fn stack(&self) -> Option<Flags>
         ensures { result ≡ option_map (λ stack. stack.flags) (stack_of self.now.file) }
     {
-        last_stack(&self.file).map(|stack| stack.flags)
+        self.last_stack().map(|stack| stack.flags)
     }
 
     /// The offset in the file of the path of the program interpreter: that of the first PT_INTERP.
     pub fn interpreter_offset(&self) -> Option<u64>
         ensures { result ≡ option_map (λ segment. segment.offset) (interpreter_of self.now.file) }
     {
-        first_interpreter(&self.file).map(|segment| segment.offset)
+        self.first_interpreter().map(|segment| segment.offset)
     }
 
     /// The path of the program interpreter, which lives as long as the input: the bytes of the first
@@ -163,7 +200,7 @@ impl<'a> LoadPlan<'a> {
             (λ segment. EndsInZero self.now.file.input.now segment.offset path.now
             × LiesAt self.now.file.input segment.offset path)) }
     {
-        let segment = first_interpreter(&self.file)?;
+        let segment = self.first_interpreter()?;
         match bytes_up_to_zero(self.file.input, segment.offset as usize) {
             Ok(path) => Some(path),
             Err(_) => unreachable!(),

@@ -3,12 +3,14 @@
 ghost use Rattle.std.specs.Prelude.{◌≡◌};
 ghost use Rattle.std.specs.Iterator.{YieldsFirst, item_count};
 ghost use Rattle.elf_loading.specs.Loads.{loads_rest};
-ghost use Rattle.elf_loading.specs.Segments.{interpreter_of, is_load, is_of_type, last_of};
-ghost use Rattle.elf_loading.specs.Segments.{loads_of};
+ghost use Rattle.elf_loading.specs.Others.{AreOthersOf, first_with, last_with, others_with};
+ghost use Rattle.elf_loading.specs.Segments.{is_load, is_of_type, loads_of};
 ghost use Rattle.xmas_elf.specs.ProgramHeader.{program_fields};
+ghost use Rattle.xmas_elf.specs.ProgramTable.{program_table_file};
 
-use xmas_elf::ElfFile;
-use xmas_elf::program::{ProgramHeader, ProgramHeader64, ProgramIter, TYPE_GNU_RELRO};
+use xmas_elf::program::{
+    ProgramHeader, ProgramHeader64, ProgramTable, ProgramTableIter, TYPE_GNU_RELRO,
+};
 
 const PT_LOAD: u32 = 1;
 
@@ -43,7 +45,7 @@ pub(crate) fn fields(program: &ProgramHeader) -> ProgramHeader64
 
 // Whether a segment is loaded.
 #[inline(always)]
-fn is_load(segment: &ProgramHeader64) -> bool
+pub(crate) fn is_load(segment: &ProgramHeader64) -> bool
     ensures { result ≡ is_load segment.now }
 {
     segment.type_.raw() == PT_LOAD
@@ -57,78 +59,88 @@ fn is_of_type(kind: u32, size: u64, segment: &ProgramHeader64) -> bool
     segment.type_.raw() == kind && segment.mem_size >= size
 }
 
-// The last segment of a type with at least `size` bytes in memory.
-#[tactic(auto, using(crate::proofs::Lists::last_kept, crate::proofs::Lists::last_skipped, crate::proofs::Lists::last_end))]
+// The segments other than loads that a loader asks for.
+#[derive(Clone, Copy, Debug)]
+pub(crate) struct Others {
+    // The last PT_PHDR.
+    pub(crate) phdr: Option<ProgramHeader64>,
+    // The last PT_GNU_RELRO.
+    pub(crate) relro: Option<ProgramHeader64>,
+    // The last PT_GNU_STACK.
+    pub(crate) stack: Option<ProgramHeader64>,
+    // The last PT_TLS that is not empty.
+    pub(crate) tls: Option<ProgramHeader64>,
+    // The first PT_INTERP.
+    pub(crate) interpreter: Option<ProgramHeader64>,
+}
+
+// Keeps a segment as the last of a type with at least `size` bytes in memory, if it is one.
 #[inline(always)]
-fn last_of(kind: u32, size: u64, file: &ElfFile<'_>) -> Option<ProgramHeader64>
-    ensures { result ≡ last_of kind size file.now }
+fn keep_last(kind: u32, size: u64, segment: &ProgramHeader64, last: &mut Option<ProgramHeader64>)
+    ensures { last.new ≡ last_with kind size last.old segment.now }
 {
-    let mut last = None;
-    for program in file.program_iter() {
-        let segment = fields(&program);
-        if is_of_type(kind, size, &segment) {
-            last = Some(segment);
-        }
+    if is_of_type(kind, size, segment) {
+        *last = Some(*segment);
     }
-    last
 }
 
-// The last PT_PHDR.
-pub(crate) fn last_phdr(file: &ElfFile<'_>) -> Option<ProgramHeader64>
-    ensures { result ≡ last_of 6 0 file.now }
-{
-    last_of(PT_PHDR, 0, file)
-}
-
-// The last PT_GNU_RELRO.
-pub(crate) fn last_relro(file: &ElfFile<'_>) -> Option<ProgramHeader64>
-    ensures { result ≡ last_of 0x6474e552 0 file.now }
-{
-    last_of(TYPE_GNU_RELRO, 0, file)
-}
-
-// The last PT_GNU_STACK.
-pub(crate) fn last_stack(file: &ElfFile<'_>) -> Option<ProgramHeader64>
-    ensures { result ≡ last_of 0x6474e551 0 file.now }
-{
-    last_of(PT_GNU_STACK, 0, file)
-}
-
-// The last PT_TLS that is not empty.
-pub(crate) fn last_tls(file: &ElfFile<'_>) -> Option<ProgramHeader64>
-    ensures { result ≡ last_of 7 1 file.now }
-{
-    last_of(PT_TLS, 1, file)
-}
-
-// The first PT_INTERP.
-#[tactic(auto, using(crate::proofs::Lists::found_kept, crate::proofs::Lists::found_skipped, crate::proofs::Lists::found_end))]
+// Keeps a segment as the first of a type, if it is that.
 #[inline(always)]
-pub(crate) fn first_interpreter(file: &ElfFile<'_>) -> Option<ProgramHeader64>
-    ensures { result ≡ interpreter_of file.now }
+fn keep_first(kind: u32, segment: &ProgramHeader64, first: &mut Option<ProgramHeader64>)
+    ensures { first.new ≡ first_with kind first.old segment.now }
 {
-    for program in file.program_iter() {
-        let segment = fields(&program);
-        if is_of_type(PT_INTERP, 0, &segment) {
-            return Some(segment);
-        }
+    if first.is_none() && is_of_type(kind, 0, segment) {
+        *first = Some(*segment);
     }
-    None
+}
+
+impl Others {
+    // Keeps what a loader asks for of the next segment.
+    #[inline(always)]
+    fn keep(&mut self, program: &ProgramHeader)
+        ensures { self.new ≡ others_with self.old (program_fields program.now) }
+    {
+        let segment = fields(program);
+        keep_last(PT_PHDR, 0, &segment, &mut self.phdr);
+        keep_last(TYPE_GNU_RELRO, 0, &segment, &mut self.relro);
+        keep_last(PT_GNU_STACK, 0, &segment, &mut self.stack);
+        keep_last(PT_TLS, 1, &segment, &mut self.tls);
+        keep_first(PT_INTERP, &segment, &mut self.interpreter);
+    }
+}
+
+// The segments other than loads of a file, in one pass over its program headers.
+#[tactic(auto, using(crate::proofs::Others::all_left, crate::proofs::Others::rest_left, crate::proofs::Others::none_left))]
+#[inline(always)]
+pub(crate) fn others_of(table: ProgramTable<'_, '_>) -> Others
+    ensures { AreOthersOf (program_table_file table.entry) result }
+{
+    let mut others = Others {
+        phdr: None,
+        relro: None,
+        stack: None,
+        tls: None,
+        interpreter: None,
+    };
+    for program in table.iter() {
+        others.keep(&program);
+    }
+    others
 }
 
 // The loads of a file, in the order of its program headers.
 #[derive(Drop)]
 pub(crate) struct Loads<'b, 'a> {
-    pub(crate) programs: ProgramIter<'b, 'a>,
+    pub(crate) programs: ProgramTableIter<'b, 'a>,
 }
 
-// All loads of a file.
+// All loads of a file, by its program headers.
 #[inline(always)]
-pub(crate) fn loads_of<'b, 'a>(file: &'b ElfFile<'a>) -> Loads<'b, 'a>
-    ensures { loads_rest result ≡ loads_of file.now }
+pub(crate) fn loads_of<'b, 'a>(table: ProgramTable<'b, 'a>) -> Loads<'b, 'a>
+    ensures { loads_rest result ≡ loads_of (program_table_file table.entry) }
 {
     Loads {
-        programs: file.program_iter(),
+        programs: table.iter(),
     }
 }
 
@@ -137,8 +149,7 @@ impl Loads<'_, '_> {
     #[tactic(auto, using(crate::proofs::Lists::load_kept, crate::proofs::Lists::load_skipped, crate::proofs::Lists::load_end))]
     #[inline(always)]
     pub(crate) fn step(&mut self) -> Option<ProgramHeader64>
-        ensures load { YieldsFirst loads_rest self.old result self.new }
-        ensures file { self.new.programs.file ≡ self.old.programs.file }
+        ensures { YieldsFirst loads_rest self.old result self.new }
     {
         while let Some(program) = self.programs.next() {
             let segment = fields(&program);

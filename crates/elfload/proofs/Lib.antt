@@ -1,3 +1,4 @@
 mod Inputs
 mod MappingLines
 mod Written
+mod Loaded

@@ -5,7 +5,8 @@
 //! is the size of a page, 4096 without it.
 #![tactic(auto)]
 
-ghost use Rattle.std.specs.Prelude.{◌≡◌, ◌<◌, ◌≤◌, IfErr, IfOk, IfSome, Result};
+ghost use Rattle.std.specs.Int.{is_power_of_two};
+ghost use Rattle.std.specs.Prelude.{◌≡◌, ◌<◌, ◌≤◌, IfErr, IfOk, IfSome, Result, true};
 ghost use Rattle.elfload.specs.Ends.{IsBegun, IsEnd, IsFault, OfFile, fault_of, status_of};
 ghost use Rattle.elfload.specs.Plans.{IsInputLoaded, IsInputPlan, IsInputRefused};
 ghost use Rattle.elfload.specs.declared.Fault.{Fault};
@@ -50,9 +51,11 @@ enum Fault<'a> {
 /// and returns the exit status.
 ///
 /// `file` is `None` where the path does not open. The status is 0 once all is written and flushed,
-/// and 1 otherwise. The contract says which fault there can be then: the reason why the file has no
-/// plan; a write that failed, if it has one; that the file can't be read; or that memory is short. It
-/// says nothing of what `out` and `err` hold.
+/// and 1 otherwise. By the contract it is 0 only for a file that Linux and glibc would load. The
+/// contract says which fault there can be otherwise: the reason why the file has no plan; a write
+/// that failed, if it has one; that the file can't be read; or that memory is short. It says nothing
+/// of what `out` and `err` hold.
+#[tactic(auto, using(crate::proofs::Loaded::ended_loaded))]
 pub fn run<R: Read + Drop, W: Write, E: Write>(
     alloc: Global,
     page: u64,
@@ -63,6 +66,7 @@ pub fn run<R: Read + Drop, W: Write, E: Write>(
 ) -> u8
     requires { 0 < page }
     ensures bound { result ≤ 1 }
+    ensures loaded { result ≡ 0 → OfFile R.remaining file (IsInputLoaded page) }
     ensures ends { (end : Result (Unit {0}) Fault)
         × IsEnd page path.entry R.remaining file end × (result ≡ status_of end) }
 {
@@ -173,7 +177,8 @@ fn run_on_paths<S: AsStr>(rt: &HostRuntime, page: u64, paths: &[S]) -> u8
 
 // The size of a page and the files that the arguments ask for, if they are as they should be.
 fn asked<S: AsStr>(arguments: &[S]) -> Option<(u64, &[S])>
-    ensures { IfSome result (λ asked. 0 < asked.0) }
+    ensures above { IfSome result (λ asked. 0 < asked.0) }
+    ensures power { IfSome result (λ asked. is_power_of_two asked.0 ≡ true) }
 {
     let (first, others) = arguments.split_first()?;
     if first.as_str() != "--page" {

@@ -1,0 +1,166 @@
+//! One pass over the load segments: their checks, and what the checks of the other segments ask of them.
+
+ghost use Rattle.std.specs.Prelude.{◌≡◌, ◌<◌, Err, IfOk, MatchResult, None, Ok};
+ghost use Rattle.elf_loading.specs.FileCheck.{holds_offset, holds_template};
+ghost use Rattle.elf_loading.specs.LoadCheck.{check_loads, load_end};
+ghost use Rattle.elf_loading.specs.LoadPass.{IsPassOf, covered_with, first_of, holds_some};
+ghost use Rattle.elf_loading.specs.LoadPass.{pass_with, wanted_of};
+ghost use Rattle.elf_loading.specs.Segments.{loads_of};
+ghost use Rattle.xmas_elf.specs.ProgramTable.{program_table_file};
+
+use crate::LoadError;
+use crate::load_check::check_load;
+use crate::pages::down;
+use crate::segments::{Others, loads_of};
+use xmas_elf::ElfFile;
+use xmas_elf::program::{ProgramHeader64, ProgramTable};
+
+// What the checks of the other segments ask of the loads.
+#[derive(Clone, Copy, Debug)]
+pub(crate) struct Wanted {
+    // The offset of the program header table.
+    pub(crate) offset: u64,
+    // The first page of what is read-only after relocation.
+    pub(crate) first: u64,
+    // The template of thread-local storage.
+    pub(crate) tls: Option<ProgramHeader64>,
+}
+
+impl Wanted {
+    // What is asked for a file with these segments.
+    #[inline(always)]
+    pub(crate) fn of(page: u64, file: &ElfFile<'_>, others: &Others) -> Wanted
+        requires { 0 < page }
+        ensures { result ≡ wanted_of page file.now others.now }
+    {
+        Wanted {
+            offset: file.header.pt2.ph_offset(),
+            first: first_of(page, others.relro),
+            tls: others.tls,
+        }
+    }
+}
+
+// What a pass has found.
+#[derive(Clone, Copy, Debug)]
+pub(crate) struct Pass {
+    // The start of the pages of the first load, or 0 if there is none.
+    pub(crate) start: u64,
+    // The end of the last load.
+    pub(crate) end: Option<u64>,
+    // The last load with the first byte of the program header table.
+    pub(crate) holder: Option<ProgramHeader64>,
+    // The first page, of those from the start of what is read-only after relocation on, that is in no
+    // load.
+    pub(crate) covered: u64,
+    // Whether the bytes of the template are in the memory of one load.
+    pub(crate) is_held: bool,
+}
+
+// The first page of what is read-only after relocation, or 0 if there is none.
+#[inline(always)]
+fn first_of(page: u64, relro: Option<ProgramHeader64>) -> u64
+    requires { 0 < page }
+    ensures { result ≡ first_of page relro }
+{
+    match relro {
+        Some(relro) => down(page, relro.virtual_addr),
+        None => 0,
+    }
+}
+
+// Whether the bytes that a load has in the file contain the byte at an offset.
+#[inline(always)]
+fn holds_offset(offset: u64, load: &ProgramHeader64) -> bool
+    ensures { result ≡ holds_offset offset load.now }
+{
+    load.offset <= offset && offset - load.offset < load.file_size
+}
+
+// Whether the bytes of a template are in the memory of a load.
+#[inline(always)]
+fn holds_template(tls: &ProgramHeader64, load: &ProgramHeader64) -> bool
+    ensures { result ≡ holds_template tls.now load.now }
+{
+    let end = u128::from(tls.virtual_addr) + u128::from(tls.file_size);
+    load.virtual_addr <= tls.virtual_addr
+        && end <= u128::from(load.virtual_addr) + u128::from(load.mem_size)
+}
+
+// Whether the bytes of a template, if there is one, are in the memory of a load.
+#[inline(always)]
+fn holds_some(tls: &Option<ProgramHeader64>, load: &ProgramHeader64) -> bool
+    ensures { result ≡ holds_some tls.now load.now }
+{
+    match tls {
+        Some(tls) => holds_template(tls, load),
+        None => false,
+    }
+}
+
+// The first page that is in no load, once a load follows, which ends at `end`.
+#[inline(always)]
+fn covered_with(page: u64, end: u64, covered: u64, load: &ProgramHeader64) -> u64
+    requires page { 0 < page }
+    requires end { end ≡ load_end page load.now }
+    ensures { result ≡ covered_with page covered load.now }
+{
+    if down(page, load.virtual_addr) <= covered && covered < end {
+        return end;
+    }
+    covered
+}
+
+impl Pass {
+    // Keeps what is asked of the next load, which ends at `end`.
+    #[inline(always)]
+    fn keep(&mut self, page: u64, end: u64, wanted: &Wanted, load: &ProgramHeader64)
+        requires page { 0 < page }
+        requires end { end ≡ load_end page load.now }
+        ensures { self.new ≡ pass_with page wanted.now self.old load.now }
+    {
+        if self.end.is_none() {
+            self.start = down(page, load.virtual_addr);
+        }
+        self.end = Some(end);
+        if holds_offset(wanted.offset, load) {
+            self.holder = Some(*load);
+        }
+        self.covered = covered_with(page, end, self.covered, load);
+        self.is_held = self.is_held || holds_some(&wanted.tls, load);
+    }
+}
+
+// What a pass over the loads of a file with `len` bytes finds, or the first reason why a load can't be
+// mapped.
+#[tactic(auto, using(crate::proofs::LoadPasses::all_passed, crate::proofs::LoadPasses::rest_passed, crate::proofs::LoadPasses::none_passed))]
+#[inline(always)]
+pub(crate) fn pass_loads(
+    page: u64,
+    limit: u64,
+    wanted: &Wanted,
+    len: u64,
+    table: ProgramTable<'_, '_>,
+) -> Result<Pass, LoadError>
+    requires { 0 < page }
+    ensures checked { let loads = loads_of (program_table_file table.entry) in MatchResult result
+        (λ pass. check_loads page limit len None loads ≡ Ok pass.end)
+        (λ error. check_loads page limit len None loads ≡ Err error) }
+    ensures found { IfOk result
+        (IsPassOf page wanted.now (loads_of (program_table_file table.entry))) }
+{
+    let mut pass = Pass {
+        start: 0,
+        end: None,
+        holder: None,
+        covered: wanted.first,
+        is_held: false,
+    };
+    for load in loads_of(table) {
+        match check_load(page, limit, len, pass.end, &load) {
+            Ok(end) => pass.keep(page, end, wanted, &load),
+            Err(error) => return Err(error),
+        }
+    }
+    Ok(pass)
+}
