@@ -1,6 +1,5 @@
-pub mod Bounds
 pub mod Ends
 pub mod Steps
 pub mod Objects
-pub mod ReferenceTexts
+pub mod Items
 pub mod Stops

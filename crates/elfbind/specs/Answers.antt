@@ -2,7 +2,7 @@
 use Rattle.std.specs.Prelude.{◌≡◌, ℕ, Bool, true, false, cond, List, Result, Ok, Err, ⊤}
 use Rattle.elf_linking.specs.Scope.{AreGood}
 use Rattle.elf_linking.specs.declared.object.DynamicObject.{DynamicObject}
-use Rattle.elfbind.specs.Bindings.{AreBindingsBegun, AreBindingsRefused, IsObjectText}
+use Rattle.elfbind.specs.Bindings.{AreBindingsBegun, AreBindingsRefused, AreBindingsWritten}
 use Rattle.elfbind.specs.Checks.{IsCheckLine, IsCheckRefused}
 use Rattle.elfbind.specs.Files.{AreObjectsOf, AreWritten, IsInputRefused, is_first_narrow}
 use Rattle.elfbind.specs.declared.Fault as faults
@@ -18,11 +18,11 @@ use Rattle.program_ends.specs.declared.Stop.TheVariants as stops_are
 use Rattle.xmas_elf.specs.Symbol.{SymbolFields, dyn_entry_32_fields, dyn_entry_64_fields}
 use Rattle.xmas_elf.specs.Types.{DynEntry32, DynEntry64}
 
--- what is written of objects: the texts of their references, if the checks of all pass; or the lines of their
+-- what is written of objects: the lines of their bindings, if the checks of all pass; or the lines of their
 -- checks. What is wrong is that a reference is missing its symbol, or that a check fails.
 pub data IsAnswer {E : Type 0} {r : _} (fields : E → SymbolFields) (inputs : List Input) (objects : List (DynamicObject E r)) (question : questions.Question) (wrong : Bool) (text : List ℕ) : Type 0 where
   bindings : question ≡ Bindings → AreGood fields objects
-      → AreWritten (IsObjectText fields inputs objects) objects wrong text
+      → AreBindingsWritten fields inputs objects wrong text
       → IsAnswer fields inputs objects question wrong text
   checks : question ≡ Checks → AreWritten (IsCheckLine fields inputs) objects wrong text
       → IsAnswer fields inputs objects question wrong text

@@ -1,26 +1,23 @@
 -- What the program writes of the references of some files (this project's own): a line for each that is looked up,
 -- with the file in which its symbol is found, and the symbol's value.
-use Rattle.std.specs.Prelude.{◌≡◌, ℕ, ◌++◌, ◌/◌, ◌==◌, not, Bool, false, List, [], ◌∷◌, Option, Some, None, Ok, Err, codes, slice_get, take, IsSomeAnd}
+use Rattle.std.specs.Prelude.{◌≡◌, ℕ, ◌++◌, ◌/◌, ◌==◌, not, Bool, false, List, [], ◌∷◌, Option, Some, None, option_and_then, option_map, Result, Ok, Err, codes, slice_get, IsErrAnd, IsOk}
 use Rattle.std.specs.Borrow.{Bor}
 use Rattle.std.specs.Fmt.{digits}
 use Rattle.elf_base.specs.Table.{table_items}
-use Rattle.elf_linking.specs.DynamicObject.{object_file, object_records, object_view}
-use Rattle.elf_linking.specs.DynamicView.{view_entries}
-use Rattle.elf_linking.specs.References.{references_of}
-use Rattle.elf_linking.specs.Scope.{AnswersAsked, AnswersRight, IsBound, asked_of, asked_parts}
+use Rattle.elf_linking.specs.Bindings.{IsItemOf, reference_of_item, references_from}
+use Rattle.elf_linking.specs.DynamicObject.{object_records}
 use Rattle.elf_linking.specs.declared.error.LinkError.{LinkError}
-use Rattle.elf_linking.specs.declared.find.Use as uses
 use Rattle.elf_linking.specs.declared.find.Wanted.{Wanted}
 use Rattle.elf_linking.specs.declared.find.Wanted.TheVariants.{Newest, Unversioned, Version}
 use Rattle.elf_linking.specs.declared.object.DynamicObject.{DynamicObject}
 use Rattle.elf_linking.specs.declared.references.Reference.{Reference}
 use Rattle.elf_linking.specs.declared.scope.Bound.{Bound}
+use Rattle.elf_linking.specs.declared.scope.asking.Asked.{Asked}
 use Rattle.elf_linking.specs.declared.scope.asking.Asked.TheVariants.{Look, Own}
+use Rattle.elf_linking.specs.declared.scope.bindings.Binding.{Binding}
 use Rattle.elfbind.specs.Files.{AreWritten, IsOfInput}
 use Rattle.elfbind.specs.declared.files.Input.{Input}
 use Rattle.elfbind.specs.declared.files.Refused.{Refused}
-use Rattle.program_ends.specs.declared.Stop as stops
-use Rattle.program_ends.specs.declared.Stop.TheVariants as stops_are
 use Rattle.xmas_elf.specs.Symbol.{SymbolFields}
 
 -- The text of a line.
@@ -41,19 +38,23 @@ abbrev pub line_text : List ℕ → List ℕ → Wanted → Option (Bor (List �
 line_text file name wanted target =
     file ++ (codes " " ++ (name ++ (version_text wanted ++ (codes " -> " ++ (target_text target ++ codes "\n")))))
 
--- What a reference gets.
+-- The line of an item of `Scope::bindings`.
+
+-- the path of the file at an index
+abbrev pub path_in : Option Input → List ℕ
+path_in None = []
+path_in (Some input) = input.path.now
 
 -- the path of the file that has the symbol, and the symbol's value
-abbrev pub IsTarget : {E : Type 0} → (E → SymbolFields) → List Input → Option (Bound E) → Option (Bor (List ℕ) × ℕ) → Type 0
-IsTarget fields inputs None target = target ≡ None
-IsTarget fields inputs (Some bound) target = IsSomeAnd (slice_get inputs bound.object)
-    (λ input. target ≡ Some (input.path, (fields bound.symbol).value))
+abbrev pub target_of : {E : Type 0} → (E → SymbolFields) → List Input → Option (Bound E) → Option (Bor (List ℕ) × ℕ)
+target_of fields inputs None = None
+target_of fields inputs (Some bound) =
+    option_map (λ input. (input.path, (fields bound.symbol).value)) (slice_get inputs bound.object)
 
--- the line of a look-up for the file at an index, by what it gets
-abbrev pub IsLineBy : {E : Type 0} → (E → SymbolFields) → List Input → ℕ → List ℕ → Wanted → Option (Bound E) → List ℕ → Type 0
-IsLineBy fields inputs from name wanted bound line = IsSomeAnd (slice_get inputs from) (λ input.
-    (target : Option (Bor (List ℕ) × ℕ)) × IsTarget fields inputs bound target
-    × (line ≡ line_text input.path.now name wanted target))
+-- the symbol at an index of the object at index `from`
+abbrev pub symbol_of : {E : Type 0} → {r : _} → List (DynamicObject E r) → ℕ → ℕ → Option E
+symbol_of objects from index =
+    option_and_then (λ object. slice_get (table_items (object_records object)) index) (slice_get objects from)
 
 -- the binding of a symbol is weak (gABI, STB_WEAK), so that a reference to it may be left unresolved
 abbrev pub is_weak : {E : Type 0} → (E → SymbolFields) → Option E → Bool
@@ -65,91 +66,60 @@ abbrev pub is_missing : {E : Type 0} → (E → SymbolFields) → Option E → O
 is_missing fields symbol None = not (is_weak fields symbol)
 is_missing fields symbol (Some bound) = false
 
--- the line of a reference of the object at an index, and whether it is missing its symbol. What the reference gets
--- is that of the first object that gives a symbol, or its own protected symbol, by the hash tables and by the lists of
--- symbols alone.
-pub record IsLine {E : Type 0} {r : _} (fields : E → SymbolFields) (inputs : List Input) (objects : List (DynamicObject E r)) (from : ℕ) (asking : DynamicObject E r) (reference : Reference) (missing : Bool) (line : List ℕ) : Type 0 where
-  pub name : Bor (List ℕ)
-  pub wanted : Wanted
-  pub purpose : uses.Use
-  pub protected : Option E
-  pub asked : asked_of fields asking reference ≡ Ok (asked_parts (Look name wanted purpose protected))
-  pub bound : Option (Bound E)
-  pub answer : AnswersAsked (IsBound fields objects from) from reference.symbol (Look name wanted purpose protected) (Ok bound)
-  pub right : AnswersRight fields objects from reference.symbol (Look name wanted purpose protected) (Ok bound)
-  pub line_is : IsLineBy fields inputs from name.now wanted bound line
-  pub missing_is : missing ≡ is_missing fields (slice_get (table_items (object_records asking)) reference.symbol) bound
+-- what is written of a reference of the object at index `from` to a symbol, by what it gets and what it asks for, and
+-- whether it is missing its symbol: nothing if it gets the symbol that it names without a look-up; or the index of the
+-- object and the error
+abbrev pub line_by : {E : Type 0} → (E → SymbolFields) → List Input → ℕ → Option E → Result (Option (Bound E)) LinkError → Result (Asked E) LinkError → Result (Bool × List ℕ) (ℕ × LinkError)
+line_by fields inputs from symbol (Err error) asked = Err (from, error)
+line_by fields inputs from symbol (Ok bound) (Err error) = Err (from, error)
+line_by fields inputs from symbol (Ok bound) (Ok (Own own)) = Ok (false, [])
+line_by fields inputs from symbol (Ok bound) (Ok (Look name wanted purpose own)) = Ok (
+  is_missing fields symbol bound,
+  line_text (path_in (slice_get inputs from)) name.now wanted (target_of fields inputs bound),
+)
 
--- what is written of a reference: nothing if it gets the symbol that it names without a look-up, otherwise its line
-pub data IsReferenceText {E : Type 0} {r : _} (fields : E → SymbolFields) (inputs : List Input) (objects : List (DynamicObject E r)) (from : ℕ) (asking : DynamicObject E r) (reference : Reference) : Bool → List ℕ → Type 0 where
-  own : (symbol : E) → asked_of fields asking reference ≡ Ok (Own symbol)
-      → IsReferenceText fields inputs objects from asking reference false []
-  looked_up : (missing : Bool) (line : List ℕ)
-      → IsLine fields inputs objects from asking reference missing line
-      → IsReferenceText fields inputs objects from asking reference missing line
+-- the same of an item: its line, or its error
+abbrev pub line_of : {E : Type 0} → {r : _} → (E → SymbolFields) → List Input → List (DynamicObject E r) → Result (Binding E) (ℕ × LinkError) → Result (Bool × List ℕ) (ℕ × LinkError)
+line_of fields inputs objects (Err refused) = Err refused
+line_of fields inputs objects (Ok binding) = line_by fields inputs binding.from
+    (symbol_of objects binding.from binding.reference.symbol) binding.bound binding.asked
 
--- what is written of the object at an index: the texts of its references, in order
-pub record IsObjectText {E : Type 0} {r : _} (fields : E → SymbolFields) (inputs : List Input) (objects : List (DynamicObject E r)) (from : ℕ) (asking : DynamicObject E r) (missing : Bool) (text : List ℕ) : Type 0 where
-  pub references : List Reference
-  pub references_are : references_of (object_file asking) (view_entries (object_view asking)) ≡ Ok references
-  pub texts : AreWritten (λ _ reference. IsReferenceText fields inputs objects from asking reference) references missing text
+-- an error is that of an item, with the path of the file that asks
+abbrev pub IsErrorOf : List Input → Result (Bool × List ℕ) (ℕ × LinkError) → Refused → Type 0
+IsErrorOf inputs line refused = IsErrAnd line (λ at. IsOfInput inputs at.0 refused × (refused.error ≡ at.1))
 
--- Why the lines end before the last.
+-- The lines of all items, by their references.
 
--- why a reference has no text: what it asks for can't be read, or the look-up has an error
-pub data IsReferenceRefused {E : Type 0} {r : _} (fields : E → SymbolFields) (objects : List (DynamicObject E r)) (from : ℕ) (asking : DynamicObject E r) (reference : Reference) (error : LinkError) : Type 0 where
-  unasked : asked_of fields asking reference ≡ Err error
-      → IsReferenceRefused fields objects from asking reference error
-  unfound : (name : Bor (List ℕ)) (wanted : Wanted) (purpose : uses.Use) (protected : Option E)
-      → asked_of fields asking reference ≡ Ok (asked_parts (Look name wanted purpose protected))
-      → AnswersAsked (IsBound fields objects from) from reference.symbol (Look name wanted purpose protected) (Err error)
-      → IsReferenceRefused fields objects from asking reference error
+-- the item of a reference, which gets the symbol that `bind` returns for it, has a property
+abbrev pub HasItem : {E : Type 0} → {r : _} → (E → SymbolFields) → List (DynamicObject E r) → (Result (Binding E) (ℕ × LinkError) → Type 0) → ℕ × Result Reference LinkError → Type 0
+HasItem {E} fields objects P reference = (item : Result (Binding E) (ℕ × LinkError))
+    × (reference_of_item item ≡ reference) × IsItemOf fields objects item × P item
 
--- a reference of the object at an index has a property, and those before it have their texts
-pub record IsAtReference {E : Type 0} {r : _} (fields : E → SymbolFields) (inputs : List Input) (objects : List (DynamicObject E r)) (from : ℕ) (asking : DynamicObject E r) (P : Reference → Type 0) : Type 0 where
-  pub earlier : List Reference
-  pub reference : Reference
-  pub later : List Reference
-  pub references_are : references_of (object_file asking) (view_entries (object_view asking)) ≡ Ok (earlier ++ (reference ∷ later))
+-- the line of the item of a reference, and whether it is missing its symbol
+abbrev pub IsLine : {E : Type 0} → {r : _} → (E → SymbolFields) → List Input → List (DynamicObject E r) → ℕ → ℕ × Result Reference LinkError → Bool → List ℕ → Type 0
+IsLine fields inputs objects _ reference missing line =
+    HasItem fields objects (λ item. line_of fields inputs objects item ≡ Ok (missing, line)) reference
+
+-- what is written of all objects: the lines of the items, in order
+abbrev pub AreBindingsWritten : {E : Type 0} → {r : _} → (E → SymbolFields) → List Input → List (DynamicObject E r) → Bool → List ℕ → Type 0
+AreBindingsWritten fields inputs objects = AreWritten (IsLine fields inputs objects) (references_from 0 objects)
+
+-- an item has a property, and those before it have their lines
+pub record IsAtItem {E : Type 0} {r : _} (fields : E → SymbolFields) (inputs : List Input) (objects : List (DynamicObject E r)) (P : Result (Binding E) (ℕ × LinkError) → Type 0) : Type 0 where
+  pub earlier : List (ℕ × Result Reference LinkError)
+  pub reference : ℕ × Result Reference LinkError
+  pub later : List (ℕ × Result Reference LinkError)
+  pub references_are : references_from 0 objects ≡ earlier ++ (reference ∷ later)
   pub missing : Bool
   pub text : List ℕ
-  pub texts : AreWritten (λ _ one. IsReferenceText fields inputs objects from asking one) earlier missing text
-  pub here : P reference
+  pub lines : AreWritten (IsLine fields inputs objects) earlier missing text
+  pub here : HasItem fields objects P reference
 
--- why an object has no text: its references can't be read, or one has no text
-pub data IsObjectRefused {E : Type 0} {r : _} (fields : E → SymbolFields) (inputs : List Input) (objects : List (DynamicObject E r)) (from : ℕ) (asking : DynamicObject E r) (error : LinkError) : Type 0 where
-  unread : references_of (object_file asking) (view_entries (object_view asking)) ≡ Err error
-      → IsObjectRefused fields inputs objects from asking error
-  untold : IsAtReference fields inputs objects from asking
-      (λ reference. IsReferenceRefused fields objects from asking reference error)
-      → IsObjectRefused fields inputs objects from asking error
-
--- one of its references has a text, as those before it have
-abbrev pub IsObjectBegun : {E : Type 0} → {r : _} → (E → SymbolFields) → List Input → List (DynamicObject E r) → ℕ → DynamicObject E r → Type 0
-IsObjectBegun fields inputs objects from asking = IsAtReference fields inputs objects from asking
-    (λ reference. (missing : Bool) × (line : List ℕ) × IsReferenceText fields inputs objects from asking reference missing line)
-
--- the object at an index has a property, and those before it have their texts
-pub record IsAtObject {E : Type 0} {r : _} (fields : E → SymbolFields) (inputs : List Input) (objects : List (DynamicObject E r)) (P : ℕ → DynamicObject E r → Type 0) : Type 0 where
-  pub from : ℕ
-  pub asking : DynamicObject E r
-  pub asking_is : slice_get objects from ≡ Some asking
-  pub missing : Bool
-  pub text : List ℕ
-  pub texts : AreWritten (IsObjectText fields inputs objects) (take from objects) missing text
-  pub here : P from asking
-
--- the first object that has no text, and why
+-- why the lines end before the last: the first item that has an error
 abbrev pub AreBindingsRefused : {E : Type 0} → {r : _} → (E → SymbolFields) → List Input → List (DynamicObject E r) → Refused → Type 0
-AreBindingsRefused fields inputs objects refused = IsAtObject fields inputs objects (λ from asking.
-    IsOfInput inputs from refused × IsObjectRefused fields inputs objects from asking refused.error)
+AreBindingsRefused fields inputs objects refused =
+    IsAtItem fields inputs objects (λ item. IsErrorOf inputs (line_of fields inputs objects item) refused)
 
--- why the output ends, by why it ends in a file at a path
-abbrev pub stop_in : Bor (List ℕ) → stops.Stop LinkError → stops.Stop Refused
-stop_in path (stops_are.Refused error) = stops_are.Refused (record { path = path; error = error })
-stop_in path stops_are.Write = stops_are.Write
-stop_in path stops_are.Memory = stops_are.Memory
-
--- one of the objects is begun, and those before it have their texts
+-- an item has its line, as those before it have
 abbrev pub AreBindingsBegun : {E : Type 0} → {r : _} → (E → SymbolFields) → List Input → List (DynamicObject E r) → Type 0
-AreBindingsBegun fields inputs objects = IsAtObject fields inputs objects (IsObjectBegun fields inputs objects)
+AreBindingsBegun fields inputs objects = IsAtItem fields inputs objects (λ item. IsOk (line_of fields inputs objects item))

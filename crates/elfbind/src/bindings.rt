@@ -1,21 +1,16 @@
 //! A line for each reference that is looked up: the file and the value that it gets.
 
-ghost use Rattle.std.specs.Prelude.{◌≡◌, ◌<◌, Bool, IfErr, IfSome, IsSomeAnd, List, MatchResult, OnOk};
-ghost use Rattle.std.specs.Prelude.{Option, Some, length, slice_get, ℕ};
-ghost use Rattle.elf_linking.specs.Scope.{AreGood};
-ghost use Rattle.elfbind.specs.Bindings.{AreBindingsBegun, AreBindingsRefused, IsLineBy};
-ghost use Rattle.elfbind.specs.Bindings.{IsObjectBegun, IsObjectRefused, IsObjectText};
-ghost use Rattle.elfbind.specs.Bindings.{IsReferenceRefused, IsReferenceText, is_missing, is_weak};
-ghost use Rattle.elfbind.specs.Bindings.{line_text, stop_in, target_text, version_text};
-ghost use Rattle.elfbind.specs.Files.{AreWritten};
+ghost use Rattle.std.specs.Prelude.{◌≡◌, ◌<◌, Bool, IsOk, MatchResult, Ok, Option, Some, length};
+ghost use Rattle.elf_linking.specs.Bindings.{reference_of_item};
+ghost use Rattle.elfbind.specs.Bindings.{AreBindingsBegun, AreBindingsRefused, AreBindingsWritten};
+ghost use Rattle.elfbind.specs.Bindings.{IsErrorOf, is_missing, is_weak, line_of, line_text};
+ghost use Rattle.elfbind.specs.Bindings.{symbol_of, target_of, target_text, version_text};
 ghost use Rattle.program_ends.specs.Appended.{AppendsSome};
 ghost use Rattle.program_ends.specs.Stops.{IsStop};
-ghost use Rattle.program_ends.specs.declared.Stop.TheVariants as stops_are;
 
-use crate::files::{Input, Refused, either, refusal};
+use crate::files::{Input, Refused, either, refusal_at};
 use elf_linking::find::Wanted;
-use elf_linking::references::Reference;
-use elf_linking::scope::{Asked, Bound, Scope};
+use elf_linking::scope::{Asked, Binding, Bound, Scope};
 use elf_linking::view::LinkedSymbol;
 use elf_linking::{DynamicObject, LinkError};
 use program_ends::Stop;
@@ -31,58 +26,15 @@ pub(crate) fn write_bindings<'s, E: LinkedSymbol, W: Write>(
     out: &mut W,
 ) -> Result<bool, Stop<Refused<'s>>>
     requires same { length objects.now ≡ length inputs.now }
-    requires good { AreGood E.fields objects.now }
     ensures { MatchResult result (λ missing. AppendsSome
-        (AreWritten (IsObjectText E.fields inputs.now objects.now) objects.now missing)
+        (AreBindingsWritten E.fields inputs.now objects.now missing)
         (W.contents out.old) (W.contents out.new))
         (IsStop (AreBindingsRefused E.fields inputs.now objects.now)
         (AreBindingsBegun E.fields inputs.now objects.now) ⊥) }
 {
     let mut missing = false;
-    for from in 0..objects.len() {
-        match write_object(inputs, objects, from, out) {
-            Ok(other) => missing = either(missing, other),
-            Err(stop) => return Err(stop_in(inputs[from].path, stop)),
-        }
-    }
-    Ok(missing)
-}
-
-// Why the output ends, by why it ends in a file.
-fn stop_in<'a>(path: &'a str, stop: Stop<LinkError>) -> Stop<Refused<'a>>
-    ensures { result ≡ stop_in path.entry stop }
-{
-    match stop {
-        Stop::Refused(error) => refusal(path, error),
-        Stop::Write => Stop::Write,
-        Stop::Memory => Stop::Memory,
-    }
-}
-
-// The lines of the file at an index, and whether a reference of it is missing its symbol.
-fn write_object<E: LinkedSymbol, W: Write>(
-    inputs: &[Input<'_>],
-    objects: &[DynamicObject<'_, E>],
-    from: usize,
-    out: &mut W,
-) -> Result<bool, Stop<LinkError>>
-    requires same { length objects.now ≡ length inputs.now }
-    requires good { AreGood E.fields objects.now }
-    requires below { from < length objects.now }
-    ensures { IsSomeAnd (slice_get objects.now from) (λ asking. MatchResult result
-        (λ missing. AppendsSome
-        (IsObjectText E.fields inputs.now objects.now from asking missing)
-        (W.contents out.old) (W.contents out.new))
-        (IsStop (IsObjectRefused E.fields inputs.now objects.now from asking)
-        (IsObjectBegun E.fields inputs.now objects.now from asking) ⊥)) }
-{
-    let references = match objects[from].references() {
-        Ok(references) => references,
-        Err(error) => return Err(Stop::Refused(error)),
-    };
-    let mut missing = false;
-    for reference in references {
-        match write_reference(inputs, objects, from, &reference, out) {
+    for item in Scope::new(objects).bindings() {
+        match write_item(inputs, objects, item, out) {
             Ok(own) => missing = either(missing, own),
             Err(stop) => return Err(stop),
         }
@@ -90,86 +42,72 @@ fn write_object<E: LinkedSymbol, W: Write>(
     Ok(missing)
 }
 
-// The line of a reference of the file at an index, if it is looked up, and whether it is missing its
-// symbol.
-fn write_reference<E: LinkedSymbol, W: Write>(
-    inputs: &[Input<'_>],
+// The line of a reference, if it is looked up, and whether it is missing its symbol.
+fn write_item<'s, E: LinkedSymbol, W: Write>(
+    inputs: &'s [Input<'_>],
     objects: &[DynamicObject<'_, E>],
-    from: usize,
-    reference: &Reference,
+    item: Result<Binding<'_, E>, (usize, LinkError)>,
     out: &mut W,
-) -> Result<bool, Stop<LinkError>>
-    requires same { length objects.now ≡ length inputs.now }
-    requires good { AreGood E.fields objects.now }
-    requires below { from < length objects.now }
-    ensures { IsSomeAnd (slice_get objects.now from) (λ asking. MatchResult result
-        (λ missing. AppendsSome
-        (IsReferenceText E.fields inputs.now objects.now from asking reference.now missing)
+) -> Result<bool, Stop<Refused<'s>>>
+    requires { (reference_of_item item).0 < length inputs.now }
+    ensures { MatchResult result (λ missing. AppendsSome
+        (λ text. line_of E.fields inputs.now objects.now item.entry ≡ Ok (missing, text))
         (W.contents out.old) (W.contents out.new))
-        (IsStop (IsReferenceRefused E.fields objects.now from asking reference.now)
-        ((missing : Bool) × (line : List ℕ)
-        × IsReferenceText E.fields inputs.now objects.now from asking reference.now missing line)
-        ⊥)) }
+        (IsStop (IsErrorOf inputs.now (line_of E.fields inputs.now objects.now item.entry))
+        (IsOk (line_of E.fields inputs.now objects.now item.entry)) ⊥) }
 {
-    let asking = &objects[from];
-    match asking.asked(reference) {
+    let binding = match item {
+        Ok(binding) => binding,
+        Err((from, error)) => return Err(refusal_at(inputs, from, error)),
+    };
+    let Binding {
+        from,
+        reference,
+        asked,
+        bound,
+    } = binding;
+    let bound = match bound {
+        Ok(bound) => bound,
+        Err(error) => return Err(refusal_at(inputs, from, error)),
+    };
+    match asked {
         Ok(Asked::Own(_)) => Ok(false),
-        Ok(
-            Asked::Look {
+        Ok(Asked::Look { name, wanted, .. }) => {
+            let line = Line {
+                file: inputs[from].path,
                 name,
-                wanted,
-                use_,
-                own,
-            },
-        ) => {
-            let asked = Asked::Look {
-                name,
-                wanted,
-                use_,
-                own,
+                version: Version(wanted),
+                target: Target(target_of(inputs, &bound)),
             };
-            match Scope::new(objects).answer(from, reference.symbol, &asked) {
-                Ok(bound) => {
-                    let missing = is_missing(&asking.symbol(reference.symbol), &bound);
-                    match write_line(inputs, from, name, &wanted, &bound, out) {
-                        Ok(()) => Ok(missing),
-                        Err(stop) => Err(stop),
-                    }
-                }
-                Err(error) => Err(Stop::Refused(error)),
-            }
+            write!(out, "{}", line)?;
+            let symbol = symbol_of(objects, from, reference.symbol);
+            Ok(is_missing(&symbol, &bound))
         }
-        Err(error) => Err(Stop::Refused(error)),
+        Err(error) => Err(refusal_at(inputs, from, error)),
     }
 }
 
-// The line of a look-up for the file at an index, by what it gets.
-fn write_line<E: LinkedSymbol, W: Write>(
-    inputs: &[Input<'_>],
-    from: usize,
-    name: &str,
-    wanted: &Wanted<'_>,
+// The path of the file that has a symbol, and the symbol's value.
+fn target_of<'s, E: Entry>(
+    inputs: &'s [Input<'_>],
     bound: &Option<Bound<E>>,
-    out: &mut W,
-) -> Result<(), Stop<LinkError>>
-    requires below { from < length inputs.now }
-    requires object { IfSome bound.now (λ at. at.object < length inputs.now) }
-    ensures written { OnOk result (AppendsSome
-        (IsLineBy E.fields inputs.now from name.now wanted.now bound.now)
-        (W.contents out.old) (W.contents out.new)) }
-    ensures stop { IfErr result (λ stop. stop ≡ stops_are.Write) }
+) -> Option<(&'s str, u64)>
+    ensures { result ≡ target_of E.fields inputs.now bound.now }
 {
-    let target = match bound {
-        Some(bound) => Some((inputs[bound.object].path, bound.symbol.value())),
-        None => None,
-    };
-    let line = Line {
-        file: inputs[from].path,
-        name,
-        version: Version(*wanted),
-        target: Target(target),
-    };
-    Ok(write!(out, "{}", line)?)
+    let bound = bound.as_ref()?;
+    let input = inputs.get(bound.object)?;
+    Some((input.path, bound.symbol.value()))
+}
+
+// The symbol at an index of the object at index `from`, if there is one.
+fn symbol_of<E: LinkedSymbol>(
+    objects: &[DynamicObject<'_, E>],
+    from: usize,
+    index: u32,
+) -> Option<E>
+    ensures { result ≡ symbol_of objects.now from index }
+{
+    objects.get(from)?.symbol(index)
 }
 
 // Whether a reference to a symbol is missing its symbol: it gets none, and isn't weak.
@@ -221,14 +159,14 @@ impl Display for Target<'_> {
 
 // The line of a reference: its file, the name and the version, and what it gets.
 #[derive(Clone, Copy)]
-struct Line<'a> {
-    file: &'a str,
-    name: &'a str,
-    version: Version<'a>,
-    target: Target<'a>,
+struct Line<'i, 'n> {
+    file: &'i str,
+    name: &'n str,
+    version: Version<'n>,
+    target: Target<'i>,
 }
 
-impl Display for Line<'_> {
+impl Display for Line<'_, '_> {
     ghost output = { λ line. Some (line_text line.file.now line.name.now line.version.0
         line.target.0) };
 

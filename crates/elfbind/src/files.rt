@@ -1,6 +1,6 @@
 //! The files that the program is given, and their objects.
 
-ghost use Rattle.std.specs.Prelude.{◌≡◌, ◌||◌, ◌↔◌, IfErr, IfOk, IsOk, MatchResult, length};
+ghost use Rattle.std.specs.Prelude.{◌≡◌, ◌<◌, ◌||◌, ◌↔◌, IfErr, IfOk, IsOk, MatchResult, length};
 ghost use Rattle.std.specs.Prelude.{⊤};
 ghost use Rattle.elf_base.specs.FileHeader.{header_of};
 ghost use Rattle.elf_linking.specs.AnyTable.{IsGoodBy};
@@ -8,7 +8,7 @@ ghost use Rattle.elf_linking.specs.DynamicObject.{object_dynamic_symbols};
 ghost use Rattle.elf_linking.specs.Find.{AreReadable};
 ghost use Rattle.elf_linking.specs.Scope.{AreGood};
 ghost use Rattle.elfbind.specs.Checks.{AreChecked, IsCheckRefused};
-ghost use Rattle.elfbind.specs.Files.{AreObjectsOf, IsInputRefused, IsObjectOfBytes};
+ghost use Rattle.elfbind.specs.Files.{AreObjectsOf, IsInputRefused, IsObjectOfBytes, IsOfInput};
 ghost use Rattle.elfbind.specs.Files.{IsRefusedAsObject};
 ghost use Rattle.program_ends.specs.Stops.{IsStop};
 ghost use Rattle.program_ends.specs.declared.Stop.TheVariants as stops_are;
@@ -66,6 +66,19 @@ pub(crate) fn refusal<'a>(path: &'a str, error: LinkError) -> Stop<Refused<'a>>
     Stop::Refused(Refused { path, error })
 }
 
+// The error of the file at an index as a reason to stop.
+pub(crate) fn refusal_at<'a>(
+    inputs: &'a [Input<'_>],
+    index: usize,
+    error: LinkError,
+) -> Stop<Refused<'a>>
+    requires { index < length inputs.now }
+    ensures { IsStop (λ refused. IsOfInput inputs.now index refused × (refused.error ≡ error)) ⊥ ⊥
+        result }
+{
+    refusal(inputs[index].path, error)
+}
+
 // The object of a file.
 fn read_object<'a, E: LinkedSymbol>(bytes: &'a [u8]) -> Result<DynamicObject<'a, E>, LinkError>
     ensures exact { MatchResult result (IsObjectOfBytes E.CLASS E.SIZE bytes.now)
@@ -89,7 +102,7 @@ pub(crate) fn check_objects<'a, E: LinkedSymbol>(
     for index in 0..objects.len() {
         match check_object(&objects[index]) {
             Ok(()) => {}
-            Err(error) => return Err(refusal(inputs[index].path, error)),
+            Err(error) => return Err(refusal_at(inputs, index, error)),
         }
     }
     Ok(())

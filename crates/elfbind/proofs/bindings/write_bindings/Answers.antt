@@ -1,28 +1,29 @@
-use Rattle.std.proofs.Common.{◌+◌, ◌<◌, Bool, length, take, subst, sym, ap, ◌∙◌, arith}
-use Rattle.elfbind.specs.Bindings.{IsObjectText, stop_in}
-use Rattle.elfbind.specs.declared.files.Input.{Input}
-use Rattle.elfbind.specs.Files.{AreWritten}
-use Rattle.program_ends.specs.Appended.{AppendsSome}
-use Rattle.elfbind.proofs.Steps.{none_written, one_more}
-use Rattle.elfbind.proofs.Stops.{objects_stop}
+use Rattle.std.proofs.Common.{rules, ◌<◌, Bool, length, subst, sym, arith}
+use Rattle.elf_linking.specs.Bindings.{bindings_left, bindings_objects, reference_of_item}
+use Rattle.elfbind.proofs.Items.{AreLinesSoFar, item_below, lines_begin, lines_end, lines_more, lines_stop}
 use Rattle.elfbind.proofs.bindings.write_bindings.Goals as goal
 
-pub loop-from-init : goal.loop-from-init
-loop-from-init g c = none_written (IsObjectText g.E.Entry.fields c.args.inputs.now c.args.objects.now) _
+pub loop-item-init : goal.loop-item-init
+loop-item-init g c = lines_begin g.E.Entry.fields c.args.inputs.now c.args.objects.now _ _ _ (search rules) (search rules)
 
-pub loop-from-preserved : goal.loop-from-preserved
-loop-from-preserved g c =
+pub write_item-requires : goal.write_item-requires
+write_item-requires g c =
+    let same = c.requires.same in
+    let below : (reference_of_item c.in-Some.item).0 < length c.args.objects.now =
+    item_below g.E.Entry.fields c.args.inputs.now c.args.objects.now _ _ _ c.in-Some.item _ _ _ c.loop-item.invariant c.in-Some.ensures.steps.0 in
+    omega (arith, same, below)
+
+pub loop-item-preserved : goal.loop-item-preserved
+loop-item-preserved g c =
     let objects = c.args.objects.now in
-    let Is = IsObjectText g.E.Entry.fields c.args.inputs.now objects in
-    subst (λ (wrong : Bool). AppendsSome (AreWritten Is (take (c.loop-from.from + 1) objects) wrong) (g.W.Write.contents c.args.out.now) (g.W.Write.contents c.write_object.new.out)) (sym c.either-missing.ensures)
-    (one_more Is objects c.loop-from.from c.loop-from.missing c.in-Ok.other _ _ _ c.loop-from.invariant c.in-Ok.ensures)
+    let step = c.in-Some.ensures.steps in
+    subst (λ (missing : Bool). AreLinesSoFar g.E.Entry.fields c.args.inputs.now objects (bindings_objects c.next.new.self) (bindings_left c.next.new.self) missing (g.W.Write.contents c.args.out.now) (g.W.Write.contents c.write_item.new.out)) (sym c.either-missing.ensures)
+    (lines_more g.E.Entry.fields c.args.inputs.now objects _ _ _ c.in-Some.item _ _ _ c.loop-item.invariant step.0 step.2 _ c.in-Ok.own _ step.1 c.in-Ok.ensures)
+
+pub returns : goal.returns
+returns g c = lines_end g.E.Entry.fields c.args.inputs.now c.args.objects.now _ _ _ _ _ (search rules) c.loop-item.invariant
 
 pub returns-in-Err : goal.returns-in-Err
 returns-in-Err g c =
-    let inputs = c.args.inputs.now in
-    let from = c.loop-from.from in
-    let same = c.requires.same in
-    let below : from < length inputs = omega (arith, c.loop-from-test.true, same) in
-    objects_stop g.E.Entry.fields inputs c.args.objects.now from c.index-inputs-from.result c.loop-from.missing _ _ c.in-Err.stop _ below
-    c.index-inputs-from.is c.loop-from.invariant c.in-Err.ensures
-    (c.stop_in.ensures ∙ ap (λ (one : Input). stop_in one.path c.in-Err.stop) (sym c.index-inputs-from.is))
+    let step = c.in-Some.ensures.steps in
+    lines_stop g.E.Entry.fields c.args.inputs.now c.args.objects.now _ _ _ c.in-Some.item _ _ _ c.loop-item.invariant step.0 step.2 c.in-Err.stop c.in-Err.ensures

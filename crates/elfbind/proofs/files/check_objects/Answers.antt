@@ -1,8 +1,6 @@
-use Rattle.std.proofs.Common.{◌<◌, length, refl, sym, ap, ◌∙◌, arith, below_more}
+use Rattle.std.proofs.Common.{◌<◌, length, refl, arith, below_more}
 use Rattle.elf_linking.specs.DynamicObject.{object_dynamic_symbols}
 use Rattle.elfbind.specs.Checks.{IsGoodAt}
-use Rattle.elfbind.specs.declared.files.Input.{Input}
-use Rattle.program_ends.specs.declared.Stop.TheVariants.{Refused}
 use Rattle.elfbind.proofs.Objects.{good_at, map_within}
 use Rattle.elfbind.proofs.Stops.{check_stops}
 use Rattle.elfbind.proofs.files.check_objects.Goals as goal
@@ -23,6 +21,5 @@ returns-in-Err g c =
     let objects = c.args.objects.now in
     let index = c.loop-index.index in
     let below : index < length objects = omega (arith, c.loop-index-test.true) in
-    check_stops g.E.Entry.fields c.args.inputs.now objects index c.index-objects-index.result c.index-inputs-index.result c.in-Err.error _ below c.requires
-    c.index-objects-index.is c.index-inputs-index.is c.loop-index.invariant c.in-Err.ensures.exact
-    (c.refusal.ensures ∙ ap (λ (one : Input). Refused (record { path = one.path; error = c.in-Err.error })) (sym c.index-inputs-index.is))
+    check_stops g.E.Entry.fields c.args.inputs.now objects index c.index-objects-index.result c.in-Err.error _ below
+    c.index-objects-index.is c.loop-index.invariant c.in-Err.ensures.exact c.refusal_at.ensures
