@@ -1,5 +1,5 @@
 #!/usr/bin/env python3
-"""Has each request of the built elfinfo, elfsym, elfaddr, elfbind and elfload for memory refused in turn, and each read and write failed.
+"""Has each request of the built elfinfo, elfsym, elfaddr, elfsize, elfbind and elfload for memory refused in turn, and each read and write failed.
 
 Over some files and each build of a program, until a run makes no more such calls. With memory refused it
 says that it cannot read its arguments, then that it cannot read the file, then that memory is short; with a
@@ -18,7 +18,7 @@ import subprocess
 import sys
 import tempfile
 
-from program_ends import BOUND, COUNTER, COUNTER_PLAN, CRATES, LINKED, REPORT, STRTAB, SYMBOLS, builds_of
+from program_ends import BOUND, COUNTER, COUNTER_PLAN, CRATES, LINKED, PLACES_SIZES, REPORT, STRTAB, SYMBOLS, builds_of
 
 SAMPLE = CRATES / "elfanswers" / "data"
 FIRST = (BOUND / "libfirst.so").read_bytes()
@@ -54,6 +54,7 @@ PROGRAMS = [
     Program("elfsym", ASKED, {"a hash table": LINKED, "three bytes": LINKED[:3]}, SYMBOLS, (20, 16)),
     Program("elfaddr", ["206", "20a", "20f"], {"symbols": PLACES, "three bytes": PLACES[:3]}, b"outer+0x0\nouter+0x4\n?\n", (20, 4)),
     Program("elfbind", [], {"a library": FIRST, "three bytes": FIRST[:3]}, FIRST_LINES.encode(), (40, 4)),
+    Program("elfsize", [], {"symbols": PLACES, "three bytes": PLACES[:3]}, PLACES_SIZES.replace(b"places.so", b"a.elf"), (60, 16)),
     Program("elfload", [], {"a program": COUNTER, "three bytes": COUNTER[:3]}, COUNTER_PLAN.replace(b"counter", b"a.elf"), (60, 16)),
 ]
 

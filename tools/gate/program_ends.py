@@ -1,6 +1,6 @@
 #!/usr/bin/env python3
-"""Wants the output, the error text and the status of each way in which the built elfinfo, elfsym, elfaddr, elfbind
-and elfload end.
+"""Wants the output, the error text and the status of each way in which the built elfinfo, elfsym, elfaddr, elfsize,
+elfbind and elfload end.
 
 It runs each program as each compiler built it, on files that are good, refused, missing or unreadable,
 and into outputs that fail. elfsym must also write names of any bytes with the escapes of `readelf`, and elfnm as
@@ -218,6 +218,20 @@ LOAD_ENDS = ends_of(
     a_long_path_of_an_interpreter=failing("elfload", ["interpreter.elf"], "interpreter.elf: Path of the interpreter is not valid"),
     zeros_that_cannot_be_written=failing("elfload", ["shut.elf"], "shut.elf: Load segment has zeros but is not readable and writable"))
 
+# The sizes of the parts of two of these files, as crates/elfsize/stdout has them.
+SIZES = (CRATES / "elfsize" / "stdout").read_bytes()
+PLACES_SIZES = SIZES[: SIZES.index(b"counter\n")]
+SIZE_USAGE = "elfsize <binary_path>.."
+SIZE_HELP = f"usage: {SIZE_USAGE}\nPrints how many bytes of each file belong to which part, the largest first.\n"
+SIZE_ENDS = ends_of(
+    "elfsize", SIZE_USAGE, [], ["places.so"], PLACES_SIZES,
+    help=(["--help"], 0, SIZE_HELP.encode(), b""),
+    two_files=(["places.so", "counter"], 0, SIZES, b""),
+    a_refused_file_between_others=(["places.so", "zeros.elf", "counter"], 1, SIZES, b"elfsize: zeros.elf: Did not find ELF magic number\n"),
+    a_file_of_class_32=(
+        ["strtab.elf"], 0,
+        b"strtab.elf\n80 55.55% section headers\n52 36.11% ELF header\n12 8.33% section 1 .strtab\n144 100.00% sum\n", b""))
+
 # Where the section headers are of a file that a reader doesn't take at once, and how many there are in a long one.
 FAR, MANY = (1 << 20) + 4096, 1000
 
@@ -254,7 +268,7 @@ class Program:
 PROGRAMS = [
     Program("elfinfo", ENDS, STRTAB), Program("elfsym", SYM_ENDS, LINKED), Program("elfaddr", ADDR_ENDS, PLACES),
     Program("elfbind", BIND_ENDS, (BOUND / "caller").read_bytes()),
-    Program("elfload", LOAD_ENDS, COUNTER)]
+    Program("elfload", LOAD_ENDS, COUNTER), Program("elfsize", SIZE_ENDS, PLACES)]
 
 
 def run(built, arguments, room, given=b"", **streams):

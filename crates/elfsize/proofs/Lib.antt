@@ -1,0 +1,4 @@
+mod Inputs
+mod LineLists
+mod Runs
+mod Sizes

@@ -1,0 +1,52 @@
+-- How the program ends (this project's own).
+use Rattle.std.specs.Prelude.{◌≡◌, ℕ, List, Option, Result, Ok, Err, IfSome, IsOk, IsSomeAnd, ⊤}
+use Rattle.std.specs.Borrow.{Bor}
+use Rattle.elf_base.specs.FileHeader.{header_of}
+use Rattle.elfsize.specs.Lines.{IsInputRefused, IsInputText}
+use Rattle.elfsize.specs.declared.Fault as faults
+use Rattle.elfsize.specs.declared.Fault.TheVariants as faults_are
+use Rattle.elfsize.specs.declared.lines.Refusal as refusals
+use Rattle.elfsize.specs.declared.lines.Refusal.TheVariants as refusals_are
+use Rattle.program_ends.specs.Appended.{AppendsSome}
+use Rattle.program_ends.specs.Stops.{HasBegun}
+use Rattle.program_ends.specs.declared.Stop as stops
+use Rattle.program_ends.specs.declared.Stop.TheVariants as stops_are
+
+-- what the program says where lines aren't written to their end
+abbrev pub fault_of : Bor (List ℕ) → stops.Stop refusals.Refusal → faults.Fault
+fault_of path (stops_are.Refused (refusals_are.Elf error)) = faults_are.Refused path error
+fault_of path (stops_are.Refused refusals_are.Memory) = faults_are.Memory
+fault_of path stops_are.Write = faults_are.Write
+fault_of path stops_are.Memory = faults_are.Memory
+
+-- the fault of a file at a path: it can't be read; or it has no lines for this reason; or writing failed, and this was
+-- so when it did; or memory was short
+abbrev pub IsFault : Bor (List ℕ) → (refusals.Refusal → Type 0) → Type 0 → faults.Fault → Type 0
+IsFault path Refuses Written faults_are.Arguments = ⊥
+IsFault path Refuses Written faults_are.Usage = ⊥
+IsFault path Refuses Written (faults_are.Read at) = at ≡ path
+IsFault path Refuses Written (faults_are.Refused at error) = (at ≡ path) × Refuses (refusals_are.Elf error)
+IsFault path Refuses Written faults_are.Write = Written
+IsFault path Refuses Written faults_are.Memory = ⊤
+
+-- a property of all bytes that a reader has left, as far as these are known; there is a reader
+abbrev pub OfFile : {R : Type 0} → (R → Option (List ℕ)) → Option R → (Bor (List ℕ) → Type 0) → Type 0
+OfFile remaining file P = IsSomeAnd file (λ reader. (input : Bor (List ℕ))
+    × IfSome (remaining reader) (λ bytes. input.now ≡ bytes) × P input)
+
+-- how far the program has come when a write fails
+abbrev pub IsBegun : Bor (List ℕ) → Bor (List ℕ) → Type 0
+IsBegun path input = HasBegun (IsOk (header_of input.now)) (AppendsSome (IsInputText path.now input))
+
+-- how the program ends for the file at a path: there is a text of its sizes, or the fault
+abbrev pub IsEnd : {R : Type 0} → Bor (List ℕ) → (R → Option (List ℕ)) → Option R → Result (Unit {0}) faults.Fault → Type 0
+IsEnd path remaining file (Ok done) =
+    OfFile remaining file (λ input. (text : List ℕ) × IsInputText path.now input text)
+IsEnd path remaining file (Err fault) = IsFault path
+    (λ refusal. OfFile remaining file (λ input. IsInputRefused input refusal))
+    (OfFile remaining file (λ input. IsBegun path input)) fault
+
+-- the exit status: 0 without a fault, otherwise 1
+abbrev pub status_of : Result (Unit {0}) faults.Fault → ℕ
+status_of (Ok done) = 0
+status_of (Err fault) = 1

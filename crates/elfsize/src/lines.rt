@@ -1,0 +1,279 @@
+//! A line for each part of a file: its size, its share, and what it is.
+
+ghost use Rattle.std.specs.Prelude.{◌≡◌, ⊤, IfOk, IsOk, MatchResult, OnOk, Some};
+ghost use Rattle.std.specs.Io.KnownBytes.{Appends};
+ghost use Rattle.std.specs.List.{flat_map};
+ghost use Rattle.elf_base.specs.FileHeader.{header_of};
+ghost use Rattle.elfsize.specs.Lines.{AreFileSizes, IsFileText, IsInputRefused, IsInputText};
+ghost use Rattle.elfsize.specs.Lines.{IsShort, amount_text, head_text, label_text, line_text};
+ghost use Rattle.elfsize.specs.Lines.{other_text, part_name, section_name, share_of, sizes_text};
+ghost use Rattle.elfsize.specs.Lines.{start_text, sum_text};
+ghost use Rattle.program_ends.proofs.Flushed.{appended_flushed};
+ghost use Rattle.program_ends.specs.Appended.{AppendsSome};
+ghost use Rattle.program_ends.specs.Stops.{IsStop};
+
+use crate::parts::file_runs;
+use crate::totals::{Run, part_sizes};
+use program_ends::{Output, Stop, write_name};
+use std::alloc::{AllocError, Global};
+use std::fmt::Display;
+use std::io::Write;
+use std::{fmt, io};
+use xmas_elf::{ElfError, ElfFile};
+
+/// Why a file has no lines.
+#[derive(Clone, Copy, Debug, Drop)]
+pub enum Refusal {
+    /// It isn't an ELF file.
+    Elf(ElfError),
+    /// There isn't enough memory for its sizes.
+    Memory,
+}
+
+// The path and the lines of the file that these bytes are, with the sum.
+#[derive(Clone, Copy)]
+pub(crate) struct Lines<'a> {
+    pub(crate) alloc: Global,
+    pub(crate) path: &'a str,
+    pub(crate) input: &'a [u8],
+}
+
+impl Output for Lines<'_> {
+    ghost Writes = { λ lines. AppendsSome (IsInputText lines.path.now lines.input) };
+
+    ghost flushed = { λ lines. appended_flushed (IsInputText lines.path.now lines.input) };
+
+    type Refusal = Refusal;
+
+    ghost Refuses = { λ lines. IsInputRefused lines.input };
+
+    ghost Begins = { λ lines. IsOk (header_of lines.input.now) };
+
+    fn write_to<W: Write>(&self, out: &mut W) -> Result<(), Stop<Refusal>> {
+        match ElfFile::new(self.input) {
+            Ok(file) => write_file(self.alloc, self.path, &file, out),
+            Err(error) => Err(Stop::Refused(Refusal::Elf(error))),
+        }
+    }
+}
+
+// The lines of a file.
+fn write_file<W: Write>(
+    alloc: Global,
+    path: &str,
+    file: &ElfFile<'_>,
+    out: &mut W,
+) -> Result<(), Stop<Refusal>>
+    ensures { MatchResult result
+        (λ _. AppendsSome (IsFileText path.now file.now) (W.contents out.old) (W.contents out.new))
+        (IsStop IsShort ⊤ ⊥) }
+{
+    match file_sizes(alloc, file) {
+        Ok(sizes) => write_all_of(path, file, &sizes, out),
+        Err(_) => Err(Stop::Refused(Refusal::Memory)),
+    }
+}
+
+// The lines of a file with these sizes of its parts.
+fn write_all_of<W: Write>(
+    path: &str,
+    file: &ElfFile<'_>,
+    sizes: &[Run],
+    out: &mut W,
+) -> Result<(), Stop<Refusal>>
+    requires { AreFileSizes file.now sizes.now }
+    ensures { MatchResult result
+        (λ _. AppendsSome (IsFileText path.now file.now) (W.contents out.old) (W.contents out.new))
+        (IsStop IsShort ⊤ ⊥) }
+{
+    match write_sizes(path, file, sizes, out) {
+        Ok(()) => Ok(()),
+        Err(_) => Err(Stop::Write),
+    }
+}
+
+// The sizes of the parts of a file.
+fn file_sizes(alloc: Global, file: &ElfFile<'_>) -> Result<Vec<Run>, AllocError>
+    ensures { IfOk result (λ sizes. AreFileSizes file.now sizes.items) }
+{
+    // This tells the proof that the length is a number of 64 bits.
+    let _len = file.input.len();
+    let runs = file_runs(alloc, file)?;
+    part_sizes(alloc, &runs)
+}
+
+// The path, the lines, and the sum.
+fn write_sizes<W: Write>(
+    path: &str,
+    file: &ElfFile<'_>,
+    sizes: &[Run],
+    out: &mut W,
+) -> io::Result<()>
+    ensures { OnOk result (Appends (W.contents out.old) (W.contents out.new)
+        (sizes_text path.now file.now sizes.now)) }
+{
+    write!(out, "{}", Head(path))?;
+    write_lines(file, sizes, out)?;
+    write!(out, "{}", Sum(file.input.len() as u64))
+}
+
+// A line for each part.
+fn write_lines<W: Write>(file: &ElfFile<'_>, sizes: &[Run], out: &mut W) -> io::Result<()>
+    ensures { OnOk result (Appends (W.contents out.old) (W.contents out.new)
+        (flat_map (line_text file.now) sizes.now)) }
+{
+    for one in sizes {
+        write_line(file, one, out)?;
+    }
+    Ok(())
+}
+
+// The line of a part.
+fn write_line<W: Write>(file: &ElfFile<'_>, one: &Run, out: &mut W) -> io::Result<()>
+    ensures { OnOk result (Appends (W.contents out.old) (W.contents out.new)
+        (line_text file.now one.now)) }
+{
+    let start = Start {
+        part: one.part,
+        size: one.size,
+        whole: file.input.len() as u64,
+    };
+    write!(out, "{}", start)?;
+    write_name(part_name(file, one.part), out)?;
+    out.write_all(b"\n")
+}
+
+// The name of a part: a section has one.
+fn part_name<'a>(file: &ElfFile<'a>, part: usize) -> &'a [u8]
+    ensures { result.now ≡ part_name file.now part }
+{
+    if part % 4 == 0 {
+        section_name(file, part / 4)
+    } else {
+        b""
+    }
+}
+
+// The name of a section, or `?` if it can't be read.
+fn section_name<'a>(file: &ElfFile<'a>, index: usize) -> &'a [u8]
+    ensures { result.now ≡ section_name file.now index }
+{
+    let Ok(section) = file.section_header_at(index as u64) else {
+        return b"?";
+    };
+    match section.name_bytes(file) {
+        Ok(name) => name,
+        Err(_) => b"?",
+    }
+}
+
+// The line of the path.
+#[derive(Clone, Copy)]
+struct Head<'a>(&'a str);
+
+impl Display for Head<'_> {
+    ghost output = { λ head. Some (head_text head.0.now) };
+
+    fn fmt<W: fmt::Write>(&self, f: &mut fmt::Formatter<W>) -> fmt::Result {
+        writeln!(f, "{}", self.0)
+    }
+}
+
+// The line of a part before its name.
+#[derive(Clone, Copy)]
+struct Start {
+    part: usize,
+    size: u64,
+    whole: u64,
+}
+
+impl Display for Start {
+    ghost output = { λ start. Some (start_text start.whole start.size start.part) };
+
+    fn fmt<W: fmt::Write>(&self, f: &mut fmt::Formatter<W>) -> fmt::Result {
+        let amount = Amount {
+            size: self.size,
+            whole: self.whole,
+        };
+        write!(f, "{}{}", amount, Label(self.part))
+    }
+}
+
+// A size, and its share of the file.
+#[derive(Clone, Copy)]
+struct Amount {
+    size: u64,
+    whole: u64,
+}
+
+impl Display for Amount {
+    ghost output = { λ amount. Some (amount_text amount.whole amount.size) };
+
+    fn fmt<W: fmt::Write>(&self, f: &mut fmt::Formatter<W>) -> fmt::Result {
+        let share = share_of(self.whole, self.size);
+        write!(
+            f,
+            "{} {}.{}{}% ",
+            self.size,
+            share / 100,
+            share / 10 % 10,
+            share % 10
+        )
+    }
+}
+
+// A size in a file of a number of bytes, in hundredths of a percent.
+#[inline(always)]
+fn share_of(whole: u64, size: u64) -> u128
+    ensures { result ≡ share_of whole size }
+{
+    u128::from(size) * 10000 / u128::from(whole.max(1))
+}
+
+// A part, before its name.
+#[derive(Clone, Copy)]
+struct Label(usize);
+
+impl Display for Label {
+    ghost output = { λ label. Some (label_text label.0) };
+
+    fn fmt<W: fmt::Write>(&self, f: &mut fmt::Formatter<W>) -> fmt::Result {
+        let (index, kind) = (self.0 / 4, self.0 % 4);
+        if kind == 0 {
+            return write!(f, "section {} ", index);
+        }
+        if kind == 1 {
+            return write!(f, "segment {}", index);
+        }
+        f.write_str(other_text(index))
+    }
+}
+
+// A part without an index.
+fn other_text(index: usize) -> &'static str
+    ensures { result.now ≡ other_text index }
+{
+    match index {
+        0 => "ELF header",
+        1 => "program headers",
+        2 => "section headers",
+        3 => "between parts",
+        _ => "behind parts",
+    }
+}
+
+// The line of the sum.
+#[derive(Clone, Copy)]
+struct Sum(u64);
+
+impl Display for Sum {
+    ghost output = { λ sum. Some (sum_text sum.0) };
+
+    fn fmt<W: fmt::Write>(&self, f: &mut fmt::Formatter<W>) -> fmt::Result {
+        let amount = Amount {
+            size: self.0,
+            whole: self.0,
+        };
+        writeln!(f, "{}sum", amount)
+    }
+}

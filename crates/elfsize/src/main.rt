@@ -1,0 +1,168 @@
+//! Writes how many bytes of ELF files belong to each of their parts.
+//!
+//! `elfsize FILE..` writes for each file a line for each part that has bytes, the largest first: the
+//! number of bytes, their share, and the part. The last line is their sum, which is the size of the
+//! file. `--segments` before the files leaves out the sections.
+#![tactic(auto)]
+
+ghost use Rattle.std.specs.Prelude.{◌≡◌, ◌≤◌, IfErr, IfOk, Result};
+ghost use Rattle.elfsize.specs.Ends.{IsBegun, IsEnd, IsFault, OfFile, fault_of, status_of};
+ghost use Rattle.elfsize.specs.Lines.{IsInputRefused, IsInputText};
+ghost use Rattle.elfsize.specs.declared.Fault.{Fault};
+ghost use Rattle.program_ends.specs.Appended.{AppendsSome};
+
+use crate::lines::{Lines, Refusal};
+use program_ends::{Stop, read_whole, say, write_buffered};
+use std::alloc::Global;
+use std::convert::AsStr;
+use std::fs::File;
+use std::io::{Read, Write};
+use std::process::ExitCode;
+use std::{env, io};
+use thiserror::Error;
+use xmas_elf::ElfError;
+
+mod lines;
+mod parts;
+mod totals;
+
+const USAGE: &str = "usage: elfsize <binary_path>..";
+
+const HELP: &str = "Prints how many bytes of each file belong to which part, the largest first.";
+
+/// Why the program ends with status 1, and what it says then.
+#[derive(Debug, Drop, Error)]
+enum Fault<'a> {
+    #[error("elfsize: cannot read the arguments")]
+    Arguments,
+    #[error("usage: elfsize <binary_path>..")]
+    Usage,
+    #[error("elfsize: cannot read {path}")]
+    Read { path: &'a str },
+    #[error("elfsize: {path}: {error}")]
+    Refused { path: &'a str, error: ElfError },
+    #[error("elfsize: cannot write")]
+    Write,
+    #[error("elfsize: not enough memory")]
+    Memory,
+}
+
+/// Writes the sizes of the parts of a file to `out`, or the reason why it can't to `err`, and returns
+/// the exit status.
+///
+/// `file` is `None` where the path does not open. The status is 0 once all is written and flushed,
+/// and 1 otherwise. The contract says which fault there can be then: the error of the file's header;
+/// a write that failed, if the header has none; that the file can't be read; or that memory is short.
+/// It says nothing of what `out` and `err` hold.
+pub fn run<R: Read + Drop, W: Write, E: Write>(
+    alloc: Global,
+    path: &str,
+    file: Option<R>,
+    out: &mut W,
+    err: &mut E,
+) -> u8
+    ensures bound { result ≤ 1 }
+    ensures ends { (end : Result (Unit {0}) Fault)
+        × IsEnd path.entry R.remaining file end × (result ≡ status_of end) }
+{
+    match answer(alloc, path, file, out) {
+        Ok(()) => 0,
+        Err(fault) => say(&fault, err),
+    }
+}
+
+// Reads the file whole, and writes the sizes of its parts.
+fn answer<'a, R: Read + Drop, W: Write>(
+    alloc: Global,
+    path: &'a str,
+    file: Option<R>,
+    out: &mut W,
+) -> Result<(), Fault<'a>>
+    ensures { IsEnd path.entry R.remaining file result }
+{
+    match print_lines(alloc, path, file, &mut *out) {
+        Ok(_) => Ok(()),
+        Err(fault) => Err(fault),
+    }
+}
+
+// Writes the sizes of the parts of the file that is all that the reader has left, and gives the
+// writer back.
+fn print_lines<'a, R: Read + Drop, W: Write + Drop>(
+    alloc: Global,
+    path: &'a str,
+    file: Option<R>,
+    out: W,
+) -> Result<W, Fault<'a>>
+    ensures written { IfOk result (λ back. OfFile R.remaining file (λ input.
+        AppendsSome (IsInputText path.entry.now input) (W.contents out) (W.contents back))) }
+    ensures fault { IfErr result (IsFault path.entry
+        (λ refusal. OfFile R.remaining file (λ input. IsInputRefused input refusal))
+        (OfFile R.remaining file (λ input. IsBegun path.entry input))) }
+{
+    let Some(input) = read_whole(alloc, file) else {
+        return Err(Fault::Read { path });
+    };
+    let lines = Lines {
+        alloc,
+        path,
+        input: &input,
+    };
+    match write_buffered(alloc, &lines, out) {
+        Ok(out) => Ok(out),
+        Err(stop) => Err(fault_of(stop, path)),
+    }
+}
+
+// What the program says where lines aren't written to their end.
+fn fault_of(stop: Stop<Refusal>, path: &str) -> Fault<'_>
+    ensures { result ≡ fault_of path.entry stop }
+{
+    match stop {
+        Stop::Refused(Refusal::Elf(error)) => Fault::Refused { path, error },
+        Stop::Refused(Refusal::Memory) => Fault::Memory,
+        Stop::Write => Fault::Write,
+        Stop::Memory => Fault::Memory,
+    }
+}
+
+fn main(rt: HostRuntime) -> ExitCode {
+    let status = match run_on_arguments(&rt) {
+        Ok(status) => status,
+        Err(_) => say(&Fault::Arguments, &mut rt.stderr()),
+    };
+    ExitCode::from(status)
+}
+
+// The status, or why the arguments can't be read: for want of memory, or since one is not UTF-8.
+fn run_on_arguments(rt: &HostRuntime) -> io::Result<u8> {
+    let mut arguments = env::args(rt)?;
+    let _program = arguments.next();
+    let mut words = Vec::new(rt.alloc());
+    for argument in arguments {
+        words.push(argument)?;
+    }
+    if words.first().is_some_and(|word| word.as_str() == "--help") {
+        writeln!(rt.stdout(), "{}\n{}", USAGE, HELP)?;
+        return Ok(0);
+    }
+    if words.is_empty() {
+        return Ok(say(&Fault::Usage, &mut rt.stdout()));
+    }
+    Ok(run_on_paths(rt, &words))
+}
+
+// The status for all files: 1 if that of one is.
+fn run_on_paths<S: AsStr>(rt: &HostRuntime, paths: &[S]) -> u8
+    ensures { result ≤ 1 }
+{
+    let (mut out, mut err) = (rt.stdout(), rt.stderr());
+    let mut status = 0;
+    for path in paths {
+        let path = path.as_str();
+        let file = File::open(rt, path).ok();
+        let own = run(rt.alloc(), path, file, &mut out, &mut err);
+        status = own.max(status);
+    }
+    status
+}
