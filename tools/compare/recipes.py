@@ -3,7 +3,7 @@
 
     tools/compare/recipes.py [--elftools PATH] [FILE..]
 
-`elftools recipes` runs each recipe over a file. Without files it takes the programs and libraries of SYSTEM, and what gcc
+`elftools recipes` runs each recipe over a file. The recipe in Python is run where tools/exports/python.sh has built the package. Without files it takes the programs and libraries of SYSTEM, and what gcc
 makes of a small source here: an object file, a program and a shared object of class 64, and by -m32 of class 32 an
 object file and, by -nostdlib, a shared object. Files that it doesn't read count as differences.
 """
@@ -11,6 +11,7 @@ import re
 import subprocess
 import sys
 import tempfile
+from collections import Counter
 from pathlib import Path
 
 from comparing import ROOT, SECTION, Tally, ended, llvm, parser_of, parts, raw, run, texts_of
@@ -36,6 +37,11 @@ MADE = {
     "shared_32.so": ["-m32", "-shared", "-fPIC", "-nostdlib", "near.c", "-Wl,--allow-shlib-undefined"],
     "needs_32.so": ["-m32", "-shared", "-fPIC", "-nostdlib", "near.c", "-Wl,--no-as-needed", "./shared_32.so"],
 }
+
+# The recipe of docs/RECIPES.md in Python.
+LARGEST = re.search(r"^```python$(.*?)^```$", (ROOT / "docs/RECIPES.md").read_text(), re.M | re.S)[1]
+PACKAGE = ROOT / "bindings/python"
+FUNCTION, EXECUTED, NAMED = 2, 4, (0, 1, 2, 10)
 
 RELOCATION = re.compile(r"([0-9a-f]{8,16}) +([0-9a-f]{8,16}) (\w+) *(.*)$")
 NO_BITS, LOAD = 8, 1
@@ -130,14 +136,45 @@ def compare(tally: Tally, program: str, path: str) -> None:
             tally.differ(path, f"{name}, line {at + 1} of {len(ours)} and {len(lines)}", ours[at : at + 1], lines[at : at + 1])
 
 
+def largest(path: str) -> list:
+    """The sizes of the ten largest functions: each byte belongs to the symbol that begins last and is the smallest."""
+    said = llvm(path, "-S", "--symbols", "--dyn-syms")
+    kept = parts(said, "Symbols", "Symbol") or parts(said, "DynamicSymbols", "Symbol")
+    found: Counter = Counter()
+    for section in parts(said, "Sections", "Section"):
+        if not raw(section["Flags"]) & EXECUTED:
+            continue
+        here = [(it["Value"], it["Size"], raw(it["Type"]) != FUNCTION) for it in kept if raw(it["Section"]) == section["Index"] and raw(it["Type"]) in NAMED]
+        sized = sorted({it for it in here if it[1]}, key=lambda it: (-it[0], it[1], it[2]))
+        edges = sorted({edge for value, size, _ in sized for edge in (value, value + size)})
+        for begin, end in zip(edges, edges[1:]):
+            owner = next((it for it in sized if it[0] <= begin < it[0] + it[1]), None)
+            if owner and not owner[2]:
+                found[owner] += end - begin
+    return sorted(found.values(), reverse=True)[:10]
+
+
+def compare_largest(tally: Tally, path: str) -> None:
+    """Compares the sizes that the recipe in Python prints."""
+    done = subprocess.run([sys.executable, "-c", LARGEST, path], cwd=PACKAGE, capture_output=True, text=True)
+    ours = [int(line.split()[0]) for line in done.stdout.splitlines()]
+    if done.returncode or ours != largest(path):
+        tally.differ(path, "the largest functions", ours or done.stderr[-200:], largest(path))
+
+
 def main() -> int:
     parser, tally = parser_of(__doc__, "elftools"), Tally("elftools")
     parser.add_argument("files", nargs="*", metavar="FILE")
     arguments = parser.parse_args()
+    is_built = (PACKAGE / "xmas_elf/libxmas_elf.so").exists()
+    if not is_built:
+        print("recipes: the package for Python is not built: its recipe is not run")
     with tempfile.TemporaryDirectory() as room:
         files = arguments.files or [*(str(ROOT / it) for it in OURS), *make(Path(room)), *(it for it in SYSTEM if Path(it).exists())]
         for path in files:
             compare(tally, arguments.elftools, path)
+            if is_built:
+                compare_largest(tally, path)
     return ended(tally) or int(not tally["files"])
 
 
