@@ -21,6 +21,8 @@ union output {
     xmas_elf_hash_table_t of_hash_table[3];
     xmas_elf_address_index_t of_address_index[3];
     xmas_elf_symbol_at_t of_symbol_at[3];
+    xmas_elf_piece_t of_piece[3];
+    xmas_elf_piece_sizes_t of_piece_sizes[3];
     xmas_elf_load_plan_t of_load_plan[3];
     xmas_elf_load_mapping_t of_load_mapping[3];
     uint8_t of_u8[3];
@@ -175,6 +177,14 @@ static uint32_t any_symbols_at(const struct asked *a, union output *out)
 {
     return xmas_elf_symbols_at(a->bytes, a->size, &a->address_index, a->words, a->words_count, a->numbers, 2, out[0].of_symbol_at, 3);
 }
+static uint32_t any_pieces(const struct asked *a, union output *out)
+{
+    return xmas_elf_pieces(a->bytes, a->size, &a->header, (uint64_t)a->index, out[0].of_u32, 3, out[1].of_piece, 3, &out[2].of_piece_sizes[0]);
+}
+static uint32_t any_symbol_pieces(const struct asked *a, union output *out)
+{
+    return xmas_elf_symbol_pieces(a->bytes, a->size, &a->address_index, (uint64_t)a->index, (uint64_t)a->index, (uint64_t)a->index, out[0].of_u32, 3, out[1].of_piece, 3, &out[2].of_u64[0]);
+}
 static uint32_t any_load_plan(const struct asked *a, union output *out)
 {
     return xmas_elf_load_plan(a->bytes, a->size, &a->header, (uint64_t)a->index, (uint64_t)a->index, &out[0].of_load_plan[0]);
@@ -231,6 +241,8 @@ static const struct any {
     {"check_hash", any_check_hash, {XMAS_ELF_OK, XMAS_ELF_DATA_RANGE, XMAS_ELF_SHORT_DATA, XMAS_ELF_LINK_SHORT_TABLE, XMAS_ELF_LINK_BLOOM_COUNT, XMAS_ELF_NOT_MULTIPLE, XMAS_ELF_HASH_DATA, XMAS_ELF_CHAIN_INDEX, XMAS_ELF_SYMBOL_INDEX, XMAS_ELF_CHAIN_SUM, XMAS_ELF_HASH_CYCLE, XMAS_ELF_LINK_CHAIN_INDEX, XMAS_ELF_LINK_SYMBOL_INDEX, XMAS_ELF_LINK_CHAIN_DATA, XMAS_ELF_HASH_MISSING, XMAS_ELF_LINK_MISSING}, 16},
     {"address_index", any_address_index, {XMAS_ELF_OK, XMAS_ELF_DATA_RANGE, XMAS_ELF_NOT_MULTIPLE, XMAS_ELF_INDEX_MANY_SYMBOLS, XMAS_ELF_INDEX_FEW_WORDS}, 5},
     {"symbols_at", any_symbols_at, {XMAS_ELF_OK, XMAS_ELF_DATA_RANGE, XMAS_ELF_NOT_MULTIPLE}, 3},
+    {"pieces", any_pieces, {XMAS_ELF_OK, XMAS_ELF_INDEX_FEW_WORDS}, 2},
+    {"symbol_pieces", any_symbol_pieces, {XMAS_ELF_OK, XMAS_ELF_DATA_RANGE, XMAS_ELF_NOT_MULTIPLE, XMAS_ELF_INDEX_MANY_SYMBOLS, XMAS_ELF_INDEX_FEW_WORDS}, 5},
     {"load_plan", any_load_plan, {XMAS_ELF_OK, XMAS_ELF_LOAD_TYPE, XMAS_ELF_LOAD_ENTRY_SIZE, XMAS_ELF_LOAD_COUNT, XMAS_ELF_LOAD_TABLE, XMAS_ELF_LOAD_FILE_SIZE, XMAS_ELF_LOAD_EMPTY, XMAS_ELF_LOAD_MISALIGNED, XMAS_ELF_LOAD_ALIGNMENT, XMAS_ELF_LOAD_RANGE, XMAS_ELF_LOAD_DATA, XMAS_ELF_LOAD_OVERLAP, XMAS_ELF_LOAD_ZEROS, XMAS_ELF_LOAD_NO_LOAD, XMAS_ELF_LOAD_HEADERS, XMAS_ELF_LOAD_INTERPRETER, XMAS_ELF_LOAD_RELRO, XMAS_ELF_LOAD_TLS}, 18},
     {"load_mappings", any_load_mappings, {XMAS_ELF_OK, XMAS_ELF_LOAD_TYPE, XMAS_ELF_LOAD_ENTRY_SIZE, XMAS_ELF_LOAD_COUNT, XMAS_ELF_LOAD_TABLE, XMAS_ELF_LOAD_FILE_SIZE, XMAS_ELF_LOAD_EMPTY, XMAS_ELF_LOAD_MISALIGNED, XMAS_ELF_LOAD_ALIGNMENT, XMAS_ELF_LOAD_RANGE, XMAS_ELF_LOAD_DATA, XMAS_ELF_LOAD_OVERLAP, XMAS_ELF_LOAD_ZEROS, XMAS_ELF_LOAD_NO_LOAD, XMAS_ELF_LOAD_HEADERS, XMAS_ELF_LOAD_INTERPRETER, XMAS_ELF_LOAD_RELRO, XMAS_ELF_LOAD_TLS, XMAS_ELF_NO_RECORD}, 19},
     {"message", any_message, {XMAS_ELF_OK}, 1},

@@ -48,6 +48,7 @@ struct outputs {
         xmas_elf_found_symbol_t found_symbol;
         xmas_elf_address_index_t address_index;
         xmas_elf_symbol_at_t symbols_at[3];
+        xmas_elf_piece_t pieces[3];
         xmas_elf_load_plan_t load_plan;
         xmas_elf_load_mapping_t load_mappings[3];
         uint8_t text[XMAS_ELF_LONGEST_MESSAGE];
@@ -190,6 +191,39 @@ CALL(symbols_at) /* the symbol of its last byte, and none where no symbol is */
     if (xmas_elf_symbols(TABLE_OF(a), found[0].index, &symbol, 1, &one) != XMAS_ELF_OK) return 997;
     return memcmp(&symbol, &found[0].symbol, sizeof symbol) == 0 && found[1].found == 0 && found[1].symbol.value == 0 ? status : 996;
 }
+CALL(pieces) /* they follow each other to the end of the file; a word less is refused */
+{
+    uint32_t words[WORDS];
+    xmas_elf_piece_t all[256];
+    xmas_elf_piece_sizes_t sizes, again;
+    uint64_t end = 0;
+    uint32_t status = xmas_elf_pieces(FILE_OF(a), 0, NULL, 0, NULL, 0, &sizes);
+    if (status != XMAS_ELF_OK || sizes.words > WORDS) return 999;
+    if (sizes.words > 0 && xmas_elf_pieces(FILE_OF(a), 0, words, (size_t)sizes.words - 1, all, 256, &again) != XMAS_ELF_INDEX_FEW_WORDS) return 998;
+    status = xmas_elf_pieces(FILE_OF(a), 0, words, (size_t)sizes.words, all, 256, &again);
+    if (status != XMAS_ELF_OK || again.words != sizes.words || again.count > 256) return 997;
+    for (uint64_t i = 0; i < again.count; end = all[i++].end)
+        if (all[i].begin != end || all[i].end <= end || all[i].owner > 6) return 996;
+    if (end != a->size) return 995;
+    status = xmas_elf_pieces(FILE_OF(a), a->index, words, a->index > again.count ? 1 : (size_t)sizes.words, out->of.pieces, 2, &sizes);
+    if (status == XMAS_ELF_OK) out->count = sizes.count;
+    return status != XMAS_ELF_OK || a->size == 0 || out->of.pieces[0].begin == all[a->index].begin ? status : 994;
+}
+CALL(symbol_pieces) /* the addresses of a symbol are its own; a word less is refused */
+{
+    xmas_elf_address_index_t index = a->address_index;
+    uint32_t words[WORDS];
+    const xmas_elf_piece_t *pieces = out->of.pieces;
+    xmas_elf_symbol_t symbol;
+    uint64_t count, begin = a->numbers[0];
+    index.indices.offset = a->index;
+    uint32_t status = xmas_elf_symbol_pieces(a->bytes, a->size, &index, begin, begin + 4, 0, words, a->words_count, out->of.pieces, 2, &out->count);
+    if (status != XMAS_ELF_OK) return status;
+    if (out->count != 1 || pieces[0].begin != begin || pieces[0].end != begin + 4 || pieces[0].owner != 7) return 999;
+    if (xmas_elf_symbols(TABLE_OF(a), pieces[0].index, &symbol, 1, &count) != XMAS_ELF_OK || symbol.value != begin) return 998;
+    status = xmas_elf_symbol_pieces(a->bytes, a->size, &index, begin, begin + 4, 0, words, a->words_count - 1, NULL, 0, &count);
+    return status == XMAS_ELF_INDEX_FEW_WORDS ? XMAS_ELF_OK : 997;
+}
 CALL(load_plan) { return xmas_elf_load_plan(FILE_OF(a), a->index, 0, &out->of.load_plan); }
 CALL_MANY(load_mappings, load_mappings, 4096, 0, 0, a->index)
 CALL(message) /* OK where the status `index` has a text */
@@ -249,6 +283,8 @@ static const struct row {
     {"check_hash", check_hash_call, HASH, 0, 0, XMAS_ELF_OK, XMAS_ELF_DATA_RANGE},
     {"address_index", address_index_call, NONE, 0, FAR, XMAS_ELF_DATA_RANGE, XMAS_ELF_DATA_RANGE},
     {"symbols_at", symbols_at_call, NONE, 0, FAR, XMAS_ELF_DATA_RANGE, XMAS_ELF_DATA_RANGE},
+    {"pieces", pieces_call, NONE, 1, FAR, XMAS_ELF_INDEX_FEW_WORDS, XMAS_ELF_OK},
+    {"symbol_pieces", symbol_pieces_call, NONE, 0, FAR, XMAS_ELF_DATA_RANGE, XMAS_ELF_DATA_RANGE},
     {"load_plan", load_plan_call, NONE, 0, FAR, XMAS_ELF_LOAD_OVERLAP, XMAS_ELF_LOAD_TABLE},
     {"load_mappings", load_mappings_call, NONE, 1, FAR, XMAS_ELF_NO_RECORD, XMAS_ELF_LOAD_TABLE},
     {"message", message_call, NONE, XMAS_ELF_NOT_FOUND, 0, XMAS_ELF_NOT_FOUND, XMAS_ELF_OK},

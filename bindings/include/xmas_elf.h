@@ -592,6 +592,28 @@ typedef struct xmas_elf_load_mapping_t {
     uint32_t contents;
 } xmas_elf_load_mapping_t;
 
+/* A longest run of bytes of a file, or of addresses, that belong to one part. */
+typedef struct xmas_elf_piece_t {
+    /* The offset of the first byte, or the first address. */
+    uint64_t begin;
+    /* The offset after the last byte, or the address after the last; it is above `begin`. */
+    uint64_t end;
+    /* The index of the section, the segment or the symbol, or 0. */
+    uint64_t index;
+    /* What it belongs to: 0 the ELF header, 1 the program header table, 2 the section header table, 3 a section, 4 a
+     * segment and no section, 5 nothing, and a part begins after it, 6 nothing, and no part begins after it; of
+     * `xmas_elf_symbol_pieces` 7 a symbol, 8 no symbol. */
+    uint32_t owner;
+} xmas_elf_piece_t;
+
+/* The sizes of the pieces of a file. */
+typedef struct xmas_elf_piece_sizes_t {
+    /* The number of words that the call takes. */
+    uint64_t words;
+    /* The number of all pieces of the file; 0 if the call only found the number of words. */
+    uint64_t count;
+} xmas_elf_piece_sizes_t;
+
 /* Reads the ELF header of a file. Errors, in the order of the tests: XMAS_ELF_SHORT_PART_1, XMAS_ELF_NO_MAGIC,
  * XMAS_ELF_INVALID_CLASS, XMAS_ELF_SHORT_HEADERS. */
 XMAS_ELF_NODISCARD uint32_t xmas_elf_open(const uint8_t *input, size_t input_size, xmas_elf_header_t *out)
@@ -879,11 +901,12 @@ XMAS_ELF_NODISCARD uint32_t xmas_elf_check_hash(const uint8_t *input, size_t inp
  * (`words_count` 0) it only finds how many the index takes: `words` of the record; then call it again with as many.
  * They stay the caller's, who keeps them for the questions. `table` is a record of `xmas_elf_symbols_open` or
  * `xmas_elf_dynamic_symbols_open`; `indices` is the range of the section of type SHT_SYMTAB_SHNDX that is linked to
- * the symbols' section, of size 0 where there is none; `within` is the index of a section in an object file, where
- * values are offsets in sections, and else 0. A symbol names addresses if it is in a section, has no type or is a
- * function or an object, and has a name; labels that assemblers make and mapping symbols don't. It takes time n log n
- * for n symbols. `words` is changed in no call that is not OK. Errors, in the order of the tests:
- * XMAS_ELF_DATA_RANGE, XMAS_ELF_NOT_MULTIPLE, XMAS_ELF_INDEX_MANY_SYMBOLS, XMAS_ELF_INDEX_FEW_WORDS. */
+ * the symbols' section, of size 0 where there is none; `within` is the index of a section whose symbols alone are
+ * asked for, as in an object file, where values are offsets in sections, and else 0. A symbol names addresses if it
+ * is in a section, has no type or is a function or an object, and has a name; labels that assemblers make and mapping
+ * symbols don't. It takes time n log n for n symbols. `words` is changed in no call that is not OK. Errors, in the
+ * order of the tests: XMAS_ELF_DATA_RANGE, XMAS_ELF_NOT_MULTIPLE, XMAS_ELF_INDEX_MANY_SYMBOLS,
+ * XMAS_ELF_INDEX_FEW_WORDS. */
 XMAS_ELF_NODISCARD uint32_t xmas_elf_address_index(const uint8_t *input, size_t input_size,
     const xmas_elf_header_t *header, const xmas_elf_symbol_table_t *table, const xmas_elf_range_t *indices,
     uint32_t within, uint32_t *words, size_t words_count, xmas_elf_address_index_t *out) XMAS_ELF_NOEXCEPT;
@@ -898,6 +921,30 @@ XMAS_ELF_NODISCARD uint32_t xmas_elf_address_index(const uint8_t *input, size_t 
 XMAS_ELF_NODISCARD uint32_t xmas_elf_symbols_at(const uint8_t *input, size_t input_size,
     const xmas_elf_address_index_t *index, const uint32_t *words, size_t words_count, const uint64_t *addresses,
     size_t addresses_count, xmas_elf_symbol_at_t *out, size_t out_count) XMAS_ELF_NOEXCEPT;
+
+/* The pieces of a file from index `first` on, in the order of their offsets, as many as `out` has room for: which
+ * bytes belong to what. Every byte of the file is in exactly one piece, and the sizes of all pieces sum to the size
+ * of the file. Of the parts that cover a byte it belongs to the first of these kinds: the ELF header, the program
+ * header table, the section header table, sections (but those of type SHT_NULL and SHT_NOBITS), segments (but those
+ * of type PT_NULL and PT_GNU_RELRO); of several of a kind to the one that begins last, then the smallest, then the
+ * first of the table. Without words (`words_count` 0) it only finds how many it takes: `words` of `sizes`. Call it
+ * again with as many, and then with room for `count` pieces. Each call builds an index in the words, in time n log n
+ * for n sections and segments, so give room for all. The words may hold anything before and after. Errors:
+ * XMAS_ELF_INDEX_FEW_WORDS. */
+XMAS_ELF_NODISCARD uint32_t xmas_elf_pieces(const uint8_t *input, size_t input_size, const xmas_elf_header_t *header,
+    uint64_t first, uint32_t *words, size_t words_count, xmas_elf_piece_t *out, size_t out_count,
+    xmas_elf_piece_sizes_t *sizes) XMAS_ELF_NOEXCEPT;
+
+/* The pieces of addresses `begin .. end` by symbols, from index `first` on, as many as `out` has room for; `count` is
+ * the number of all. Every address is in exactly one piece: that of the symbol with a size that `xmas_elf_symbols_at`
+ * finds for it, or that of no symbol. `index` is a record of `xmas_elf_address_index`, which may be called without
+ * words for it, with the index of a section as `within`, and `begin` and `end` are the addresses of its first byte
+ * and after its last one; in an object file, 0 and its size. The call takes `words` of the record, and builds the
+ * index in them anew: they may hold anything before and after. Errors, in the order of the tests:
+ * XMAS_ELF_DATA_RANGE, XMAS_ELF_NOT_MULTIPLE, XMAS_ELF_INDEX_MANY_SYMBOLS, XMAS_ELF_INDEX_FEW_WORDS. */
+XMAS_ELF_NODISCARD uint32_t xmas_elf_symbol_pieces(const uint8_t *input, size_t input_size,
+    const xmas_elf_address_index_t *index, uint64_t begin, uint64_t end, uint64_t first, uint32_t *words,
+    size_t words_count, xmas_elf_piece_t *out, size_t out_count, uint64_t *count) XMAS_ELF_NOEXCEPT;
 
 /* Whether Linux and glibc load a file, and what they put into memory for it. `page` is the size of a page, a power of
  * two; 0 means 4096. `limit` is the end of the addresses that a loader may use; 0 means that of Linux: 0xffffe000 for

@@ -1,4 +1,4 @@
-// The symbols of addresses, and what a loader puts into memory. Included by xmas_elf.hpp.
+// The symbols of addresses, which bytes belong to what, and what a loader puts into memory. Included by xmas_elf.hpp.
 #ifndef XMAS_ELF_MEMORY_HPP
 #define XMAS_ELF_MEMORY_HPP
 
@@ -10,6 +10,48 @@ namespace xmas_elf {
 struct symbol_at : symbol {
     std::uint64_t offset = 0; ///< The address less the value of the symbol.
 };
+
+/// What a piece belongs to: a header, a section, a segment and no section, or nothing, between parts or behind all of them; a
+/// piece of a range of addresses to a symbol or to none.
+enum class owner : std::uint32_t { elf_header, program_headers, section_headers, section, segment, between, behind, symbol, no_symbol };
+
+/// A longest run of bytes of a file, or of addresses, that belong to one part.
+struct piece {
+    std::uint64_t begin = 0; ///< The offset of the first byte, or the first address.
+    std::uint64_t end = 0;   ///< The offset after the last byte, or the address after the last.
+    std::uint64_t index = 0; ///< The index of the section, the segment or the symbol, or 0.
+    owner of = owner::behind; ///< What it belongs to.
+};
+
+/// The pieces that a call stores, which returns their number: it is called again if there was too little room.
+template <class Call> std::vector<piece> stored_pieces(std::size_t room, Call call)
+{
+    std::vector<xmas_elf_piece_t> stored(room);
+    std::uint64_t count = call(stored);
+    if (count > room) {
+        stored.resize(static_cast<std::size_t>(count));
+        count = call(stored);
+    }
+    stored.resize(static_cast<std::size_t>(count));
+    std::vector<piece> pieces;
+    for (const xmas_elf_piece_t &one : stored) pieces.push_back({one.begin, one.end, one.index, static_cast<owner>(one.owner)});
+    return pieces;
+}
+
+/// Which bytes of a file belong to what, in the order of their offsets. Every byte is in exactly one piece.
+inline std::vector<piece> pieces(const file &of)
+{
+    xmas_elf_piece_sizes_t sizes{};
+    const auto ask = [&](std::vector<std::uint32_t> &words, std::vector<xmas_elf_piece_t> &out) {
+        check(of.call(xmas_elf_pieces, std::uint64_t{0}, words.data(), words.size(), out.data(), out.size(), &sizes));
+        return sizes.count;
+    };
+    std::vector<std::uint32_t> words;
+    std::vector<xmas_elf_piece_t> none;
+    ask(words, none);
+    words.resize(static_cast<std::size_t>(sizes.words));
+    return stored_pieces(words.size() + 7, [&](std::vector<xmas_elf_piece_t> &out) { return ask(words, out); });
+}
 
 /// The symbols of a file by their addresses: an index that is built once for many addresses. It has those of the section of
 /// type SHT_SYMTAB, or else of SHT_DYNSYM, or else of the dynamic segment. In an object file, where values are offsets in
@@ -24,6 +66,19 @@ public:
         check(owner.call(xmas_elf_address_index, &table, &indices, within, words_.data(), words_.size(), &index_));
         words_.resize(static_cast<std::size_t>(index_.words));
         check(owner.call(xmas_elf_address_index, &table, &indices, within, words_.data(), words_.size(), &index_));
+    }
+
+    /// Which of the addresses `begin .. end` belong to which symbol: that of `find`, if its size is not 0. Every address is in
+    /// exactly one piece; the owner is `owner::symbol`, with the index of the symbol in its table, or `owner::no_symbol`.
+    std::vector<piece> pieces(std::uint64_t begin, std::uint64_t end) const
+    {
+        const bytes_view bytes = file_->bytes();
+        std::vector<std::uint32_t> words(words_.size());
+        return stored_pieces(2 * static_cast<std::size_t>(index_.sized_count) + 1, [&](std::vector<xmas_elf_piece_t> &out) {
+            std::uint64_t count = 0;
+            check(xmas_elf_symbol_pieces(bytes.data(), bytes.size(), &index_, begin, end, 0, words.data(), words.size(), out.data(), out.size(), &count));
+            return count;
+        });
     }
 
     /// The number of symbols.

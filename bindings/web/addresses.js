@@ -14,8 +14,8 @@ function addressOf({ header, segments }, part, offset) {
   return load ? { address: load.virtual_addr + (at - load.offset), within: 0 } : null;
 }
 
-// The table of symbols that are asked, and the section of their section indices that need more than 16 bits.
-function tableOf({ symbolTables, sections }) {
+/** The table of symbols that are asked, and the section of their section indices that need more than 16 bits. */
+export function tableOf({ symbolTables, sections }) {
   const tables = symbolTables.filter(({ count }) => count);
   const table = tables.find(({ section }) => section.header.type === names.SYMTAB) ?? tables[0];
   if (!table) return null;

@@ -3,7 +3,7 @@ import { symbolText } from "./addresses.js";
 import { element } from "./dom.js";
 import { recordOf } from "./inspect.js";
 import { Pages } from "./pages.js";
-import { partsAt } from "./parts.js";
+import { partAt } from "./parts.js";
 import { escaped, hex, hexDigits, sizeText } from "./text.js";
 import { VirtualRows } from "./virtual.js";
 
@@ -110,7 +110,7 @@ export class HexView {
     this.asked += 1;
     const asked = this.asked;
     const holds = this.part && this.part.start <= offset && offset < this.part.end;
-    const part = holds ? this.part : partsAt(this.file, offset)[0];
+    const part = holds && this.part.sort !== "bare" ? this.part : partAt(this.file, offset);
     const isSame = this.record && this.record.part === part && this.record.start <= offset && offset < this.record.end;
     if (!isSame) {
       const record = part ? await recordOf(this.file, this.client, part, offset).catch(() => null) : null;
@@ -127,13 +127,11 @@ export class HexView {
   describe(offset, part) {
     const where = [hex(offset, this.digits), part ? escaped(part.label) : null, this.record?.title, this.field?.name];
     this.place.textContent = where.filter((it, at, all) => it && it !== all[at - 1]).join(" › ");
-    const others = partsAt(this.file, offset).filter((it) => it !== part);
     const rows = (this.record?.fields ?? []).map((field) => this.fieldRow(field));
     const none = element("p", { class: "hint" }, part?.sort === "gap" ? "No part of the file claims these bytes."
       : "The reader knows no fields in these bytes.");
-    const shared = others.length ? element("p", { class: "hint" }, `Also in: ${others.map((it) => escaped(it.label)).join(", ")}`) : null;
     const list = rows.length ? element("div", { class: "fieldlist" }, rows) : none;
-    this.fields.replaceChildren(...[list, this.followed(), shared].filter(Boolean));
+    this.fields.replaceChildren(...[list, this.followed()].filter(Boolean));
     this.fields.querySelector(".current")?.scrollIntoView({ block: "nearest" });
   }
 

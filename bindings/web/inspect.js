@@ -50,13 +50,14 @@ function recordAt(file, record, start, title, values) {
 
 function tableEntry(file, part, offset) {
   const isSections = part.sort === "sections";
-  const { sh_entry_size, ph_entry_size } = file.header;
+  const { sh_entry_size, ph_entry_size, sh_offset, ph_offset } = file.header;
   const step = isSections ? sh_entry_size : ph_entry_size;
-  const index = Math.floor((offset - part.start) / step);
+  const start = Number(isSections ? sh_offset : ph_offset);
+  const index = Math.floor((offset - start) / step);
   const item = (isSections ? file.sections : file.segments)[index];
   const said = isSections ? escaped(item?.name ?? "") : names.segmentType(item?.header.type ?? 0, file.header.machine);
   const title = `${isSections ? "Section" : "Program"} header ${index}${item && said ? ` of ${said}` : ""}`;
-  return recordAt(file, isSections ? "section" : "segment", part.start + index * step, title, item?.header);
+  return recordAt(file, isSections ? "section" : "segment", start + index * step, title, item?.header);
 }
 
 async function sectionRecord(file, client, part, offset) {

@@ -11,9 +11,10 @@ import { fieldsOf } from "./fields.js";
 import { kindWords, overviewPanel } from "./overview.js";
 import { load, survey } from "./opening.js";
 import { panel, sectionsPanel, segmentsPanel } from "./tables.js";
-import { KINDS, partsAt } from "./parts.js";
+import { KINDS, partAt, unowned } from "./parts.js";
 import { Places } from "./places.js";
 import { Progress } from "./progress.js";
+import { SectionSymbols } from "./section_symbols.js";
 import { SymbolsPanel } from "./symbols.js";
 import { Tabs } from "./tabs.js";
 import { takeFiles } from "./choosing.js";
@@ -28,8 +29,9 @@ const page = { client: null, module: null, file: null, source: null };
 const progress = new Progress(() => page.client?.ask("stop"));
 const hexView = new HexView({ grid: byId("bytes"), title: byId("hextitle"), fields: byId("fields"), place: byId("place"),
   follow: (address) => follow(address) });
-const strip = new Strip(byId("strip"), (part) => choose(part));
-const map = new LayoutMap((part) => choose(part));
+const strip = new Strip(byId("strip"), (part) => choosePiece(part));
+const map = new LayoutMap((part) => choosePiece(part));
+const inside = new SectionSymbols((part, offset) => choose(part, offset));
 const tabs = new Tabs(byId("tabs"), byId("panels"), (title, isClick) => places.show(page.source, title, isClick));
 const places = new Places((source, tab) => goBack(source, tab));
 
@@ -65,23 +67,29 @@ function choose(part, offset = part.start) {
   byId("togglehex").setAttribute("aria-expanded", true);
   strip.mark(part);
   map.mark(part);
+  inside.mark(part);
   hexView.show(part, offset);
 }
 
+// Chooses the whole part that a piece is of, and shows its bytes from those of the piece on.
+function choosePiece(piece) {
+  choose(piece.whole ?? piece, piece.start);
+}
+
 function partOf(section) {
-  return [...page.file.parts, ...page.file.addedParts].find(({ id }) => id === `section-${section}`);
+  return [...page.file.sectionParts, ...page.file.addedParts].find(({ id }) => id === `section-${section}`);
 }
 
 function chooseSection(index) {
   const part = partOf(index);
-  const headers = page.file.parts.find(({ id }) => id === "sections");
+  const headers = page.file.pieces.find(({ id }) => id === "sections");
   if (part) choose(part);
   else if (headers) choose(headers, Math.min(headers.start + index * page.file.header.sh_entry_size, headers.end - 1));
 }
 
 function chooseSegment(index) {
   const part = page.file.segmentParts.find(({ segment }) => segment.index === index);
-  const headers = page.file.parts.find(({ id }) => id === "segments");
+  const headers = page.file.pieces.find(({ id }) => id === "segments");
   if (part) choose(part);
   else if (headers) choose(headers, Math.min(headers.start + index * page.file.header.ph_entry_size, headers.end - 1));
 }
@@ -100,18 +108,19 @@ function chooseRecord(record, section, row) {
 }
 
 function layoutPanel(file) {
-  const legend = element("ul", { class: "legend" }, Object.entries({ ...KINDS, gap: "No part", overlap: "Overlap" }).map(([kind, text]) =>
+  const legend = element("ul", { class: "legend" }, Object.entries(KINDS).map(([kind, text]) =>
     element("li", {}, element("span", { class: `swatch ${kind}` }), text)));
-  const said = `${plural(file.parts.length, "part")} in order of their offsets. Heights grow with the logarithm of the size; the strip above is at true scale.`;
-  const node = panel("Layout", said, element("div", { class: "fill" }, map.node), legend);
-  return { node, shown: () => map.draw() };
+  const { between, behind } = unowned(file);
+  const said = `${plural(file.pieces.length, "piece")}: each byte is in one. ${plural(between + behind, "byte")} of no part: ${grouped(between)} between parts, ${grouped(behind)} behind all. Heights grow with the logarithm of the size; the strip above is at true scale.`;
+  const node = panel("Layout", said, element("div", { class: "fill" }, map.node, inside.node), legend);
+  return { node, shown: () => { map.draw(); inside.draw(); } };
 }
 
 function fillTabs(file, client) {
   const records = (name) => (section, row) => chooseRecord(RECORDS[name], section, row);
   const sum = (tables) => tables.reduce((total, { count }) => total + count, 0);
-  const notes = (note) => choose(page.file.parts.find((it) => it.start <= note.start && note.start < it.end) ?? page.file.parts[0], note.start);
-  const header = () => file.parts.find(({ id }) => id === "header");
+  const notes = (note) => choose(partAt(page.file, note.start), note.start);
+  const header = () => file.pieces[0];
   tabs.fill([
     ["Overview", null, () => overviewPanel(file, (at) => choose(header(), at))],
     ["Layout", null, () => layoutPanel(file)],
@@ -169,9 +178,10 @@ async function lookInto(client, source) {
   fillHead(file);
   strip.open(file);
   map.open(file);
+  inside.open(file, client);
   hexView.open(file, client);
   fillTabs(file, client);
-  choose(file.parts.find(({ id }) => id === "header"));
+  choose(file.pieces[0]);
   if (NARROW.matches) toggleHex();
   places.show(source, tabs.current, true);
   byId("filename").focus();
@@ -206,7 +216,7 @@ async function showAddress(address) {
 function showOffset(offset) {
   if (offset >= BigInt(page.file.size)) return tell("The file ends before this offset.");
   tell("");
-  choose(partsAt(page.file, Number(offset))[0], Number(offset));
+  choose(partAt(page.file, Number(offset)), Number(offset));
   return true;
 }
 

@@ -1,9 +1,9 @@
-// The picture of the file's layout: bytes from top to bottom, parts on the left, segments on the right.
+// The picture of the file's layout: its pieces from top to bottom on the left, segments on the right.
 //
 // Between two offsets where something begins or ends lies a stretch, whose height grows with the logarithm of its size, so
 // that small parts can be read and large ones are seen to be large. Only what is in view is drawn.
 import { element, svg } from "./dom.js";
-import { isInSegment, isOverlapped, lanesOf } from "./parts.js";
+import { isInSegment, lanesOf, lastUpTo } from "./parts.js";
 import { escaped, hex, sizeText } from "./text.js";
 
 const RULER = 92;
@@ -11,41 +11,26 @@ const SPACE = 28;
 const LANE = 134;
 /** In a narrower picture the segments have less of the width, and headings fewer words. */
 const NARROW = 560;
-const MOST_PART_LANES = 4;
 const MOST_SEGMENT_LANES = 8;
 const TOP = 40;
 const TALLEST = 4_000_000;
 
-function heightOf(size, isCovered) {
-  if (!isCovered) return Math.min(10 + 4 * Math.log10(size), 40);
+function heightOf(size, isGap) {
+  if (isGap) return Math.min(10 + 4 * Math.log10(size), 40);
   return 22 + 11 * Math.max(0, Math.log10(size / 64));
 }
 
 /** Where each boundary between stretches lies in the picture, from the top. */
-function stretches({ parts, segmentParts: segments, gaps, size }) {
-  const ends = [...parts, ...segments, ...gaps].flatMap(({ start, end }) => [start, end]);
+function stretches({ pieces, segmentParts: segments, size }) {
+  const ends = [...pieces, ...segments].flatMap(({ start, end }) => [start, end]);
   const offsets = Float64Array.from(new Set([0, size, ...ends])).sort();
-  const isGap = new Set(gaps.map(({ start }) => start));
-  const gapEnds = new Map(gaps.map(({ start, end }) => [start, end]));
   const tops = new Float64Array(offsets.length);
-  let inGap = 0;
-  for (let at = 0; at + 1 < offsets.length; at += 1) {
-    if (isGap.has(offsets[at])) inGap = gapEnds.get(offsets[at]);
-    tops[at + 1] = tops[at] + heightOf(offsets[at + 1] - offsets[at], offsets[at] >= inGap);
+  let at = 0;
+  for (const { end, sort } of pieces) {
+    for (; at + 1 < offsets.length && offsets[at + 1] <= end; at += 1) tops[at + 1] = tops[at] + heightOf(offsets[at + 1] - offsets[at], sort === "gap");
   }
   const scale = Math.min(1, TALLEST / tops.at(-1));
   return { offsets, tops: tops.map((top) => TOP + top * scale) };
-}
-
-/** The index of the last number of a sorted list that is at most `sought`. */
-function lastUpTo(list, sought) {
-  let [low, high] = [0, list.length];
-  while (high - low > 1) {
-    const middle = (low + high) >> 1;
-    if (list[middle] <= sought) low = middle;
-    else high = middle;
-  }
-  return low;
 }
 
 export class LayoutMap {
@@ -65,13 +50,9 @@ export class LayoutMap {
     this.active = -1;
     this.chosen = null;
     Object.assign(this, stretches(file));
-    const parts = lanesOf(file.parts, MOST_PART_LANES);
-    this.partLanes = parts.count;
-    this.shared = new Set(file.overlaps.length ? file.parts.filter((part) => isOverlapped(file, part)) : []);
-    this.laneOf = parts.laneOf;
+    this.laneOf = new Map();
     this.segmentLanes = this.packSegments(file.segmentParts);
-    const kinds = [...file.parts, ...file.gaps].sort((one, other) => one.start - other.start);
-    this.order = [...kinds, ...file.segmentParts];
+    this.order = [...file.pieces, ...file.segmentParts];
     this.spacer.style.height = `${this.tops.at(-1) + 24}px`;
     this.node.scrollTop = 0;
     this.draw();
@@ -104,20 +85,18 @@ export class LayoutMap {
     const top = this.topOf(part.start);
     const height = this.topOf(part.end) - top;
     if (part.sort === "segment") return { left: RULER + partsWidth + SPACE + ownLane * lane, width: lane - 6, top, height };
-    if (!this.shared.has(part)) return { left: RULER, width: partsWidth, top, height };
-    const wide = partsWidth / this.partLanes;
-    return { left: RULER + ownLane * wide, width: wide - 2, top, height };
+    return { left: RULER, width: partsWidth, top, height };
   }
 
   draw() {
     const { file, node } = this;
-    if (!file || !node.clientHeight) return;
+    if (!file?.size || !node.clientHeight) return;
     const from = node.scrollTop - 200;
     const to = node.scrollTop + node.clientHeight + 200;
     this.svg.setAttribute("width", this.width);
     this.svg.setAttribute("height", this.tops.at(-1) + 24);
     const inView = (part) => this.topOf(part.end) >= from && this.topOf(part.start) <= to;
-    const drawn = [...file.gaps, ...file.parts, ...file.overlaps, ...file.segmentParts].filter(inView);
+    const drawn = this.order.filter(inView);
     this.svg.replaceChildren(...this.ruler(from, to), ...drawn.map((part) => this.partNode(part)), ...this.heads());
     const active = this.order[this.active];
     if (active) node.setAttribute("aria-activedescendant", `map-${active.id}`);
@@ -127,7 +106,7 @@ export class LayoutMap {
     const text = (x, words) => svg("text", { class: "maphead", x, y: this.node.scrollTop + 18 }, words);
     const segment = this.file.segmentParts[0];
     const back = svg("rect", { class: "mapheadback", x: 0, y: this.node.scrollTop, width: "100%", height: 28 });
-    const words = [text(RULER - 16, "Offset"), text(RULER, this.width < NARROW ? "Parts" : this.file.sections.length ? "Headers and sections" : "Headers and tables")];
+    const words = [text(RULER - 16, "Offset"), text(RULER, this.width < NARROW ? "Parts" : "Headers and sections")];
     words[0].classList.add("atend");
     if (segment) words.push(text(this.boxOf(segment, 0).left, "Segments"));
     return [back, ...words];
@@ -152,14 +131,15 @@ export class LayoutMap {
     const box = svg("rect", { x: left, y: top, width, height: tall, rx: Math.min(4, tall / 3) });
     const edge = part.sort === "segment" || part.sort === "gap" ? null : svg("rect", { class: "edge", x: left, y: top, width: 4, height: tall, rx: 2 });
     const isActive = this.order[this.active] === part;
-    return svg("g", { class: `part ${part.kind}${part === this.chosen ? " chosen" : ""}${isActive ? " active" : ""}`,
-      id: `map-${part.id}`, role: "option", "aria-selected": part === this.chosen, "aria-label": this.said(part),
+    const isChosen = this.chosen !== null && (part.whole ?? part).id === this.chosen.id;
+    return svg("g", { class: `part ${part.kind}${isChosen ? " chosen" : ""}${isActive ? " active" : ""}`,
+      id: `map-${part.id}`, role: "option", "aria-selected": isChosen, "aria-label": this.said(part),
       onclick: () => this.chooseAt(this.order.indexOf(part)) },
     [box, edge, ...this.texts(part, left, width, top, tall), svg("title", {}, this.said(part))].filter(Boolean));
   }
 
   texts(part, left, width, top, height) {
-    if (height < 14 || part.sort === "overlap") return [];
+    if (height < 14) return [];
     const room = Math.floor((width - 20) / 8.2);
     const size = sizeText(part.end - part.start);
     const label = escaped(part.label);

@@ -39,7 +39,7 @@ export async function survey(client, source) {
   file.load = await client.ask("plan");
   await findTables(client, file);
   file.added.push(...noteSegments(file).filter(({ part }) => part).map(({ place, part, align }, at) => noteSection(place, part, align, at)));
-  Object.assign(file, partsOf(file));
+  Object.assign(file, partsOf(file, await client.ask("pieces")));
   await findNotes(client, file);
   file.buildId = await buildIdIn(client, file.notes) ?? await buildIdIn(client, await segmentNotes(client, file));
   await findFacts(client, file);

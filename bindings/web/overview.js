@@ -4,8 +4,9 @@ import { element, refusalNode, verdictNode } from "./dom.js";
 import { fieldsOf } from "./fields.js";
 import { hardeningOf, isPie } from "./hardening.js";
 import { checkNode } from "./linking.js";
+import { unowned } from "./parts.js";
 import { hasData } from "./tables.js";
-import { escaped, grouped, hex, hexBytes, plural } from "./text.js";
+import { escaped, grouped, hex, hexBytes } from "./text.js";
 
 /** The words that say what a file is: `Shared object`, `x86-64`, `ELF64`, `little-endian`. */
 export function kindWords(file) {
@@ -109,10 +110,9 @@ function refused(file) {
 }
 
 function layoutFacts(file) {
-  const overlapped = file.overlaps.length;
-  return card("How its bytes are used", facts([["Parts with bytes", grouped(file.parts.length)],
-    ["Bytes of no part", `${plural(file.gaps.reduce((sum, { start, end }) => sum + end - start, 0), "byte")} in ${plural(file.gaps.length, "gap")}`],
-    ["Overlaps", overlapped ? element("span", { class: "refusal" }, plural(overlapped, "range") + " in more than one part") : "none"]]));
+  const { between, behind } = unowned(file);
+  return card("How its bytes are used", facts([["Pieces", grouped(file.pieces.length)],
+    ["Bytes of no part", `${grouped(between + behind)}: ${grouped(between)} between parts, ${grouped(behind)} behind all parts`]]));
 }
 
 function headerValue({ header }, { member, name }) {

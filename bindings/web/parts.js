@@ -1,7 +1,6 @@
-// The parts of a file: which bytes belong to what, where parts overlap, and which bytes belong to none.
-// All offsets and sizes are those of the reader's answers; those past the end of the file are cut off there.
+// The parts of a file, by the pieces that the reader lists: each byte is in one of them. The ranges of sections and segments
+// are those of their headers, cut off at the end of the file.
 import * as names from "./names.js";
-import { fieldsOf } from "./fields.js";
 
 const KINDS_BY_TYPE = { SYMTAB: "symbols", DYNSYM: "symbols", STRTAB: "symbols", SYMTAB_SHNDX: "symbols",
   RELA: "linking", REL: "linking", RELR: "linking", DYNAMIC: "linking", HASH: "linking", GNU_HASH: "linking",
@@ -9,7 +8,18 @@ const KINDS_BY_TYPE = { SYMTAB: "symbols", DYNSYM: "symbols", STRTAB: "symbols",
 
 /** The kinds of parts, in the order of the legend. */
 export const KINDS = { header: "Headers", code: "Code", data: "Writable data", constant: "Read-only data",
-  symbols: "Symbols and names", linking: "Linking", note: "Notes", other: "Not loaded" };
+  symbols: "Symbols and names", linking: "Linking", note: "Notes", other: "Not loaded", bare: "In a segment alone", gap: "No part" };
+
+// What a piece belongs to, by the reader's number of it.
+const OWNERS = [
+  { id: "header", sort: "header", label: "ELF header", kind: "header" },
+  { id: "segments", sort: "segments", label: "Program headers", kind: "header" },
+  { id: "sections", sort: "sections", label: "Section headers", kind: "header" },
+  { sort: "section" },
+  { sort: "bare", kind: "bare" },
+  { sort: "gap", label: "Between parts", kind: "gap" },
+  { sort: "gap", label: "Behind all parts", kind: "gap" },
+];
 
 export function kindOf(header) {
   const type = KINDS_BY_TYPE[names.SECTION_TYPES[header.type]];
@@ -27,17 +37,6 @@ function within(offset, size, fileSize) {
   return { start: cut(BigInt(offset)), end: cut(end), isCut: end > limit };
 }
 
-function tableParts({ header, counts, size }) {
-  const whole = fieldsOf("header", header.file_class).size;
-  const segments = BigInt(header.ph_entry_size) * BigInt(counts.segments);
-  const sections = BigInt(header.sh_entry_size) * counts.sections;
-  return [
-    { id: "header", sort: "header", label: "ELF header", kind: "header", ...within(0, whole, size) },
-    { id: "segments", sort: "segments", label: "Program headers", kind: "header", ...within(header.ph_offset, segments, size) },
-    { id: "sections", sort: "sections", label: "Section headers", kind: "header", ...within(header.sh_offset, sections, size) },
-  ];
-}
-
 function sectionPart(section, size) {
   const { header, index, name } = section;
   const isEmpty = header.type === names.NOBITS || header.type === 0;
@@ -51,51 +50,37 @@ function segmentPart(segment, { size, header: { machine } }) {
     kind: `segment ${header.type === names.PT_LOAD ? "load" : "special"}`, ...within(header.offset, header.file_size, size) };
 }
 
+// A piece: of a section with the whole section, of which it may be a part.
+function pieceOf({ begin, end, index, owner }, { sections, segments, header, size }) {
+  const range = { start: Number(begin), end: Number(end) };
+  const at = Number(index);
+  const found = { id: `piece-${begin}`, ...OWNERS[owner], ...range };
+  if (found.sort === "section") {
+    const whole = sections[at] ? sectionPart(sections[at], size) : { ...found, id: `section-${at}`, label: `Section ${at}`, kind: "other" };
+    return { ...whole, ...range, id: found.id, whole };
+  }
+  if (found.sort === "bare") found.label = `Segment ${at} ${segments[at] ? names.segmentType(segments[at].header.type, header.machine) : ""}`;
+  return found;
+}
+
 const byStart = (one, other) => one.start - other.start || other.end - one.end;
 const hasBytes = (part) => part.end > part.start;
 
 /**
- * The parts with bytes, segments with bytes, gaps and overlaps of a file, each in order; and the tables of the dynamic segment,
- * which are the parts of a file without sections.
+ * The pieces of a file, from its first byte to its last; its sections and segments with bytes, and the tables of the dynamic
+ * segment.
  */
-export function partsOf(file) {
+export function partsOf(file, listed) {
   const partOf = (section) => sectionPart(section, file.size);
-  const addedParts = file.added.map(partOf).filter(hasBytes);
-  const sections = file.sections.length ? file.sections.map(partOf) : addedParts;
-  const parts = [...tableParts(file), ...sections].filter(hasBytes).sort(byStart);
-  const segmentParts = file.segments.map((segment) => segmentPart(segment, file)).filter(hasBytes).sort(byStart);
-  return { parts, segmentParts, addedParts, ...coverage(parts, file.size) };
+  return { pieces: listed.map((piece) => pieceOf(piece, file)), sectionParts: file.sections.map(partOf).filter(hasBytes),
+    segmentParts: file.segments.map((segment) => segmentPart(segment, file)).filter(hasBytes).sort(byStart),
+    addedParts: file.added.map(partOf).filter(hasBytes) };
 }
 
-// Ranges that no part covers and ranges that more than one does, in one pass over where parts begin and end.
-function coverage(parts, size) {
-  const events = parts.flatMap(({ start, end }) => [[start, 1], [end, -1]]).sort((one, other) => one[0] - other[0]);
-  const gaps = [];
-  const overlaps = [];
-  let covered = 0;
-  let before = 0;
-  for (const [at, step] of [...events, [size, 0]]) {
-    if (at > before && covered === 0) gaps.push(gap(before, at));
-    if (at > before && covered > 1) extend(overlaps, before, at);
-    covered += step;
-    before = at;
-  }
-  return { gaps, overlaps };
-}
-
-/** Whether a part shares bytes with another. */
-export function isOverlapped({ overlaps }, part) {
-  return overlaps.some(({ start, end }) => start < part.end && part.start < end);
-}
-
-function gap(start, end) {
-  return { id: `gap-${start}`, sort: "gap", label: "No part", kind: "gap", start, end };
-}
-
-function extend(ranges, start, end) {
-  const last = ranges.at(-1);
-  if (last?.end === start) last.end = end;
-  else ranges.push({ id: `overlap-${start}`, sort: "overlap", label: "Overlap", kind: "overlap", start, end });
+/** The number of bytes that no part has, between parts and behind all of them. */
+export function unowned({ pieces }) {
+  const sum = (label) => pieces.filter((it) => it.label === label && it.sort === "gap").reduce((all, { start, end }) => all + end - start, 0);
+  return { between: sum(OWNERS[5].label), behind: sum(OWNERS[6].label) };
 }
 
 /** For each range the first lane where it overlaps nothing, and past `most` lanes the last: `{ count, laneOf }`. */
@@ -111,11 +96,23 @@ export function lanesOf(ranges, most) {
   return { count: ends.length, laneOf };
 }
 
-/** The parts that hold the byte at an offset, the smallest first. */
-export function partsAt({ parts, gaps }, offset) {
+/** The index of the last number of a sorted list that is at most `sought`. */
+export function lastUpTo(list, sought) {
+  let [low, high] = [0, list.length];
+  while (high - low > 1) {
+    const middle = (low + high) >> 1;
+    if (list[middle] <= sought) low = middle;
+    else high = middle;
+  }
+  return low;
+}
+
+/** The part that the byte at an offset belongs to; of bytes that are in a segment alone the table that lies there. */
+export function partAt(file, offset) {
+  file.starts ??= file.pieces.map(({ start }) => start);
+  const piece = file.pieces[lastUpTo(file.starts, offset)];
   const holds = (part) => part.start <= offset && offset < part.end;
-  const found = parts.filter(holds).sort((one, other) => one.end - one.start - (other.end - other.start));
-  return found.length ? found : gaps.filter(holds);
+  return (piece.sort === "bare" && file.addedParts.find(holds)) || (piece.whole ?? piece);
 }
 
 /** Whether a section belongs to a segment, by readelf's rules: by offset, and by address where it is loaded. */

@@ -1,7 +1,7 @@
 // Calls the exports of the reader's module, and reads the records that they answer by.
 //
 // The file lies in the module's memory, behind room for one record of each sort, for a batch of records and for
-// the bytes of a name; the words of an index of addresses lie behind all. How records lie in memory and which parameters
+// the bytes of a name; the words of indexes lie behind all. How records lie in memory and which parameters
 // a function has comes from records.js.
 // Section headers that are added lie behind the file: a call whose `section` is below 0 reads them, -1 the first.
 import { FUNCTIONS, LONGEST_MESSAGE, RECORDS, STATUS } from "./records.js";
@@ -15,7 +15,7 @@ export const LONGEST_NAME = 65536;
 
 const PAGE = 65536;
 const WIDEST = Math.max(...Object.values(RECORDS).map((record) => record.size));
-const ROOMS = { header: WIDEST, added: WIDEST, part: WIDEST, table: WIDEST, indices: WIDEST, index: WIDEST, addresses: 8, ranges: WIDEST, out: BATCH * WIDEST, count: 8,
+const ROOMS = { header: WIDEST, added: WIDEST, part: WIDEST, table: WIDEST, indices: WIDEST, index: WIDEST, asked: WIDEST, addresses: 8, ranges: WIDEST, sizes: WIDEST, out: BATCH * WIDEST, count: 8,
   message: LONGEST_MESSAGE, names: LONGEST_NAME };
 
 /** The file is larger than the memory that the browser gives the module. */
@@ -36,6 +36,7 @@ export class Reader {
     this.size = size;
     this.texts = new Map();
     this.places = {};
+    this.lent = {};
     let place = Math.ceil(Number(this.exports.__heap_base.value) / 16) * 16;
     for (const [room, bytes] of Object.entries(ROOMS)) {
       this.places[room] = place;
@@ -77,7 +78,7 @@ export class Reader {
     if (given.isAdded && name === "header") return BigInt(this.places.added);
     if (given.isAdded && name === "input_size") return BigInt(this.addedEnd);
     if (name === "part") this.write("range", this.places.part, given.part);
-    if (pointer) return BigInt(this.places[name]);
+    if (pointer) return BigInt(this.places[given.places?.[name] ?? name]);
     if (name === "input_size") return BigInt(this.size);
     return wide ? BigInt(given[name]) : Number(given[name]);
   }
@@ -155,13 +156,63 @@ export class Reader {
    */
   buildIndex({ indices, within }) {
     this.write("range", this.places.indices, indices);
-    this.places.words = 0;
+    this.lend("words", 0);
     const asked = this.one("address_index", { within, words_count: 0 });
     if (!asked.record) return asked;
     this.words = Number(asked.record.words);
-    this.places.words = this.memory.buffer.byteLength;
-    this.grow(this.places.words + 4 * this.words);
+    this.lend("words", this.words);
     return this.kept("address_index", "index", { within, words_count: this.words });
+  }
+
+  // Room for so many words, by a name: behind all that lies in the memory, unless there is as much by this name.
+  lend(name, count) {
+    const before = this.lent[name];
+    if (!before || before.count < count) {
+      this.lent[name] = { count, place: this.memory.buffer.byteLength };
+      this.grow(this.lent[name].place + 4 * count);
+    }
+    this.places[name] = this.lent[name].place;
+  }
+
+  /** The pieces of the file: which bytes belong to what. */
+  pieces() {
+    this.lend("lent", 0);
+    const sizes = (count, given) => {
+      this.call("pieces", { first: 0, words_count: count, places: { words: "lent" }, out_count: BATCH, ...given });
+      return this.read("piece_sizes", this.places.sizes);
+    };
+    const words = Number(sizes(0, { out_count: 0 }).words);
+    this.lend("lent", words);
+    return this.allPieces((first) => Number(sizes(words, { first }).count));
+  }
+
+  /**
+   * The pieces of addresses by symbols of the table that was found last; null where they can't be read. `indices` and
+   * `within` are as in `buildIndex`.
+   */
+  symbolPieces({ indices, within, begin, end }) {
+    this.write("range", this.places.indices, indices);
+    this.lend("lent", 0);
+    const asked = this.kept("address_index", "asked", { within, words_count: 0, places: { words: "lent" } });
+    if (!asked.record) return null;
+    const words = Number(asked.record.words);
+    this.lend("lent", words);
+    const given = { begin, end, words_count: words, out_count: BATCH, places: { words: "lent", index: "asked" } };
+    return this.allPieces((first) => {
+      const status = this.call("symbol_pieces", { ...given, first });
+      return status === STATUS.OK ? Number(this.view().getBigUint64(this.places.count, true)) : 0;
+    });
+  }
+
+  // All pieces: `list` stores those from an index on, and returns the number of all.
+  allPieces(list) {
+    const found = [];
+    for (let count = 1; found.length < count; ) {
+      count = list(found.length);
+      const stored = Math.min(BATCH, count - found.length);
+      for (let at = 0; at < stored; at += 1) found.push(this.read("piece", this.places.out + at * RECORDS.piece.size));
+    }
+    return found;
   }
 
   /** The symbol of an address by this index. */

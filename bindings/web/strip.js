@@ -1,6 +1,6 @@
-// The whole file as one strip at its true scale: its parts above, its segments below.
+// The whole file as one strip at its true scale: its pieces above, its segments below.
 import { svg } from "./dom.js";
-import { isOverlapped, lanesOf } from "./parts.js";
+import { lanesOf } from "./parts.js";
 import { escaped, hex, sizeText } from "./text.js";
 
 const HEIGHT = 60;
@@ -33,20 +33,19 @@ export class Strip {
     if (!file?.size || !width) return;
     const scale = (width - 2 * EDGE) / file.size;
     const seen = new Set();
-    const rects = [...file.gaps, ...file.parts].map((part) => this.rect(part, scale, PARTS.top, PARTS.height, seen));
+    const rects = file.pieces.map((part) => this.rect(part, scale, PARTS.top, PARTS.height, seen));
     const segments = file.segmentParts.map((part) =>
       this.rect(part, scale, SEGMENTS.top + this.laneOf.get(part) * SEGMENTS.step, SEGMENTS.height, seen));
-    const overlaps = file.overlaps.map((part) => this.rect(part, scale, PARTS.top + PARTS.height - 6, 6, seen));
-    const names = file.parts.map((part) => this.nameOf(part, scale));
+    const names = file.pieces.map((part) => this.nameOf(part, scale));
     node.replaceChildren(svg("svg", { width, height: HEIGHT, viewBox: `0 0 ${width} ${HEIGHT}`, role: "img",
-      "aria-label": `The file from its first byte to its last, ${file.parts.length} parts and ${file.gaps.length} gaps` },
-    [...rects, ...overlaps, ...names, ...segments, this.marker(scale, width)].filter(Boolean)));
+      "aria-label": `The file from its first byte to its last, ${file.pieces.length} pieces` },
+    [...rects, ...names, ...segments, this.marker(scale, width)].filter(Boolean)));
   }
 
   // The name of a part that has room for it.
   nameOf(part, scale) {
     const text = escaped(part.label);
-    if ((part.end - part.start) * scale < text.length * 7.2 + 14 || isOverlapped(this.file, part)) return null;
+    if (part.sort === "gap" || (part.end - part.start) * scale < text.length * 7.2 + 14) return null;
     return svg("text", { x: (EDGE + part.start * scale + 7).toFixed(2), y: PARTS.top + 17.5 }, text);
   }
 

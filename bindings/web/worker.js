@@ -6,7 +6,7 @@ import { count, countDynamicSymbols, dynamicRows, dynamicTexts, lookUp, noteRows
   symbolRows } from "./records_of.js";
 import { DoesNotFit, Reader } from "./reader.js";
 import { findSymbols, foundRows } from "./filter.js";
-import { symbolAt } from "./symbols_at.js";
+import { symbolAt, symbolNames, symbolPieces } from "./symbols_at.js";
 import { segmentTables } from "./segment_tables.js";
 import { Turns } from "./turns.js";
 import { versionsOf } from "./versions_of.js";
@@ -76,6 +76,9 @@ const calls = {
   checkHash,
   bytesAt,
   symbolAt: (given) => symbolAt(reader, given),
+  pieces: () => reader.pieces(),
+  symbolPieces: (given) => symbolPieces(reader, given),
+  symbolNames: (given) => symbolNames(reader, given),
   bytes: ({ offset, size }) => reader.bytes(offset, size).slice(),
 };
 

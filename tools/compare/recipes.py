@@ -3,7 +3,7 @@
 
     tools/compare/recipes.py [--elftools PATH] [FILE..]
 
-`elftools recipes` runs each recipe over a file. Without files it takes the programs and libraries of SYSTEM, and what gcc
+`elftools recipes` runs each recipe over a file. The recipe in Python is run where tools/exports/python.sh has built the package. Without files it takes the programs and libraries of SYSTEM, and what gcc
 makes of a small source here: an object file, a program and a shared object of class 64, and by -m32 of class 32 an
 object file and, by -nostdlib, a shared object. Files that it doesn't read count as differences.
 """
@@ -11,6 +11,7 @@ import re
 import subprocess
 import sys
 import tempfile
+from collections import Counter
 from pathlib import Path
 
 from comparing import LOAD, ROOT, SECTION, Tally, build_ids, llvm, parser_of, parts, raw, relocation_tables, texts_of
@@ -37,7 +38,11 @@ MADE = {
     "needs_32.so": ["-m32", "-shared", "-fPIC", "-nostdlib", "near.c", "-Wl,--no-as-needed", "./shared_32.so"],
 }
 
-NO_BITS = 8
+NO_BITS, FUNCTION, EXECUTED, NAMED = 8, 2, 4, (0, 1, 2, 10)
+
+# The recipe of docs/RECIPES.md in Python.
+LARGEST = re.search(r"^```python$(.*?)^```$", (ROOT / "docs/RECIPES.md").read_text(), re.M | re.S)[1]
+PACKAGE = ROOT / "bindings/python"
 
 
 def make(folder: Path) -> list:
@@ -111,12 +116,43 @@ def compare(tally: Tally, program: str, path: str) -> None:
             tally.differ(path, f"{name}, line {at + 1} of {len(ours)} and {len(lines)}", ours[at : at + 1], lines[at : at + 1])
 
 
+def largest(path: str) -> list:
+    """The sizes of the ten largest functions: each byte belongs to the symbol that begins last and is the smallest."""
+    said = llvm(path, "-S", "--symbols", "--dyn-syms")
+    kept = parts(said, "Symbols", "Symbol") or parts(said, "DynamicSymbols", "Symbol")
+    found: Counter = Counter()
+    for section in parts(said, "Sections", "Section"):
+        if not raw(section["Flags"]) & EXECUTED:
+            continue
+        here = [(it["Value"], it["Size"], raw(it["Type"]) != FUNCTION) for it in kept if raw(it["Section"]) == section["Index"] and raw(it["Type"]) in NAMED]
+        sized = sorted({it for it in here if it[1]}, key=lambda it: (-it[0], it[1], it[2]))
+        edges = sorted({edge for value, size, _ in sized for edge in (value, value + size)})
+        for begin, end in zip(edges, edges[1:]):
+            owner = next((it for it in sized if it[0] <= begin < it[0] + it[1]), None)
+            if owner and not owner[2]:
+                found[owner] += end - begin
+    return sorted(found.values(), reverse=True)[:10]
+
+
+def compare_largest(tally: Tally, path: str) -> None:
+    """Compares the sizes that the recipe in Python prints."""
+    done = subprocess.run([sys.executable, "-c", LARGEST, path], cwd=PACKAGE, capture_output=True, text=True)
+    ours = [int(line.split()[0]) for line in done.stdout.splitlines()]
+    if done.returncode or ours != largest(path):
+        tally.differ(path, "the largest functions", ours or done.stderr[-200:], largest(path))
+
+
 def main() -> int:
     given, tally = parser_of(__doc__, "elftools", files="*").parse_args(), Tally("elftools", "files")
+    is_built = (PACKAGE / "xmas_elf/libxmas_elf.so").exists()
+    if not is_built:
+        print("recipes: the package for Python is not built: its recipe is not run")
     with tempfile.TemporaryDirectory() as room:
         files = given.files or [*(str(ROOT / it) for it in OURS), *make(Path(room)), *(it for it in SYSTEM if Path(it).exists())]
         for path in files:
             compare(tally, given.elftools, path)
+            if is_built:
+                compare_largest(tally, path)
     return tally.ended() or int(not tally["files"])
 
 

@@ -48,7 +48,7 @@ cxx=(g++)
 if command -v clang++ > /dev/null; then cxx+=(clang++); else echo "bindings: no clang here: by gcc alone"; fi
 for compiler in "${cxx[@]}"; do
     "$compiler" -std=c++17 "${strict[@]}" -Wconversion bindings/cpp/nm.cpp "$archive" -o "$room/nm_$compiler"
-    for program in dump memory; do
+    for program in dump memory sizes; do
         "$compiler" -std=c++20 "${strict[@]}" -Wconversion "bindings/cpp/$program.cpp" "$archive" -o "$room/$program"
     done
     # C++11 has no [[nodiscard]]; a struct may have its zero as its value.
@@ -87,7 +87,7 @@ cargo build --quiet --offline --release --manifest-path bindings/rust/Cargo.toml
 grep -qx "#define XMAS_ELF_VERSION \"$(sed -n 's/^version = "\(.*\)"/\1/p' bindings/rust/Cargo.toml)\"" bindings/include/xmas_elf.h
 # C, C++ and Rust beside nm and readelf, over 300 files. A path that can't be opened is named.
 tools/compare/dump.py
-for program in "$room/nm_c" "$room/find_c" "$room/dynamic_c" "$room/addresses_c" "$room/nm_g++" "$room/dump" "$room/memory" "$CARGO_TARGET_DIR"/release/examples/{nm,find,dump,addresses}; do
+for program in "$room/nm_c" "$room/find_c" "$room/dynamic_c" "$room/addresses_c" "$room/nm_g++" "$room/dump" "$room/memory" "$room/sizes" "$CARGO_TARGET_DIR"/release/examples/{nm,find,dump,addresses}; do
     { "$program" /no/such/file 2>&1 || true; } | grep -q '^/no/such/file: No such file or directory' || { echo "$program doesn't name its path"; exit 1; }
 done
 # The mappings of a program beside those of its process, in which those of zeros have no path; and the symbols of its functions
@@ -121,6 +121,12 @@ grep '+0x' "$room/memory_of" | diff - <(middles | cut -d' ' -f2)
 for program in "$room/addresses_c" "$CARGO_TARGET_DIR/release/examples/addresses"; do
     "$program" "$room/mapped" $(middles | cut -d' ' -f1) 0 | diff - <(middles | cut -d' ' -f2; echo '?')
 done
+# The pieces of a file sum to its size, and its functions are as large as nm says.
+"$room/sizes" "$room/mapped" > "$room/sizes_of"
+[ "$(grep -E ' [0-9]+$' "$room/sizes_of" | awk '{ sum += $1 } END { print sum }')" = "$(stat --format %s "$room/mapped")" ] || { echo "the pieces don't sum to the size"; exit 1; }
+sizes_by_nm() { functions | python3 -c 'import sys
+for _, size, _, name in map(str.split, sys.stdin): print(int(size, 16), name)' | grep -v ' _\(init\|fini\)$'; }
+diff <(grep -vE ' [0-9]+$' "$room/sizes_of" | sort) <(sizes_by_nm | sort)
 # Both kinds of hash tables, a file's own name and its folders, and libraries with many versions.
 echo 'int one(void) { return 1; }' | gcc -shared -fPIC -x c - -o "$room/libnamed.so" -Wl,-soname,libnamed.so.1 -Wl,-rpath,/a:/b -Wl,--enable-new-dtags
 # The tables of both classes and both orders, with and without addends, packed ones too.

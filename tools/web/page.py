@@ -371,6 +371,11 @@ CUT = """
 """
 
 
+# Clicks a section in the strip; whether the symbols of a section are shown.
+CLICK = """Array.from(document.querySelectorAll(".strip rect")).find((it) => it.textContent.startsWith("%s  ")).dispatchEvent(new MouseEvent("click"))"""
+INSIDE = "document.querySelector('.insidesection h3')?.textContent === 'Symbols in %s' && !document.querySelector('.insidesection').hidden"
+
+
 # Whether the build id, the last of what people look for, is in view.
 FIRST = """document.querySelector(".id").getBoundingClientRect().bottom < document.getElementById("panels").getBoundingClientRect().bottom"""
 
@@ -386,6 +391,9 @@ def try_narrow(test, options, room):
                 time.sleep(0.2)
                 if tab == "Overview":
                     test.same(f"{path}: what people look for is in the first view, {width} pixels wide", test.page.run(FIRST), True)
+                if tab == "Layout" and path.name == "libc.so.6":
+                    test.page.run(CLICK % ".text")
+                    test.page.wait(INSIDE % ".text", 5)
                 test.same(f"{path}: cut off in {tab}, {width} pixels wide", test.page.run(CUT), [])
     test.page.resize(*SIZE)
 
@@ -561,6 +569,58 @@ def try_symbols_of_addresses(test, options, room):
     page.wait(f"{shown}.startsWith('00000000 ›') || {shown}.includes('0 › ELF header')", 5)
     time.sleep(0.3)
     test.same("a symbol of the ELF header", "+0x" in page.run(shown), False)
+
+
+# The pieces of the map, as far as they are drawn, and the bytes of no part that the page says.
+PIECES = """
+async () => {
+  const map = document.querySelector(".mapscroll");
+  const frame = () => new Promise((resume) => requestAnimationFrame(resume));
+  const found = new Map();
+  for (let top = 0; ; top += map.clientHeight / 2) {
+    map.scrollTop = top;
+    await frame();
+    await frame();
+    for (const it of map.querySelectorAll("[role=option]:not(.segment)")) {
+      const said = it.getAttribute("aria-label");
+      const [, label, start, end] = said.match(/^(.*): 0x([0-9a-f]+) to 0x([0-9a-f]+), /);
+      found.set(parseInt(start, 16), [label, parseInt(end, 16)]);
+    }
+    if (top + map.clientHeight >= map.scrollHeight) break;
+  }
+  return { pieces: [...found].sort((one, other) => one[0] - other[0]), said: document.querySelector("[role=tabpanel]:not([hidden]) .said").textContent };
+}
+"""
+
+
+def try_pieces(test, options, room):
+    """Each byte is in one piece, and the symbols of a section are as large as nm says."""
+    page = test.page
+    (room / "named.c").write_text(PROGRAM)
+    for name, words in (("pieces", ["-O0"]), ("pieces.o", ["-O0", "-c"])):
+        path = room / name
+        subprocess.run(["gcc", room / "named.c", "-o", path, *words], check=True)
+        path.write_bytes(path.read_bytes() + bytes(7))
+        test.open(path)
+        test.tab("Layout")
+        shown = page.run(f"({PIECES})()")
+        starts, ends = [start for start, _ in shown["pieces"]], [end for _, (_, end) in shown["pieces"]]
+        test.same(f"{name}: pieces follow each other", [*starts, path.stat().st_size], [0, *ends])
+        free = {label: sum(end - start for start, (it, end) in shown["pieces"] if it == label) for label in ("Between parts", "Behind all parts")}
+        said = re.search(r"([\d,]+) bytes of no part: ([\d,]+) between parts, ([\d,]+) behind", shown["said"])
+        numbers = [int(it.replace(",", "")) for it in said.groups()]
+        test.same(f"{name}: bytes of no part", numbers, [sum(free.values()), free["Between parts"], free["Behind all parts"]])
+        test.same(f"{name}: bytes behind all parts", free["Behind all parts"], 7)
+        page.run("document.querySelector('.mapscroll').focus(), document.querySelector('.mapscroll').scrollTo(0, 0)")
+        page.key("Home")
+        for _ in range([it for _, (it, _) in shown["pieces"]].index(".text")):
+            page.key("ArrowDown")
+        page.key("Enter")
+        page.wait(INSIDE % ".text", 5)
+        _, rows = test.rows(200)
+        sizes = {row[2]: int(row[0].replace(",", "")) for row in rows.values() if row[2] != "no symbol"}
+        wanted = {it: size for it, _, size in functions_of(path) if it not in ("_init", "_fini")}
+        test.same(f"{name}: symbols in .text", {it: sizes.get(it) for it in wanted}, wanted)
 
 
 def try_contrast(test, options):

@@ -55,6 +55,11 @@ def walk(data):
     for within in (0, 1, 0xffff):
         found = tried(lambda: file.symbols_at((0, 0x401000, 1 << 63), within))
         assert all(it is None or it.offset < max(it.symbol.size, 1) for it in found or ())
+    pieces = list(file.pieces())
+    assert [it.begin for it in pieces] + [len(data)] == [0] + [it.end for it in pieces]
+    for section in spent(file.sections):
+        inside = spent(lambda: file.symbol_pieces(section))
+        assert all(one.end == other.begin for one, other in zip(inside, inside[1:]))
     plan = tried(file.load_plan)
     assert plan is None or all(plan.span.start <= it.start < it.end <= plan.span.end for it in plan.mappings())
     return 1

@@ -14,7 +14,7 @@ from conftest import LIBRARIES, PYTHON, system_files
 from elftools.elf.gnuversions import GNUVerDefSection, GNUVerNeedSection
 
 import xmas_elf
-from xmas_elf import Contents, ElfError, ElfFile, Loader, Status, VersionKind, constants
+from xmas_elf import Contents, ElfError, ElfFile, Loader, Owner, Status, VersionKind, constants
 from xmas_elf.constants import SHF, SHT, STB, STT
 
 FOLDER = pathlib.Path("/lib/x86_64-linux-gnu")
@@ -331,6 +331,63 @@ def test_symbols_of_addresses_without_sections(tmp_path):
     value = next(value for name, value, _ in sized(path) if name == "main")
     file = ElfFile(without_sections(path.read_bytes()))
     assert file.num_sections() == 0 and str(file.symbol_at(value + 1)) == "main+0x1"
+
+
+# Which bytes belong to what.
+
+
+def owner_of(file, offset):
+    """The part that a byte belongs to, by passes over headers, sections and segments."""
+    header = file.header
+    wide, sections, segments = file.elfclass == 64, list(file.sections()), list(file.segments())
+    tables = [(0, 64 if wide else 52), (header.ph_offset, header.ph_entry_size * len(segments)), (header.sh_offset, header.sh_entry_size * len(sections))]
+    for owner, (begin, size) in enumerate(tables):
+        if (begin or not owner) and begin <= offset < begin + size:
+            return Owner(owner), None
+    empty = constants.SHT_NULL, constants.SHT_NOBITS
+    claims = [[(it.offset, it.size, it.index) for it in sections if it.type not in empty]]
+    claims.append([(it.offset, it.file_size, it.index) for it in segments if it.type not in (constants.PT_NULL, constants.PT_GNU_RELRO)])
+    for owner, parts in zip((Owner.SECTION, Owner.SEGMENT), claims):
+        covering = [it for it in parts if it[0] <= offset < it[0] + it[1]]
+        if covering:
+            return owner, min(covering, key=lambda it: (-it[0], it[1], it[2]))[2]
+    ends = [begin + size for begin, size, *_ in (*tables, *claims[0], *claims[1]) if size]
+    return (Owner.BETWEEN if max(ends) > offset else Owner.BEHIND), None
+
+
+def test_each_byte_is_in_one_piece(path):
+    data = path.read_bytes()
+    for file in (ElfFile(data), ElfFile(data + bytes(5)), ElfFile(without_sections(data)) if data[4] == 2 else ElfFile(data)):
+        pieces = list(file.pieces())
+        assert [it.begin for it in pieces] + [len(file.input)] == [0] + [it.end for it in pieces]
+        assert sum(it.size for it in pieces) == len(file.input)
+        for piece in pieces[:: max(1, len(pieces) // 8)]:
+            for offset in (piece.begin, piece.end - 1):
+                assert (piece.owner, piece.index) == owner_of(file, offset)
+
+
+def test_symbols_of_sections(tmp_path):
+    for words in (["-no-pie"], ["-c"], ["-static"]):
+        path = compiled(tmp_path, *words)
+        with ElfFile.load_from_path(path) as file:
+            for section in file.sections():
+                pieces = list(file.symbol_pieces(section))
+                assert sum(it.size for it in pieces) == section.size and all(one.end == other.begin for one, other in zip(pieces, pieces[1:]))
+                for piece in pieces[:: max(1, len(pieces) // 20)]:
+                    found = file.symbol_at(piece.begin, section.index)
+                    assert (found.symbol if found and found.symbol.size else None) == piece.symbol
+            text = {it.symbol.name: it.size for it in file.symbol_pieces(".text") if it.symbol}
+            assert {"inner", "main"} <= set(text) and all(text[name] == size for name, _, size in sized(path) if name in ("inner", "main"))
+
+
+def test_the_largest_functions(tmp_path):
+    """The recipe beside nm, which counts other names of a function again."""
+    recipe = re.search(r"^```python$(.*?)^```$", (PYTHON.parent.parent / "docs/RECIPES.md").read_text(), re.M | re.S)[1]
+    path = compiled(tmp_path, "-static")
+    printed = subprocess.run([sys.executable, "-c", recipe, path], cwd=PYTHON, capture_output=True, text=True, check=True).stdout
+    rows = [line.split(maxsplit=1) for line in printed.splitlines()]
+    sizes = collections.Counter({(value, size): size for _, value, size in sized(path)})
+    assert len(rows) == 10 and int(rows[0][0]) == sizes.most_common(1)[0][1]
 
 
 def maps_of(path):

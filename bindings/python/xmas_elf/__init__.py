@@ -15,11 +15,12 @@ from ._file import ElfFile
 from ._loading import Addresses, Contents, Loader, LoadPlan, Mapping, TlsTemplate
 from ._overview import Overview
 from ._parts import Dynamic, Header, Note, Relocation, Section, Segment, Symbol
+from ._pieces import Owner, Piece, SymbolPiece
 from ._survey import elf_files, survey, survey_row
 from ._versions import Version, VersionKind
 
 __all__ = [
     "Addresses", "Contents", "Dynamic", "ElfError", "ElfFile", "Header", "LoadPlan", "Loader", "Mapping", "Note", "Overview",
-    "Relocation", "Section", "Segment", "Status", "Symbol", "SymbolAt", "TlsTemplate", "Version", "VersionKind", "elf_files",
-    "survey", "survey_row",
+    "Owner", "Piece", "Relocation", "Section", "Segment", "Status", "Symbol", "SymbolAt", "SymbolPiece", "TlsTemplate", "Version",
+    "VersionKind", "elf_files", "survey", "survey_row",
 ]

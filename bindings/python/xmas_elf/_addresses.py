@@ -2,13 +2,14 @@
 from __future__ import annotations
 
 from array import array
-from ctypes import create_string_buffer
+from ctypes import byref, c_uint64, create_string_buffer
 from typing import Any, Dict, Iterable, List, NamedTuple, Optional, Tuple
 
 from . import _declarations as declared
 from ._archive import ElfError, check, library
 from ._declarations import _document
 from ._parts import Symbol
+from ._rows import one
 
 # The integer types of 32 and 64 bits.
 _WORD = next(letter for letter in "IL" if array(letter).itemsize == 4)
@@ -38,28 +39,42 @@ class AddressIndex:
     """The index of the symbols of a table by their addresses, with its words."""
 
     def __init__(self, file: Any, table: Any, indices: Tuple[int, int], within: int) -> None:
-        self._file = file
+        self._file, self._table = file, table
         part = declared.RANGE.pack(*indices)
         self._index = create_string_buffer(declared.ADDRESS_INDEX.size)
         self._words = create_string_buffer(0)
         for count in (0, None):
-            words = self._sizes.words if count is None else count
+            words = self.sizes.words if count is None else count
             self._words = create_string_buffer(4 * words)
             check(library.xmas_elf_address_index(*file._input, table, part, within, self._words, words, self._index))
         self._names: Dict[int, Tuple[Optional[str], int]] = {}
 
     @property
-    def _sizes(self) -> Any:
+    def sizes(self) -> Any:
+        """The record of the index."""
         return declared.AddressIndexRecord._make(declared.ADDRESS_INDEX.unpack(self._index))
 
     def symbols_at(self, addresses: Iterable[int]) -> List[Optional[SymbolAt]]:
         """The symbols of addresses, in their order, by one call of the archive."""
         numbers = array(_NUMBER, addresses)
-        count, words = len(numbers), self._sizes.words
+        count, words = len(numbers), self.sizes.words
         found = create_string_buffer(count * declared.SYMBOL_AT.size)
         numbers_at, _ = numbers.buffer_info()
         check(library.xmas_elf_symbols_at(*self._file._input[:2], self._index, self._words, words, numbers_at, count, found, count))
         return [self._of(fields) for fields in declared.SYMBOL_AT.iter_unpack(found.raw[: count * declared.SYMBOL_AT.size])]
+
+    def pieces(self, begin: int, end: int, pieces: Any, room: int) -> int:
+        """Stores the pieces of addresses by symbols, and returns the number of all."""
+        count, words = c_uint64(), self.sizes.words
+        new = create_string_buffer(4 * words)
+        arguments = self._index, begin, end, 0, new, words, pieces, room, byref(count)
+        check(library.xmas_elf_symbol_pieces(*self._file._input[:2], *arguments))
+        return count.value
+
+    def symbol(self, index: int) -> Symbol:
+        """The symbol at an index of the table."""
+        fields = one("xmas_elf_symbols", declared.SYMBOL, *self._file._input[:2], self._table, index)
+        return Symbol(*self._name(fields[2]), *fields)
 
     def _of(self, fields: Tuple[int, ...]) -> Optional[SymbolAt]:
         *symbol, index, offset, found, _ = fields
@@ -68,7 +83,7 @@ class AddressIndex:
     def _name(self, index: int) -> Tuple[Optional[str], int]:
         """The text at an index of the string table, with its status."""
         if index not in self._names:
-            sizes = self._sizes
+            sizes = self.sizes
             try:
                 self._names[index] = self._file._text((sizes.table_strings_offset, sizes.table_strings_size), index), 0
             except ElfError as error:

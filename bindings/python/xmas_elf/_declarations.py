@@ -717,6 +717,47 @@ _document(
 LOAD_MAPPING = Struct("@QQQII0Q")
 
 
+class PieceRecord(NamedTuple):
+    """A longest run of bytes of a file, or of addresses, that belong to one part."""
+
+    begin: int
+    end: int
+    index: int  # type: ignore[assignment]
+    owner: int
+
+
+_document(
+    PieceRecord,
+    begin="The offset of the first byte, or the first address.",
+    end="The offset after the last byte, or the address after the last; it is above `begin`.",
+    index="The index of the section, the segment or the symbol, or 0.",
+    owner=
+        "What it belongs to: 0 the ELF header, 1 the program header table, 2 the section header table, 3 a "
+        "section, 4 a segment and no section, 5 nothing, and a part begins after it, 6 nothing, and no part "
+        "begins after it; of `xmas_elf_symbol_pieces` 7 a symbol, 8 no symbol.",
+)
+
+
+PIECE = Struct("@QQQI0Q")
+
+
+class PieceSizesRecord(NamedTuple):
+    """The sizes of the pieces of a file."""
+
+    words: int
+    count: int  # type: ignore[assignment]
+
+
+_document(
+    PieceSizesRecord,
+    words="The number of words that the call takes.",
+    count="The number of all pieces of the file; 0 if the call only found the number of words.",
+)
+
+
+PIECE_SIZES = Struct("@QQ0Q")
+
+
 # What each export answers, and its parameters: a slice is a pointer and a count.
 EXPORTS: Dict[str, Tuple[Any, Tuple[Any, ...]]] = {
     "xmas_elf_open": (c_uint32, (c_void_p, c_size_t, c_void_p,)),
@@ -755,6 +796,8 @@ EXPORTS: Dict[str, Tuple[Any, Tuple[Any, ...]]] = {
     "xmas_elf_check_hash": (c_uint32, (c_void_p, c_size_t, c_void_p,)),
     "xmas_elf_address_index": (c_uint32, (c_void_p, c_size_t, c_void_p, c_void_p, c_void_p, c_uint32, c_void_p, c_size_t, c_void_p,)),
     "xmas_elf_symbols_at": (c_uint32, (c_void_p, c_size_t, c_void_p, c_void_p, c_size_t, c_void_p, c_size_t, c_void_p, c_size_t,)),
+    "xmas_elf_pieces": (c_uint32, (c_void_p, c_size_t, c_void_p, c_uint64, c_void_p, c_size_t, c_void_p, c_size_t, c_void_p,)),
+    "xmas_elf_symbol_pieces": (c_uint32, (c_void_p, c_size_t, c_void_p, c_uint64, c_uint64, c_uint64, c_void_p, c_size_t, c_void_p, c_size_t, c_void_p,)),
     "xmas_elf_load_plan": (c_uint32, (c_void_p, c_size_t, c_void_p, c_uint64, c_uint64, c_void_p,)),
     "xmas_elf_load_mappings": (c_uint32, (c_void_p, c_size_t, c_void_p, c_uint64, c_uint64, c_uint32, c_uint64, c_void_p, c_size_t, c_void_p,)),
     "xmas_elf_message": (c_size_t, (c_uint32, c_void_p, c_size_t,)),

@@ -16,6 +16,7 @@ from ._numbers import unsigned, utf_8
 from ._overview import Overview, overview_of
 from ._parts import Dynamic, Header, Note, Relocation, Section, Segment, Symbol
 from ._parts import section_of, segment_of, symbols_of
+from ._pieces import Piece, SymbolPiece, pieces_of, symbol_pieces_of
 from ._reading import Reading
 from ._rows import Row, batches, one, rows
 from ._tables import packed_relocations_of, relocations_of
@@ -94,6 +95,17 @@ class ElfFile(Reading):
         power of two, and `limit` the end of the addresses that a loader may use; 0 means 4096, and for the limit of
         Linux on x86-64, or on 386 for a file of class 32."""
         return load_plan_of(self, unsigned(page), unsigned(limit))
+
+    def pieces(self) -> Iterator[Piece]:
+        """Which bytes belong to what, in the order of their offsets. Every byte is in exactly one piece, so the sizes sum to
+        the size of the file. A byte that several parts cover belongs to a header before a section before a segment, and of
+        several sections or segments to the one that begins last, then the smallest, then the first."""
+        return pieces_of(self)
+
+    def symbol_pieces(self, section: Union[int, str, Section]) -> Iterator[SymbolPiece]:
+        """Which addresses of a section belong to which symbol: that of `symbol_at` with the section as `within`, if its size
+        is not 0. Every address is in exactly one piece."""
+        return symbol_pieces_of(self, section if isinstance(section, Section) else self.section(section))
 
     # Sections.
 

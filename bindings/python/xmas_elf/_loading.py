@@ -6,8 +6,9 @@ from typing import Any, List, NamedTuple, Optional
 
 from . import _declarations as declared
 from ._declarations import _document
+from ._parts import permissions
 from ._rows import rows
-from .constants import PF, PF_R, PF_W, PF_X
+from .constants import PF
 
 
 class Loader(IntEnum):
@@ -35,8 +36,7 @@ class Mapping(NamedTuple):
     contents: Contents
 
     def __repr__(self) -> str:
-        letters = "".join(letter if self.flags & flag else "-" for letter, flag in zip("RWX", (PF_R, PF_W, PF_X)))
-        return f"<Mapping {self.start:#x} to {self.end:#x} {letters} {self.contents.name}, offset {self.offset:#x}>"
+        return f"<Mapping {self.start:#x} to {self.end:#x} {permissions(self.flags)} {self.contents.name}, offset {self.offset:#x}>"
 
 
 class Addresses(NamedTuple):
@@ -95,7 +95,7 @@ _document(
     relro="The pages that are only readable after relocation (PT_GNU_RELRO), or None.",
     tls="The template of thread-local storage: the last PT_TLS that is not empty, or None.",
     interpreter="The path of the program interpreter (PT_INTERP), or None.",
-    entry="The address at which a program begins to run, or 0.",
+    entry=declared.LoadPlanRecord.entry.__doc__ or "",
     stack_flags="The permissions of the stack (PT_GNU_STACK); None if the file says none.",
     linux="What Linux maps.",
     glibc="What glibc maps: also the pages between load segments, without access.",

@@ -24,6 +24,11 @@ _TYPES, _BINDINGS = tuple(map(STT, range(16))), tuple(map(STB, range(16)))
 _VISIBILITIES = tuple(map(STV, range(4)))
 
 
+def permissions(flags: int) -> str:
+    """The permissions of a segment as three letters."""
+    return "".join(letter if flags & flag else "-" for letter, flag in zip("RWX", (PF_R, PF_W, PF_X)))
+
+
 class Header(declared.HeaderRecord):
     """The ELF header of a file."""
 
@@ -188,8 +193,7 @@ class Segment(declared.SegmentRecord):
     __slots__ = ()
 
     def __repr__(self) -> str:
-        letters = "".join(letter if self.flags & flag else "-" for letter, flag in zip("RWX", (PF_R, PF_W, PF_X)))
-        return f"<Segment {self.index} {self.type} {letters}, {self.file_size} bytes at offset {self.offset:#x}>"
+        return f"<Segment {self.index} {self.type} {permissions(self.flags)}, {self.file_size} bytes at offset {self.offset:#x}>"
 
     def check(self) -> None:
         """Raises where the header doesn't agree with the input: the size of the table's entries, the end of the segment, its

@@ -94,6 +94,10 @@ pub(crate) fn every(asked: &Asked<'_>, mut heard: impl FnMut(&str, Result<(), Er
     heard("address_index", answer, &[Error::DataRange, Error::NotMultiple, Error::IndexManySymbols, Error::IndexFewWords]);
     let answer = ffi::symbols_at(input, address_index, &[0, 1], numbers, &mut [FoundAt::default(); 3]).map(|_| ());
     heard("symbols_at", answer, &[Error::DataRange, Error::NotMultiple]);
+    let answer = ffi::pieces(input, header, asked.index, &mut [u32::default(); 3], &mut [Piece::default(); 3]).map(|_| ());
+    heard("pieces", answer, &[Error::IndexFewWords]);
+    let answer = ffi::symbol_pieces(input, address_index, asked.index, asked.index, asked.index, &mut [u32::default(); 3], &mut [Piece::default(); 3]).map(|_| ());
+    heard("symbol_pieces", answer, &[Error::DataRange, Error::NotMultiple, Error::IndexManySymbols, Error::IndexFewWords]);
     let answer = ffi::load_plan(input, header, asked.index, asked.index).map(|_| ());
     heard("load_plan", answer, &[Error::LoadType, Error::LoadEntrySize, Error::LoadCount, Error::LoadTable, Error::LoadFileSize, Error::LoadEmpty, Error::LoadMisaligned, Error::LoadAlignment, Error::LoadRange, Error::LoadData, Error::LoadOverlap, Error::LoadZeros, Error::LoadNoLoad, Error::LoadHeaders, Error::LoadInterpreter, Error::LoadRelro, Error::LoadTls]);
     let answer = ffi::load_mappings(input, header, asked.index, asked.index, asked.index as u32, asked.index, &mut [Mapping::default(); 3]).map(|_| ());

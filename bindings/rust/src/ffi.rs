@@ -4,7 +4,7 @@
 //! writes the records that it is passed to write, of a slice at most as many as it has, and is defined whatever they
 //! contain. All of these are references of the call, of the types that the archive declares.
 
-use crate::records::{AddressIndex, Answer, Counts, Dynamic, Entry, FoundAt, FoundSymbol, FoundTable, Header, Mapping, Name, NoteRange, Plan, ProgramHeader, Range, Relocation, SectionHeader, SymbolTable, Version};
+use crate::records::{AddressIndex, Answer, Counts, Dynamic, Entry, FoundAt, FoundSymbol, FoundTable, Header, Mapping, Name, NoteRange, Piece, PieceSizes, Plan, ProgramHeader, Range, Relocation, SectionHeader, SymbolTable, Version};
 use crate::Error;
 
 fn answered<T>(status: u32, value: T) -> Result<T, Error> {
@@ -78,6 +78,10 @@ extern "C" {
         indices: *const Range, within: u32, words: *mut u32, words_len: usize, out: *mut AddressIndex) -> u32;
     fn xmas_elf_symbols_at(input: *const u8, input_len: usize, index: *const AddressIndex, words: *const u32,
         words_len: usize, addresses: *const u64, addresses_len: usize, out: *mut FoundAt, out_len: usize) -> u32;
+    fn xmas_elf_pieces(input: *const u8, input_len: usize, header: *const Header, first: u64, words: *mut u32,
+        words_len: usize, out: *mut Piece, out_len: usize, sizes: *mut PieceSizes) -> u32;
+    fn xmas_elf_symbol_pieces(input: *const u8, input_len: usize, index: *const AddressIndex, begin: u64, end: u64,
+        first: u64, words: *mut u32, words_len: usize, out: *mut Piece, out_len: usize, count: *mut u64) -> u32;
     fn xmas_elf_load_plan(input: *const u8, input_len: usize, header: *const Header, page: u64, limit: u64,
         out: *mut Plan) -> u32;
     fn xmas_elf_load_mappings(input: *const u8, input_len: usize, header: *const Header, page: u64, limit: u64,
@@ -488,11 +492,11 @@ pub(crate) fn check_hash(input: &[u8], table: &FoundTable) -> Result<(), Error> 
 /// it only finds how many the index takes: `words` of the record; then call it again with as many. They stay the
 /// caller's, who keeps them for the questions. `table` is a record of `symbols_open` or `dynamic_symbols_open`;
 /// `indices` is the range of the section of type SHT_SYMTAB_SHNDX that is linked to the symbols' section, of size 0
-/// where there is none; `within` is the index of a section in an object file, where values are offsets in sections,
-/// and else 0. A symbol names addresses if it is in a section, has no type or is a function or an object, and has a
-/// name; labels that assemblers make and mapping symbols don't. It takes time n log n for n symbols. `words` is
-/// changed in no call that is not OK. Errors, in the order of the tests: `DataRange`, `NotMultiple`,
-/// `IndexManySymbols`, `IndexFewWords`.
+/// where there is none; `within` is the index of a section whose symbols alone are asked for, as in an object file,
+/// where values are offsets in sections, and else 0. A symbol names addresses if it is in a section, has no type or
+/// is a function or an object, and has a name; labels that assemblers make and mapping symbols don't. It takes time n
+/// log n for n symbols. `words` is changed in no call that is not OK. Errors, in the order of the tests: `DataRange`,
+/// `NotMultiple`, `IndexManySymbols`, `IndexFewWords`.
 pub(crate) fn address_index(input: &[u8], header: &Header, table: &SymbolTable, indices: &Range, within: u32,
     words: &mut [u32]) -> Result<AddressIndex, Error> {
     let mut out = AddressIndex::default();
@@ -515,6 +519,40 @@ pub(crate) fn symbols_at(input: &[u8], index: &AddressIndex, words: &[u32], addr
     let status = unsafe { xmas_elf_symbols_at(input.as_ptr(), input.len(), index, words.as_ptr(), words.len(),
         addresses.as_ptr(), addresses.len(), out.as_mut_ptr(), out.len()) };
     answered(status, ())
+}
+
+/// The pieces of a file from index `first` on, in the order of their offsets, as many as `out` has room for: which
+/// bytes belong to what. Every byte of the file is in exactly one piece, and the sizes of all pieces sum to the size
+/// of the file. Of the parts that cover a byte it belongs to the first of these kinds: the ELF header, the program
+/// header table, the section header table, sections (but those of type SHT_NULL and SHT_NOBITS), segments (but those
+/// of type PT_NULL and PT_GNU_RELRO); of several of a kind to the one that begins last, then the smallest, then the
+/// first of the table. Without words (`words_count` 0) it only finds how many it takes: `words` of `sizes`. Call it
+/// again with as many, and then with room for `count` pieces. Each call builds an index in the words, in time n log n
+/// for n sections and segments, so give room for all. The words may hold anything before and after. Errors:
+/// `IndexFewWords`.
+pub(crate) fn pieces(input: &[u8], header: &Header, first: u64, words: &mut [u32],
+    out: &mut [Piece]) -> Result<PieceSizes, Error> {
+    let mut sizes = PieceSizes::default();
+    // SAFETY: see the head of this file.
+    let status = unsafe { xmas_elf_pieces(input.as_ptr(), input.len(), header, first, words.as_mut_ptr(), words.len(),
+        out.as_mut_ptr(), out.len(), &mut sizes) };
+    answered(status, sizes)
+}
+
+/// The pieces of addresses `begin .. end` by symbols, from index `first` on, as many as `out` has room for; `count`
+/// is the number of all. Every address is in exactly one piece: that of the symbol with a size that `symbols_at`
+/// finds for it, or that of no symbol. `index` is a record of `address_index`, which may be called without words for
+/// it, with the index of a section as `within`, and `begin` and `end` are the addresses of its first byte and after
+/// its last one; in an object file, 0 and its size. The call takes `words` of the record, and builds the index in
+/// them anew: they may hold anything before and after. Errors, in the order of the tests: `DataRange`, `NotMultiple`,
+/// `IndexManySymbols`, `IndexFewWords`.
+pub(crate) fn symbol_pieces(input: &[u8], index: &AddressIndex, begin: u64, end: u64, first: u64, words: &mut [u32],
+    out: &mut [Piece]) -> Result<u64, Error> {
+    let mut count = u64::default();
+    // SAFETY: see the head of this file.
+    let status = unsafe { xmas_elf_symbol_pieces(input.as_ptr(), input.len(), index, begin, end, first,
+        words.as_mut_ptr(), words.len(), out.as_mut_ptr(), out.len(), &mut count) };
+    answered(status, count)
 }
 
 /// Whether Linux and glibc load a file, and what they put into memory for it. `page` is the size of a page, a power

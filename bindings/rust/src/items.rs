@@ -89,9 +89,14 @@ impl<'f, 'a> Section<'f, 'a> {
     /// The symbols that name addresses in this section of an object file (ET_REL), whose values are offsets in it.
     #[cfg(feature = "alloc")]
     pub fn symbol_map(&self) -> SymbolMap<'f, 'a> {
-        // Index 0 would ask for the symbols of all sections; none is in this one, nor in one with the index u32::MAX.
-        let within = u32::try_from(self.index).ok().filter(|index| *index != 0);
-        SymbolMap::new(self.file, within.unwrap_or(u32::MAX))
+        SymbolMap::new(self.file, self.within())
+    }
+
+    // The section, as an index of symbols takes it. Index 0 would ask for the symbols of all sections; none is in this one,
+    // nor in one with the index u32::MAX.
+    #[cfg(feature = "alloc")]
+    pub(crate) fn within(&self) -> u32 {
+        u32::try_from(self.index).ok().filter(|index| *index != 0).unwrap_or(u32::MAX)
     }
 
     /// The hash table that the section is by its type.

@@ -1,8 +1,8 @@
 //! A reader of ELF files that lie in a byte slice, over the proved static library `elf_c`.
 //!
 //! Every slice and text is a part of the input. No call panics or fails otherwise, whatever the bytes are, and none but
-//! [`ElfFile::symbol_map`] and [`Section::symbol_map`] allocate. Every result of the archive is proved; this crate, which slices the input at the
-//! ranges that the archive returns, is tested.
+//! `symbol_map`, `pieces` and `symbol_pieces` of [`ElfFile`] and [`Section`] allocate. Every result of the archive is proved;
+//! this crate, which slices the input at the ranges that the archive returns, is tested.
 //!
 //! Numbers of headers, symbols and entries are fields, with the names of the standard in [`constants`]; `get_type` and
 //! its like give them as enums.
@@ -45,6 +45,8 @@ mod items;
 mod load_plan;
 mod message;
 mod notes;
+#[cfg(feature = "alloc")]
+mod pieces;
 pub mod program;
 mod ranges;
 mod records;
@@ -69,6 +71,8 @@ pub use notes::{Note, Notes};
 pub use records::Range as ByteRange;
 pub use ranges::LookUp;
 pub use records::{Answer, Dynamic, Entry, Header, Mapping, Name, ProgramHeader, Relocation, SectionHeader, Span, SymbolTable, TlsTemplate, Version};
+#[cfg(feature = "alloc")]
+pub use pieces::{Owner, Piece, SymbolPiece};
 #[cfg(feature = "alloc")]
 pub use symbol_map::{SymbolAt, SymbolMap};
 pub use dynamic::{DynamicSymbol, DynamicSymbols};

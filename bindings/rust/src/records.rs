@@ -369,3 +369,29 @@ pub struct Mapping {
     /// What the pages hold: 0 nothing that can be read, 1 pages of the file, 2 zeros.
     pub contents: u32,
 }
+
+/// A longest run of bytes of a file, or of addresses, that belong to one part.
+#[repr(C)]
+#[derive(Clone, Copy, Debug, Default, PartialEq, Eq)]
+pub(crate) struct Piece {
+    /// The offset of the first byte, or the first address.
+    pub(crate) begin: u64,
+    /// The offset after the last byte, or the address after the last; it is above `begin`.
+    pub(crate) end: u64,
+    /// The index of the section, the segment or the symbol, or 0.
+    pub(crate) index: u64,
+    /// What it belongs to: 0 the ELF header, 1 the program header table, 2 the section header table, 3 a section, 4 a
+    /// segment and no section, 5 nothing, and a part begins after it, 6 nothing, and no part begins after it; of
+    /// `symbol_pieces` 7 a symbol, 8 no symbol.
+    pub(crate) owner: u32,
+}
+
+/// The sizes of the pieces of a file.
+#[repr(C)]
+#[derive(Clone, Copy, Debug, Default, PartialEq, Eq)]
+pub(crate) struct PieceSizes {
+    /// The number of words that the call takes.
+    pub(crate) words: u64,
+    /// The number of all pieces of the file; 0 if the call only found the number of words.
+    pub(crate) count: u64,
+}

@@ -64,13 +64,18 @@ fn indices_of(file: &ElfFile<'_>, section: Option<Section<'_, '_>>) -> ByteRange
     found.map_or(ByteRange::default(), |indices| ByteRange { offset: indices.offset, size: indices.size })
 }
 
-// The index of the symbols of a file, or of one of its sections alone, with its words.
-fn index_of(file: &ElfFile<'_>, within: u32) -> Result<(AddressIndex, Vec<u32>), Error> {
+// The symbols of a file, or of one of its sections alone, and the number of words that an index of them takes.
+pub(crate) fn asked_index(file: &ElfFile<'_>, within: u32) -> Result<AddressIndex, Error> {
     let section = section_with_symbols(file);
     let (table, indices) = (table_of(file, section)?, indices_of(file, section));
-    let ask = |words: &mut [u32]| ffi::address_index(file.input(), file.header(), &table, &indices, within, words);
-    let mut words = vec![0; ask(&mut [])?.words as usize];
-    let index = ask(&mut words)?;
+    ffi::address_index(file.input(), file.header(), &table, &indices, within, &mut [])
+}
+
+// The index of these symbols, with its words.
+fn index_of(file: &ElfFile<'_>, within: u32) -> Result<(AddressIndex, Vec<u32>), Error> {
+    let asked = asked_index(file, within)?;
+    let mut words = vec![0; asked.words as usize];
+    let index = ffi::address_index(file.input(), file.header(), &asked.table, &asked.indices, within, &mut words)?;
     Ok((index, words))
 }
 

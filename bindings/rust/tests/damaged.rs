@@ -112,6 +112,25 @@ fn visit_segments(file: &ElfFile<'_>) {
     assert!(file.segments().skip(1).take(3).map(|one| *one).eq(headers[..count].iter().copied()));
 }
 
+// Each byte is in one piece, each address of a section in one piece by symbols, and each symbol covers its addresses.
+#[cfg(feature = "alloc")]
+fn visit_pieces(file: &ElfFile<'_>) {
+    let mut end = 0;
+    for piece in file.pieces() {
+        assert!(piece.begin == end && piece.end > end);
+        end = piece.end;
+    }
+    assert_eq!(end, file.input().len() as u64);
+    for section in file.sections().take(100) {
+        let mut end = None;
+        for piece in section.symbol_pieces() {
+            assert!(end.map_or(true, |end| end == piece.begin) && piece.begin < piece.end);
+            assert!(piece.symbol.map_or(true, |symbol| symbol.value <= piece.begin && piece.end - symbol.value <= symbol.size));
+            end = Some(piece.end);
+        }
+    }
+}
+
 // The symbols of the dynamic segment by many at once are those of the iterator, as many as are counted, and their names lie
 // in the input.
 fn visit_dynamic_symbols(file: &ElfFile<'_>) {
@@ -268,6 +287,8 @@ fn visit(input: &[u8]) -> usize {
     file.sections().take(200).for_each(|section| visit_symbol_names(&file, &section));
     file.sections().take(200).for_each(|section| visit_batches(&file, &section));
     visit_segments(&file);
+    #[cfg(feature = "alloc")]
+    visit_pieces(&file);
     visit_dynamic_symbols(&file);
     visit_versions(&file);
     visit_load_plan(&file);

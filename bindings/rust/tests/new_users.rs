@@ -115,6 +115,8 @@ fn compare(path: &Path) -> usize {
         assert_eq!(file.dynamic().expect("entries").count(), tags, "{}", path.display());
         assert!(file.sections().all(|section| section.name().is_ok() && section.check().is_ok()), "{}", path.display());
         #[cfg(feature = "alloc")]
+        assert_eq!(file.pieces().map(|piece| piece.end - piece.begin).sum::<u64>(), bytes.len() as u64, "{}", path.display());
+        #[cfg(feature = "alloc")]
         for symbol in file.dynamic_symbols().expect("symbols").filter(|symbol| symbol.get_type() == Ok(Type::Func) && symbol.is_defined()).take(50) {
             let found = file.symbol_map().get(symbol.value).expect("a symbol");
             assert!(found.value == symbol.value && found.name().is_ok_and(|name| !name.is_empty()), "{}", path.display());

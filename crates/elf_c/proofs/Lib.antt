@@ -17,3 +17,4 @@ pub mod LookedUp
 pub mod Storing
 pub mod AddressIndexes
 pub mod LoadPlans
+pub mod ListedPieces

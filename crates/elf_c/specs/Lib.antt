@@ -18,3 +18,4 @@ pub mod Versions
 pub mod FoundSymbols
 pub mod AddressIndex
 pub mod LoadPlans
+pub mod Pieces

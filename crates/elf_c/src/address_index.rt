@@ -83,7 +83,7 @@ pub(crate) enum AnyAddresses<'a> {
 
 // The section that is asked for; 0 is none.
 #[inline(always)]
-fn within_of(section: u32) -> Option<u32>
+pub(crate) fn within_of(section: u32) -> Option<u32>
     ensures { result ≡ within_of section }
 {
     if section == 0 { None } else { Some(section) }
@@ -108,7 +108,7 @@ fn words_by<'a>(input: &'a [u8], part: &Range, order: Order) -> Result<Table<'a,
 
 // The symbols of a record, and what says which of them name addresses.
 #[tactic(auto, using(crate::proofs::AddressIndexes::all_read, crate::proofs::AddressIndexes::no_symbols, crate::proofs::AddressIndexes::no_strings, crate::proofs::AddressIndexes::no_words))]
-fn addresses_by<'a>(
+pub(crate) fn addresses_by<'a>(
     input: &'a [u8],
     table: &SymbolTable,
     indices: &Range,

@@ -22,6 +22,7 @@ pub mod message;
 pub mod names;
 pub mod notes;
 pub mod packed_relocations;
+pub mod pieces;
 pub mod relocations;
 pub mod sections;
 pub mod segments;
