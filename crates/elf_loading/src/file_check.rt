@@ -1,6 +1,7 @@
 //! Whether a file can be loaded.
 
-ghost use Rattle.std.specs.Prelude.{◌≡◌, ◌≤◌, ◌<◌, ◌+◌, ◌-◌, ◌==◌, nat_lt, length, Err, IfOk, MatchResult, None, Ok};
+ghost use Rattle.std.specs.Prelude.{◌≡◌, ◌≤◌, ◌<◌, ◌+◌, ◌-◌, ◌==◌, nat_lt, length};
+ghost use Rattle.std.specs.Prelude.{Err, IfOk, MatchResult, None, Ok};
 ghost use Rattle.elf_base.specs.FileHeader.{file_class, header_fields};
 ghost use Rattle.elf_base.specs.Refusal.{unless};
 ghost use Rattle.elf_loading.specs.FileCheck.{check_file, header_rows, holder_in, is_misplaced};
@@ -162,7 +163,8 @@ fn check_segments(
 ) -> Result<(), LoadError>
     requires page { 0 < page }
     requires found { AreOthersOf file.now others.now }
-    requires passed { IsPassOf page (wanted_of page file.now others.now) (loads_of file.now) pass.now }
+    requires passed { IsPassOf page (wanted_of page file.now others.now) (loads_of file.now)
+        pass.now }
     ensures { result ≡ unless (segment_rows file.now page) tt }
 {
     if is_misplaced(file, others, pass.holder) {
@@ -180,7 +182,8 @@ fn check_segments(
     Ok(())
 }
 
-// The pages from the first load of a file to the last, or the first reason why the file can't be loaded.
+// The pages from the first load of a file to the last, or the first reason why the file can't be
+// loaded.
 #[tactic(auto, unfolding(crate::specs::FileCheck::check_file))]
 pub(crate) fn check_file(
     page: u64,

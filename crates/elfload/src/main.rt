@@ -5,8 +5,7 @@
 //! is the size of a page, 4096 without it.
 #![tactic(auto)]
 
-ghost use Rattle.std.specs.Int.{is_power_of_two};
-ghost use Rattle.std.specs.Prelude.{◌≡◌, ◌<◌, ◌≤◌, IfErr, IfOk, IfSome, Result, true};
+ghost use Rattle.std.specs.Prelude.{◌≡◌, ◌<◌, ◌≤◌, IfErr, IfOk, IfSome, Result};
 ghost use Rattle.elfload.specs.Ends.{IsBegun, IsEnd, IsFault, OfFile, fault_of, status_of};
 ghost use Rattle.elfload.specs.Plans.{IsInputLoaded, IsInputPlan, IsInputRefused};
 ghost use Rattle.elfload.specs.declared.Fault.{Fault};
@@ -177,8 +176,7 @@ fn run_on_paths<S: AsStr>(rt: &HostRuntime, page: u64, paths: &[S]) -> u8
 
 // The size of a page and the files that the arguments ask for, if they are as they should be.
 fn asked<S: AsStr>(arguments: &[S]) -> Option<(u64, &[S])>
-    ensures above { IfSome result (λ asked. 0 < asked.0) }
-    ensures power { IfSome result (λ asked. is_power_of_two asked.0 ≡ true) }
+    ensures { IfSome result (λ asked. 0 < asked.0) }
 {
     let (first, others) = arguments.split_first()?;
     if first.as_str() != "--page" {
