@@ -12,3 +12,4 @@ pub mod Mappings
 pub mod Bytes
 pub mod MappingParts
 pub mod MappingsLeft
+pub mod Formulas

@@ -9,6 +9,7 @@
 mod bytes;
 mod error;
 mod file_check;
+mod formulas;
 mod load_check;
 mod load_pass;
 mod mapping;
@@ -20,6 +21,7 @@ mod span;
 
 pub use crate::bytes::Byte;
 pub use crate::error::LoadError;
+pub use crate::formulas::{Formula, formula_of, width_of};
 pub use crate::mapping::{Contents, Loader, Mapping};
 pub use crate::mappings::Mappings;
 pub use crate::plan::{LoadPlan, Tls};
