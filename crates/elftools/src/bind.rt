@@ -7,7 +7,7 @@ use elf_linking::DynamicObject;
 use elf_linking::find::Wanted;
 use elf_linking::scope::{Asked, Binding, Scope};
 use elf_linking::view::{DynamicView, LinkedSymbol};
-use std::alloc::Global;
+use std::alloc::{AllocError, Global};
 use std::io;
 use std::io::Write;
 use xmas_elf::ElfFile;
@@ -21,133 +21,112 @@ const MOST: usize = 10_000;
 const DIRECTORIES: &str =
     "/lib/x86_64-linux-gnu:/usr/lib/x86_64-linux-gnu:/lib64:/usr/lib64:/lib:/usr/lib";
 
-// A file that is loaded.
+// A file that is loaded, and the directories of DT_RPATH of the file and of those that needed it.
 #[derive(Drop)]
 struct Loaded {
     path: String,
-    // The name by which it was needed first, and its own.
-    names: Vec<String>,
     bytes: Vec<u8>,
-    // The index of the file that needed it first: itself for the program.
-    parent: usize,
+    directories: String,
 }
 
-// The folder of a file.
-fn directory_of(path: &str) -> &str {
-    path.rsplit_once('/')
-        .map_or(".", |(directory, _)| directory)
+fn view_of(bytes: &[u8]) -> anyhow::Result<DynamicView<'_>> {
+    Ok(DynamicView::read(&ElfFile::new(bytes)?)?)
 }
 
-// A file of the class and machine of the program, if it can be read there.
-fn candidate(rt: &HostRuntime, program: &[u8], path: &str) -> Option<Vec<u8>> {
-    let bytes = read_file(rt, path).ok()?;
-    let (program, file) = (ElfFile::new(program).ok()?, ElfFile::new(&bytes).ok()?);
-    let fits = program.header.pt1.class() == file.header.pt1.class()
-        && program.header.pt2.machine().raw() == file.header.pt2.machine().raw();
-    if fits { Some(bytes) } else { None }
+// The folder and the name of a file.
+fn parts_of(path: &str) -> (&str, &str) {
+    path.rsplit_once('/').unwrap_or((".", path))
 }
 
-// The library of this name, in a list of directories with colons between them.
-fn search(
-    rt: &HostRuntime,
-    program: &[u8],
-    directories: &str,
-    origin: &str,
-    name: &str,
-) -> anyhow::Result<Option<(String, Vec<u8>)>> {
-    for directory in directories.split(':') {
-        let rest = directory.strip_prefix("$ORIGIN");
-        let path = match rest.or(directory.strip_prefix("${ORIGIN}")) {
-            Some(rest) => format!(in rt.alloc(); "{origin}{rest}/{name}")?,
-            None => format!(in rt.alloc(); "{directory}/{name}")?,
-        };
-        if let Some(bytes) = candidate(rt, program, path.as_str()) {
-            return Ok(Some((path, bytes)));
+// Directories with colons between them, where $ORIGIN is the folder of a file.
+fn directories_of(alloc: Global, directories: &str, path: &str) -> Result<String, AllocError> {
+    let plain = directories.replace(alloc, "${ORIGIN}", "$ORIGIN")?;
+    plain.as_str().replace(alloc, "$ORIGIN", parts_of(path).0)
+}
+
+// The file, which is needed by one with these directories of DT_RPATH.
+fn loaded_of(alloc: Global, path: String, bytes: Vec<u8>, above: &str) -> anyhow::Result<Loaded> {
+    let view = view_of(&bytes)?;
+    let directories = match (view.run_path(), view.r_path()) {
+        (None, Some(Ok(own))) => {
+            let own = directories_of(alloc, own, path.as_str())?;
+            format!(in alloc; "{own}:{above}")?
         }
-    }
-    Ok(None)
+        _ => String::from_str(alloc, above)?,
+    };
+    Ok(Loaded {
+        path,
+        bytes,
+        directories,
+    })
 }
 
-// The library that the file at an index needs by this name: in DT_RPATH of the file and of those that
-// needed it, or in its DT_RUNPATH alone if it has one, and then in the usual directories.
+fn kind_of(bytes: &[u8]) -> Option<(Class, u16)> {
+    let header = ElfFile::new(bytes).ok()?.header;
+    Some((header.pt1.class(), header.pt2.machine().raw()))
+}
+
+fn at(loaded: &[Loaded], index: usize) -> anyhow::Result<&Loaded> {
+    loaded.get(index).context("no file")
+}
+
+// The library of this name that the file at an index needs: in the directories of DT_RUNPATH if it
+// has one, or else in those of DT_RPATH, and then in the usual ones.
 fn find_library(
     rt: &HostRuntime,
     loaded: &[Loaded],
     from: usize,
     name: &str,
-) -> anyhow::Result<Option<(String, Vec<u8>)>> {
-    let Some(program) = loaded.first() else {
-        return Ok(None);
+) -> anyhow::Result<Loaded> {
+    let (program, from, alloc) = (at(loaded, 0)?, at(loaded, from)?, rt.alloc());
+    let above = from.directories.as_str();
+    let own = match view_of(&from.bytes)?.run_path() {
+        Some(Ok(path)) => directories_of(alloc, path, from.path.as_str())?,
+        _ => String::from_str(alloc, above)?,
     };
-    if name.contains('/') {
-        let path = String::from_str(rt.alloc(), name)?;
-        return Ok(candidate(rt, &program.bytes, name).map(|bytes| (path, bytes)));
-    }
-    let mut at = from;
-    for _step in 0..MOST {
-        let Some(file) = loaded.get(at) else { break };
-        let view = DynamicView::read(&ElfFile::new(&file.bytes)?)?;
-        let path = match view.run_path() {
-            Some(path) if at == from => Some(path),
-            Some(_) => None,
-            None => view.r_path(),
+    for directory in own.split(':').chain(DIRECTORIES.split(':')) {
+        let path = if name.contains('/') {
+            String::from_str(alloc, name)?
+        } else {
+            format!(in alloc; "{directory}/{name}")?
         };
-        if let Some(Ok(path)) = path {
-            let origin = directory_of(file.path.as_str());
-            if let Some(found) = search(rt, &program.bytes, path, origin, name)? {
-                return Ok(Some(found));
+        if let Ok(bytes) = read_file(rt, path.as_str()) {
+            if kind_of(&bytes) == kind_of(&program.bytes) {
+                return loaded_of(alloc, path, bytes, above);
             }
         }
-        if file.parent == at || at == from && view.run_path().is_some() {
-            break;
-        }
-        at = file.parent;
     }
-    search(rt, &program.bytes, DIRECTORIES, "", name)
+    Err(anyhow!("not found: {name}"))
 }
 
 // The names of the libraries that a file needs.
 fn needed_by(alloc: Global, bytes: &[u8]) -> anyhow::Result<Vec<String>> {
     let mut names = Vec::new(alloc);
-    for name in DynamicView::read(&ElfFile::new(bytes)?)?.needed() {
+    for name in view_of(bytes)?.needed() {
         names.push(String::from_str(alloc, name?)?)?;
     }
     Ok(names)
 }
 
-fn is_loaded(loaded: &[Loaded], name: &str) -> bool {
-    loaded.iter().any(|file| file.names.iter().any(|other| other.as_str() == name))
+// Whether a file has this name, or was found by it.
+fn has_name(file: &Loaded, name: &str) -> bool {
+    let path = file.path.as_str();
+    let own = view_of(&file.bytes).ok().and_then(|view| view.soname());
+    path == name || parts_of(path).1 == name || matches!(own, Some(Ok(own)) if own == name)
 }
 
 // The program and all libraries that it needs, breadth first.
 fn load(rt: &HostRuntime, program: &str) -> anyhow::Result<Vec<Loaded>> {
-    let mut loaded = Vec::new(rt.alloc());
-    loaded.push(Loaded {
-        path: String::from_str(rt.alloc(), program)?,
-        names: Vec::new(rt.alloc()),
-        bytes: read_file(rt, program).context("cannot read the program")?,
-        parent: 0,
-    })?;
+    let (mut loaded, path) = (Vec::new(rt.alloc()), String::from_str(rt.alloc(), program)?);
+    let bytes = read_file(rt, program).context("cannot read the program")?;
+    loaded.push(loaded_of(rt.alloc(), path, bytes, "")?)?;
     for from in 0..MOST {
         let Some(file) = loaded.get(from) else { break };
         for name in needed_by(rt.alloc(), &file.bytes)? {
-            if is_loaded(&loaded, name.as_str()) {
-                continue;
+            if !loaded.iter().any(|file| has_name(file, name.as_str())) {
+                let found = find_library(rt, &loaded, from, name.as_str())?;
+                loaded.push(found)?;
             }
-            let (path, bytes) = find_library(rt, &loaded, from, name.as_str())?.context(
-                format_args!("not found: {name}"),
-            )?;
-            let mut names = Vec::new(rt.alloc());
-            names.push(name)?;
-            if let Some(Ok(own)) = DynamicView::read(&ElfFile::new(&bytes)?)?.soname() {
-                names.push(String::from_str(rt.alloc(), own)?)?;
-            }
-            loaded.push(Loaded {
-                path,
-                names,
-                bytes,
-                parent: from,
-            })?;
         }
     }
     Ok(loaded)
@@ -188,8 +167,7 @@ fn write_bindings<E: LinkedSymbol, W: Write>(
 ) -> anyhow::Result<()> {
     let mut objects = Vec::new(alloc);
     for file in loaded {
-        let elf = ElfFile::new(&file.bytes)?;
-        objects.push(DynamicObject::<E>::read_reached(&elf)?)?;
+        objects.push(DynamicObject::<E>::read_reached(&ElfFile::new(&file.bytes)?)?)?;
     }
     for item in Scope::new(&objects).bindings() {
         match item {
@@ -204,9 +182,8 @@ fn write_bindings<E: LinkedSymbol, W: Write>(
 /// looked up, where FROM and TO are paths.
 pub fn write_all<W: Write>(rt: &HostRuntime, program: &str, out: &mut W) -> anyhow::Result<()> {
     let loaded = load(rt, program)?;
-    let first = loaded.first().context("no program")?;
-    match ElfFile::new(&first.bytes)?.header.pt1.class() {
-        Class::ThirtyTwo => write_bindings::<DynEntry32, W>(rt.alloc(), &loaded, out),
+    match kind_of(&at(&loaded, 0)?.bytes) {
+        Some((Class::ThirtyTwo, _)) => write_bindings::<DynEntry32, W>(rt.alloc(), &loaded, out),
         _ => write_bindings::<DynEntry64, W>(rt.alloc(), &loaded, out),
     }
 }

@@ -3,7 +3,7 @@
 
 use anyhow::anyhow;
 use elf_linking::references::relocation_name;
-use elf_linking::view::{DynamicView, LinkedSymbol, word_at};
+use elf_linking::view::{DT_PLTREL, DT_REL, DynamicView, LinkedSymbol, word_at};
 use elf_linking::{DynamicObject, LinkError};
 use elf_loading::{Contents, LoadPlan, Loader, Mapping};
 use std::io;
@@ -63,19 +63,26 @@ fn write_segments<W: Write>(plan: &LoadPlan<'_>, by: Loader, out: &mut W) -> io:
     Ok(())
 }
 
-fn write_relocations<E: LinkedSymbol, W: Write>(
-    file: &ElfFile<'_>,
-    view: &DynamicView<'_>,
+fn write_relocations<'a, E: LinkedSymbol, W: Write>(
+    file: &ElfFile<'a>,
+    view: &DynamicView<'a>,
     out: &mut W,
 ) -> anyhow::Result<()> {
     let object = DynamicObject::<E>::read_reached(file)?;
     let machine = file.header.pt2.machine().raw();
+    // Records without an addend have it at their place.
+    let is_in_place = view.entry(DT_REL).is_some() || view.entry(DT_PLTREL) == Some(DT_REL);
     for relocation in view.relocations(file)? {
         match relocation_name(machine, relocation.kind) {
             Some(name) => write!(out, "{} ", name)?,
             None => write!(out, "{} ", relocation.kind)?,
         }
-        write!(out, "{:x} {:x} ", relocation.offset, relocation.addend)?;
+        let addend = if is_in_place {
+            word_at(file, relocation.offset).unwrap_or(0)
+        } else {
+            relocation.addend
+        };
+        write!(out, "{:x} {:x} ", relocation.offset, addend)?;
         match relocation.symbol {
             0 => write!(out, "-")?,
             index => out.write_all(object.name_bytes(index).unwrap_or(b"?"))?,

@@ -9,31 +9,25 @@ use xmas_elf::bytes::Record;
 use xmas_elf::program::{ProgramHeader, Type};
 use xmas_elf::symbol_table::{Entry, SymbolTable};
 
-// What claims a range of the file, with the bytes that no later row claims.
+// Where bytes begin in the file and how many there are, if there are any.
+type Range = Option<(usize, usize)>;
+
+// What claims a range of the file, with the number of bytes that no later row claims.
 #[derive(Clone, Copy, Drop)]
 struct Row<'a> {
     kind: &'static str,
     name: &'a [u8],
-    start: usize,
-    len: usize,
+    range: Range,
     size: u64,
     own: usize,
 }
 
 impl<'a> Row<'a> {
-    // What has no bytes in the file claims an empty range.
-    fn new(
-        kind: &'static str,
-        name: &'a [u8],
-        range: Option<(usize, usize)>,
-        size: u64,
-    ) -> Row<'a> {
-        let (start, len) = range.unwrap_or((0, 0));
+    fn new(kind: &'static str, name: &'a [u8], range: Range, size: u64) -> Row<'a> {
         Row {
             kind,
             name,
-            start,
-            len,
+            range,
             size,
             own: 0,
         }
@@ -66,13 +60,8 @@ fn push_segments(
 ) -> Result<(), AllocError> {
     for program in file.program_iter() {
         if matches!(program.get_type(), Ok(Type::Load)) == loads {
-            let range = program.file_range(file).ok();
-            rows.push(Row::new(
-                "segment",
-                segment_name(&program),
-                range,
-                program.file_size(),
-            ))?;
+            let (name, range) = (segment_name(&program), program.file_range(file).ok());
+            rows.push(Row::new("segment", name, range, program.file_size()))?;
         }
     }
     Ok(())
@@ -125,8 +114,11 @@ fn push_headers(file: &ElfFile<'_>, rows: &mut Vec<Row<'_>>) -> Result<(), Alloc
 fn share_out(all: usize, rows: &mut Vec<Row<'_>>) -> Result<(), AllocError> {
     let mut owners = vec![in *rows.allocator(); 0u32; all]?;
     for (index, row) in rows.iter().enumerate() {
-        let end = row.start.saturating_add(row.len);
-        if let Some(part) = owners.as_mut_slice().get_mut(row.start..end) {
+        let (start, len) = row.range.unwrap_or((0, 0));
+        if let Some(part) = owners
+            .as_mut_slice()
+            .get_mut(start..start.saturating_add(len))
+        {
             part.fill(u32::try_from(index).unwrap_or(0));
         }
     }
