@@ -352,7 +352,7 @@ static int is_listed(const struct any *any, uint32_t status)
  * a status of the list, and a refused call leaves the pattern. */
 static void try_any(const struct any *any, const struct asked *asked, const uint8_t *elsewhere)
 {
-    union output before[2], out[2], again[2];
+    union output before[3], out[3], again[3];
     struct asked moved = *asked;
     moved.bytes = elsewhere;
     memset(before, 0xa5, sizeof before);

@@ -111,8 +111,9 @@ function layoutPanel(file) {
   const legend = element("ul", { class: "legend" }, Object.entries(KINDS).map(([kind, text]) =>
     element("li", {}, element("span", { class: `swatch ${kind}` }), text)));
   const { between, behind } = unowned(file);
-  const said = `${plural(file.pieces.length, "piece")}: each byte is in one. ${plural(between + behind, "byte")} of no part: ${grouped(between)} between parts, ${grouped(behind)} behind all. Heights grow with the logarithm of the size; the strip above is at true scale.`;
+  const said = `${plural(file.pieces.length, "piece")}: each byte is in one. ${plural(between + behind, "byte")} of no part: ${grouped(between)} between parts, ${grouped(behind)} behind all. Heights are logarithmic; the strip above is at true scale.`;
   const node = panel("Layout", said, element("div", { class: "fill" }, map.node, inside.node), legend);
+  node.classList.add("layout");
   return { node, shown: () => { map.draw(); inside.draw(); } };
 }
 

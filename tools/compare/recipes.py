@@ -122,7 +122,7 @@ def largest(path: str) -> list:
     kept = parts(said, "Symbols", "Symbol") or parts(said, "DynamicSymbols", "Symbol")
     found: Counter = Counter()
     for section in parts(said, "Sections", "Section"):
-        if not raw(section["Flags"]) & EXECUTED:
+        if not section["Flags"]["RawFlags"] & EXECUTED:
             continue
         here = [(it["Value"], it["Size"], raw(it["Type"]) != FUNCTION) for it in kept if raw(it["Section"]) == section["Index"] and raw(it["Type"]) in NAMED]
         sized = sorted({it for it in here if it[1]}, key=lambda it: (-it[0], it[1], it[2]))

@@ -386,8 +386,8 @@ def test_the_largest_functions(tmp_path):
     path = compiled(tmp_path, "-static")
     printed = subprocess.run([sys.executable, "-c", recipe, path], cwd=PYTHON, capture_output=True, text=True, check=True).stdout
     rows = [line.split(maxsplit=1) for line in printed.splitlines()]
-    sizes = collections.Counter({(value, size): size for _, value, size in sized(path)})
-    assert len(rows) == 10 and int(rows[0][0]) == sizes.most_common(1)[0][1]
+    sizes = sorted({(size, value) for name, value, size in sized(path) if name != "numbers"}, reverse=True)
+    assert [int(row[0]) for row in rows] == [size for size, _ in sizes[:10]]
 
 
 def maps_of(path):
