@@ -20,7 +20,7 @@ import concurrent.futures
 import glob
 import os
 import sys
-from typing import Dict, List, NamedTuple, Optional, Tuple
+from typing import Dict, List, Optional, Tuple
 
 from comparing import ABSOLUTE, INDIRECT, ROOT, THREAD, UNDEFINED, UNIQUE, Tally, dynamic_symbols, parser_of, read_elf
 from loading import asked
@@ -28,27 +28,20 @@ from loading import asked
 sys.path.insert(1, str(ROOT / "bindings" / "python"))
 
 
-class Query(NamedTuple):
-    """A name, and a version or none; `is_absent` where the file has no symbol with both."""
-
-    name: str
-    version: Optional[str]
-    is_absent: bool
-
-
-def queries_of(path: str) -> Tuple[List[Query], int]:
-    """What is asked about a file, and how many names have several versions."""
+def queries_of(path: str) -> Tuple[List[Tuple[str, Optional[str], str]], int]:
+    """What is asked about a file: each name, with a version or none, and what this counts as; and how many names have several
+    versions."""
     versions: Dict[str, Dict[str, None]] = {}
     for it in filter(lambda it: it.name, dynamic_symbols(path)):
         of_name = versions.setdefault(it.name, {})
         if it.version and it.section != UNDEFINED:
             of_name[it.version] = None
     listed = sorted({version for of_name in versions.values() for version in of_name})
-    queries = [Query(name, None, False) for name in versions]
+    queries: List[Tuple[str, Optional[str], str]] = [(name, None, "names") for name in versions]
     for name, of_name in versions.items():
-        queries += [Query(name, version, False) for version in of_name]
+        queries += [(name, version, "pairs") for version in of_name]
         # The first two versions that the name doesn't have.
-        queries += [Query(name, version, True) for version in [it for it in listed if it not in of_name][:2] if of_name]
+        queries += [(name, version, "absent pairs") for version in [it for it in listed if it not in of_name][:2] if of_name]
     return queries, sum(len(of_name) > 1 for of_name in versions.values())
 
 
@@ -80,8 +73,7 @@ def compare(path: str) -> Tally:
         return tally
     tally.update({"libraries": 1, "names with several versions": several})
     with ElfFile.load_from_path(path) as file:
-        for (name, version, is_absent), said in zip(queries, loaded):
-            kind = "names" if version is None else "absent pairs" if is_absent else "pairs"
+        for (name, version, kind), said in zip(queries, loaded):
             try:
                 symbol = file._found(name, version or "")
                 found = verdict(symbol, said)

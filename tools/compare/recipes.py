@@ -17,7 +17,7 @@ from pathlib import Path
 from comparing import LOAD, ROOT, SECTION, Tally, build_ids, llvm, parser_of, parts, raw, relocation_tables, texts_of
 
 SYSTEM = ["/bin/ls", "/usr/bin/readelf", "/bin/bash", "/lib/x86_64-linux-gnu/libc.so.6", "/lib/x86_64-linux-gnu/libm.so.6"]
-OURS = ["crates/elfnm/data/add.o", "crates/elfbind/data/libfirst.so", "crates/elfbind/data/libfirst_32.so", "crates/elfsym/data/stripped.so"]
+OURS = ["crates/elfnm/data/add.o", "crates/elfsym/data/stripped.so"]
 
 SOURCE = """
 extern int far(int);

@@ -34,7 +34,7 @@ NOTES, RELR, GNU_HASH = 7, 19, 0x6FFFFFF6
 
 
 class Note(NamedTuple):
-    """A note: its type, its name where it is text, and the size of its description."""
+    """A note: its type, its name up to the first zero where it is text, and the size of its description."""
 
     kind: Optional[int]
     name: Optional[str]
@@ -45,7 +45,7 @@ def read_note(said: dict) -> Note:
     """A note of llvm-readelf's; without its name where GNU's build attributes have bytes in it."""
     unknown, owner = UNKNOWN_TYPE.match(said["Type"]), said["Owner"]
     number = int(unknown[1], 16) if unknown else TYPES.get(said["Type"].split(" ")[0])
-    return Note(number, None if owner.startswith("GA") else owner, said["Data size"])
+    return Note(number, None if owner.startswith("GA") else owner.partition("\0")[0], said["Data size"])
 
 
 def read_notes(path: str) -> List[Tuple[str, List[Note]]]:
