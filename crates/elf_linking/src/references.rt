@@ -16,6 +16,7 @@ pub mod types;
 use crate::LinkError;
 use crate::find::Use;
 pub use crate::references::names::relocation_name;
+pub use crate::references::tables::Relocates;
 use crate::references::tables::Relocations;
 use crate::references::types::{
     EM_386, EM_AARCH64, EM_X86_64, R_386_COPY, R_386_JMP_SLOT, R_386_NONE, R_386_RELATIVE,

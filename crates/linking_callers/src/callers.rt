@@ -18,6 +18,7 @@ pub mod find;
 pub mod lookups;
 pub mod notes;
 pub mod objects;
+pub mod relocations;
 pub mod relr;
 pub mod scope;
 pub mod second_file;

@@ -18,12 +18,14 @@ use elf_base::{P32, P64};
 use elf_records::sections::{Rel, Rela};
 use xmas_elf::ElfFile;
 
-// A relocation of one class, with or without an addend.
-trait Relocates: Record {
+/// A record of a relocation: `Rel` or `Rela`, of either class.
+pub trait Relocates: Record {
     ghost use Rattle.elf_linking.specs.declared.references.Reference.{Reference};
 
     ghost reference_of: { Self → Reference };
 
+    /// The location, the type, the index of the symbol, and the addend, as numbers of either class.
+    /// The addend of a `Rel` is 0; it is stored at the location.
     fn reference(&self) -> Reference
         ensures { result ≡ reference_of self.now };
 }
