@@ -66,9 +66,9 @@ abbrev pub is_missing : {E : Type 0} → (E → SymbolFields) → Option E → O
 is_missing fields symbol None = not (is_weak fields symbol)
 is_missing fields symbol (Some bound) = false
 
--- what is written of a reference of the object at index `from` to a symbol, by what it gets and what it asks for, and
--- whether it is missing its symbol: nothing if it gets the symbol that it names without a look-up; or the index of the
--- object and the error
+-- of a reference of the object at index `from`, by the symbol that it names, what it gets and what it asks for: whether
+-- it is missing its symbol, and its line, which is empty if it gets the symbol that it names without a look-up; or the
+-- index of the object, and the error
 abbrev pub line_by : {E : Type 0} → (E → SymbolFields) → List Input → ℕ → Option E → Result (Option (Bound E)) LinkError → Result (Asked E) LinkError → Result (Bool × List ℕ) (ℕ × LinkError)
 line_by fields inputs from symbol (Err error) asked = Err (from, error)
 line_by fields inputs from symbol (Ok bound) (Err error) = Err (from, error)
@@ -78,7 +78,7 @@ line_by fields inputs from symbol (Ok bound) (Ok (Look name wanted purpose own))
   line_text (path_in (slice_get inputs from)) name.now wanted (target_of fields inputs bound),
 )
 
--- the same of an item: its line, or its error
+-- the same of an item
 abbrev pub line_of : {E : Type 0} → {r : _} → (E → SymbolFields) → List Input → List (DynamicObject E r) → Result (Binding E) (ℕ × LinkError) → Result (Bool × List ℕ) (ℕ × LinkError)
 line_of fields inputs objects (Err refused) = Err refused
 line_of fields inputs objects (Ok binding) = line_by fields inputs binding.from
