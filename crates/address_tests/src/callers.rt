@@ -1,12 +1,17 @@
 //! What is at an address of a file, by its section headers or by its dynamic segment.
 
-ghost use Rattle.std.specs.Prelude.{IfOk, None};
+ghost use Rattle.std.specs.Prelude.{◌≡◌, ◌<◌, ◌≤◌, IfOk, IfSome, MatchOption, None, ℕ};
 ghost use Rattle.elf_addresses.specs.Claims.{IsInnermost};
+ghost use Rattle.elf_addresses.specs.FileClaims.{byte_count};
+ghost use Rattle.elf_addresses.specs.Owner.{IsOwner};
 ghost use Rattle.elf_addresses.specs.SymbolAt.{claim_at};
 ghost use Rattle.elf_addresses.specs.SymbolClaims.{claim_of_symbols};
+ghost use Rattle.elf_addresses.specs.declared.owner.Owner.TheVariants.{Section};
 
 use elf_addresses::dladdr::{DladdrSymbols, Reach, fill_reached};
-use elf_addresses::{AddressSymbols, At, IndexError, SymbolIndex, symbol_at};
+use elf_addresses::{
+    AddressSymbols, At, IndexError, Owner, Piece, Pieces, SymbolIndex, owner_of, symbol_at,
+};
 use elf_base::bytes::text_at;
 use elf_linking::view::{LinkedSymbol, strings};
 use elf_linking::{AnyTable, DynamicObject, LinkError};
@@ -136,4 +141,53 @@ pub fn print_backtrace<E: Entry + Record, W: Write>(
         writeln!(out, "{address:x} {name}+0x{:x}", at.offset)?;
     }
     Ok(())
+}
+
+/// The size of a file: the sum of the sizes of all its pieces. The words are those of an index
+/// (`Pieces::new`).
+pub fn sum_of_pieces(file: &ElfFile<'_>, words: &mut [u32]) -> Result<usize, IndexError>
+    ensures { IfOk result (λ sum. sum ≡ byte_count file.now) }
+{
+    Ok(Pieces::new(file, words)?.total())
+}
+
+/// The index of the section that the byte at an offset belongs to, if it belongs to one.
+pub fn section_of_byte(file: &ElfFile<'_>, offset: usize) -> Option<usize>
+    ensures own { IfSome result (λ index. IsOwner file.now offset (Section index)) }
+    ensures none { result ≡ None → offset < byte_count file.now
+        → (index : ℕ) → IsOwner file.now offset (Section index) → ⊥ }
+{
+    let owner = owner_of(file, offset)?;
+    section_in(owner)
+}
+
+// The index of a section, if the owner is one.
+fn section_in(owner: Owner) -> Option<usize>
+    ensures { MatchOption result ((index : ℕ) → owner ≡ Section index → ⊥)
+        (λ index. owner ≡ Section index) }
+{
+    match owner {
+        Owner::Section(index) => Some(index),
+        Owner::ElfHeader | Owner::ProgramHeaders | Owner::SectionHeaders => None,
+        Owner::Segment(_) | Owner::Between | Owner::Behind => None,
+    }
+}
+
+/// The piece that the byte at an offset is in; `None` at the end of the file and past it. The words
+/// are those of an index (`Pieces::new`).
+pub fn piece_at(
+    file: &ElfFile<'_>,
+    words: &mut [u32],
+    offset: usize,
+) -> Result<Option<Piece>, IndexError>
+    ensures { IfOk result (λ found. MatchOption found (byte_count file.now ≤ offset)
+        (λ piece. (piece.begin ≤ offset) × (offset < piece.end)
+        × IsOwner file.now offset piece.owner)) }
+{
+    for piece in Pieces::new(file, words)? {
+        if offset < piece.end {
+            return Ok(Some(piece));
+        }
+    }
+    Ok(None)
 }
