@@ -18,7 +18,7 @@ input_loaded page path input text planned = by_header page path input text (head
 
 file_loaded : {R : Type 0} (page : ℕ) (path : Bor (List ℕ)) (remaining : R → Option (List ℕ)) (file : Option R)
     → OfFile remaining file (λ input. (text : List ℕ) × IsInputPlan page path input text) → OfFile remaining file (IsInputLoaded page)
-file_loaded page path remaining (Some reader) (input, known, text, planned) = (input, known, input_loaded page path input text planned)
+file_loaded page path remaining (Some reader) (input, known, (text, planned)) = (input, known, input_loaded page path input text planned)
 file_loaded page path remaining None never = never
 
 pub ended_loaded : {R : Type 0} (page : ℕ) (path : Bor (List ℕ)) (remaining : R → Option (List ℕ)) (file : Option R) (end : Result (Unit {0}) faults.Fault)
