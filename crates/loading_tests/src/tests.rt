@@ -2,6 +2,7 @@
 //! definitions, and never taken from the program's output.
 
 mod bytes;
+mod formulas;
 mod messages;
 mod plans;
 mod refusals;
