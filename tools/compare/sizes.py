@@ -25,7 +25,7 @@ from typing import Dict, Iterator, List, NamedTuple, Optional, Tuple
 import damage
 from comparing import Tally, ended, files_of, parser_of, read_elf, run
 
-LINE = re.compile(r"^(\d+) (\d+\.\d\d)% (section \d+|segment \d+|[a-zE][a-z EL]*?)(?: (.*))?$", re.S)
+LINE = re.compile(r"^(\d+) (\d+\.\d\d)% (section \d+(?= )|segment \d+$|(?:ELF header|(?:program|section) headers|between parts|after all parts|sum)$)")
 HEADER = re.compile(r"^ *\[ *(\d+)\] .*? ([A-Z0-9_]+|LOOS\S*|<unknown>\S*) +[0-9a-f]{8,16} [0-9a-f]{6,} ([0-9a-f]{6,}) ", re.M)
 MOST_PARTS = 3000
 NO_BITS = 8
@@ -93,15 +93,14 @@ class Definition:
         ends = sorted({0, len(self.content), *(it.begin for it in order), *(it.end for it in order)})
         found: Dict[str, int] = collections.Counter()
         for begin, end in zip(ends, ends[1:]):
-            free = "between parts" if begin < last else "behind parts"
+            free = "between parts" if begin < last else "after all parts"
             found[next((it.name for it in order if it.begin <= begin < it.end), free)] += end - begin
         return dict(found)
 
 
 def lines_of(output: str) -> Iterator[Tuple[int, str, str]]:
     """The size, the share and the part of each line, with the sum as the last."""
-    # A path and a name hold no line feed that is not escaped, but for the path.
-    for line in output.split("\n")[-1 - output.count("% ") : -1]:
+    for line in output.split("\n")[:-1]:
         matched = LINE.match(line)
         if not matched:
             raise ValueError(line)
@@ -113,7 +112,11 @@ def sizes_of(path: str, program: str, length: int, tally: Tally) -> Optional[Dic
     output = tally.output(path, program, path)
     if not output:
         return None
-    *lines, last = lines_of(output)
+    try:
+        *lines, last = lines_of(output.removeprefix(f"{path}\n"))
+    except ValueError as strange:
+        tally.differ(path, "output", f"'{strange}'", "no such line")
+        return None
     sizes = [size for size, _, _ in lines]
     shares = [f"{size * 10000 // length // 100}.{size * 10000 // length % 100:02}" for size in sizes]
     for what, says, wanted in (

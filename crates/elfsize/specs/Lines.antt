@@ -36,7 +36,7 @@ other_text index =
     if index == 0 then codes "ELF header"
     else (if index == 1 then codes "program headers"
     else (if index == 2 then codes "section headers"
-    else (if index == 3 then codes "between parts" else codes "behind parts")))
+    else (if index == 3 then codes "between parts" else codes "after all parts")))
 
 -- the text of a part before its name
 abbrev pub label_text : ℕ → List ℕ
