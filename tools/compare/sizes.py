@@ -171,10 +171,9 @@ def compare_damaged(program: str, count: int, seed: int, tally: Tally) -> None:
         for index in range(count):
             content = damage.damaged(seed, index)
             pathlib.Path(path).write_bytes(content)
-            tally["damaged files"] += 1
-            done = run([program, path], seconds=10)
+            done, tally["damaged files"] = run([program, path], seconds=10), tally["damaged files"] + 1
             if done.status == 1 and done.errors.startswith("elfsize: "):
-                tally["of them refused"] += 1
+                tally["of them not accepted"] += 1
                 continue
             sizes = sizes_of(path, program, len(content), tally)
             if sizes is not None:
