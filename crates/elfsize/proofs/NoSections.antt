@@ -1,5 +1,5 @@
 -- A file of either class without its section header table.
-use Rattle.std.proofs.Common.{◌≡◌, ℕ, ◌<◌, ◌≤◌, ◌==◌, Bool, true, false, nat_lt, List, length, get_or, refl, arith}
+use Rattle.std.proofs.Common.{◌≡◌, ℕ, ◌<◌, ◌≤◌, false, nat_lt, List, length, get_or, refl, arith}
 use Rattle.std.proofs.lemmas.Bool.{eq-eqb, false_from_ne_true, ltb-true, ne_eqb}
 use Rattle.elfsize.specs.View.{without_sections, zeroed}
 

@@ -1,5 +1,5 @@
 -- What the program writes of a file (this project's own): a line for each part, with its size and its share.
-use Rattle.std.specs.Prelude.{◌≡◌, ℕ, ◌+◌, ◌*◌, ◌/◌, ◌%◌, ◌++◌, ◌==◌, List, [], codes, decimal, Result, Ok, Err, IsOkAnd, if◌then◌else◌, max, ⊤}
+use Rattle.std.specs.Prelude.{◌≡◌, ℕ, ◌*◌, ◌/◌, ◌%◌, ◌++◌, ◌==◌, List, [], codes, decimal, Result, Ok, Err, IsOkAnd, if◌then◌else◌, max, ⊤}
 use Rattle.std.specs.Borrow.{Bor}
 use Rattle.std.specs.List.{flat_map}
 use Rattle.elf_addresses.specs.FileClaims.{byte_count}

@@ -1,4 +1,4 @@
-use Rattle.std.proofs.Common.{rules, ℕ, refl, replicate, sym, ◌∙◌}
+use Rattle.std.proofs.Common.{rules, refl, replicate, sym, ◌∙◌}
 use Rattle.std.proofs.lemmas.Slice.{put_mid-paste}
 use Rattle.elfsize.proofs.NoSections.{narrow, wide}
 use Rattle.elfsize.proofs.view.hide_sections.Goals as goal
