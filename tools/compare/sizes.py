@@ -16,7 +16,9 @@ file and no other part owns bytes of it. Those with another size are counted by 
 after N files. The last line has the counts, and the exit status is 1 if there is a difference.
 """
 import collections
+import itertools
 import os
+import pathlib
 import re
 import sys
 import tempfile
@@ -25,10 +27,9 @@ from typing import Dict, Iterator, List, NamedTuple, Optional, Tuple
 import damage
 from comparing import Tally, ended, files_of, parser_of, read_elf, run
 
-LINE = re.compile(r"^(\d+) (\d+\.\d\d)% (section \d+|segment \d+|[a-zE][a-z EL]*?)(?: (.*))?$", re.S)
+LINE = re.compile(r"^(\d+) (\d+\.\d\d)% (section \d+(?= )|segment \d+$|(?:ELF header|(?:program|section) headers|between parts|after all parts|sum)$)")
 HEADER = re.compile(r"^ *\[ *(\d+)\] .*? ([A-Z0-9_]+|LOOS\S*|<unknown>\S*) +[0-9a-f]{8,16} [0-9a-f]{6,} ([0-9a-f]{6,}) ", re.M)
-MOST_PARTS = 3000
-NO_BITS = 8
+MOST_PARTS, NO_BITS, RELRO = 3000, 8, 0x6474E552
 
 
 class Part(NamedTuple):
@@ -41,7 +42,6 @@ class Part(NamedTuple):
 
 class Definition:
     """The owner of each byte of a file, as docs/SIZES.md defines it."""
-
     def __init__(self, content: bytes) -> None:
         self.content, self.layout = content, damage.Layout(content[4] == 2, "big" if content[5] == 2 else "little")
         self.sections = self.table("section", "sh", self.layout.section, self.layout.section_size)
@@ -58,9 +58,7 @@ class Definition:
 
     def count(self, letters: str) -> int:
         number = self.header(f"{letters}num")
-        if letters == "sh":
-            return number or self.first("size", 0)
-        return self.first("info", number) if number == 0xFFFF else number
+        return (number or self.first("size", 0)) if letters == "sh" else self.first("info", number) if number == 0xFFFF else number
 
     def cut(self, name: str, begin: int, size: int) -> Part:
         return Part(name, begin, begin + min(size, max(len(self.content) - begin, 0)))
@@ -77,31 +75,28 @@ class Definition:
             return []
         found = []
         for index in range(count):
-            it = {name: self.layout.get(self.content, start + size * index, fields[name]) for name in ("type", "offset")}
-            bare = (0, NO_BITS) if kind == "section" else (0, 0x6474E552)
-            length = self.layout.get(self.content, start + size * index, fields["size" if kind == "section" else "filesz"])
-            found.append(self.cut(f"{kind} {index}", it["offset"], 0 if it["type"] in bare else length))
+            names, bare = (("type", "offset", "size"), NO_BITS) if kind == "section" else (("type", "offset", "filesz"), RELRO)
+            type_, offset, length = (self.layout.get(self.content, start + size * index, fields[name]) for name in names)
+            found.append(self.cut(f"{kind} {index}", offset, 0 if type_ in (0, bare) else length))
         return found
 
     def owned(self) -> Dict[str, int]:
         """The number of bytes of each part that owns some."""
         tables = [self.cut("ELF header", 0, self.layout.header_size), self.head("ph", "program headers"), self.head("sh", "section headers")]
         within = lambda part: (-part.begin, part.end - part.begin)
-        order = [*tables, *sorted(self.sections, key=within), *sorted(self.segments, key=within)]
-        order = [it for it in order if it.begin < it.end]
+        order = [it for it in (*tables, *sorted(self.sections, key=within), *sorted(self.segments, key=within)) if it.begin < it.end]
         last = max((it.begin for it in order if it.name != "ELF header"), default=0)
         ends = sorted({0, len(self.content), *(it.begin for it in order), *(it.end for it in order)})
         found: Dict[str, int] = collections.Counter()
         for begin, end in zip(ends, ends[1:]):
-            free = "between parts" if begin < last else "behind parts"
+            free = "between parts" if begin < last else "after all parts"
             found[next((it.name for it in order if it.begin <= begin < it.end), free)] += end - begin
         return dict(found)
 
 
 def lines_of(output: str) -> Iterator[Tuple[int, str, str]]:
     """The size, the share and the part of each line, with the sum as the last."""
-    # A path and a name hold no line feed that is not escaped, but for the path.
-    for line in output.split("\n")[-1 - output.count("% ") : -1]:
+    for line in output.split("\n")[:-1]:
         matched = LINE.match(line)
         if not matched:
             raise ValueError(line)
@@ -113,15 +108,16 @@ def sizes_of(path: str, program: str, length: int, tally: Tally) -> Optional[Dic
     output = tally.output(path, program, path)
     if not output:
         return None
-    *lines, last = lines_of(output)
+    try:
+        *lines, last = lines_of(output.removeprefix(f"{path}\n"))
+    except ValueError as strange:
+        tally.differ(path, "output", f"'{strange}'", "no such line")
+        return None
     sizes = [size for size, _, _ in lines]
     shares = [f"{size * 10000 // length // 100}.{size * 10000 // length % 100:02}" for size in sizes]
     for what, says, wanted in (
-        ("sum", (last, sum(sizes)), ((length, "100.00", "sum"), length)),
-        ("order", sizes, sorted(sizes, reverse=True)),
-        ("shares", [share for _, share, _ in lines], shares),
-        ("parts", len({part for _, _, part in lines}), len(lines)),
-    ):
+        ("sum", (last, sum(sizes)), ((length, "100.00", "sum"), length)), ("order", sizes, sorted(sizes, reverse=True)),
+        ("shares", [share for _, share, _ in lines], shares), ("parts", len({part for _, _, part in lines}), len(lines))):
         if says != wanted:
             tally.differ(path, what, says, wanted)
     tally["bytes"] += length
@@ -136,7 +132,7 @@ def beside_definition(path: str, sizes: Dict[str, int], content: bytes, tally: T
     wanted = definition.owned()
     for part in sorted({*sizes, *wanted}):
         if sizes.get(part) != wanted.get(part):
-            tally.differ(path, part, sizes.get(part), f"nothing; the definition says {wanted.get(part)}")
+            tally.differ(path, part, sizes.get(part), f"nothing, the definition {wanted.get(part)}")
     tally["parts as defined"] += len(wanted)
     for part, size in sizes.items():
         tally[f"bytes of {part.split(' ')[0] if part[-1].isdigit() else part}"] += size
@@ -174,12 +170,10 @@ def compare_damaged(program: str, count: int, seed: int, tally: Tally) -> None:
         path = os.path.join(room, "damaged")
         for index in range(count):
             content = damage.damaged(seed, index)
-            with open(path, "wb") as file:
-                file.write(content)
-            tally["damaged files"] += 1
-            done = run([program, path], seconds=10)
+            pathlib.Path(path).write_bytes(content)
+            done, tally["damaged files"] = run([program, path], seconds=10), tally["damaged files"] + 1
             if done.status == 1 and done.errors.startswith("elfsize: "):
-                tally["of them refused"] += 1
+                tally["of them not accepted"] += 1
                 continue
             sizes = sizes_of(path, program, len(content), tally)
             if sizes is not None:
@@ -190,17 +184,15 @@ def main() -> int:
     parser = parser_of(__doc__, "elfsize")
     parser.add_argument("--damaged", type=int, default=0, metavar="N")
     parser.add_argument("--seed", type=int, default=1, metavar="S")
-    parser.add_argument("--most", type=int, default=None, metavar="N")
+    parser.add_argument("--most", type=int, metavar="N")
     parser.add_argument("files", nargs="*", metavar="FILE")
     given = parser.parse_args()
     tally = Tally("elfsize")
-    paths = filter(read_elf, files_of(given.files or ["/usr"]))
-    for number, path in enumerate(paths):
-        if number == given.most:
-            break
+    for path in itertools.islice(filter(read_elf, files_of(given.files or ["/usr"])), given.most):
         compare(path, given.elfsize, tally)
     compare_damaged(given.elfsize, given.damaged, given.seed, tally)
-    tally.names = (*(name for name in tally if name != "differences"), "differences")
+    first = ("files", "bytes", "parts as defined", "sections of the same size")
+    tally.names = (*first, *(name for name in tally if name not in (*first, "differences")), "differences")
     return ended(tally)
 
 

@@ -221,12 +221,27 @@ LOAD_ENDS = ends_of(
 # The sizes of the parts of two of these files, as crates/elfsize/stdout has them.
 SIZES = (CRATES / "elfsize" / "stdout").read_bytes()
 PLACES_SIZES = SIZES[: SIZES.index(b"counter\n")]
-SIZE_USAGE = "elfsize <binary_path>.."
-SIZE_HELP = f"usage: {SIZE_USAGE}\nPrints how many bytes of each file belong to which part, the largest first.\n"
+# The same of places.so without its section headers, by what `readelf -lW` shows of its segments.
+PLACES_SEGMENTS = b"""places.so
+1088 60.17% after all parts
+240 13.27% segment 0
+224 12.38% program headers
+176 9.73% segment 2
+64 3.53% ELF header
+16 0.88% segment 1
+1808 100.00% sum
+"""
+SIZE_USAGE = "elfsize [--segments] <binary_path>.."
+SIZE_HELP = (
+    f"usage: {SIZE_USAGE}\nPrints how many bytes of each file belong to which part, the largest first.\n"
+    "--segments  as if the file had no sections\n")
 SIZE_ENDS = ends_of(
     "elfsize", SIZE_USAGE, [], ["places.so"], PLACES_SIZES,
     help=(["--help"], 0, SIZE_HELP.encode(), b""),
     two_files=(["places.so", "counter"], 0, SIZES, b""),
+    segments=(["--segments", "places.so"], 0, PLACES_SEGMENTS, b""),
+    segments_of_class_32=(["--segments", "strtab.elf"], 0, b"strtab.elf\n92 63.88% after all parts\n52 36.11% ELF header\n144 100.00% sum\n", b""),
+    segments_of_no_file=(["--segments"], 1, f"usage: {SIZE_USAGE}\n".encode(), b""),
     a_refused_file_between_others=(["places.so", "zeros.elf", "counter"], 1, SIZES, b"elfsize: zeros.elf: Did not find ELF magic number\n"),
     a_file_of_class_32=(
         ["strtab.elf"], 0,

@@ -1,5 +1,5 @@
 -- What holds of a file holds of its input, and how the output of a file ends.
-use Rattle.std.proofs.Common.{◌≡◌, ℕ, List, Option, Result, Ok, Err, refl, sym, subst}
+use Rattle.std.proofs.Common.{◌≡◌, ℕ, List, Option, Result, Ok, refl, sym, subst}
 use Rattle.std.specs.Borrow.{Bor}
 use Rattle.std.specs.Prelude.{IsOk, IsOkAnd, MatchResult, ⊤}
 use Rattle.elf_base.specs.FileHeader.{header_of}

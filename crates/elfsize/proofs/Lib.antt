@@ -1,3 +1,4 @@
+mod NoSections
 mod Inputs
 mod LineLists
 mod Runs

@@ -1,10 +1,10 @@
 -- The runs of the pieces of a file up to a place.
-use Rattle.std.proofs.Common.{◌≡◌, ℕ, ◌+◌, ◌-◌, ◌<◌, ◌≤◌, List, [], ◌∷◌, ◌++◌, Some, None, refl, ap, sym, subst, ◌∙◌, map, append_assoc, append-nil, arith}
+use Rattle.std.proofs.Common.{◌≡◌, ◌+◌, ◌-◌, ◌<◌, List, [], ◌∷◌, ◌++◌, Some, None, refl, ap, sym, subst, ◌∙◌, map, append_assoc, append-nil, arith}
 use Rattle.std.specs.List.{All}
 use Rattle.std.proofs.lemmas.List.{map-append}
 use Rattle.std.proofs.lemmas.List.Elements.{All-push}
 use Rattle.std.proofs.lemmas.List.Sums.{sum_by_push}
-use Rattle.elf_addresses.proofs.lemmas.FilePieces.{one_more_piece, sizes_sum}
+use Rattle.elf_addresses.proofs.lemmas.FilePieces.{one_more_piece}
 use Rattle.elf_addresses.specs.FileClaims.{byte_count}
 use Rattle.elf_addresses.specs.Pieces.{ArePieces, IsPiece, PieceStep, pieces_file, pieces_place}
 use Rattle.elf_addresses.specs.declared.pieces.Piece.{Piece}

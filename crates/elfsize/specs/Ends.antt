@@ -5,8 +5,10 @@ use Rattle.elf_base.specs.FileHeader.{header_of}
 use Rattle.elfsize.specs.Lines.{IsInputRefused, IsInputText}
 use Rattle.elfsize.specs.declared.Fault as faults
 use Rattle.elfsize.specs.declared.Fault.TheVariants as faults_are
+use Rattle.elfsize.specs.View.{shown}
 use Rattle.elfsize.specs.declared.lines.Refusal as refusals
 use Rattle.elfsize.specs.declared.lines.Refusal.TheVariants as refusals_are
+use Rattle.elfsize.specs.declared.view.View.{View}
 use Rattle.program_ends.specs.Appended.{AppendsSome}
 use Rattle.program_ends.specs.Stops.{HasBegun}
 use Rattle.program_ends.specs.declared.Stop as stops
@@ -29,22 +31,22 @@ IsFault path Refuses Written (faults_are.Refused at error) = (at ≡ path) × Re
 IsFault path Refuses Written faults_are.Write = Written
 IsFault path Refuses Written faults_are.Memory = ⊤
 
--- a property of all bytes that a reader has left, as far as these are known; there is a reader
-abbrev pub OfFile : {R : Type 0} → (R → Option (List ℕ)) → Option R → (Bor (List ℕ) → Type 0) → Type 0
-OfFile remaining file P = IsSomeAnd file (λ reader. (input : Bor (List ℕ))
-    × IfSome (remaining reader) (λ bytes. input.now ≡ bytes) × P input)
+-- a property of a view of all bytes that a reader has left, as far as these are known; there is a reader
+abbrev pub OfFile : {R : Type 0} → View → (R → Option (List ℕ)) → Option R → (Bor (List ℕ) → Type 0) → Type 0
+OfFile view remaining file P = IsSomeAnd file (λ reader. (input : Bor (List ℕ))
+    × IfSome (remaining reader) (λ bytes. input.now ≡ shown view bytes) × P input)
 
 -- how far the program has come when a write fails
 abbrev pub IsBegun : Bor (List ℕ) → Bor (List ℕ) → Type 0
 IsBegun path input = HasBegun (IsOk (header_of input.now)) (AppendsSome (IsInputText path.now input))
 
--- how the program ends for the file at a path: there is a text of its sizes, or the fault
-abbrev pub IsEnd : {R : Type 0} → Bor (List ℕ) → (R → Option (List ℕ)) → Option R → Result (Unit {0}) faults.Fault → Type 0
-IsEnd path remaining file (Ok done) =
-    OfFile remaining file (λ input. (text : List ℕ) × IsInputText path.now input text)
-IsEnd path remaining file (Err fault) = IsFault path
-    (λ refusal. OfFile remaining file (λ input. IsInputRefused input refusal))
-    (OfFile remaining file (λ input. IsBegun path input)) fault
+-- how the program ends for a view of the file at a path: there is a text of its sizes, or the fault
+abbrev pub IsEnd : {R : Type 0} → View → Bor (List ℕ) → (R → Option (List ℕ)) → Option R → Result (Unit {0}) faults.Fault → Type 0
+IsEnd view path remaining file (Ok done) =
+    OfFile view remaining file (λ input. (text : List ℕ) × IsInputText path.now input text)
+IsEnd view path remaining file (Err fault) = IsFault path
+    (λ refusal. OfFile view remaining file (λ input. IsInputRefused input refusal))
+    (OfFile view remaining file (λ input. IsBegun path input)) fault
 
 -- the exit status: 0 without a fault, otherwise 1
 abbrev pub status_of : Result (Unit {0}) faults.Fault → ℕ

@@ -1,5 +1,5 @@
 -- What the program writes of a file (this project's own): a line for each part, with its size and its share.
-use Rattle.std.specs.Prelude.{◌≡◌, ℕ, ◌+◌, ◌*◌, ◌/◌, ◌%◌, ◌++◌, ◌==◌, List, [], codes, decimal, Result, Ok, Err, IsOkAnd, if◌then◌else◌, max, ⊤}
+use Rattle.std.specs.Prelude.{◌≡◌, ℕ, ◌*◌, ◌/◌, ◌%◌, ◌++◌, ◌==◌, List, [], codes, decimal, Result, Ok, Err, IsOkAnd, if◌then◌else◌, max, ⊤}
 use Rattle.std.specs.Borrow.{Bor}
 use Rattle.std.specs.List.{flat_map}
 use Rattle.elf_addresses.specs.FileClaims.{byte_count}
@@ -36,7 +36,7 @@ other_text index =
     if index == 0 then codes "ELF header"
     else (if index == 1 then codes "program headers"
     else (if index == 2 then codes "section headers"
-    else (if index == 3 then codes "between parts" else codes "behind parts")))
+    else (if index == 3 then codes "between parts" else codes "after all parts")))
 
 -- the text of a part before its name
 abbrev pub label_text : ℕ → List ℕ

@@ -1,5 +1,5 @@
 -- The sizes of parts, by the runs of bytes that belong to them (this project's own).
-use Rattle.std.specs.Prelude.{◌≡◌, ℕ, ◌<◌, ◌==◌, List, [], ◌∷◌, length, All, if◌then◌else◌, nat_lt, slice_index, take}
+use Rattle.std.specs.Prelude.{◌≡◌, ℕ, ◌<◌, ◌==◌, List, [], ◌∷◌, All, if◌then◌else◌, nat_lt, slice_index, take}
 use Rattle.std.specs.List.{sum, sum_by}
 use Rattle.std.specs.List.Sorted.{IsSortedBy}
 use Rattle.elfsize.specs.declared.totals.Run.{Run}

@@ -258,7 +258,7 @@ fn other_text(index: usize) -> &'static str
         1 => "program headers",
         2 => "section headers",
         3 => "between parts",
-        _ => "behind parts",
+        _ => "after all parts",
     }
 }
 

@@ -2,7 +2,7 @@
 //!
 //! `elfsize FILE..` writes for each file a line for each part that has bytes, the largest first: the
 //! number of bytes, their share, and the part. The last line is their sum, which is the size of the
-//! file. `--segments` before the files leaves out the sections.
+//! file. `--segments` before the files lists the parts of each file without its section header table.
 #![tactic(auto)]
 
 ghost use Rattle.std.specs.Prelude.{◌≡◌, ◌≤◌, IfErr, IfOk, Result};
@@ -12,12 +12,14 @@ ghost use Rattle.elfsize.specs.declared.Fault.{Fault};
 ghost use Rattle.program_ends.specs.Appended.{AppendsSome};
 
 use crate::lines::{Lines, Refusal};
-use program_ends::{Stop, read_whole, say, write_buffered};
+use crate::view::{View, read_shown};
+use program_ends::{Stop, say, write_buffered};
 use std::alloc::Global;
 use std::convert::AsStr;
 use std::fs::File;
-use std::io::{Read, Write};
+use std::io::{IsTerminal, Read, Write};
 use std::process::ExitCode;
+use std::time::Instant;
 use std::{env, io};
 use thiserror::Error;
 use xmas_elf::ElfError;
@@ -25,17 +27,19 @@ use xmas_elf::ElfError;
 mod lines;
 mod parts;
 mod totals;
+mod view;
 
-const USAGE: &str = "usage: elfsize <binary_path>..";
+const USAGE: &str = "usage: elfsize [--segments] <binary_path>..";
 
-const HELP: &str = "Prints how many bytes of each file belong to which part, the largest first.";
+const HELP: &str = "Prints how many bytes of each file belong to which part, the largest first.
+--segments  as if the file had no sections";
 
 /// Why the program ends with status 1, and what it says then.
 #[derive(Debug, Drop, Error)]
 enum Fault<'a> {
     #[error("elfsize: cannot read the arguments")]
     Arguments,
-    #[error("usage: elfsize <binary_path>..")]
+    #[error("usage: elfsize [--segments] <binary_path>..")]
     Usage,
     #[error("elfsize: cannot read {path}")]
     Read { path: &'a str },
@@ -47,7 +51,7 @@ enum Fault<'a> {
     Memory,
 }
 
-/// Writes the sizes of the parts of a file to `out`, or the reason why it can't to `err`, and returns
+/// Writes the sizes of the parts of a view of a file to `out`, or the reason why it can't to `err`, and returns
 /// the exit status.
 ///
 /// `file` is `None` where the path does not open. The status is 0 once all is written and flushed,
@@ -56,6 +60,7 @@ enum Fault<'a> {
 /// It says nothing of what `out` and `err` hold.
 pub fn run<R: Read + Drop, W: Write, E: Write>(
     alloc: Global,
+    view: View,
     path: &str,
     file: Option<R>,
     out: &mut W,
@@ -63,9 +68,9 @@ pub fn run<R: Read + Drop, W: Write, E: Write>(
 ) -> u8
     ensures bound { result ≤ 1 }
     ensures ends { (end : Result (Unit {0}) Fault)
-        × IsEnd path.entry R.remaining file end × (result ≡ status_of end) }
+        × IsEnd view path.entry R.remaining file end × (result ≡ status_of end) }
 {
-    match answer(alloc, path, file, out) {
+    match answer(alloc, view, path, file, out) {
         Ok(()) => 0,
         Err(fault) => say(&fault, err),
     }
@@ -74,13 +79,14 @@ pub fn run<R: Read + Drop, W: Write, E: Write>(
 // Reads the file whole, and writes the sizes of its parts.
 fn answer<'a, R: Read + Drop, W: Write>(
     alloc: Global,
+    view: View,
     path: &'a str,
     file: Option<R>,
     out: &mut W,
 ) -> Result<(), Fault<'a>>
-    ensures { IsEnd path.entry R.remaining file result }
+    ensures { IsEnd view path.entry R.remaining file result }
 {
-    match print_lines(alloc, path, file, &mut *out) {
+    match print_lines(alloc, view, path, file, &mut *out) {
         Ok(_) => Ok(()),
         Err(fault) => Err(fault),
     }
@@ -90,17 +96,18 @@ fn answer<'a, R: Read + Drop, W: Write>(
 // writer back.
 fn print_lines<'a, R: Read + Drop, W: Write + Drop>(
     alloc: Global,
+    view: View,
     path: &'a str,
     file: Option<R>,
     out: W,
 ) -> Result<W, Fault<'a>>
-    ensures written { IfOk result (λ back. OfFile R.remaining file (λ input.
+    ensures written { IfOk result (λ back. OfFile view R.remaining file (λ input.
         AppendsSome (IsInputText path.entry.now input) (W.contents out) (W.contents back))) }
     ensures fault { IfErr result (IsFault path.entry
-        (λ refusal. OfFile R.remaining file (λ input. IsInputRefused input refusal))
-        (OfFile R.remaining file (λ input. IsBegun path.entry input))) }
+        (λ refusal. OfFile view R.remaining file (λ input. IsInputRefused input refusal))
+        (OfFile view R.remaining file (λ input. IsBegun path.entry input))) }
 {
-    let Some(input) = read_whole(alloc, file) else {
+    let Some(input) = read_shown(alloc, view, file) else {
         return Err(Fault::Read { path });
     };
     let lines = Lines {
@@ -146,23 +153,44 @@ fn run_on_arguments(rt: &HostRuntime) -> io::Result<u8> {
         writeln!(rt.stdout(), "{}\n{}", USAGE, HELP)?;
         return Ok(0);
     }
-    if words.is_empty() {
+    let (view, paths) = asked(&words);
+    if paths.is_empty() {
         return Ok(say(&Fault::Usage, &mut rt.stdout()));
     }
-    Ok(run_on_paths(rt, &words))
+    Ok(run_on_paths(rt, view, paths))
+}
+
+// The view and the files that the arguments ask for.
+fn asked<S: AsStr>(arguments: &[S]) -> (View, &[S]) {
+    match arguments.split_first() {
+        Some((first, paths)) if first.as_str() == "--segments" => (View::Segments, paths),
+        _ => (View::Whole, arguments),
+    }
 }
 
 // The status for all files: 1 if that of one is.
-fn run_on_paths<S: AsStr>(rt: &HostRuntime, paths: &[S]) -> u8
+fn run_on_paths<S: AsStr>(rt: &HostRuntime, view: View, paths: &[S]) -> u8
     ensures { result ≤ 1 }
 {
     let (mut out, mut err) = (rt.stdout(), rt.stderr());
     let mut status = 0;
     for path in paths {
         let path = path.as_str();
+        let began = Instant::now(rt);
         let file = File::open(rt, path).ok();
-        let own = run(rt.alloc(), path, file, &mut out, &mut err);
+        let own = run(rt.alloc(), view, path, file, &mut out, &mut err);
         status = own.max(status);
+        tell_progress(rt, began, path);
     }
     status
+}
+
+// After a file that took longer than a second, says so where standard error is a terminal.
+fn tell_progress(rt: &HostRuntime, began: io::Result<Instant>, path: &str) {
+    let Ok(began) = began else { return };
+    let Ok(took) = began.elapsed(rt) else { return };
+    let mut err = rt.stderr();
+    if took.as_secs() > 0 && err.is_terminal() {
+        let _ = writeln!(err, "elfsize: {path}: {} s", took.as_secs());
+    }
 }

@@ -1,4 +1,4 @@
-use Rattle.std.proofs.Common.{ℕ, List, ◌≡◌, ◌<◌, ◌+◌, ◌^◌, ◌∙◌, get_or, length, refl, subst, sym, take, arith}
+use Rattle.std.proofs.Common.{ℕ, List, ◌≡◌, ◌<◌, ◌+◌, ◌∙◌, get_or, length, refl, subst, sym, take, arith}
 use Rattle.std.proofs.lemmas.List.{get_or_default, length-set}
 use Rattle.elfsize.specs.Totals.{AreTotals}
 use Rattle.elfsize.specs.declared.totals.Run.{Run}

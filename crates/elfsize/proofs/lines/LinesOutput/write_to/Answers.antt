@@ -1,4 +1,3 @@
-use Rattle.elfsize.specs.Lines.{IsFileText}
 use Rattle.elfsize.proofs.Inputs.{input_ends}
 use Rattle.elfsize.proofs.lines.LinesOutput.write_to.Goals as goal
 
