@@ -5,7 +5,8 @@
 
 With dladdr: the first N shared libraries of /usr/lib/x86_64-linux-gnu that can be loaded (--libraries, 60), at up to N
 addresses of each (--addresses): before, at, in, at the end of and after dynamic symbols, and anywhere in the segments. Each
-library is loaded by a process that calls dladdr for each address. elfaddr runs with --dladdr. Addresses at which dladdr names
+library is loaded by a process that calls dladdr for each address, by ctypes; for the first FEW addresses of each a C program
+calls it too. elfaddr runs with --dladdr. Addresses at which dladdr names
 another object, or none, are counted as outside.
 
 With eu-addr2line, gdb, llvm-symbolizer, nm and addr2line: the files FILE, else 15 of the system and of this repository, at N
@@ -35,6 +36,32 @@ from typing import Callable, Dict, List, Tuple
 
 from comparing import INDIRECT, LOAD, LOCAL, ROOT, Symbol, Tally, dynamic_symbols, llvm, parser_of, parts, raw, read_elf, symbols_of
 from loading import named
+
+# The number of addresses of a library for which the C program calls dladdr.
+FEW = 2000
+# It writes a line for each address, as `named` gives it; what a library writes when it is loaded goes elsewhere.
+PROGRAM = r"""
+#define _GNU_SOURCE
+#include <dlfcn.h>
+#include <link.h>
+#include <stdio.h>
+#include <stdlib.h>
+int main(int count, char **words) {
+    FILE *to = fdopen(3, "w");
+    void *library = dlopen(words[1], RTLD_NOW | RTLD_LOCAL);
+    struct link_map *map, *found = 0;
+    unsigned long address;
+    Dl_info info;
+    if (!to || !library || dlinfo(library, RTLD_DI_LINKMAP, &map)) return 3;
+    for (; scanf("%lx", &address) == 1; found = 0) {
+        if (!dladdr1((void *)(map->l_addr + address), &info, (void **)&found, RTLD_DL_LINKMAP) || found != map) fputs("outside\n", to);
+        else if (!info.dli_sname) fputs("none\n", to);
+        else fprintf(to, "%s+0x%lx\n", info.dli_sname, map->l_addr + address - (unsigned long)info.dli_saddr);
+    }
+    fflush(to);
+    _Exit(0);
+}
+"""
 
 # Types of symbols that name addresses: none, an object, a function, an indirect function. A section index from RESERVED on is none.
 TYPES, RESERVED = (0, 1, 2, INDIRECT), 0xFF00
@@ -84,7 +111,15 @@ def escaped(name: str) -> str:
     return "".join("^" + chr(ord(it) + 64) if ord(it) < 32 or ord(it) == 127 else it for it in name)
 
 
-def compare_dladdr(elfaddr: str, path: str, count: int, tally: Tally) -> None:
+def compare_calls(program: str, path: str, addresses: List[int], said: List[str], tally: Tally) -> None:
+    """What dladdr says by ctypes beside what it says by the C program."""
+    by_c = answers(["sh", "-c", 'exec 3>&1 >/dev/null 2>&1; exec "$@"', "sh", program, path], addresses)
+    tally["addresses by C"] += len(by_c)
+    if by_c != said:
+        tally.fault(f"{path}: by ctypes dladdr says something else than by C")
+
+
+def compare_dladdr(elfaddr: str, program: str, path: str, count: int, tally: Tally) -> None:
     """One library beside dladdr."""
     try:
         image = Image(path)
@@ -96,6 +131,7 @@ def compare_dladdr(elfaddr: str, path: str, count: int, tally: Tally) -> None:
         tally["libraries not loaded"] += 1
         return
     tally["libraries"] += 1
+    compare_calls(program, path, addresses[:FEW], said[:FEW], tally)
     found = answers([elfaddr, "--dladdr", path, "-"], addresses)
     if len(found) != len(addresses):
         tally.fault(f"{path}: elfaddr writes {len(found)} lines for {len(addresses)} addresses")
@@ -218,9 +254,12 @@ def main() -> int:
     given = parser_of(__doc__, "elfaddr", files="*", libraries=60, addresses=20000, each=3000).parse_args()
     tally, tables = Tally("elfaddr", "libraries"), collections.defaultdict(collections.Counter)
     libraries = sorted({os.path.realpath(it) for it in glob.glob("/usr/lib/x86_64-linux-gnu/*.so.*")}, key=lambda it: (-os.path.getsize(it), it))
-    for path in libraries:
-        if tally["libraries"] < given.libraries:
-            compare_dladdr(given.elfaddr, path, given.addresses, tally)
+    with tempfile.TemporaryDirectory() as room:
+        program = f"{room}/dladdr"
+        subprocess.run(["gcc", "-O1", "-w", "-x", "c", "-o", program, "-", "-ldl"], input=PROGRAM.encode(), check=True)
+        for path in libraries:
+            if tally["libraries"] < given.libraries:
+                compare_dladdr(given.elfaddr, program, path, given.addresses, tally)
     built = sorted(str(it) for it in ROOT.glob("crates/elf*/out/elf*") if it.is_file() and os.access(it, os.X_OK) and read_elf(str(it)))
     for path in given.files or [*built[:5], *libraries[5:100:10]]:
         compare_others(given.elfaddr, path, given.each, tables, tally)

@@ -66,7 +66,7 @@ ORACLES = {
     "dump": Oracle(SYSTEM, LIBRARIES, (ARCHIVE, "llvm-readelf", "readelf", "g++", "cargo")),
     "dlsym": Oracle([], LIBRARIES, (ARCHIVE, "llvm-readelf", "gcc"), ("bindings/python/wheel_backend.py",)),
     "addresses": Oracle([], ["--libraries", "2", "--addresses", "2000", "--each", "300", *LIBRARIES[:1]],
-        (built("elfaddr"), "llvm-readelf")),
+        (built("elfaddr"), "llvm-readelf", "gcc")),
     "sizes": Oracle(["--damaged", "20000"], ["--damaged", "300", *FEW], (built("elfsize"), "readelf")),
     "bindings": Oracle(["/usr/bin", "/usr/sbin"], ["/usr/bin/readelf", "/usr/bin/python3"],
         (built("elfbind"), "llvm-readelf")),
