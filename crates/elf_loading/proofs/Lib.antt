@@ -17,3 +17,4 @@ pub mod Filled
 pub mod Relro
 pub mod Numbers
 pub mod Reasons
+pub mod InOrders

@@ -13,3 +13,7 @@ pub mod Bytes
 pub mod MappingParts
 pub mod MappingsLeft
 pub mod Formulas
+pub mod InOrder
+pub mod Values
+pub mod Words
+pub mod WordsLeft

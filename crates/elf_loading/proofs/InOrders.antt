@@ -1,0 +1,67 @@
+-- The first of the remaining relocations of a file, table by table.
+use Rattle.std.proofs.Common.{◌≡◌, ◌<◌, ◌≤◌, ◌+◌, ◌-◌, ℕ, zero, suc, Bool, List, [], ◌∷◌, ◌++◌, length, map, refl, sym, ap, ◌∙◌, arith}
+use Rattle.std.specs.Prelude.{drop, take}
+use Rattle.elf_linking.specs.declared.references.Reference.{Reference}
+use Rattle.elf_loading.specs.InOrder.{place, placed, relative_at}
+
+pub relative_none : (machine : ℕ) (addresses : List ℕ) → addresses ≡ [] → map (relative_at machine) addresses ≡ []
+relative_none machine addresses is = ap (map (relative_at machine)) is
+
+pub relative_first : (machine after : ℕ) (addresses others : List ℕ) (address : ℕ) → after ≡ machine → addresses ≡ address ∷ others
+    → map (relative_at machine) addresses ≡ relative_at machine address ∷ map (relative_at after) others
+relative_first machine after addresses others address same is =
+    ap (map (relative_at machine)) is ∙ ap (λ m. relative_at machine address ∷ map (relative_at m) others) (sym same)
+
+pub placed_none : (in_place slot : Bool) (references : List Reference) → references ≡ [] → placed in_place slot references ≡ []
+placed_none in_place slot references is = ap (placed in_place slot) is
+
+pub placed_first : (in_place slot in_place_after slot_after : Bool) (references others : List Reference) (reference : Reference)
+    → in_place_after ≡ in_place → slot_after ≡ slot → references ≡ reference ∷ others
+    → placed in_place slot references ≡ place in_place slot reference ∷ placed in_place_after slot_after others
+placed_first in_place slot in_place_after slot_after references others reference in_same slot_same is =
+    ap (placed in_place slot) is
+    ∙ ap (λ b. place in_place slot reference ∷ placed b slot others) (sym in_same)
+    ∙ ap (λ b. place in_place slot reference ∷ placed in_place_after b others) (sym slot_same)
+
+-- the first of as many as are left
+pub taken_none : {A : Type 0} (most : ℕ) (xs : List A) → xs ≡ [] → take most xs ≡ []
+taken_none zero xs is = refl
+taken_none (suc n) xs is = ap (take (suc n)) is
+
+pub taken_first : {A : Type 0} (most : ℕ) (xs ys : List A) (x : A) → 0 < most → xs ≡ x ∷ ys → take most xs ≡ x ∷ take (most - 1) ys
+taken_first zero xs ys x above is = absurd (omega (arith, above))
+taken_first (suc n) xs ys x above is = let e : suc n - 1 ≡ n = omega arith in rw e (ap (take (suc n)) is)
+
+-- the first of a list and of those after it, and those after an empty list
+pub begins : {A : Type 0} (table others later : List A) (x : A) → table ≡ x ∷ others → table ++ later ≡ x ∷ (others ++ later)
+begins table others later x is = ap (λ items. items ++ later) is
+
+pub goes_on : {A : Type 0} (table later : List A) → table ≡ [] → table ++ later ≡ later
+goes_on table later is = ap (λ items. items ++ later) is
+
+-- a list without its first items
+no_item : {A : Type 0} (x : A) (xs : List A) → x ∷ xs ≡ [] → ⊥
+no_item x xs is = cc
+
+past_end : {A : Type 0} (xs : List A) (n : ℕ) → drop n xs ≡ [] → length xs ≤ n
+past_end [] n is = omega arith
+past_end (x ∷ xs) zero is = absurd (no_item x xs is)
+past_end (x ∷ xs) (suc n) is = let below : length xs ≤ n = past_end xs n is in omega (arith, below)
+
+drop_past : {A : Type 0} (xs : List A) (n : ℕ) → length xs ≤ n → drop n xs ≡ []
+drop_past [] zero past = refl
+drop_past [] (suc n) past = refl
+drop_past (x ∷ xs) zero past = absurd (omega (arith, past))
+drop_past (x ∷ xs) (suc n) past = drop_past xs n (omega (arith, past))
+
+pub skipped_all : {A : Type 0} (xs : List A) (place count : ℕ) → place ≤ count → drop place xs ≡ [] → drop count xs ≡ []
+skipped_all xs place count fits is = let past : length xs ≤ place = past_end xs place is in drop_past xs count (omega (arith, past, fits))
+
+behind : {A : Type 0} (xs ys : List A) (n : ℕ) (x : A) → drop n xs ≡ x ∷ ys → drop (suc n) xs ≡ ys
+behind [] ys zero x is = absurd (no_item x ys (sym is))
+behind [] ys (suc n) x is = absurd (no_item x ys (sym is))
+behind (y ∷ xs) ys zero x is = ap (λ l. drop (suc zero) l) is
+behind (y ∷ xs) ys (suc n) x is = behind xs ys n x is
+
+pub skipped_more : {A : Type 0} (xs ys : List A) (n : ℕ) (x : A) → drop n xs ≡ x ∷ ys → drop (n + 1) xs ≡ ys
+skipped_more xs ys n x is = let on : n + 1 ≡ suc n = omega arith in ap (λ k. drop k xs) on ∙ behind xs ys n x is

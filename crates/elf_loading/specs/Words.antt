@@ -1,0 +1,149 @@
+-- The words that relocations write when a file is loaded (the processor supplements of the System V ABI; which symbol
+-- a relocation gets, as `bind` of elf_linking says; what jump slots hold before they are called, as glibc 2.36 has it).
+use Rattle.std.specs.Prelude.{◌≡◌, ℕ, ◌+◌, ◌/◌, ◌%◌, ◌^◌, ◌==◌, ◌&&◌, ◌||◌, not, is_some, Bool, true, false, List, slice_get, Option, None, Some, Result, Ok, Err, if◌then◌else◌}
+use Rattle.elf_base.specs.Table.{table_items}
+use Rattle.elf_linking.specs.DynamicObject.{object_records}
+use Rattle.elf_linking.specs.DynamicView.{number_with}
+use Rattle.elf_linking.specs.Loaded.{word_at_of}
+use Rattle.elf_linking.specs.References.{file_machine}
+use Rattle.elf_linking.specs.Scope.{IsReferenceBound}
+use Rattle.elf_linking.specs.declared.error.LinkError.{LinkError}
+use Rattle.elf_linking.specs.declared.object.DynamicObject.{DynamicObject}
+use Rattle.elf_linking.specs.declared.references.Reference.{Reference}
+use Rattle.elf_linking.specs.declared.scope.Bound.{Bound}
+use Rattle.elf_linking.specs.declared.view.tags.TheConstants.{DT_BIND_NOW, DT_FLAGS, DT_FLAGS_1}
+use Rattle.elf_loading.specs.Formulas.{formula_of, width_of}
+use Rattle.elf_loading.specs.Values.{bytes_of, value_of}
+use Rattle.elf_loading.specs.declared.formulas.Formula.{Formula}
+use Rattle.elf_loading.specs.declared.formulas.Formula.TheVariants as formulas
+use Rattle.elf_loading.specs.declared.in_order.Relocation.{Relocation}
+use Rattle.elf_loading.specs.declared.value.Terms.{Terms}
+use Rattle.elf_loading.specs.declared.words.Binding.{Binding}
+use Rattle.elf_loading.specs.declared.words.Binding.TheVariants.{Lazy, Now}
+use Rattle.elf_loading.specs.declared.words.ImageError.{ImageError}
+use Rattle.elf_loading.specs.declared.words.ImageError.TheVariants.{Link, WordType}
+use Rattle.elf_loading.specs.declared.words.Relocated.{Relocated}
+use Rattle.elf_loading.specs.declared.words.Word.{Word}
+use Rattle.elf_records.specs.declared.dynamic.Dynamic.{Dynamic}
+use Rattle.xmas_elf.specs.Symbol.{SymbolFields}
+use Rattle.xmas_elf.specs.declared.ElfFile.{ElfFile}
+
+-- Jump slots that get their symbols when they are called first.
+
+-- a number of flags, if there is one, has a flag
+abbrev pub flag_in : Option ℕ → ℕ → Bool
+flag_in None flag = false
+flag_in (Some flags) flag = flags / flag % 2 == 1
+
+-- this is asked for, and the file doesn't ask for the contrary: by an entry DT_BIND_NOW, by the flag DF_BIND_NOW (8) in
+-- DT_FLAGS, or by the flag DF_1_NOW (1) in DT_FLAGS_1
+abbrev pub binds_lazily : List (Dynamic ℕ) → Binding → Bool
+binds_lazily entries Now = false
+binds_lazily entries Lazy = not (is_some (number_with DT_BIND_NOW entries))
+    && (not (flag_in (number_with DT_FLAGS entries) 8) && not (flag_in (number_with DT_FLAGS_1 entries) 1))
+
+-- R_X86_64_JUMP_SLOT, R_386_JMP_SLOT, R_AARCH64_JUMP_SLOT
+abbrev pub is_jump_slot : ℕ → ℕ → Bool
+is_jump_slot machine kind = if machine == 62 then kind == 7 else (if machine == 3 then kind == 7
+    else (machine == 183 && kind == 1026))
+
+-- such a slot, which is of the procedure linkage table
+abbrev pub is_lazy : ℕ → Bool → Relocation → Bool
+is_lazy machine lazy relocation = lazy && (relocation.slot && is_jump_slot machine relocation.reference.kind)
+
+-- The formula of a relocation, and what it is made of.
+
+-- a jump slot that gets its symbol later holds the word in place, moved with the file
+abbrev pub formula_when : ℕ → Bool → Relocation → Option Formula
+formula_when machine lazy relocation =
+    if is_lazy machine lazy relocation then Some formulas.Base else formula_of machine relocation.reference.kind
+
+-- the addend is the word in place
+abbrev pub in_place_when : ℕ → Bool → Relocation → Bool
+in_place_when machine lazy relocation = relocation.in_place || is_lazy machine lazy relocation
+
+-- a formula has a symbol
+abbrev pub takes_symbol : Formula → Bool
+takes_symbol formulas.Unchanged = false
+takes_symbol formulas.Base = false
+takes_symbol formulas.Call = false
+takes_symbol _ = true
+
+-- a formula has an addend
+abbrev pub takes_addend : Formula → Bool
+takes_addend formulas.Unchanged = false
+takes_addend formulas.SymbolAlone = false
+takes_addend formulas.Module = false
+takes_addend formulas.OffsetAlone = false
+takes_addend formulas.Copy = false
+takes_addend _ = true
+
+-- there is a formula, and it has a symbol
+abbrev pub symbol_in : Option Formula → Bool
+symbol_in None = false
+symbol_in (Some formula) = takes_symbol formula
+
+-- the word of a relocation depends on a symbol
+abbrev pub needs_symbol : ℕ → Bool → Relocation → Bool
+needs_symbol machine lazy relocation = symbol_in (formula_when machine lazy relocation)
+
+-- the address of the word in place that is the addend: the second word of a descriptor (on 386, of 4 bytes); otherwise
+-- the word itself
+abbrev pub addend_place : Formula → ℕ → ℕ
+addend_place formulas.Descriptor address = (address + 4) % 2 ^ 64
+addend_place _ address = address
+
+-- the addend, if the formula has one: that of the record, or the word in place
+abbrev pub addend_of : ElfFile → Bool → Formula → Reference → Result ℕ LinkError
+addend_of file in_place formula reference =
+    if in_place && takes_addend formula then word_at_of file (addend_place formula reference.offset) else Ok reference.addend
+
+abbrev pub size_in_own : {E : Type 0} → (E → SymbolFields) → Option E → ℕ
+size_in_own fields None = 0
+size_in_own fields (Some symbol) = (fields symbol).size
+
+-- the size of the symbol at an index of an object; 0 if there is none
+abbrev pub own_size : {E : Type 0} → {r : _} → (E → SymbolFields) → DynamicObject E r → ℕ → ℕ
+own_size fields object index = size_in_own fields (slice_get (table_items (object_records object)) index)
+
+-- The word of a relocation.
+
+-- the word with the value of a formula
+abbrev pub value_word : {E : Type 0} → (E → SymbolFields) → Terms → Option (Bound E) → Formula → Word
+value_word fields terms bound formula = let value = value_of fields terms bound formula in
+    record { address = terms.address; width = bytes_of terms.width value; value = value }
+
+-- a result after one that may be an error of elf_linking
+abbrev pub and_link : {A B : Type 0} → Result A LinkError → (A → Result B ImageError) → Result B ImageError
+and_link (Ok value) next = next value
+and_link (Err error) next = Err (Link error)
+
+-- the word of a relocation of the object at index `of`, by its formula and the symbol that it gets
+abbrev pub formula_word : {E : Type 0} → {r : _} → (E → SymbolFields) → ElfFile → DynamicObject E r → ℕ → Bool → Reference → Result (Option (Bound E)) LinkError → Option Formula → Result Word ImageError
+formula_word fields file own of in_place reference bound None = Err WordType
+formula_word fields file own of in_place reference bound (Some formula) =
+    and_link (addend_of file in_place formula reference) (λ addend. and_link bound (λ symbol.
+    Ok (value_word fields (record {
+      own = of;
+      address = reference.offset;
+      addend = addend;
+      size = own_size fields own reference.symbol;
+      width = width_of (file_machine file) reference.kind;
+    }) symbol formula)))
+
+-- the word of a relocation of the object at index `of`, by the symbol that it gets
+abbrev pub word_of : {E : Type 0} → {r : _} → (E → SymbolFields) → ElfFile → DynamicObject E r → ℕ → Bool → Relocation → Result (Option (Bound E)) LinkError → Result Word ImageError
+word_of fields file own of lazy relocation bound = let machine = file_machine file in
+    formula_word fields file own of (in_place_when machine lazy relocation) relocation.reference bound
+    (formula_when machine lazy relocation)
+
+-- the symbol that a relocation gets, if its word depends on one
+abbrev pub IsBoundIf : {E : Type 0} → {r : _} → Bool → (E → SymbolFields) → List (DynamicObject E r) → ℕ → Reference → Result (Option (Bound E)) LinkError → Type 0
+IsBoundIf true fields objects of reference bound = IsReferenceBound fields objects of reference bound
+IsBoundIf false fields objects of reference bound = bound ≡ Ok None
+
+-- an item has the symbol that its relocation gets, and the word that it writes
+abbrev pub HasWord : {E : Type 0} → {r : _} → (E → SymbolFields) → List (DynamicObject E r) → ElfFile → DynamicObject E r → ℕ → Bool → Relocated E → Type 0
+HasWord fields objects file own of lazy item =
+    IsBoundIf (needs_symbol (file_machine file) lazy item.relocation) fields objects of item.relocation.reference item.bound
+    × (item.word ≡ word_of fields file own of lazy item.relocation item.bound)

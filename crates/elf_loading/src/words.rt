@@ -1,0 +1,360 @@
+//! The words that relocations write when a file is loaded.
+
+ghost use Rattle.std.specs.Prelude.{◌≡◌, ◌<◌, ◌^◌, Err, IfOk, IfSome, MatchResult, Ok, Some, slice_get};
+ghost use Rattle.std.specs.Iterator.{YieldsFirst, YieldsFirstBy, item_count};
+ghost use Rattle.elf_linking.specs.DynamicObject.{object_view};
+ghost use Rattle.elf_linking.specs.DynamicView.{view_entries};
+ghost use Rattle.elf_linking.specs.References.{file_machine};
+ghost use Rattle.elf_loading.specs.Words.{HasWord, IsBoundIf, addend_of, addend_place};
+ghost use Rattle.elf_loading.specs.Words.{binds_lazily, flag_in, formula_when, in_place_when, is_jump_slot};
+ghost use Rattle.elf_loading.specs.Words.{is_lazy, needs_symbol, own_size, takes_addend, takes_symbol};
+ghost use Rattle.elf_loading.specs.Words.{value_word, word_of};
+ghost use Rattle.elf_loading.specs.WordsLeft.{IsSame, relocation_of, words_file, words_index};
+ghost use Rattle.elf_loading.specs.WordsLeft.{words_lazy, words_left, words_objects, words_of};
+ghost use Rattle.elf_loading.specs.WordsLeft.{words_own};
+
+use crate::formulas::{Formula, formula_of, width_of};
+use crate::in_order::{InOrder, Relocation};
+use crate::value::{Terms, Value, bytes_of, value_of};
+use elf_base::bytes::Record;
+use elf_linking::references::Reference;
+use elf_linking::references::types::{
+    EM_386, EM_AARCH64, EM_X86_64, R_386_JMP_SLOT, R_AARCH64_JUMP_SLOT, R_X86_64_JUMP_SLOT,
+};
+use elf_linking::scope::{Bound, Scope};
+use elf_linking::view::{DT_BIND_NOW, DT_FLAGS, DT_FLAGS_1, DynamicView, LinkedSymbol, word_at};
+use elf_linking::{DynamicObject, LinkError};
+use xmas_elf::ElfFile;
+
+/// When jump slots get their symbols.
+#[derive(Clone, Copy, Debug, PartialEq, Eq)]
+pub enum Binding {
+    /// Before the program runs.
+    Now,
+    /// When a function is called first, unless the file asks for `Now`: by DT_BIND_NOW, or by the
+    /// flag DF_BIND_NOW or DF_1_NOW.
+    Lazy,
+}
+
+/// Why the word of a relocation isn't known.
+#[derive(Clone, Copy, Debug, PartialEq, Eq)]
+pub enum ImageError {
+    /// The symbol or the word in place can't be read.
+    Link(LinkError),
+    /// The machine has no such relocation type, or glibc doesn't apply it.
+    WordType,
+}
+
+/// What a relocation writes, and where.
+#[derive(Clone, Copy, Debug, PartialEq, Eq)]
+pub struct Word {
+    /// The address of the first byte, relative to the base of the file.
+    pub address: u64,
+    /// The number of bytes that are written: 4 or 8 for a number, twice that for a descriptor, any
+    /// number for a copy, and 0 if the word is unchanged.
+    pub width: u64,
+    /// What is written.
+    pub value: Value,
+}
+
+/// A relocation, the symbol that it gets, and what it writes.
+#[derive(Clone, Copy, Debug)]
+pub struct Relocated<E> {
+    /// The relocation.
+    pub relocation: Relocation,
+    /// The symbol that it gets: the result of `Scope::bind`; `None` if no symbol is needed.
+    pub bound: Result<Option<Bound<E>>, LinkError>,
+    /// What it writes.
+    pub word: Result<Word, ImageError>,
+}
+
+/// An iterator over the relocations of one object of a scope with the words that they write, in the
+/// order in which glibc applies them: the packed relocations (DT_RELR), those of DT_RELA and DT_REL,
+/// and those of the procedure linkage table (DT_JMPREL). Records at the end of DT_RELA or DT_REL that
+/// are those of DT_JMPREL again are passed over.
+#[derive(Drop)]
+pub struct Words<'s, 'a, E: Record> {
+    scope: Scope<'s, 'a, E>,
+    file: ElfFile<'a>,
+    own: &'s DynamicObject<'a, E>,
+    of: usize,
+    lazy: bool,
+    order: InOrder<'a>,
+}
+
+// Whether a number of flags, if there is one, has a flag.
+fn flag_in(flags: Option<u64>, flag: u64) -> bool
+    requires { 0 < flag }
+    ensures { result ≡ flag_in flags flag }
+{
+    match flags {
+        Some(flags) => flags / flag % 2 == 1,
+        None => false,
+    }
+}
+
+// Whether jump slots of a file get their symbols when they are called first.
+fn binds_lazily(view: &DynamicView<'_>, when: Binding) -> bool
+    ensures { result ≡ binds_lazily (view_entries view.now) when }
+{
+    match when {
+        Binding::Now => false,
+        Binding::Lazy => {
+            view.entry(DT_BIND_NOW).is_none()
+                && !flag_in(view.entry(DT_FLAGS), 8)
+                && !flag_in(view.entry(DT_FLAGS_1), 1)
+        }
+    }
+}
+
+// Whether relocations of this type are jump slots.
+fn is_jump_slot(machine: u16, kind: u32) -> bool
+    ensures { result ≡ is_jump_slot machine kind }
+{
+    match machine {
+        EM_X86_64 => kind == R_X86_64_JUMP_SLOT,
+        EM_386 => kind == R_386_JMP_SLOT,
+        EM_AARCH64 => kind == R_AARCH64_JUMP_SLOT,
+        _ => false,
+    }
+}
+
+// Whether a relocation is a jump slot that gets its symbol when it is called first.
+fn is_lazy(machine: u16, lazy: bool, relocation: &Relocation) -> bool
+    ensures { result ≡ is_lazy machine lazy relocation.now }
+{
+    lazy && relocation.slot && is_jump_slot(machine, relocation.reference.kind)
+}
+
+// Whether a formula has a symbol.
+fn takes_symbol(formula: Formula) -> bool
+    ensures { result ≡ takes_symbol formula }
+{
+    !matches!(formula, Formula::Unchanged | Formula::Base | Formula::Call)
+}
+
+// Whether a formula has an addend.
+fn takes_addend(formula: Formula) -> bool
+    ensures { result ≡ takes_addend formula }
+{
+    !matches!(
+        formula,
+        Formula::Unchanged
+            | Formula::SymbolAlone
+            | Formula::Module
+            | Formula::OffsetAlone
+            | Formula::Copy
+    )
+}
+
+// The formula of a relocation. A jump slot that gets its symbol later holds the word in place, moved
+// with the file.
+fn formula_when(machine: u16, lazy: bool, relocation: &Relocation) -> Option<Formula>
+    ensures { result ≡ formula_when machine lazy relocation.now }
+{
+    if is_lazy(machine, lazy, relocation) {
+        return Some(Formula::Base);
+    }
+    formula_of(machine, relocation.reference.kind)
+}
+
+// Whether the addend is the word in place.
+fn in_place_when(machine: u16, lazy: bool, relocation: &Relocation) -> bool
+    ensures { result ≡ in_place_when machine lazy relocation.now }
+{
+    relocation.in_place || is_lazy(machine, lazy, relocation)
+}
+
+// Whether the word of a relocation depends on a symbol.
+fn needs_symbol(machine: u16, lazy: bool, relocation: &Relocation) -> bool
+    ensures { result ≡ needs_symbol machine lazy relocation.now }
+{
+    match formula_when(machine, lazy, relocation) {
+        Some(formula) => takes_symbol(formula),
+        None => false,
+    }
+}
+
+// The address of the word in place that is the addend: the second word of a descriptor, of which only
+// 386 has one without an addend in its record; otherwise the word of the relocation.
+fn addend_place(formula: Formula, address: u64) -> u64
+    ensures { result ≡ addend_place formula address }
+{
+    match formula {
+        Formula::Descriptor => address.wrapping_add(4),
+        _ => address,
+    }
+}
+
+// The addend of a relocation, if the formula has one.
+fn addend_of(
+    file: &ElfFile<'_>,
+    in_place: bool,
+    formula: Formula,
+    reference: &Reference,
+) -> Result<u64, LinkError>
+    ensures { result ≡ addend_of file.now in_place formula reference.now }
+{
+    if in_place && takes_addend(formula) {
+        word_at(file, addend_place(formula, reference.offset))
+    } else {
+        Ok(reference.addend)
+    }
+}
+
+// The size of the symbol at an index of an object.
+fn own_size<E: LinkedSymbol>(object: &DynamicObject<'_, E>, index: u32) -> u64
+    ensures { result ≡ own_size E.fields object.now index }
+{
+    match object.symbol(index) {
+        Some(symbol) => symbol.size(),
+        None => 0,
+    }
+}
+
+// The word with the value of a formula.
+fn value_word<E: LinkedSymbol>(terms: &Terms, bound: &Option<Bound<E>>, formula: Formula) -> Word
+    requires { terms.now.width < 2 ^ 31 }
+    ensures { result ≡ value_word E.fields terms.now bound.now formula }
+{
+    let value = value_of(terms, bound, formula);
+    Word {
+        address: terms.address,
+        width: bytes_of(terms.width, &value),
+        value,
+    }
+}
+
+// What a relocation of an object writes, by the symbol that it gets.
+fn word_of<E: LinkedSymbol>(
+    file: &ElfFile<'_>,
+    own: &DynamicObject<'_, E>,
+    of: usize,
+    lazy: bool,
+    relocation: &Relocation,
+    bound: &Result<Option<Bound<E>>, LinkError>,
+) -> Result<Word, ImageError>
+    ensures { result ≡ word_of E.fields file.now own.now of lazy relocation.now bound.now }
+{
+    let reference = &relocation.reference;
+    let machine = file.header.pt2.machine().raw();
+    let Some(formula) = formula_when(machine, lazy, relocation) else {
+        return Err(ImageError::WordType);
+    };
+    let in_place = in_place_when(machine, lazy, relocation);
+    let addend = match addend_of(file, in_place, formula, reference) {
+        Ok(addend) => addend,
+        Err(error) => return Err(ImageError::Link(error)),
+    };
+    let terms = Terms {
+        own: of,
+        address: reference.offset,
+        addend,
+        size: own_size(own, reference.symbol),
+        width: width_of(machine, reference.kind),
+    };
+    match bound {
+        Ok(bound) => Ok(value_word(&terms, bound, formula)),
+        Err(error) => Err(ImageError::Link(*error)),
+    }
+}
+
+impl<'s, 'a, E: LinkedSymbol> Words<'s, 'a, E> {
+    /// The words of the object at index `of`, whose file is `file`. The objects are those of a scope:
+    /// the program, then its libraries in the order in which they are loaded.
+    ///
+    /// Errors: `ObjectIndex` if there is no object at `of`; those of `DynamicView::relr`; those of
+    /// `DynamicView::relocations`.
+    pub fn new(
+        objects: &'s [DynamicObject<'a, E>],
+        of: usize,
+        file: &ElfFile<'a>,
+        when: Binding,
+    ) -> Result<Self, LinkError>
+        ensures exact { let answer = words_of file.now (slice_get objects.now of) in
+            MatchResult result (λ words. answer ≡ Ok (words_left words))
+            (λ error. answer ≡ Err error) }
+        ensures objects { IfOk result (λ words. words_objects words ≡ objects.entry) }
+        ensures file { IfOk result (λ words. words_file words ≡ file.now) }
+        ensures own { IfOk result (λ words. slice_get objects.now of ≡ Some (words_own words)) }
+        ensures index { IfOk result (λ words. words_index words ≡ of) }
+        ensures lazy { IfOk result (λ words. words_lazy words
+            ≡ binds_lazily (view_entries (object_view (words_own words))) when) }
+    {
+        let Some(own) = objects.get(of) else {
+            return Err(LinkError::ObjectIndex);
+        };
+        let view = own.view();
+        let order = InOrder::read(&view, file)?;
+        Ok(Words {
+            scope: Scope::new(objects),
+            file: ElfFile {
+                input: file.input,
+                header: file.header,
+            },
+            own,
+            of,
+            lazy: binds_lazily(&view, when),
+            order,
+        })
+    }
+
+    // The next relocation.
+    fn next_relocation(&mut self) -> Option<Relocation>
+        ensures first { YieldsFirst words_left self.old result self.new }
+        ensures same { IsSame self.old self.new }
+    {
+        self.order.next()
+    }
+
+    // The symbol that a relocation gets, if its word depends on one.
+    fn bound(&self, relocation: &Relocation) -> Result<Option<Bound<E>>, LinkError>
+        ensures { IsBoundIf (needs_symbol (file_machine (words_file self.now)) (words_lazy self.now)
+            relocation.now) E.fields (words_objects self.now).now (words_index self.now)
+            relocation.now.reference result }
+    {
+        let machine = self.file.header.pt2.machine().raw();
+        if needs_symbol(machine, self.lazy, relocation) {
+            self.scope.bind(self.of, &relocation.reference)
+        } else {
+            Ok(None)
+        }
+    }
+
+    // A relocation with its word.
+    fn item(&self, relocation: Relocation) -> Relocated<E>
+        ensures relocation { result.relocation ≡ relocation }
+        ensures word { HasWord E.fields (words_objects self.now).now
+            (words_file self.now) (words_own self.now) (words_index self.now) (words_lazy self.now) result }
+    {
+        let bound = self.bound(&relocation);
+        let word = word_of(
+            &self.file,
+            self.own,
+            self.of,
+            self.lazy,
+            &relocation,
+            &bound,
+        );
+        Relocated {
+            relocation,
+            bound,
+            word,
+        }
+    }
+}
+
+impl<E: LinkedSymbol> Iterator for Words<'_, '_, E> {
+    type Item = Relocated<E>;
+
+    ghost next_gives = { λ s r t. YieldsFirstBy relocation_of words_left s r t × IsSame s t
+        × IfSome r (HasWord E.fields (words_objects s).now (words_file s) (words_own s)
+        (words_index s) (words_lazy s)) };
+
+    ghost remaining = { item_count words_left };
+
+    fn next(&mut self) -> Option<Relocated<E>> {
+        let relocation = self.next_relocation()?;
+        Some(self.item(relocation))
+    }
+}
