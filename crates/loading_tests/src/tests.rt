@@ -3,8 +3,10 @@
 
 mod bytes;
 mod formulas;
+mod in_order;
 mod messages;
 mod plans;
 mod refusals;
 mod rows;
 mod want;
+mod words;

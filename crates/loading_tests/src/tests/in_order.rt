@@ -1,0 +1,66 @@
+//! The order in which relocations are applied.
+
+use crate::tests::rows::open;
+use crate::tests::want::want_at;
+use crate::tests::words::{SIZE, TABLE, base_file, put_rela};
+use elf_linking::references::Reference;
+use elf_linking::view::DynamicView;
+use elf_loading::{InOrder, Relocation};
+use worked_files::places::{Place, set};
+use xmas_elf::bytes::Order;
+
+// Three records of DT_RELA, the last of which is that of DT_JMPREL, and two packed relocations.
+fn file_with_slot() -> [u8; SIZE] {
+    let entries = [
+        (7, 0x1240),
+        (8, 72),
+        (23, 0x1270),
+        (2, 24),
+        (20, 7),
+        (36, 0x12a0),
+        (35, 16),
+    ];
+    let mut file = base_file(2, 62, &entries);
+    for (k, row) in [(0x1620, 8, 0, 4), (0x1628, 6, 1, 0), (0x1630, 7, 1, 0)]
+        .iter()
+        .enumerate()
+    {
+        put_rela(&mut file, TABLE.wrapping_add(k.wrapping_mul(24)), *row);
+    }
+    set(&mut file, TABLE, Place(0x60, 8), 0x1600, Order::Little);
+    set(&mut file, TABLE, Place(0x68, 8), 3, Order::Little);
+    file
+}
+
+// A relocation, and whether it is packed and of the procedure linkage table.
+type Row = (u64, u32, u32, u64, bool, bool);
+
+const ROWS: &[Row] = &[
+    (0x1600, 8, 0, 0, true, false),
+    (0x1608, 8, 0, 0, true, false),
+    (0x1620, 8, 0, 4, false, false),
+    (0x1628, 6, 1, 0, false, false),
+    (0x1630, 7, 1, 0, false, true),
+];
+
+#[test]
+fn slots_at_the_end_of_a_table_come_once(rt: HostRuntime) {
+    let bytes = file_with_slot();
+    let file = open(&rt, &bytes);
+    let view = DynamicView::read(&file).expect(&rt, "a dynamic segment");
+    let mut order = InOrder::read(&view, &file).expect(&rt, "relocations");
+    for &(offset, kind, symbol, addend, in_place, slot) in ROWS {
+        let wanted = Relocation {
+            reference: Reference {
+                offset,
+                kind,
+                symbol,
+                addend,
+            },
+            in_place,
+            slot,
+        };
+        want_at(&rt, offset, order.next(), Some(wanted));
+    }
+    want_at(&rt, 0u64, order.next(), None);
+}
