@@ -179,7 +179,6 @@ const X86_64: &[Row] = &[
     ),
     (62, 33, 1, 0x10, (8, sum(Origin::Zero, 0x18))),
     (62, 32, 1, MINUS_4, (4, sum(Origin::Zero, 4))),
-    (62, 33, 2, 0x10, (8, sum(Origin::Zero, 0x10))),
     (62, 16, 3, 0x10, (8, Value::Module(0))),
     (62, 16, 0, 0, (8, Value::Module(1))),
     (62, 16, 2, 0, (0, Value::Unchanged)),
