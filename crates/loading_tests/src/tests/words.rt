@@ -140,10 +140,6 @@ type Row = (u64, u64, u64, u64, (u64, Value));
 
 const MINUS_4: u64 = u64::MAX - 3;
 
-const fn sum(origin: Origin, offset: u64) -> Value {
-    Value::Sum { origin, offset }
-}
-
 const RESOLVED: Origin = Origin::Call {
     object: Some(0),
     offset: 0x540,
@@ -151,19 +147,175 @@ const RESOLVED: Origin = Origin::Call {
 
 const X86_64: &[Row] = &[
     (62, 0, 1, 4, (0, Value::Unchanged)),
-    (62, 8, 0, 0x10, (8, sum(Origin::Base(1), 0x10))),
-    (62, 8, 0, MINUS_4, (8, sum(Origin::Base(1), MINUS_4))),
-    (62, 1, 1, 0x10, (8, sum(Origin::Base(0), 0x510))),
-    (62, 1, 1, MINUS_4, (8, sum(Origin::Base(0), 0x4fc))),
-    (62, 1, 0, 0x10, (8, sum(Origin::Base(1), 0x10))),
-    (62, 1, 2, 0x10, (8, sum(Origin::Zero, 0x10))),
-    (62, 1, 4, MINUS_4, (8, sum(Origin::Zero, 0x1230))),
-    (62, 1, 5, 0x10, (8, sum(RESOLVED, 0x10))),
-    (62, 10, 1, MINUS_4, (4, sum(Origin::Base(0), 0x4fc))),
-    (62, 10, 2, MINUS_4, (4, sum(Origin::Zero, 0xffff_fffc))),
-    (62, 6, 1, 0x10, (8, sum(Origin::Base(0), 0x500))),
-    (62, 7, 1, MINUS_4, (8, sum(Origin::Base(0), 0x500))),
-    (62, 6, 2, 0x10, (8, sum(Origin::Zero, 0))),
+    (
+        62,
+        8,
+        0,
+        0x10,
+        (
+            8,
+            Value::Sum {
+                origin: Origin::Base(1),
+                offset: 0x10,
+            },
+        ),
+    ),
+    (
+        62,
+        8,
+        0,
+        MINUS_4,
+        (
+            8,
+            Value::Sum {
+                origin: Origin::Base(1),
+                offset: MINUS_4,
+            },
+        ),
+    ),
+    (
+        62,
+        1,
+        1,
+        0x10,
+        (
+            8,
+            Value::Sum {
+                origin: Origin::Base(0),
+                offset: 0x510,
+            },
+        ),
+    ),
+    (
+        62,
+        1,
+        1,
+        MINUS_4,
+        (
+            8,
+            Value::Sum {
+                origin: Origin::Base(0),
+                offset: 0x4fc,
+            },
+        ),
+    ),
+    (
+        62,
+        1,
+        0,
+        0x10,
+        (
+            8,
+            Value::Sum {
+                origin: Origin::Base(1),
+                offset: 0x10,
+            },
+        ),
+    ),
+    (
+        62,
+        1,
+        2,
+        0x10,
+        (
+            8,
+            Value::Sum {
+                origin: Origin::Zero,
+                offset: 0x10,
+            },
+        ),
+    ),
+    (
+        62,
+        1,
+        4,
+        MINUS_4,
+        (
+            8,
+            Value::Sum {
+                origin: Origin::Zero,
+                offset: 0x1230,
+            },
+        ),
+    ),
+    (
+        62,
+        1,
+        5,
+        0x10,
+        (
+            8,
+            Value::Sum {
+                origin: RESOLVED,
+                offset: 0x10,
+            },
+        ),
+    ),
+    (
+        62,
+        10,
+        1,
+        MINUS_4,
+        (
+            4,
+            Value::Sum {
+                origin: Origin::Base(0),
+                offset: 0x4fc,
+            },
+        ),
+    ),
+    (
+        62,
+        10,
+        2,
+        MINUS_4,
+        (
+            4,
+            Value::Sum {
+                origin: Origin::Zero,
+                offset: 0xffff_fffc,
+            },
+        ),
+    ),
+    (
+        62,
+        6,
+        1,
+        0x10,
+        (
+            8,
+            Value::Sum {
+                origin: Origin::Base(0),
+                offset: 0x500,
+            },
+        ),
+    ),
+    (
+        62,
+        7,
+        1,
+        MINUS_4,
+        (
+            8,
+            Value::Sum {
+                origin: Origin::Base(0),
+                offset: 0x500,
+            },
+        ),
+    ),
+    (
+        62,
+        6,
+        2,
+        0x10,
+        (
+            8,
+            Value::Sum {
+                origin: Origin::Zero,
+                offset: 0,
+            },
+        ),
+    ),
     (
         62,
         2,
@@ -177,12 +329,48 @@ const X86_64: &[Row] = &[
             },
         ),
     ),
-    (62, 33, 1, 0x10, (8, sum(Origin::Zero, 0x18))),
-    (62, 32, 1, MINUS_4, (4, sum(Origin::Zero, 4))),
+    (
+        62,
+        33,
+        1,
+        0x10,
+        (
+            8,
+            Value::Sum {
+                origin: Origin::Zero,
+                offset: 0x18,
+            },
+        ),
+    ),
+    (
+        62,
+        32,
+        1,
+        MINUS_4,
+        (
+            4,
+            Value::Sum {
+                origin: Origin::Zero,
+                offset: 4,
+            },
+        ),
+    ),
     (62, 16, 3, 0x10, (8, Value::Module(0))),
     (62, 16, 0, 0, (8, Value::Module(1))),
     (62, 16, 2, 0, (0, Value::Unchanged)),
-    (62, 17, 3, MINUS_4, (8, sum(Origin::Zero, 0xc))),
+    (
+        62,
+        17,
+        3,
+        MINUS_4,
+        (
+            8,
+            Value::Sum {
+                origin: Origin::Zero,
+                offset: 0xc,
+            },
+        ),
+    ),
     (
         62,
         18,
@@ -230,13 +418,13 @@ const X86_64: &[Row] = &[
         0x540,
         (
             8,
-            sum(
-                Origin::Call {
+            Value::Sum {
+                origin: Origin::Call {
                     object: Some(1),
                     offset: 0x540,
                 },
-                0,
-            ),
+                offset: 0,
+            },
         ),
     ),
     (
@@ -258,11 +446,71 @@ const X86_64: &[Row] = &[
 
 // On 386 the word in place is the addend, of 32 bits.
 const I386: &[Row] = &[
-    (3, 8, 0, MINUS_4, (4, sum(Origin::Base(1), 0xffff_fffc))),
-    (3, 1, 1, 0x10, (4, sum(Origin::Base(0), 0x510))),
-    (3, 1, 1, MINUS_4, (4, sum(Origin::Base(0), 0x4fc))),
-    (3, 6, 1, 0x10, (4, sum(Origin::Base(0), 0x500))),
-    (3, 7, 1, MINUS_4, (4, sum(Origin::Base(0), 0x500))),
+    (
+        3,
+        8,
+        0,
+        MINUS_4,
+        (
+            4,
+            Value::Sum {
+                origin: Origin::Base(1),
+                offset: 0xffff_fffc,
+            },
+        ),
+    ),
+    (
+        3,
+        1,
+        1,
+        0x10,
+        (
+            4,
+            Value::Sum {
+                origin: Origin::Base(0),
+                offset: 0x510,
+            },
+        ),
+    ),
+    (
+        3,
+        1,
+        1,
+        MINUS_4,
+        (
+            4,
+            Value::Sum {
+                origin: Origin::Base(0),
+                offset: 0x4fc,
+            },
+        ),
+    ),
+    (
+        3,
+        6,
+        1,
+        0x10,
+        (
+            4,
+            Value::Sum {
+                origin: Origin::Base(0),
+                offset: 0x500,
+            },
+        ),
+    ),
+    (
+        3,
+        7,
+        1,
+        MINUS_4,
+        (
+            4,
+            Value::Sum {
+                origin: Origin::Base(0),
+                offset: 0x500,
+            },
+        ),
+    ),
     (
         3,
         2,
@@ -276,9 +524,33 @@ const I386: &[Row] = &[
             },
         ),
     ),
-    (3, 38, 1, 0x10, (4, sum(Origin::Zero, 0x18))),
+    (
+        3,
+        38,
+        1,
+        0x10,
+        (
+            4,
+            Value::Sum {
+                origin: Origin::Zero,
+                offset: 0x18,
+            },
+        ),
+    ),
     (3, 35, 3, 0x10, (4, Value::Module(0))),
-    (3, 36, 3, 0x10, (4, sum(Origin::Zero, 0x10))),
+    (
+        3,
+        36,
+        3,
+        0x10,
+        (
+            4,
+            Value::Sum {
+                origin: Origin::Zero,
+                offset: 0x10,
+            },
+        ),
+    ),
     (
         3,
         14,
@@ -322,12 +594,72 @@ const I386: &[Row] = &[
 
 const AARCH64: &[Row] = &[
     (183, 256, 1, 4, (0, Value::Unchanged)),
-    (183, 1027, 0, MINUS_4, (8, sum(Origin::Base(1), MINUS_4))),
-    (183, 257, 1, 0x10, (8, sum(Origin::Base(0), 0x510))),
-    (183, 1025, 1, MINUS_4, (8, sum(Origin::Base(0), 0x4fc))),
-    (183, 1026, 1, 0x10, (8, sum(Origin::Base(0), 0x510))),
+    (
+        183,
+        1027,
+        0,
+        MINUS_4,
+        (
+            8,
+            Value::Sum {
+                origin: Origin::Base(1),
+                offset: MINUS_4,
+            },
+        ),
+    ),
+    (
+        183,
+        257,
+        1,
+        0x10,
+        (
+            8,
+            Value::Sum {
+                origin: Origin::Base(0),
+                offset: 0x510,
+            },
+        ),
+    ),
+    (
+        183,
+        1025,
+        1,
+        MINUS_4,
+        (
+            8,
+            Value::Sum {
+                origin: Origin::Base(0),
+                offset: 0x4fc,
+            },
+        ),
+    ),
+    (
+        183,
+        1026,
+        1,
+        0x10,
+        (
+            8,
+            Value::Sum {
+                origin: Origin::Base(0),
+                offset: 0x510,
+            },
+        ),
+    ),
     (183, 1028, 3, 0, (8, Value::Module(0))),
-    (183, 1029, 3, MINUS_4, (8, sum(Origin::Zero, 0xc))),
+    (
+        183,
+        1029,
+        3,
+        MINUS_4,
+        (
+            8,
+            Value::Sum {
+                origin: Origin::Zero,
+                offset: 0xc,
+            },
+        ),
+    ),
     (
         183,
         1030,
