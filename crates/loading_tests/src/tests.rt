@@ -7,6 +7,7 @@ mod in_order;
 mod messages;
 mod plans;
 mod refusals;
+mod relocated_files;
 mod rows;
 mod want;
 mod words;

@@ -1,8 +1,8 @@
 //! The order in which relocations are applied.
 
+use crate::tests::relocated_files::{SIZE, TABLE, base_file, put_rela};
 use crate::tests::rows::open;
 use crate::tests::want::want_at;
-use crate::tests::words::{SIZE, TABLE, base_file, put_rela};
 use elf_linking::references::Reference;
 use elf_linking::view::DynamicView;
 use elf_loading::{InOrder, Relocation};
