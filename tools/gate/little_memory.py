@@ -18,10 +18,10 @@ import subprocess
 import sys
 import tempfile
 
-from program_ends import BOUND, COUNTER, COUNTER_PLAN, CRATES, LINKED, PLACES_SIZES, REPORT, STRTAB, SYMBOLS, builds_of
+import program_ends
+from program_ends import ASKED, COUNTER, COUNTER_PLAN, LINKED, PLACES, PLACES_SIZES, REPORT, STRTAB, SYMBOLS, builds_of, data
 
-SAMPLE = CRATES / "elfanswers" / "data"
-FIRST = (BOUND / "libfirst.so").read_bytes()
+FIRST = data("elfbind/data/libfirst.so")
 # What this library alone is bound to, as `readelf -rsW` says of it before its section headers are cut off.
 FIRST_LINES = "".join(f"a.elf {line}\n" for line in (
     "per_thread@V1 -> a.elf 0x4", "per_thread@V1 -> a.elf 0x4", "shared@V1 -> a.elf 0x16d4", "kept@V1 -> a.elf 0x4d7",
@@ -45,10 +45,8 @@ class Program:
         return [f"{self.name}: {it}\n".encode() for it in ends]
 
 
-FILES = {"a string table": STRTAB, "links": (SAMPLE / "notes-64.elf").read_bytes(),
-    "a hash table": (SAMPLE / "dynamic-64.elf").read_bytes(), "three bytes": STRTAB[:3]}
-PLACES = (CRATES / "elfaddr" / "data" / "places.so").read_bytes()
-ASKED = (CRATES / "elfsym" / "args").read_text().split()[1:]
+FILES = {"a string table": STRTAB, "links": data("elfanswers/data/notes-64.elf"),
+    "a hash table": data("elfanswers/data/dynamic-64.elf"), "three bytes": STRTAB[:3]}
 PROGRAMS = [
     Program("elfinfo", [], FILES, REPORT, (20, 300)),
     Program("elfsym", ASKED, {"a hash table": LINKED, "three bytes": LINKED[:3]}, SYMBOLS, (20, 16)),
@@ -105,11 +103,11 @@ ssize_t write(int file, const void *from, size_t size) {
 }
 """
 
+
 def run(program, words, room, **failing):
     """How the run ends whose call of this kind and number fails: status, output and error text."""
     failed = {name: str(number) for name, number in failing.items()}
-    ran = subprocess.run([program, "a.elf", *words], cwd=room, capture_output=True, timeout=60, env={"LD_PRELOAD": f"{room}/failing.so", **failed})
-    return ran.returncode, ran.stdout, ran.stderr
+    return tuple(program_ends.run(program, ["a.elf", *words], room, env={"LD_PRELOAD": f"{room}/failing.so", **failed}))
 
 
 def is_well(kind, end, whole, texts, before):
@@ -140,12 +138,11 @@ def unlike(built, program, room, name) -> int:
         ends = list(itertools.takewhile(lambda end: end != whole, runs))
         before = lambda at: at * program.few[1] if is_few else None
         wrong = [end for at, end in enumerate(ends) if not is_well(kind, end, whole, texts, before(at))]
-        is_whole = len(ends) < MOST - 1
         said = [texts.index(it[2]) for it in ends if it not in wrong and kind == "FAIL_MEMORY"]
         # A refused file has no output that could fail.
         is_tried = ends or (kind == "FAIL_OUTPUT" and whole[0])
         how = kind[5:].lower() + (", of a few bytes" if is_few else "")
-        if not is_whole or wrong or said != sorted(said) or not is_tried:
+        if len(ends) == MOST - 1 or wrong or said != sorted(said) or not is_tried:
             count += 1
             print(f"{built.name} NOT AS IT MUST: {name}, {kind}: {wrong[:2]}, and last {ends[-1:]}, not {whole}"[:900])
         else:
@@ -154,8 +151,7 @@ def unlike(built, program, room, name) -> int:
 
 
 def main() -> int:
-    builds = builds_of([it.name for it in PROGRAMS])
-    count = 0
+    builds, count = builds_of([it.name for it in PROGRAMS]), 0
     with tempfile.TemporaryDirectory() as room:
         os.environ.pop("LD_PRELOAD", None)
         # The library whose calls fail.
