@@ -176,18 +176,20 @@ def build_ids(path: str) -> List[str]:
 
 
 class Relocation(NamedTuple):
-    """A relocation: how many digits its offset has, the offset, its type and symbol as one number, the name of its type, and its
-    addend, if the table has addends and readelf shows this one."""
+    """A relocation: how many digits its offset has, the offset, its type and symbol as one number, the name of its type, its
+    addend, if the table has addends and readelf shows this one, and the text of that."""
 
     digits: int
     offset: int
     info: int
     kind: str
     addend: Optional[int]
+    shown: str
 
 
 class RelocationTable(NamedTuple):
-    """A table of relocations: the name of its section, whether it has addends, its relocations, and the addresses of packed ones."""
+    """A table of relocations: the name of its section, or readelf's for one of the dynamic segment, whether it has addends, its
+    relocations, and the addresses of packed ones."""
 
     section: str
     has_addends: bool
@@ -197,20 +199,21 @@ class RelocationTable(NamedTuple):
 
 def relocation_of(row: "re.Match", has_addends: bool) -> Relocation:
     """The relocation of a line of readelf."""
-    digits, addend = len(row[1]), None
+    digits, addend, text = len(row[1]), None, ""
     # An addend stands last, after a sign where there is a symbol, and else as a number of the width of an address.
     if has_addends and (shown := re.search(r"(?:([+-]) |\s)(-?[0-9a-f]+)$", row[4])):
         addend = int((shown[1] or "") + shown[2], 16)
+        text = ("-" if shown[1] == "-" and addend else "") + shown[2]
         addend -= 16**digits if not shown[1] and addend >= 16**digits // 2 else 0
-    return Relocation(digits, int(row[1], 16), int(row[2], 16), row[3], addend)
+    return Relocation(digits, int(row[1], 16), int(row[2], 16), row[3], addend, text)
 
 
 def relocation_tables(path: str, *options: str) -> List[RelocationTable]:
     """The tables that GNU's readelf lists, of sections or (-D) of the dynamic segment: llvm-readelf writes none in JSON."""
     found: List[RelocationTable] = []
     for line in run(["readelf", "-rW", *options, "--", path]).output.splitlines():
-        if start := re.match(r"Relocation section '(.*)' at |'\w+' relocation section at ", line):
-            found.append(RelocationTable(start[1] or "", False, [], []))
+        if start := re.match(r"Relocation section '(.*)' at |'(\w+)' relocation section at ", line):
+            found.append(RelocationTable(start[1] or start[2], False, [], []))
         elif re.match(" +Offset ", line):
             found[-1] = found[-1]._replace(has_addends=line.endswith("Addend"))
         elif re.fullmatch("[0-9a-f]{16}|[0-9a-f]{8}", line):
@@ -229,6 +232,21 @@ def files_of(paths: List[str]) -> Iterator[str]:
         for folder, _, names in sorted(os.walk(path)):
             inside = (os.path.join(folder, name) for name in sorted(names))
             yield from (it for it in inside if os.path.isfile(it) and not os.path.islink(it))
+
+
+def spread(count: int, largest: int) -> List[pathlib.Path]:
+    """So many files of class 64 that are spread over those of /usr/bin and of the folder of libraries, below a size."""
+    files = (it for folder in ("/usr/bin", "/usr/lib/x86_64-linux-gnu") for it in sorted(pathlib.Path(folder).iterdir()))
+    found = [it for it in files if it.is_file() and not it.is_symlink() and it.stat().st_size < largest and read_elf(it)[4:5] == b"\2"]
+    return found[:: max(1, len(found) // count)][:count]
+
+
+def stripped(content: bytes) -> bytes:
+    """The same file without section headers: e_shoff, e_shnum and e_shstrndx are 0."""
+    copy = bytearray(content)
+    for place, size in [(32, 4), (48, 4)] if copy[4] == 1 else [(40, 8), (60, 4)]:
+        copy[place : place + size] = bytes(size)
+    return bytes(copy)
 
 
 def parser_of(doc: Optional[str], *programs: str, files: str = "", **numbers: int) -> argparse.ArgumentParser:

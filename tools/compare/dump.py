@@ -22,8 +22,7 @@ import tempfile
 from collections import Counter
 from pathlib import Path
 
-from comparing import ABOUT, ROOT, Tally, build_ids, dynamic_symbols, files_of, llvm, parser_of, parts, raw, read_elf, relocation_tables, run, texts_of
-from elfsym import stripped
+from comparing import ABOUT, ROOT, Tally, build_ids, dynamic_symbols, files_of, llvm, parser_of, parts, raw, read_elf, relocation_tables, run, spread, stripped, texts_of
 
 FILES, LARGEST = 300, 400_000
 
@@ -38,12 +37,6 @@ def built(room):
         ["cargo", "build", "--quiet", "--offline", "--release", "--manifest-path", "bindings/rust/Cargo.toml", "--example", "dump"]):
         subprocess.run(command, cwd=ROOT, env={**os.environ, "XMAS_ELF_ARCHIVE": archive, "CARGO_TARGET_DIR": room}, check=True)
     return [f"{room}/dump", f"{room}/release/examples/dump"], f"{room}/find", f"{room}/dynamic"
-
-
-def spread():
-    files = (it for folder in ("/usr/bin", "/usr/lib/x86_64-linux-gnu") for it in sorted(Path(folder).iterdir()))
-    found = [it for it in files if it.is_file() and not it.is_symlink() and it.stat().st_size < LARGEST and read_elf(it)[4:5] == b"\2"]
-    return found[:: max(1, len(found) // FILES)][:FILES]
 
 
 def numbered(number):
@@ -159,7 +152,7 @@ def compare(programs, find, dynamic, path):
 
 def main():
     given, total = parser_of(__doc__ + ABOUT, files="*").parse_args(), Tally("dump", "files", "lines")
-    files = filter(read_elf, files_of(given.files)) if given.files else spread()
+    files = filter(read_elf, files_of(given.files)) if given.files else spread(FILES, LARGEST)
     with tempfile.TemporaryDirectory() as room, concurrent.futures.ThreadPoolExecutor(os.cpu_count()) as pool:
         for tally in pool.map(functools.partial(compare, *built(room)), files):
             total.update(tally)

@@ -22,7 +22,7 @@ from collections import defaultdict
 from pathlib import Path
 from typing import List, Set, Tuple
 
-from comparing import ABSOLUTE, LOCAL, THREAD, UNDEFINED, Symbol, Tally, compare_all, dynamic_symbols, read_elf, run, texts_of
+from comparing import ABSOLUTE, LOCAL, THREAD, UNDEFINED, Symbol, Tally, compare_all, dynamic_symbols, read_elf, run, stripped, texts_of
 
 # The types that a dynamic linker takes: none, an object, a function, a common block, thread-local, an indirect function.
 TYPES = {0, 1, 2, 5, 6, 10}
@@ -80,14 +80,6 @@ def compare_file(path: str, file: str, elfsym: str, reads: Listing, tally: Tally
     tally["needed libraries"] += len(needed)
     if status != 0 or needed != reads.needed:
         tally.differ(path, "needed", f"{needed} {said.strip()}", reads.needed)
-
-
-def stripped(content: bytes) -> bytes:
-    """The same file without section headers: e_shoff, e_shnum and e_shstrndx are 0."""
-    copy = bytearray(content)
-    for place, size in [(32, 4), (48, 4)] if copy[4] == 1 else [(40, 8), (60, 4)]:
-        copy[place : place + size] = bytes(size)
-    return bytes(copy)
 
 
 def compare(copy: Path, path: str, elfsym: str, tally: Tally) -> None:

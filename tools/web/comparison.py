@@ -3,6 +3,9 @@ import re
 
 import readelf
 
+# The view that is open.
+PANEL = "[role=tabpanel]:not([hidden])"
+
 
 def compare_header(test, path):
     said = readelf.header(path)
@@ -12,11 +15,9 @@ def compare_header(test, path):
              "e_shentsize": "Size of section headers", "e_shnum": "Number of section headers", "e_shstrndx": "Section header string table index"}
     for field, name in pairs.items():
         test.same(f"{path}: {field}", int(table[field], 0), int(re.match(r"\w+", said[name])[0], 0))
-    build_id = readelf.build_id(path)
-    shown = test.page.run("document.querySelector('.facts .id')?.textContent ?? null")
-    test.same(f"{path}: build id", shown, build_id)
-    libraries = test.page.run("Array.from(document.querySelectorAll('.libraries li'), (it) => it.textContent)")
-    test.same(f"{path}: libraries needed", libraries, readelf.needed(path))
+    test.same(f"{path}: build id", test.page.text(".facts .id"), readelf.build_id(path))
+    needed = [text for _, name, text in readelf.dynamic(path) if name == "NEEDED"]
+    test.same(f"{path}: libraries needed", test.page.texts(".libraries li"), needed)
 
 
 def compare_sections(test, path):
@@ -71,7 +72,7 @@ def symbol_form(row, wanted):
     """Number, value, size, type, binding, visibility and name, and the version of a dynamic symbol. The symbols that name a
     version have none by readelf."""
     version = "" if len(row) < 9 or row[6] == "ABS" and row[8] == f"@@{row[7]}" else row[8]
-    return [*row[:6], readelf.plain(row[7]), version][:len(wanted or []) or 7]
+    return [*row[:6], re.sub("@.*", "", row[7]), version][:len(wanted or []) or 7]
 
 
 def relocation_form(row, wanted):
@@ -94,16 +95,11 @@ def compare_dynamic(test, path):
             test.same(f"{path}: text of dynamic entry {index}", shown[4], text)
 
 
-def compare_versions(test, path):
-    test.tab("Versions")
+def compare_rows(test, path, tab, columns, wanted):
+    """Compares some columns of all rows of a table."""
+    test.tab(tab)
     _, rows = test.rows()
-    test.same(f"{path}: versions", [row[:5] for _, row in sorted(rows.items())], readelf.versions(path))
-
-
-def compare_notes(test, path):
-    test.tab("Notes")
-    _, rows = test.rows()
-    test.same(f"{path}: notes", [[row[2], row[4]] for _, row in sorted(rows.items())], readelf.notes(path))
+    test.same(f"{path}: {tab}", [[row[it] for it in columns] for _, row in sorted(rows.items())], wanted)
 
 
 def compare_file(test, path, drops=False):
@@ -118,5 +114,5 @@ def compare_file(test, path, drops=False):
     compare_tables(test, path, "Relocations", "Section", readelf.relocations(path, wide), relocation_form)
     compare_dynamic(test, path)
     if readelf.sections(path):
-        compare_versions(test, path)
-    compare_notes(test, path)
+        compare_rows(test, path, "Versions", range(5), readelf.versions(path))
+    compare_rows(test, path, "Notes", (2, 4), readelf.notes(path))

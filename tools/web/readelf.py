@@ -2,12 +2,12 @@
 import re
 import subprocess
 
+from compare import comparing
+
 SECTION = re.compile(r"^ *\[ *(\d+)\] (.*?) *(\S+) +([0-9a-f]{8,16}) ([0-9a-f]{6,}) ([0-9a-f]{6,}) ([0-9a-f]{2,}) +([A-Za-z]*) +(\d+) +(\d+) +(\d+)$", re.M)
 SEGMENT = re.compile(r"^  (\S+) +(0x[0-9a-f]+) (0x[0-9a-f]+) (0x[0-9a-f]+) (0x[0-9a-f]+) (0x[0-9a-f]+) ([RWE ]{3}) (\S+)$", re.M)
 HELD = re.compile(r"^   (\d\d+) +(.*)$", re.M)
 SYMBOL = re.compile(r" *(\d+): ([0-9a-f]+) +(0x[0-9a-f]+|\d+) (\S+) +(\S+) +(\S+)(?: +\[.*?\])? +(\S+) ?(.*)$")
-RELOCATION = re.compile(r"([0-9a-f]{8,16}) +([0-9a-f]{8,16}) (\S+) *(.*)$")
-PACKED = re.compile(r"([0-9a-f]{8,16})$")
 DYNAMIC = re.compile(r"^ (0x[0-9a-f]+) \((\w+)\) +(.*)$", re.M)
 DEFINED = re.compile(r"  (?:0x)?[0-9a-f]+: Rev: \d+  Flags: (.*?) +Index: (\d+)  Cnt: \d+  Name: (.*)$")
 NEEDED = re.compile(r"  0x[0-9a-f]+:   Name: (.*?)  Flags: (.*?)  Version: (\d+)$")
@@ -38,11 +38,6 @@ def segments(path):
     return [[*(it.strip() for it in row), held.get(index, "")] for index, row in enumerate(SEGMENT.findall(printed))]
 
 
-def plain(name):
-    """A symbol's name without its version, which stands behind an `@`."""
-    return re.sub(r"@.*", "", name)
-
-
 def symbols(path):
     """For each table of symbols, by its name: number, value, size, type, binding, visibility and name, and the version of a
     dynamic symbol.
@@ -56,7 +51,7 @@ def symbols(path):
         if found := SYMBOL.match(line):
             number, value, size, kind, binding, visibility, _, name = found.groups()
             version = [re.sub(r"^[^@]*| \(\d+\)$", "", name)] if dynamic else []
-            rows.append([number, value, str(int(size, 0)), kind, binding, visibility, plain(name), *version])
+            rows.append([number, value, str(int(size, 0)), kind, binding, visibility, re.sub("@.*", "", name), *version])
     return tables
 
 
@@ -65,24 +60,12 @@ def relocations(path, wide):
 
     Of a file without section headers these are the tables of the dynamic segment.
     """
-    tables, rows, shift = {}, [], 32 if wide else 8
-    for line in said(path, "--relocs", *([] if sections(path) else ["--use-dynamic"])).split("\n"):
-        if begun := re.match(r"Relocation section '(.*)' at offset|'(\w+)' relocation section at offset", line):
-            rows = tables.setdefault(begun[1] or USED[begun[2]], [])
-        if found := RELOCATION.match(line):
-            info, rest = int(found[2], 16), found[4]
-            kind = (hex(info % (1 << shift)), found[3])
-            rows.append([found[1], kind, addend(rest), str(info >> shift)])
-        elif PACKED.match(line):
-            rows.append([line, ("", "relative, packed"), "", ""])
+    tables, shift, digits = {}, 32 if wide else 8, 16 if wide else 8
+    for table in comparing.relocation_tables(str(path), *([] if sections(path) else ["--use-dynamic"])):
+        rows = tables.setdefault(USED.get(table.section, table.section), [])
+        rows += [[f"{it.offset:0{it.digits}x}", (hex(it.info % (1 << shift)), it.kind), it.shown, str(it.info >> shift)] for it in table.rows]
+        rows += [[f"{it:0{digits}x}", ("", "relative, packed"), "", ""] for it in table.packed]
     return tables
-
-
-def addend(rest):
-    signed = re.search(r"([+-]) ([0-9a-f]+)$", rest)
-    if signed:
-        return ("-" if signed[1] == "-" and int(signed[2], 16) else "") + signed[2]
-    return rest.strip() if re.fullmatch(r"-?[0-9a-f]+", rest.strip()) else ""
 
 
 def dynamic(path):
@@ -106,10 +89,6 @@ def versions(path):
 
 def notes(path):
     return [[owner, str(int(size, 16))] for owner, size in NOTE.findall(said(path, "--notes"))]
-
-
-def needed(path):
-    return [text for _, name, text in dynamic(path) if name == "NEEDED"]
 
 
 def build_id(path):
