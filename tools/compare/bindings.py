@@ -25,9 +25,9 @@ import sys
 import tempfile
 import time
 import timeit
-from collections import Counter, defaultdict
+from collections import Counter, defaultdict, namedtuple
 from pathlib import Path
-from typing import Dict, List, NamedTuple, Optional, Set, Tuple
+from typing import Dict, List, Optional, Set, Tuple
 
 import damage
 from comparing import INDIRECT, UNIQUE, Finished, Tally, dynamic_symbols, parser_of, read_elf, run
@@ -45,12 +45,10 @@ Key = Tuple[str, str, str]
 real = functools.lru_cache(maxsize=None)(os.path.realpath)
 
 
-class Program(NamedTuple):
-    """A program, the linker that it names, and its files in the order of the scope."""
-
-    path: str
-    linker: str
-    files: List[str]
+# A program, the linker that it names, and its files in the order of the scope.
+Program = namedtuple("Program", "path linker files")
+# The files to which each name of a file with its version is bound, how many references are unresolved, and whether a symbol is missing.
+Bindings = namedtuple("Bindings", "bound unresolved missing")
 
 
 def linker_of(path: str) -> Optional[str]:
@@ -81,14 +79,6 @@ def is_own(program: Program, file: str, name: str) -> bool:
     """Whether a look-up is the linker's own."""
     is_of_linker = "linux-vdso" in file or "linux-gate" in file or real(file) == real(program.linker)
     return is_of_linker or name == "__libc_early_init" or (file == program.path and name in OWN_NAMES)
-
-
-class Bindings(NamedTuple):
-    """The files to which each name of a file with its version is bound, and whether a symbol is missing."""
-
-    bound: Dict[Key, Set[str]]
-    unresolved: int
-    missing: bool
 
 
 def read_elfbind(program: Program, said: Finished) -> Bindings:

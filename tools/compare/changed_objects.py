@@ -2,7 +2,8 @@
 
 import random
 import struct
-from typing import Callable, Dict, Iterable, List, NamedTuple, Set, Tuple
+from collections import namedtuple
+from typing import Callable, Dict, Iterable, List, Set, Tuple
 
 from comparing import UNIQUE
 
@@ -10,13 +11,8 @@ from comparing import UNIQUE
 SYMBOLIC = 2
 
 
-class Change(NamedTuple):
-    """A number at a place of a file, by its format, and what it becomes."""
-
-    what: str
-    place: int
-    form: str
-    number: int
+# A number at a place of a file, by its format, and what it becomes.
+Change = namedtuple("Change", "what place form number")
 
 
 class Object:

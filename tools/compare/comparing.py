@@ -9,7 +9,8 @@ import pathlib
 import re
 import subprocess
 import sys
-from typing import Callable, Iterator, List, NamedTuple, Optional, Tuple
+from collections import namedtuple
+from typing import Callable, Iterator, List, Optional, Tuple
 
 ROOT = pathlib.Path(__file__).resolve().parents[2]
 MAGIC = b"\x7fELF"
@@ -30,12 +31,8 @@ LOCAL, UNIQUE = 0, 10
 LOAD = 1
 
 
-class Finished(NamedTuple):
-    """What a program that ran to its end has left."""
-
-    status: int
-    output: str
-    errors: str
+# What a program that ran to its end has left.
+Finished = namedtuple("Finished", "status output errors")
 
 
 class Tally(collections.Counter):
@@ -128,17 +125,8 @@ def parts(said: dict, name: str, inner: str) -> list:
     return [it[inner] for it in said.get(name, [])]
 
 
-class Symbol(NamedTuple):
-    """A symbol: its name and version, whether the version is a default or needed (and so not hidden), and its fields."""
-
-    name: str
-    version: str
-    is_shown: bool
-    value: int
-    size: int
-    kind: int
-    binding: int
-    section: int
+# A symbol: its name and version, whether the version is a default or needed (and so not hidden), and its fields as numbers.
+Symbol = namedtuple("Symbol", "name version is_shown value size kind binding section")
 
 
 def symbol_of(said: dict, name: str, version: str = "", is_shown: bool = True) -> Symbol:
@@ -175,26 +163,12 @@ def build_ids(path: str) -> List[str]:
     return re.findall(r"'Build ID': '([0-9a-f]+)'", str(llvm(path, "-n").get("Notes")))[:1]
 
 
-class Relocation(NamedTuple):
-    """A relocation: how many digits its offset has, the offset, its type and symbol as one number, the name of its type, its
-    addend, if the table has addends and readelf shows this one, and the text of that."""
-
-    digits: int
-    offset: int
-    info: int
-    kind: str
-    addend: Optional[int]
-    shown: str
-
-
-class RelocationTable(NamedTuple):
-    """A table of relocations: the name of its section, or readelf's for one of the dynamic segment, whether it has addends, its
-    relocations, and the addresses of packed ones."""
-
-    section: str
-    has_addends: bool
-    rows: List[Relocation]
-    packed: List[int]
+# A relocation: how many digits its offset has, the offset, its type and symbol as one number, the name of its type, its addend,
+# if the table has addends and readelf shows this one, and the text of that.
+Relocation = namedtuple("Relocation", "digits offset info kind addend shown")
+# A table of relocations: the name of its section, or readelf's for one of the dynamic segment, whether it has addends, its
+# relocations, and the addresses of packed ones.
+RelocationTable = namedtuple("RelocationTable", "section has_addends rows packed")
 
 
 def relocation_of(row: "re.Match", has_addends: bool) -> Relocation:

@@ -18,7 +18,7 @@ import ctypes
 import itertools
 import re
 import sys
-from typing import List, NamedTuple, Optional, Tuple
+from typing import List, Tuple
 
 from comparing import LOCAL, ROOT, UNDEFINED, Tally, compare_all, dynamic_symbols, llvm, parts, relocation_tables
 
@@ -33,12 +33,8 @@ UNKNOWN_TYPE = re.compile(r"Unknown \(0x([0-9A-Fa-f]+)\)")
 NOTES, RELR, GNU_HASH = 7, 19, 0x6FFFFFF6
 
 
-class Note(NamedTuple):
-    """A note: its type, its name up to the first zero where it is text, and the size of its description."""
-
-    kind: Optional[int]
-    name: Optional[str]
-    size: int
+# A note: its type, its name up to the first zero where it is text, and the size of its description.
+Note = collections.namedtuple("Note", "kind name size")
 
 
 def read_note(said: dict) -> Note:

@@ -7,17 +7,12 @@ has it; a relocation type has that name in the definition of elf_linking too. Th
 import pathlib
 import re
 import sys
-import tomllib
 
-ROOT = pathlib.Path(__file__).resolve().parents[2]
+import listing
+from listing import ROOT
+
 CONSTANT = re.compile(r"/// `(\w+)`[^\n]*\n(?:///[^\n]*\n)*pub const \w+: \w+ = (\w+);")
 HEADER = pathlib.Path("/usr/include/elf.h")
-
-
-def listed() -> dict:
-    """The names and numbers of the list."""
-    with open(ROOT / "bindings/constants.toml", "rb") as file:
-        return {row[0]: row[1] for group in tomllib.load(file)["groups"] for row in group["rows"]}
 
 
 def found() -> list:
@@ -37,7 +32,7 @@ def found() -> list:
 
 
 def main() -> int:
-    numbers, compared, differences = listed(), 0, 0
+    numbers, compared, differences = {it.name: it.value for it in listing.constants()}, 0, 0
     for place, name, number in found():
         if name in numbers:
             compared += 1

@@ -7,8 +7,7 @@
 above proves and builds it once more then. This writes the stamps, of libraries that are newer than their sources. Of a
 kit that knows no stamps nothing is written.
 """
-import importlib.machinery
-import importlib.util
+import importlib
 import os
 import pathlib
 import shutil
@@ -19,12 +18,9 @@ ROOT = pathlib.Path(__file__).resolve().parents[2]
 
 def kit():
     """The part of the kit that knows crates and their stamps."""
-    place = pathlib.Path(shutil.which("rt")).resolve().parent / "rtlib.py"
-    loader = importlib.machinery.SourceFileLoader("rtlib", str(place))
-    module = importlib.util.module_from_spec(importlib.util.spec_from_loader("rtlib", loader))
-    sys.dont_write_bytecode, sys.modules["rtlib"] = True, module
-    loader.exec_module(module)
-    return module
+    sys.dont_write_bytecode = True
+    sys.path.append(str(pathlib.Path(shutil.which("rt")).resolve().parent))
+    return importlib.import_module("rtlib")
 
 
 def newest(folder: str) -> float:

@@ -98,7 +98,7 @@ class Reach:
     """Which functions have clauses that lead to a definition that changed since a commit. An import alone counts for none."""
 
     def __init__(self, commit: str):
-        self.reader, self.edges, self.hot = Reader(), {}, set()
+        self.reader, self.known = Reader(), {}
         # The members of a trait count for every type.
         self.reader.types = None
         self.lines = {ROOT / path: changed_lines(commit, path) for path in changed_files(commit) if path.endswith((".antt", ".rt"))}
@@ -111,33 +111,30 @@ class Reach:
         own = (line - one.line for line in lines)
         return any(0 <= at < len(text) and not text[at].lstrip().startswith(("--", "//")) for at in own)
 
-    def read(self, found: list) -> set:
-        """Notes definitions and all that they lead to; gives their places."""
-        left = list(found)
+    def leads_to_change(self, found) -> bool:
+        """Whether one of these definitions changed, or one that they lead to."""
+        left, seen = list(found), set()
         while left:
             one = left.pop()
             place = (one.path, one.line)
-            if place in self.edges:
-                continue
-            local = self.reader.spec(one.path) if one.path.suffix == ".antt" else {}
-            used = list(self.reader.used(one.text, one.uses, local)) if one.kind != "type" else []
-            self.edges[place] = {(it.path, it.line) for it in used}
-            self.hot |= {place} if self.is_changed(one) else set()
-            left += used
-        return {(it.path, it.line) for it in found}
+            if place not in self.known:
+                self.known[place] = self.is_changed(one), [] if one.kind == "type" else [*self.reader.used_by(one)]
+            is_changed, used = self.known[place]
+            if is_changed:
+                return True
+            left += [] if place in seen else used
+            seen.add(place)
+        return False
 
     def functions(self, crates) -> set:
         """The crate, file and path of each function of some crates whose clauses lead to a changed definition."""
-        led = {}
+        found = set()
         for source in (it for (crate, _), it in self.reader.sources.items() if crate in crates):
             for one in source.functions:
                 text, uses, _, _ = self.reader.contract(source, one)
-                led[source.crate, one.file, one.path] = self.read(list(self.reader.used(text, uses, {})))
-        more = True
-        while more:
-            more = {place for place, used in self.edges.items() if used & self.hot} - self.hot
-            self.hot |= more
-        return {it for it, places in led.items() if places & self.hot}
+                if self.leads_to_change(self.reader.used(text, uses, {})):
+                    found.add((source.crate, one.file, one.path))
+        return found
 
 
 def main() -> int:

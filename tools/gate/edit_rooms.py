@@ -107,9 +107,8 @@ class Room:
 
     def __init__(self, root: pathlib.Path, crate: EditedCrate, below, place: pathlib.Path, kept=None, whole=False):
         self.root, self.crate, self.below, self.is_whole = root, crate, below, whole
-        self.folder, self.kept = place / "crates" / crate.name, kept
+        self.folder, self.clean, self.kept = place / "crates" / crate.name, place / "clean", kept
         self.words = [] if whole else ["--allow-holes"]
-        self.texts = crate.texts if whole else crate.with_stand_ins(set())
         # what each check took
         self.times = []
         place.mkdir()
@@ -118,13 +117,12 @@ class Room:
         (place / "crates.txt").write_text("".join(it for it in lines if re.split(r"[ :]", it)[0] in needed), encoding="utf-8")
         for name in needed:
             source, copy = root / "crates" / name, place / "crates" / name
-            for part in ("src", "specs", "proofs"):
+            for part in ("src", "specs", "proofs", *(["out/rlib"] if name != crate.name else [])):
                 if (source / part).is_dir():
                     shutil.copytree(source / part, copy / part)
-            if name != crate.name and (source / "out" / "rlib").is_dir():
-                shutil.copytree(source / "out" / "rlib", copy / "out" / "rlib")
         if not whole:
             self.make_stand_ins()
+        shutil.copytree(self.folder, self.clean)
 
     def make_stand_ins(self):
         """Writes the stand-ins, and for each a proof that rests on the one hole."""
@@ -132,21 +130,17 @@ class Room:
         written(proofs / "Unproved.antt", UNPROVED)
         with open(proofs / "Lib.antt", "a", encoding="utf-8") as modules:
             modules.write("pub mod Unproved\n")
-        for file, text in self.texts.items():
+        for file, text in self.crate.with_stand_ins(set()).items():
             written(self.folder / file, text)
         for one in filter(self.crate.stands_in, self.crate.functions):
-            self.leave_unproved(one)
+            path = self.path_of(one)
+            for parts in [*self.crate.proofs_of(one), path]:
+                shutil.rmtree(proofs.joinpath(*parts), ignore_errors=True)
+            written(proofs.joinpath(*path, "Proof.antt"), STAND_IN.format(crate=self.crate.name, path=".".join(path), name=path[-1]))
 
     def path_of(self, one: Function) -> list:
         """The path of a function below its crate, which is that of the folder of its proof."""
         return self.crate.told_path(one).split("::")[1:]
-
-    def leave_unproved(self, one: Function):
-        """Puts the proof of a stand-in in the place of its function's."""
-        proofs, path = self.folder / "proofs", self.path_of(one)
-        for parts in [*self.crate.proofs_of(one), path]:
-            shutil.rmtree(proofs.joinpath(*parts), ignore_errors=True)
-        written(proofs.joinpath(*path, "Proof.antt"), STAND_IN.format(crate=self.crate.name, path=".".join(path), name=path[-1]))
 
     def give_proof(self, one: Function):
         """Puts the proof of a function, if it has one, in the place of its stand-in's."""
@@ -165,45 +159,22 @@ class Room:
         """Whether a check of the crate kept what the checks here can begin with."""
         return self.kept is not None and self.kept.is_dir()
 
-    def begin(self):
-        """Takes what a check of the crate kept before any edit: a check with an edit replaces what was kept of its function."""
-        there = self.folder / "out" / "incremental"
-        shutil.rmtree(there, ignore_errors=True)
+    def make(self, tried: Tried):
+        """Makes edits in the crate as it was before any, over what a check of it kept; and the proofs of functions beside others."""
+        shutil.rmtree(self.folder)
+        shutil.copytree(self.clean, self.folder)
         if self.keeps():
-            shutil.copytree(self.kept, there, copy_function=copied)
-
-    def check(self, edits, tried: Tried, functions) -> Checked:
-        """What a check of these functions says of the crate with these edits made (none: of all); takes them back."""
-        self.begin()
-        proofs = self.made(tried)
-        paths = sorted({self.crate.told_path(one) for one in functions})
-        unprinted = [self.unprinted(it) for it in paths]
-        ran = self.check_only(paths)
-        for file, text in unprinted:
-            written(file, text) if text else file.unlink()
-        self.unmade(tried, proofs)
-        self.times.append((ran.seconds, edits[0].label() if len(edits) == 1 else f"{self.crate.name}: {len(edits)} edits"))
-        return ran
-
-    def unprinted(self, path: str):
-        """Adds the refused line to the proof of a function; gives the file, and what it was (nothing: it had none)."""
-        file = self.folder.joinpath("proofs", *path.split("::")[1:], "Answers.antt")
-        text = file.read_text(encoding="utf-8") if file.exists() else ""
-        written(file, text + UNPRINTED)
-        return file, text
-
-    def made(self, tried: Tried) -> list:
-        """Writes the files that edits change, and the proofs of functions beside others; gives the folders of these."""
+            shutil.copytree(self.kept, self.folder / "out" / "incremental", copy_function=copied)
         for file, text in tried.texts.items():
             written(self.folder / file, text)
         for one in filter(self.crate.stands_in, tried.in_place):
             self.give_proof(one)
-        return [it for copy, one in tried.copies.items() for it in self.copy_proofs(one, copy.name())]
+        for copy, one in tried.copies.items():
+            self.copy_proofs(one, copy.name())
 
-    def copy_proofs(self, one: Function, name: str) -> list:
-        """Copies the proof of a function and those of its closures for one of another name; gives the folders."""
+    def copy_proofs(self, one: Function, name: str):
+        """Copies the proof of a function and those of its closures for one of another name."""
         *above, old = self.path_of(one)
-        proofs, made = self.folder / "proofs", []
 
         def moved(found) -> str:
             parts = found[0].split(".")
@@ -211,29 +182,28 @@ class Room:
             return found[0] if at is None else ".".join([*parts[:at], name, *parts[at + 1 :]])
 
         for parts in self.crate.proofs_of(one):
-            made.append(pathlib.Path(shutil.copytree(self.crate.folder.joinpath("proofs", *parts), proofs.joinpath(*parts[:-1], name))))
-            for file in made[-1].rglob("*.antt"):
+            copy = self.folder.joinpath("proofs", *parts[:-1], name)
+            shutil.copytree(self.crate.folder.joinpath("proofs", *parts), copy)
+            for file in copy.rglob("*.antt"):
                 written(file, re.sub(rf"Rattle\.{self.crate.name}\.proofs(\.[\w+]+)+", moved, file.read_text(encoding="utf-8")))
-        # Where there is none, the refused line makes one.
-        return made or [proofs.joinpath(*above, name)]
 
-    def unmade(self, tried: Tried, proofs):
-        """Takes edits and the proofs that were made for them back."""
-        for file in tried.texts:
-            written(self.folder / file, self.texts[file])
-        for one in filter(self.crate.stands_in, tried.in_place):
-            self.leave_unproved(one)
-        for folder in proofs:
-            shutil.rmtree(folder, ignore_errors=True)
+    def check(self, edits, tried: Tried, functions) -> Checked:
+        """What a check of these functions says of the crate with these edits made (none: of all)."""
+        self.make(tried)
+        paths = sorted({self.crate.told_path(one) for one in functions})
+        for path in paths:
+            file = self.folder.joinpath("proofs", *path.split("::")[1:], "Answers.antt")
+            written(file, (file.read_text(encoding="utf-8") if file.exists() else "") + UNPRINTED)
+        ran = self.check_only(paths)
+        self.times.append((ran.seconds, edits[0].label() if len(edits) == 1 else f"{self.crate.name}: {len(edits)} edits"))
+        return ran
 
     def uncompiled(self, edits) -> list:
         """Those of the edits that don't compile, each with the error."""
-        self.begin()
         tried = self.crate.tried(edits, self.is_whole)
-        proofs = self.made(tried)
+        self.make(tried)
         # A check of a function that isn't there ends once the crate is compiled.
         ran = check(self.folder, "--jobs", "1", "--only", "no_such::function")
-        self.unmade(tried, proofs)
         if NO_FUNCTION.search(ran.said):
             return []
         if len(edits) > 1:

@@ -8,12 +8,11 @@ slowest ones. The last line is `N refused, M failed`.
 import argparse
 import collections
 import concurrent.futures
-import dataclasses
 import pathlib
-import shutil
 import sys
 import tempfile
 import threading
+from typing import NamedTuple
 
 import changed
 from edit_rooms import Room, check
@@ -39,16 +38,12 @@ FLAGS = {
 }
 
 
-@dataclasses.dataclass
-class Task:
-    """A crate whose edits are to be tried: the crates below it, its batches, copies of it that are free, and how many of the
-    batches haven't begun."""
+class Task(NamedTuple):
+    """A crate whose edits are to be tried: the crates below it, and its batches."""
 
     crate: EditedCrate
     below: list
     batches: list
-    rooms: list = dataclasses.field(default_factory=list)
-    left: int = 0
 
 
 class Trial:
@@ -98,34 +93,21 @@ class Trial:
             print(f"{task.crate.name}: FAILED: it is not proved as it stands", flush=True)
         return not any(it.status for it in ran)
 
-    def work(self, task: Task, batch: list, place: pathlib.Path):
-        """Tries a batch in a copy of its crate, which is left for the next one."""
-        with self.lock:
-            task.left -= 1
-            room = task.rooms.pop() if task.rooms else None
-        room = room or Room(self.root, task.crate, task.below, place)
-        for edit, goal, fault in room.judge(batch):
-            self.tell(edit, goal, fault)
+    def work(self, task: Task, batch: list):
+        """Tries a batch in a copy of its crate."""
+        with tempfile.TemporaryDirectory(prefix="wrong-bodies-") as place:
+            room = Room(self.root, task.crate, task.below, pathlib.Path(place, "room"))
+            for edit, goal, fault in room.judge(batch):
+                self.tell(edit, goal, fault)
         with self.lock:
             self.of_crate[task.crate.name] += sum(it[0] for it in room.times)
-            self.times, room.times = self.times + room.times, []
-            is_wanted = len(task.rooms) < task.left
-            if is_wanted:
-                task.rooms.append(room)
-        # A copy of a large crate takes a gigabyte.
-        if not is_wanted:
-            shutil.rmtree(room.folder.parent.parent, ignore_errors=True)
+            self.times += room.times
 
     def run(self) -> int:
-        # Lower crates first, since a check locks the crates below.
-        proved = [it for it in self.tasks if self.is_proved(it)]
-        for task in proved:
-            task.left = len(task.batches)
-        # The longest batch first, so that none is the last to end.
-        batches = sorted(((task, batch) for task in proved for batch in task.batches), key=lambda it: -len(it[1]))
-        with tempfile.TemporaryDirectory(prefix="wrong-bodies-") as rooms, concurrent.futures.ThreadPoolExecutor(self.jobs) as pool:
-            places = (pathlib.Path(rooms, str(number)) for number in range(len(batches)))
-            for it in [pool.submit(self.work, task, batch, place) for (task, batch), place in zip(batches, places)]:
+        # Lower crates first, since a check locks the crates below. Then the longest batch first, so that none is the last to end.
+        batches = [(task, batch) for task in self.tasks if self.is_proved(task) for batch in task.batches]
+        with concurrent.futures.ThreadPoolExecutor(self.jobs) as pool:
+            for it in [pool.submit(self.work, *it) for it in sorted(batches, key=lambda it: -len(it[1]))]:
                 it.result()
         for name, seconds in self.of_crate.items():
             print(f"{name}: {seconds:.0f} processor seconds")

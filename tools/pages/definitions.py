@@ -172,6 +172,10 @@ class Reader:
             elif found := local.get(word) or local.get(first) or self.meaning(uses, word):
                 yield found
 
+    def used_by(self, one):
+        """The definitions that the words of a definition stand for."""
+        return self.used(one.text, one.uses, self.spec(one.path) if one.path.suffix == ".antt" else {})
+
     def contract(self, source, one) -> tuple:
         """The text of a function's contract, what its words mean, its file and its line."""
         block = source.block_at(one.named_at - 1)
@@ -194,8 +198,7 @@ class Reader:
             if (one.path, one.line) in seen:
                 return
             seen.add((one.path, one.line))
-            local = self.spec(one.path) if one.path.suffix == ".antt" else {}
-            for other in self.used(one.text, one.uses, local):
+            for other in self.used_by(one):
                 visit(other)
             order.append(one)
 

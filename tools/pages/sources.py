@@ -22,31 +22,11 @@ USE = re.compile(r"^(pub )?use ([^;]+);", re.MULTILINE)
 NO_STAND_IN = re.compile(r"\bconst (?:unsafe )?fn\b|-> impl\b")
 
 
-@dataclasses.dataclass
-class Item:
-    """A public item: its kind, its doc, and its text up to the body."""
-
-    kind: str
-    name: str
-    doc: str
-    text: str
-    source: "Source"
-    at: int
-
-
-@dataclasses.dataclass
-class Block:
-    """An impl block or a trait: the trait of an impl, the type, and the indices of its first and last line."""
-
-    trait: str
-    type: str
-    source: "Source"
-    at: int
-    end: int
-    is_trait: bool
-    # its name in the path of a function, as `Table`, `TableClone`, `Part_+P32`; the type of an impl of no trait
-    label: str
-    owner: str
+# A public item: its kind, its doc, and its text up to the body.
+Item = collections.namedtuple("Item", "kind name doc text source at")
+# An impl block or a trait: the trait of an impl, the type, the indices of its first and last line, its name in the path of a
+# function, as `Table`, `TableClone` or `Part_+P32`, and the type of an impl of no trait.
+Block = collections.namedtuple("Block", "trait type source at end is_trait label owner")
 
 
 @dataclasses.dataclass(frozen=True)
