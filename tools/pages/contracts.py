@@ -23,7 +23,7 @@ import tomllib
 sys.path.insert(0, str(pathlib.Path(__file__).resolve().parents[1]))
 from gate.edits import EditedCrate
 from pages.sources import ROOT, Crate
-from pages.writing import parser_of
+from pages.writing import ended, parser_of
 
 REASONS = ROOT / "docs" / "contracts.toml"
 
@@ -69,18 +69,16 @@ def lines() -> list:
     return found
 
 
-def heads() -> dict:
-    """The functions of the libraries by their paths, each up to the line that opens its body."""
-    crates = [Crate(ROOT / "crates" / name) for name in LIBRARIES]
-    return {one.path: crate.head(one) for crate in crates for one in crate.functions}
-
-
-def lost(group: dict, functions: dict) -> list:
-    """The functions of a group that aren't there, and the clauses that none of them has."""
-    own = [name for pattern in group["of"] for name in fnmatch.filter(functions, f"*::{pattern}")]
-    missing = [it for it in group["of"] if not fnmatch.filter(functions, f"*::{it}")]
-    named = {it for name in own for it in re.findall(r"ensures (\w+) {", functions[name])}
-    return missing + [it for it in (*group.get("clauses", ()), *group.get("but", ())) if it not in named]
+def lost(groups: list) -> list:
+    """The functions of the groups that aren't there, and the clauses that none of the functions of a group has."""
+    crates, found = [Crate(ROOT / "crates" / name) for name in LIBRARIES], []
+    heads = {one.path: crate.head(one) for crate in crates for one in crate.functions}
+    for group in groups:
+        own = {it: fnmatch.filter(heads, f"*::{it}") for it in group["of"]}
+        named = {it for names in own.values() for name in names for it in re.findall(r"ensures (\w+) {", heads[name])}
+        found += [it for it, names in own.items() if not names]
+        found += [it for it in (*group.get("clauses", ()), *group.get("but", ())) if it not in named]
+    return found
 
 
 def main() -> int:
@@ -89,13 +87,11 @@ def main() -> int:
         print("\n".join(found))
         return 0
     reasons = tomllib.loads(REASONS.read_text(encoding="utf-8"))
-    groups, functions = reasons["reason"], heads()
-    patterns = [pattern for group in groups for pattern in group["of"]]
+    patterns = [pattern for group in reasons["reason"] for pattern in group["of"]]
     faults = [f"no reason: {line}" for line in found if not any(fnmatch.fnmatchcase(line, it) for it in patterns)]
     faults += [f"not in the list: {it}" for it in patterns if not fnmatch.filter(found, it)]
-    faults += [f"not in the sources: {it}" for group in reasons["follows"] for it in lost(group, functions)]
-    print("\n".join(faults + [f"{REASONS.relative_to(ROOT)}: {len(found)} lines, {len(faults)} faults"]))
-    return 1 if faults else 0
+    faults += [f"not in the sources: {it}" for it in lost(reasons["follows"])]
+    return ended(faults, f"{REASONS.relative_to(ROOT)}: {len(found)} lines, {len(faults)} faults")
 
 
 if __name__ == "__main__":

@@ -12,6 +12,7 @@ import sys
 
 sys.path.insert(0, str(pathlib.Path(__file__).resolve().parents[1]))
 from pages.sources import ROOT, read
+from pages.writing import ended
 
 CRATES = ("elf_base", "elf_records", "xmas_elf")
 ENUM = ROOT / "crates/elf_base/src/error.rt"
@@ -70,11 +71,9 @@ def calls_by_error() -> dict[str, list[str]]:
 
 def main() -> int:
     said = calls_by_error()
-    failed = [name for name, calls in said.items() if bool(calls) == (name in UNUSED)]
-    for name in failed:
-        print(f"{name}: {'returned by ' + ', '.join(said[name]) if said[name] else 'no call returns it'}")
-    print(f"{len(said)} errors, {len(failed)} of which the docs of the calls don't say what they should")
-    return 1 if failed else 0
+    failed = [f"{name}: {'returned by ' + ', '.join(calls) if calls else 'no call returns it'}"
+              for name, calls in said.items() if bool(calls) == (name in UNUSED)]
+    return ended(failed, f"{len(said)} errors, {len(failed)} of which the docs of the calls don't say what they should")
 
 
 if __name__ == "__main__":

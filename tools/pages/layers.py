@@ -14,7 +14,7 @@ import re
 import sys
 
 sys.path.insert(0, str(pathlib.Path(__file__).resolve().parents[1]))
-from pages.writing import ROOT, differing, parser_of
+from pages.writing import ROOT, differing, ended, parser_of
 
 PAGE = ROOT / "CONTRIBUTING.md"
 PLACE = re.compile(r"(?<=<!-- layers -->\n).*(?=\n<!-- /layers -->)", re.S)
@@ -52,8 +52,7 @@ def main() -> int:
     if len(PLACE.findall(text)) != 1:
         sys.exit("CONTRIBUTING.md: no room between <!-- layers --> and <!-- /layers -->")
     faults = differing({PAGE: PLACE.sub(lambda _: picture(), text)}, parser_of(__doc__).parse_args().check)
-    print("\n".join(faults or ["CONTRIBUTING.md: the picture of the layers is what crates.txt gives"]))
-    return 1 if faults else 0
+    return ended(faults, f"CONTRIBUTING.md: the picture of the layers, {len(faults)} faults")
 
 
 if __name__ == "__main__":

@@ -17,6 +17,7 @@ import sys
 
 sys.path.insert(0, str(pathlib.Path(__file__).resolve().parents[1]))
 from pages.sources import ROOT, read
+from pages.writing import anchor, ended
 
 BLOCK = re.compile(r"^ *```(rust|antt)\n(.*?)^ *```$", re.MULTILINE | re.DOTALL)
 ENDS = {"rust": ".rt", "antt": ".antt"}
@@ -27,23 +28,18 @@ CALLERS = ("elf_callers", "linking_callers")
 CALLER = re.compile(r"`((?:elf_callers::|linking_callers::)?(?:callers(?:::[a-z]\w*)+|recipes::\w+|evidence(?:::\w+)+)|elf_evidence(?:::\w+)+)`")
 
 
-def paragraphs(text: str) -> list:
-    """Runs of lines with no empty one between, less a first line that only names a file."""
-    text = re.sub(r"\A-- \S+\.antt\n", "", text)
-    return [one_line(it) for it in re.split(r"\n\s*\n", text) if it.strip()]
-
-
 def one_line(text: str) -> str:
     return " ".join(text.split())
 
 
-def imports(text: str) -> set:
-    """Each name that a text imports for clauses, with its path."""
-    return {(path, name.strip()) for path, names in IMPORT.findall(text) for name in names.split(",")}
+def paragraphs(text: str) -> list:
+    """Runs of lines with no empty one between, less a first line that only names a file."""
+    return [one_line(it) for it in re.split(r"\n\s*\n", re.sub(r"\A-- \S+\.antt\n", "", text)) if it.strip()]
 
 
 def stands_in(part: str, text: str) -> bool:
-    """Whether a file has a paragraph, or all the imports of one that has nothing else."""
+    """Whether a file has a paragraph, or all the imports of one that has nothing else: each name for clauses, with its path."""
+    imports = lambda it: {(path, name.strip()) for path, names in IMPORT.findall(it) for name in names.split(",")}
     return part in text or not IMPORT.sub("", part).strip() and imports(part) <= imports(text)
 
 
@@ -56,7 +52,7 @@ def leads(page: pathlib.Path, link: str) -> bool:
     text = target.read_text(encoding="utf-8")
     if line := re.fullmatch(r"L(\d+)", inside):
         return int(line[1]) <= text.count("\n")
-    return inside in {re.sub(r"[^\w\- ]", "", it.lower()).replace(" ", "-") for it in HEADING.findall(text)}
+    return inside in map(anchor, HEADING.findall(text))
 
 
 def callers() -> tuple:
@@ -84,8 +80,7 @@ def main() -> int:
             parts = paragraphs(block)
             if not any(it.suffix == ENDS[language] and all(stands_in(part, text) for part in parts) for it, text in texts.items()):
                 faults.append(f"{name}: NOT QUOTED from one file: {parts[0][:90]}")
-    print("\n".join([*faults, f"{count} code blocks, {len(faults)} faults"]))
-    return 1 if faults else 0
+    return ended(faults, f"{count} code blocks, {len(faults)} faults")
 
 
 if __name__ == "__main__":

@@ -17,7 +17,7 @@ import sys
 
 sys.path.insert(0, str(pathlib.Path(__file__).resolve().parents[1]))
 from pages.definitions import Reader
-from pages.writing import ROOT, differing, parser_of
+from pages.writing import ROOT, differing, ended, parser_of
 
 PAGE = ROOT / "docs" / "READING.md"
 
@@ -54,11 +54,10 @@ class Lists:
 
     def read(self, named: str) -> str:
         """The list of some calls, each named by `CRATE::MODULE CALL`."""
-        contracts, words = [], named.split()
-        for whole, call in zip(words[::2], words[1::2]):
-            contracts.append((call, self.reader.named(whole, call)))
-        found = self.reader.reached([contract for _, contract in contracts])
-        of = " and ".join(f"[`{call}`]({place(path, line)})" for call, (_, _, path, line) in contracts)
+        words = named.split()
+        contracts = {call: self.reader.named(whole, call) for whole, call in zip(words[::2], words[1::2])}
+        found = self.reader.reached([*contracts.values()])
+        of = " and ".join(f"[`{call}`]({place(path, line)})" for call, (_, _, path, line) in contracts.items())
         lines = [f"By {of}: {self.sizes(found)}.", ""]
         if seen := [one for one in found if (one.path, one.line) in self.above]:
             lines[0] += f" Of these, {len(seen)} {'is' if len(seen) == 1 else 'are'} in a list above; the others are"
@@ -66,17 +65,14 @@ class Lists:
         lines += ["| | Definition | Lines | What it says |", "|---:|---|---:|---|"]
         for one in found:
             if self.above.setdefault((one.path, one.line), len(self.above) + 1) == len(self.above) and one not in seen:
-                lines.append(self.row(one))
+                said = sentence(one.about) or {"type": "a type of the code"}.get(one.kind, "")
+                lines.append(f"| {self.above[one.path, one.line]} | [`{one.name}`]({place(one.path, one.line)}) | {one.size} | {said} |")
         return "\n".join([*lines, "", f"Words of std: {', '.join(f'`{it}`' for it in self.reader.std)}.", ""])
 
     @staticmethod
     def sizes(found: list) -> str:
         size, files = sum(one.size for one in found), len({one.path for one in found})
         return f"{counted(len(found), 'definition')}, {counted(size, 'line')} in {counted(files, 'file')}"
-
-    def row(self, one) -> str:
-        said = sentence(one.about) or {"type": "a type of the code"}.get(one.kind, "")
-        return f"| {self.above[one.path, one.line]} | [`{one.name}`]({place(one.path, one.line)}) | {one.size} | {said} |"
 
 
 def bytes_of(named: str) -> str:
@@ -102,8 +98,8 @@ def main() -> int:
     given, lists, text = parser_of(__doc__).parse_args(), Lists(), PAGE.read_text(encoding="utf-8")
     wanted = ROOM.sub(lambda room: room[1] + (lists.read(room[3]) if room[2] == "read" else bytes_of(room[3])) + room[4], text)
     faults = differing({PAGE: wanted}, given.check)
-    print("\n".join([*faults, f"docs/READING.md: {len(ROOM.findall(text))} rooms, {len(lists.above)} definitions, {len(faults)} faults"]))
-    return 1 if closures() or faults else 0
+    status = ended(faults, f"docs/READING.md: {len(ROOM.findall(text))} rooms, {len(lists.above)} definitions, {len(faults)} faults")
+    return 1 if closures() else status
 
 
 if __name__ == "__main__":

@@ -13,7 +13,8 @@ import pathlib
 import re
 import sys
 
-ROOT = pathlib.Path(__file__).resolve().parents[2]
+from writing import ROOT, ended
+
 PAGES = ("*.md", "docs/*.md", "bindings/**/*.md", "bench/*.md", "oracle/*.md", "tools/*.md")
 
 # Folders that package managers and compilers fill.
@@ -51,19 +52,13 @@ def comments_of(path: pathlib.Path) -> str:
     return "\n".join(re.sub(r"`[^`]*`", "", line[1] or line[2] or "") if line else "" for line in lines)
 
 
-def words_in(path: pathlib.Path, text: str) -> list:
-    """The words in a text, each with its file and line."""
-    name = path.relative_to(ROOT)
-    return [f"{name}:{number}: {word[0]}" for number, line in enumerate(text.splitlines(), 1) for word in WORDS.finditer(line)]
-
-
 def main() -> int:
     pages = [it for names in PAGES for it in sorted(ROOT.glob(names)) if not OTHERS & set(it.relative_to(ROOT).parts)]
     sources = sorted([*ROOT.glob("crates/*/specs/**/*.antt"), *ROOT.glob("crates/*/src/**/*.rt"), ROOT / "bindings/exports.toml"])
     texts = [*((it, prose_of(it)) for it in pages), *((it, comments_of(it)) for it in sources)]
-    found = [place for path, text in texts for place in words_in(path, text)]
-    print("\n".join([*found, f"{len(found)} of the words on {len(pages)} pages and in comments"]))
-    return 1 if found else 0
+    found = [f"{path.relative_to(ROOT)}:{number}: {word[0]}" for path, text in texts
+             for number, line in enumerate(text.splitlines(), 1) for word in WORDS.finditer(line)]
+    return ended(found, f"{len(found)} of the words on {len(pages)} pages and in comments")
 
 
 if __name__ == "__main__":
