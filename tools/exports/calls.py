@@ -37,70 +37,60 @@ pub(crate) fn every(asked: &Asked<'_>, mut heard: impl FnMut(&str, Result<(), Er
 """
 
 
-def value(parameter):
-    """The number that is handed to a parameter."""
+# What is handed to a parameter: of numbers but the one named `section` the index, of records but these a part of the input, and
+# of slices but these a name.
+PLACES = {"header": "header", "symbol_table": "table", "hash_table": "hash", "address_index": "address_index"}
+C_SLICES = {"input": "a->bytes, a->size", "ranges": "&a->part, 1", "words": "a->words, a->words_count", "addresses": "a->numbers, 2"}
+RUST_SLICES = {"input": "input", "ranges": "ranges", "words": "&[0, 1]", "addresses": "numbers"}
+
+
+def number(parameter):
     return "section" if parameter.name == "section" else "index"
 
 
-def place_of(parameter):
-    """The record that is handed to a parameter."""
-    places = {"header": "header", "symbol_table": "table", "hash_table": "hash", "address_index": "address_index"}
-    return places.get(parameter.type, "part")
-
-
-def c_argument(parameter, place, c_type):
-    if parameter.kind == VALUE:
-        return f"({c_type(parameter.type)})a->{value(parameter)}"
-    if parameter.kind == IN:
-        return f"&a->{place_of(parameter)}"
-    if parameter.kind == SLICE:
-        slices = {"input": "a->bytes, a->size", "ranges": "&a->part, 1", "words": "a->words, a->words_count", "addresses": "a->numbers, 2"}
-        return slices.get(parameter.name, "a->name, a->name_size")
-    written = f"out[{place}].of_{parameter.type}"
-    return f"&{written}[0]" if parameter.kind == OUT else f"{written}, {ROOM}"
-
-
-def c_call(function, c_type):
+def c_call(function, listed):
+    """A function that makes a call; what it writes goes into the next output."""
     place, arguments = 0, []
-    for parameter in function.parameters:
-        arguments.append(c_argument(parameter, place, c_type))
-        place += parameter.kind in (OUT, FILLED)
+    for one in function.parameters:
+        written = f"out[{place}].of_{one.type}"
+        arguments.append({
+            VALUE: f"({listed.c_type(one.type)})a->{number(one)}",
+            IN: f"&a->{PLACES.get(one.type, 'part')}",
+            SLICE: C_SLICES.get(one.name, "a->name, a->name_size"),
+            OUT: f"&{written}[0]",
+            FILLED: f"{written}, {ROOM}",
+        }[one.kind])
+        place += one.kind in (OUT, FILLED)
     call = f"{function.export}({', '.join(arguments)})"
     lines = [f"static uint32_t any_{function.name}(const struct asked *a, union output *out)", "{"]
     if function.result == "status":
-        lines += ["    (void)out;"] if place == 0 else []
-        return lines + [f"    return {call};", "}"]
-    return lines + [f"    (void){call};", "    return XMAS_ELF_OK;", "}"]
+        return [*lines, *["    (void)out;"] * (place == 0), f"    return {call};", "}"]
+    return [*lines, f"    (void){call};", "    return XMAS_ELF_OK;", "}"]
 
 
-def c_text(listed, c_type):
+def c_text(listed):
     written = dict.fromkeys(one.type for function in listed.functions for one in function.parameters if one.kind in (OUT, FILLED))
-    lines = [C_HEAD + "\n".join(f"    {c_type(kind)} of_{kind}[{ROOM}];" for kind in written), "};", ""]
+    lines = [C_HEAD + "\n".join(f"    {listed.c_type(kind)} of_{kind}[{ROOM}];" for kind in written), "};", ""]
     rows = []
     for function in listed.functions:
-        lines += c_call(function, c_type)
-        statuses = ", ".join(["XMAS_ELF_OK", *map(listing.constant, function.statuses)])
-        rows.append(f'    {{"{function.name}", any_{function.name}, {{{statuses}}}, {1 + len(function.statuses)}}},')
+        lines += c_call(function, listed)
+        statuses = ["XMAS_ELF_OK", *map(listing.constant, function.statuses)]
+        rows.append(f'    {{"{function.name}", any_{function.name}, {{{", ".join(statuses)}}}, {len(statuses)}}},')
     longest = 1 + max(len(function.statuses) for function in listed.functions)
     lines += ["", "static const struct any {", "    const char *name;", "    uint32_t (*call)(const struct asked *, union output *);"]
     lines += [f"    uint32_t answers[{longest}];", "    size_t answers_count;", "} every[] = {", *rows, "};"]
     return "\n".join(lines) + "\n"
 
 
-def rust_argument(parameter, rust_type):
-    kind = rust_type(parameter.type)
-    return {
-        VALUE: f"asked.{value(parameter)}" if parameter.type == "u64" else f"asked.{value(parameter)} as {kind}",
-        IN: place_of(parameter),
-        SLICE: {"input": "input", "ranges": "ranges", "words": "&[0, 1]", "addresses": "numbers"}.get(parameter.name, "name"),
-        FILLED: f"&mut [{kind}::default(); {ROOM}]",
-    }[parameter.kind]
-
-
-def rust_text(listed, rust_type):
+def rust_text(listed):
     lines = []
     for function in listed.functions:
-        arguments = ", ".join(rust_argument(one, rust_type) for one in function.parameters if one.kind != OUT)
+        arguments = ", ".join({
+            VALUE: f"asked.{number(one)}" + ("" if one.type == "u64" else f" as {listed.rust_type(one.type)}"),
+            IN: PLACES.get(one.type, "part"),
+            SLICE: RUST_SLICES.get(one.name, "name"),
+            FILLED: f"&mut [{listed.rust_type(one.type)}::default(); {ROOM}]",
+        }[one.kind] for one in function.parameters if one.kind != OUT)
         call = f"ffi::{function.name}({arguments})"
         if function.result == "status":
             lines += [f"    let answer = {call}.map(|_| ());"]

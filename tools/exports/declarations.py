@@ -6,6 +6,7 @@ ffi.rs and, from bindings/constants.toml, constants.rs in bindings/rust/src; the
 (python_declarations.py); and calls for tests (calls.py). --check: writes nothing, and fails where a file differs, where the
 `#[repr(C)]` structs or the exported functions of crates/elf_c/src are others than those of the list, or where a list of
 statuses is another than its definition has (refusals.py)."""
+import itertools
 import pathlib
 import re
 import sys
@@ -17,8 +18,8 @@ import listing
 import python_declarations
 import refusals
 import statuses
-from listing import FILLED, IN, OUT, ROOT, SIZES, SLICE, VALUE
-from pages.writing import differing, parser_of
+from listing import FILLED, IN, OUT, ROOT, SLICE, VALUE
+from pages.writing import differing, ended, parser_of
 
 HEADER = ROOT / "bindings/include/xmas_elf.h"
 RUST = ROOT / "bindings/rust/src"
@@ -26,7 +27,6 @@ SOURCES = ROOT / "crates/elf_c/src"
 FIRST, LAST = "/* The structs and functions, written by tools/exports/declarations.py. */", "/* End of the structs and functions. */"
 WIDTH = 118
 ALL_STATUSES = tuple(name for name, _, _ in statuses.statuses())
-C_NUMBERS = {"u8": "uint8_t", "u16": "uint16_t", "u32": "uint32_t", "u64": "uint64_t", "usize": "size_t"}
 
 
 # How a parameter of each kind stands in C, in a declaration and in a safe call of Rust, in what that hands on, and in the
@@ -48,7 +48,7 @@ def parameters(function, form, listed):
     """The parameters of a function in one of these forms."""
     found = []
     for one in function.parameters:
-        names = {"c": c_type(one.type, listed), "rust": rust_type(one.type, listed), "count": "size" if one.type == "u8" else "count"}
+        names = {"c": listed.c_type(one.type), "rust": listed.rust_type(one.type), "count": "size" if one.type == "u8" else "count"}
         found.append(SHAPES[one.kind][form].format(name=one.name, type=one.type, **names))
     return [part for text in found if text for part in text.split(", ")]
 
@@ -74,35 +74,21 @@ def c_comment(text, indent=""):
     return lines[:-1] + [lines[-1] + " */"]
 
 
-def c_type(name, listed):
-    return C_NUMBERS.get(name) or listed.struct(name).c_type
-
-
-def c_field(field, listed):
-    if array := re.fullmatch(r"\[u8; (\d+)\]", field.type):
-        return f"    uint8_t {field.c_name}[{array[1]}];"
-    return f"    {c_type(field.type, listed)} {field.c_name};"
-
-
 def c_struct(struct, listed):
     lines = c_comment(struct.comment) + [f"typedef struct {struct.c_type} {{"]
     for field in struct.fields:
-        lines += c_comment(field.comment, "    ") + [c_field(field, listed)]
+        array = re.fullmatch(r"\[u8; (\d+)\]", field.type)
+        member = f"uint8_t {field.c_name}[{array[1]}]" if array else f"{listed.c_type(field.type)} {field.c_name}"
+        lines += [*c_comment(field.comment, "    "), f"    {member};"]
     return lines + [f"}} {struct.c_type};", ""]
-
-
-def sentence(start, names):
-    order = ", in the order of the tests" if len(names) > 1 else ""
-    return f"{start}{order}: " + ", ".join(f"`{name}`" for name in names) + "."
 
 
 def described(function):
     """The comment of a function, with its statuses."""
     parts = [function.comment]
-    if function.statuses:
-        parts.append(sentence("Errors", function.statuses))
-    if function.item_statuses:
-        parts.append(sentence("Errors of a record", function.item_statuses))
+    for start, names in (("Errors", function.statuses), ("Errors of a record", function.item_statuses)):
+        order = ", in the order of the tests" if len(names) > 1 else ""
+        parts += [f"{start}{order}: " + ", ".join(f"`{name}`" for name in names) + "."] if names else []
     return " ".join(parts)
 
 
@@ -112,25 +98,21 @@ def c_function(function, listed):
     return lines + laid_out(start, parameters(function, C, listed), ") XMAS_ELF_NOEXCEPT;", "") + [""]
 
 
-def c_part(listed):
-    lines = [FIRST]
+def header_text(listed, rows):
+    text, lines = HEADER.read_text(encoding="utf-8"), [FIRST]
     for struct in listed.structs:
         lines += c_struct(struct, listed)
     for function in listed.functions:
         lines += c_function(function, listed)
-    return "\n".join(lines[:-1] + [LAST])
-
-
-def header_text(listed, rows):
-    text = HEADER.read_text(encoding="utf-8")
-    for part, first, last in (("\n".join(statuses.c_part(rows)), statuses.FIRST, statuses.LAST), (c_part(listed), FIRST, LAST)):
-        text = text[: text.index(first)] + part + text[text.index(last) + len(last) :]
+    lines[-1] = LAST
+    for part, first, last in ((statuses.c_part(rows), statuses.FIRST, statuses.LAST), (lines, FIRST, LAST)):
+        text = text[: text.index(first)] + "\n".join(part) + text[text.index(last) + len(last) :]
     return text
 
 
 # Rust: the structs, and for each export its declaration and a safe call.
 
-RECORDS_HEAD = "//! The structs of the archive. Written by tools/exports/declarations.py.\n"
+RECORDS_HEAD = "//! The structs of the archive. Written by tools/exports/declarations.py."
 FFI_HEAD = '''//! The declarations of the archive, and a safe call for each. Written by tools/exports/declarations.py.
 //!
 //! The reason is the same for each `unsafe`. During the call the export reads the slices and records that it is passed,
@@ -153,35 +135,22 @@ def rust_comment(text, mark="///", indent=""):
     return wrapped(text.replace("xmas_elf_", ""), f"{indent}{mark} ", f"{indent}{mark} ")
 
 
-def rust_type(name, listed):
-    return name if name in SIZES or name.startswith("[") else listed.struct(name).rust
-
-
 def rust_struct(struct, listed):
     seen, fields_seen = ("pub" if struct.public else "pub(crate)"), ("pub(crate)" if struct.private_fields or not struct.public else "pub")
     lines = ["", *rust_comment(struct.comment), "#[repr(C)]", "#[derive(Clone, Copy, Debug, Default, PartialEq, Eq)]"]
     lines.append(f"{seen} struct {struct.rust} {{")
     for field in struct.fields:
-        lines += rust_comment(field.comment, indent="    ") + [f"    {fields_seen} {field.name}: {rust_type(field.type, listed)},"]
+        lines += rust_comment(field.comment, indent="    ") + [f"    {fields_seen} {field.name}: {listed.rust_type(field.type)},"]
     return lines + ["}"]
-
-
-def records_text(listed):
-    return RECORDS_HEAD + "\n".join(line for struct in listed.structs for line in rust_struct(struct, listed)) + "\n"
-
-
-def declaration(function, listed):
-    result = RESULTS[function.result][1].replace(" ", "\0")
-    return laid_out(f"fn {function.export}(", parameters(function, DECLARED, listed), f"){result};", "    ")
 
 
 def safe_call(function, listed):
     written = [parameter for parameter in function.parameters if parameter.kind == OUT]
-    value = rust_type(written[0].type, listed) if written else "()"
+    value = listed.rust_type(written[0].type) if written else "()"
     result = f" -> Result<{value}, Error>" if function.result == "status" else RESULTS[function.result][1]
     head = laid_out(f"pub(crate) fn {function.name}(", parameters(function, SAFE, listed), f"){result} {{".replace(" ", chr(0)), "")
     lines = ["", *rust_comment(described(function)), *head]
-    lines += [f"    let mut {one.name} = {rust_type(one.type, listed)}::default();" for one in written]
+    lines += [f"    let mut {one.name} = {listed.rust_type(one.type)}::default();" for one in written]
     call = f"{function.export}({', '.join(parameters(function, HANDED, listed))})"
     lines.append("    // SAFETY: see the head of this file.")
     if function.result == "status":
@@ -193,7 +162,8 @@ def safe_call(function, listed):
 def ffi_text(listed):
     lines = ["", 'extern "C" {']
     for function in listed.functions:
-        lines += declaration(function, listed)
+        result = RESULTS[function.result][1].replace(" ", "\0")
+        lines += laid_out(f"fn {function.export}(", parameters(function, DECLARED, listed), f"){result};", "    ")
     lines.append("}")
     for function in listed.functions:
         lines += safe_call(function, listed)
@@ -203,15 +173,14 @@ def ffi_text(listed):
 
 
 def constants_text():
-    lines, group = ["//! Numbers of the ELF standard by their names there. Written by tools/exports/declarations.py."], None
+    lines = ["//! Numbers of the ELF standard by their names there. Written by tools/exports/declarations.py."]
     # A few names of GNU's end in small letters.
     lines.append("#![allow(non_upper_case_globals)]")
-    for one in listing.constants():
-        if one.group != group:
-            group = one.group
-            lines += ["", f"// {group}."]
-        value = f"{one.value:#x}" if one.value > 0xfff else str(one.value)
-        lines += [f"/// {one.comment}", f"pub const {one.name}: {one.type} = {value};"]
+    for group, some in itertools.groupby(listing.constants(), lambda it: it.group):
+        lines += ["", f"// {group}."]
+        for one in some:
+            value = f"{one.value:#x}" if one.value > 0xfff else str(one.value)
+            lines += [f"/// {one.comment}", f"pub const {one.name}: {one.type} = {value};"]
     return "\n".join(lines) + "\n"
 
 
@@ -221,38 +190,24 @@ EXPORT = re.compile(r'#\[unsafe\(no_mangle\)\]\s+pub extern "C" fn (\w+)\s*\(([^
 STRUCT = re.compile(r"#\[repr\(C\)\]\s+(?:#\[[^\]]*\]\s+)*pub struct (\w+)(?:<[^>]*>)? \{(.*?)^\}", re.S | re.M)
 
 
-def parts_of(text):
-    """The `name: type` items of a list of parameters or fields."""
-    lines = [line.split("//")[0] for line in text.splitlines()]
-    return re.findall(r"(?:pub )?(\w+): (&(?:mut )?(?:\[\w+\]|\w+)|\[[^\]]*\]|\w+)", " ".join(lines))
-
-
-def source_types(text, listed):
-    """A type of the sources with the structs by their names in the list."""
+def parts_of(text, listed):
+    """The `name: type` items of a list of parameters or fields, with the structs by their names in the list."""
     names = {struct.source: struct.name for struct in listed.structs}
-    return re.sub(r"\b[A-Z]\w*", lambda word: names.get(word[0], word[0]), text)
-
-
-def sources():
-    return "\n".join(file.read_text(encoding="utf-8") for file in sorted(SOURCES.rglob("*.rt")))
-
-
-def exported(text, listed):
-    results = {"u32": "status", "usize": "size", "": "none"}
-    return {
-        name: ([f"{part}: {source_types(kind, listed)}" for part, kind in parts_of(parameters)], results.get(result, result))
-        for name, parameters, result in EXPORT.findall(text)
-    }
+    lines = " ".join(line.split("//")[0] for line in text.splitlines())
+    found = re.findall(r"(?:pub )?(\w+): (&(?:mut )?(?:\[\w+\]|\w+)|\[[^\]]*\]|\w+)", lines)
+    return [f"{name}: " + re.sub(r"\b[A-Z]\w*", lambda word: names.get(word[0], word[0]), kind) for name, kind in found]
 
 
 def differing_sources(listed):
     """What the sources and the list do not share."""
-    text = sources()
-    there = {name: [f"{part}: {source_types(kind, listed)}" for part, kind in parts_of(body)] for name, body in STRUCT.findall(text)}
+    text = "\n".join(file.read_text(encoding="utf-8") for file in sorted(SOURCES.rglob("*.rt")))
+    results = {"u32": "status", "usize": "size", "": "none"}
+    there = {name: parts_of(body, listed) for name, body in STRUCT.findall(text)}
+    exported = {name: (parts_of(given, listed), results.get(result, result)) for name, given, result in EXPORT.findall(text)}
     here = {struct.source: [f"{field.name}: {field.type}" for field in struct.fields] for struct in listed.structs}
     functions = {one.export: (parameters(one, SOURCE, listed), one.result) for one in listed.functions}
     found = []
-    for name, (ours, theirs) in {"structs": (here, there), "functions": (functions, exported(text, listed))}.items():
+    for name, (ours, theirs) in {"structs": (here, there), "functions": (functions, exported)}.items():
         for key in sorted(ours.keys() | theirs.keys()):
             if ours.get(key) != theirs.get(key):
                 found.append(f"{name}: {key}: the list has {ours.get(key)}, the source {theirs.get(key)}")
@@ -264,18 +219,18 @@ def differing_sources(listed):
 def main():
     is_check, listed, rows = parser_of(__doc__).parse_args().check, listing.read(), statuses.statuses()
     statuses.check_numbers_kept(rows)
-    wanted = {HEADER: header_text(listed, rows), RUST / "records.rs": records_text(listed), RUST / "ffi.rs": ffi_text(listed)}
+    wanted = {HEADER: header_text(listed, rows), RUST / "ffi.rs": ffi_text(listed)}
+    wanted[RUST / "records.rs"] = "\n".join([RECORDS_HEAD, *(line for it in listed.structs for line in rust_struct(it, listed)), ""])
     wanted |= {statuses.PINNED: "\n".join(statuses.numbered(rows)) + "\n", RUST / "error.rs": "\n".join(statuses.rust_part(rows)) + "\n"}
     wanted |= {RUST / "constants.rs": constants_text(), **python_declarations.texts(wanted[HEADER])}
-    wanted[RUST / "calls.rs"] = calls.rust_text(listed, lambda name: rust_type(name, listed))
-    wanted[ROOT / "bindings/c/calls.h"] = calls.c_text(listed, lambda name: c_type(name, listed))
+    wanted[RUST / "calls.rs"] = calls.rust_text(listed)
+    wanted[ROOT / "bindings/c/calls.h"] = calls.c_text(listed)
     failed = differing(wanted, is_check)
     if is_check:
         named = {name for one in listed.functions for name in one.statuses + one.item_statuses + one.never}
         failed += [f"the list names the status {name}, which is none" for name in sorted(named - set(ALL_STATUSES))]
         failed += differing_sources(listed) + refusals.differing(listed)
-    print("\n".join(failed + [f"{len(listed.functions)} exports, {len(listed.structs)} structs, {len(failed)} differences"]))
-    return 1 if failed else 0
+    return ended(failed, f"{len(listed.functions)} exports, {len(listed.structs)} structs, {len(failed)} differences")
 
 
 if __name__ == "__main__":

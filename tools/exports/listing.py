@@ -32,9 +32,18 @@ Function = namedtuple("Function", "name parameters result statuses item_statuses
 Constant = namedtuple("Constant", "name value type group prefix is_flag comment")
 
 
+C_NUMBERS = {"u8": "uint8_t", "u16": "uint16_t", "u32": "uint32_t", "u64": "uint64_t", "usize": "size_t"}
+
+
 class Listed(namedtuple("Listed", "structs functions")):
     def struct(self, name: str) -> Struct:
         return next(struct for struct in self.structs if struct.name == name)
+
+    def c_type(self, name: str) -> str:
+        return C_NUMBERS.get(name) or self.struct(name).c_type
+
+    def rust_type(self, name: str) -> str:
+        return name if name in SIZES or name.startswith("[") else self.struct(name).rust
 
 
 SHAPES = ((r"&mut \[(\w+)\]", FILLED), (r"&mut (\w+)", OUT), (r"&\[(\w+)\]", SLICE), (r"&(\w+)", IN), (r"(\w+)", VALUE))

@@ -3,6 +3,7 @@ statuses of the archive for ctypes and struct, and constants.py.
 
 Records and exports are those of bindings/exports.toml, statuses those of the header for C, constants those of
 bindings/constants.toml."""
+import itertools
 import re
 import textwrap
 
@@ -103,12 +104,10 @@ def record(struct, listed):
 
 
 def export(function):
-    kinds = []
-    for parameter in function.parameters:
-        kinds.append(KINDS[parameter.type] if parameter.kind == VALUE else "c_void_p")
-        if parameter.kind in (SLICE, FILLED):
-            kinds.append("c_size_t")
-    return RESULTS[function.result], kinds
+    """The type of what an export answers, and those of its parameters: a slice is a pointer and a count."""
+    counted = lambda it: ["c_void_p", "c_size_t"] if it.kind in (SLICE, FILLED) else ["c_void_p"]
+    kinds = [[KINDS[it.type]] if it.kind == VALUE else counted(it) for it in function.parameters]
+    return RESULTS[function.result], [kind for some in kinds for kind in some]
 
 
 def exports(listed):
@@ -141,18 +140,16 @@ def declarations(header):
 
 
 def constants():
-    listed = listing.constants()
-    lines, group = [NUMBERS_HEAD], ""
-    for constant in listed:
-        if constant.group != group:
-            group = constant.group
-            lines += ["", f"class {constant.prefix}({'Flags' if constant.is_flag else 'Number'}):", *doc(f"{group}."), ""]
-        value = f"{constant.value:#x}" if constant.value > 0xFFFF else str(constant.value)
-        lines += [f"    {constant.name} = {value}", *doc(constant.comment)]
-        if constant is listed[-1] or listed[listed.index(constant) + 1].group != group:
-            lines.append("")
+    lines = [NUMBERS_HEAD]
+    for group, some in itertools.groupby(listing.constants(), lambda it: it.group):
+        some = list(some)
+        lines += ["", f"class {some[0].prefix}({'Flags' if some[0].is_flag else 'Number'}):", *doc(f"{group}."), ""]
+        for it in some:
+            value = f"{it.value:#x}" if it.value > 0xFFFF else str(it.value)
+            lines += [f"    {it.name} = {value}", *doc(it.comment)]
+        lines.append("")
     lines.append("")
-    lines += [f"{it.name} = {it.prefix}.{it.name}" for it in listed]
+    lines += [f"{it.name} = {it.prefix}.{it.name}" for it in listing.constants()]
     return "\n".join(lines) + "\n"
 
 

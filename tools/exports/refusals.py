@@ -23,7 +23,7 @@ ERRORS = {
 
 @functools.cache
 def variants(enum: str) -> frozenset[str]:
-    body = (ROOT / ERRORS[enum]).read_text(encoding="utf-8").split(f"pub enum {enum} {{")[1].split("\n}")[0]
+    body = re.search(rf"pub enum {enum} {{\n(.*?)\n}}", (ROOT / ERRORS[enum]).read_text(encoding="utf-8"), re.S)[1]
     return frozenset(re.findall(r"^    (\w+)[,(= ]", body, re.M))
 
 
@@ -42,12 +42,12 @@ class Named:
     def of_definition(self, one) -> tuple:
         if (one.path, one.line) not in self.read:
             local = self.reader.spec(one.path) if one.path.suffix == ".antt" else {}
-            named, found = self.of(one.text, one.uses, local) if one.kind != "type" else (set(), [])
-            # One that has a row for each variant of an enum, as that of the numbers, returns none.
+            # One that has a row for each variant of an enum, as that of the numbers, returns none; nor does a type.
             heads = "\n".join(line.split(" = ")[0] for line in one.text.splitlines() if " = " in line)
             rows = self.of(heads, one.uses, local)[0]
             is_table = any({name for it, name in rows if it == enum} == variants(enum) for enum in ENUMS)
-            self.read[one.path, one.line] = (set(), []) if is_table else (named, found)
+            is_read = one.kind != "type" and not is_table
+            self.read[one.path, one.line] = self.of(one.text, one.uses, local) if is_read else (set(), [])
         return self.read[one.path, one.line]
 
     def statuses(self, text: str, uses: dict) -> set[str]:
@@ -70,9 +70,8 @@ def differing(listed) -> list[str]:
             text, uses, _, _ = named.reader.contract(source, one)
             head, _, clauses = text.partition("\n    ensures")
             function = exports[one.name()]
-            statuses, listed_here = named.statuses(clauses, uses), {*function.statuses, *function.item_statuses, *function.never}
-            if missing := sorted(statuses - listed_here):
-                found.append(f"{function.export}: its contract names {', '.join(missing)}, and the list does not")
-            if more := sorted(listed_here - statuses):
-                found.append(f"{function.export}: the list has {', '.join(more)}, and its contract does not")
+            theirs, ours = named.statuses(clauses, uses), {*function.statuses, *function.item_statuses, *function.never}
+            for one, some, other in (("contract", theirs - ours, "list"), ("list", ours - theirs, "contract")):
+                if some:
+                    found.append(f"{function.export}: the {one} names {', '.join(sorted(some))}, and the {other} does not")
     return found

@@ -9,35 +9,32 @@ import re
 import sys
 
 from listing import ROOT, constant
+from pages import errors
 
 PINNED = ROOT / "bindings/statuses.txt"
 FIRST, LAST = "/* The statuses, written by tools/exports/declarations.py. */", "/* End of the statuses. */"
+
+
+ERRORS = "crates/elf_base/src/error.rt"
 
 
 def matched(path, pattern):
     return re.findall(pattern, (ROOT / path).read_text())
 
 
-def of_library(crate, prefix):
-    """The rows of a library's own errors."""
-    rows = matched(f"crates/{crate}/src/error.rt", rf'{prefix}Error::(\w+) => \(\s*(\d+),\s*"([^"]*)",?\s*\)')
-    return [(prefix + name, int(number), text) for name, number, text in rows]
-
-
 def statuses():
     """Rows of name, number and text."""
-    errors = "crates/elf_base/src/error.rt"
-    texts = dict(matched(errors, r'Self::(\w+) => "([^"]*)"'))
-    source = "crates/elf_c/src/status.rt"
-    rows = [(name, int(number), texts[name]) for name, number in matched(errors, r"(?m)^    (\w+) = (\d+),$")]
-    rows += of_library("elf_linking", "Link")
-    own_texts = dict(matched("crates/elf_c/src/message.rt", r'Refusal::(\w+) => "([^"]*)"'))
-    for name, number in matched(source, r"Refusal::(\w+) => (\d+)"):
-        rows.append((name, int(number), own_texts[name]))
-    rows += of_library("elf_loading", "Load") + of_library("elf_addresses", "Index")
+    texts = errors.texts() | dict(matched("crates/elf_c/src/message.rt", r'Refusal::(\w+) => "([^"]*)"'))
+    own = [matched(ERRORS, r"(?m)^    (\w+) = (\d+),$"), matched("crates/elf_c/src/status.rt", r"Refusal::(\w+) => (\d+)")]
+    base, refusals = ([(name, int(number), texts[name]) for name, number in some] for some in own)
+    of_library = {}
+    for crate, prefix in (("elf_linking", "Link"), ("elf_loading", "Load"), ("elf_addresses", "Index")):
+        found = matched(f"crates/{crate}/src/error.rt", rf'{prefix}Error::(\w+) => \(\s*(\d+),\s*"([^"]*)",?\s*\)')
+        of_library[prefix] = [(prefix + name, int(number), text) for name, number, text in found]
+    rows = [*base, *of_library["Link"], *refusals, *of_library["Load"], *of_library["Index"]]
     numbers = [number for _, number, _ in rows]
     assert len(set(numbers)) == len(numbers) and 0 not in numbers and len(rows) > 60
-    assert {name for name, _, _ in rows} >= set(texts) | set(own_texts)
+    assert {name for name, _, _ in rows} >= set(texts)
     return rows
 
 
