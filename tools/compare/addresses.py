@@ -32,7 +32,7 @@ import shutil
 import subprocess
 import sys
 import tempfile
-from typing import Callable, Dict, List, Tuple
+from typing import Callable
 
 from comparing import INDIRECT, LOAD, LOCAL, ROOT, Symbol, Tally, dynamic_symbols, llvm, parser_of, parts, raw, read_elf, symbols_of
 from loading import named
@@ -78,13 +78,13 @@ class Image:
         loads = (it for it in parts(said, "ProgramHeaders", "ProgramHeader") if raw(it["Type"]) == LOAD)
         self.loads = [(it["VirtualAddress"], it["VirtualAddress"] + it["MemSize"]) for it in loads]
 
-    def symbols(self, is_dynamic: bool) -> List[Symbol]:
+    def symbols(self, is_dynamic: bool) -> list[Symbol]:
         """The symbols with a name, in a section, of the types that name addresses."""
         found = dynamic_symbols(self.path) if is_dynamic else symbols_of(self.path)
         is_label = lambda it: it.kind == 0 and it.binding == LOCAL and it.name.startswith(".L")
         return [it for it in found if it.name and it.kind in TYPES and 0 < it.section < RESERVED and not is_label(it)]
 
-    def addresses(self, symbols: List[Symbol], count: int, seed: str) -> List[int]:
+    def addresses(self, symbols: list[Symbol], count: int, seed: str) -> list[int]:
         """Addresses at and beside symbols, and in segments."""
         some, found = random.Random(seed), set()
         for it in symbols:
@@ -99,7 +99,7 @@ class Image:
         return listed
 
 
-def answers(command: List[str], addresses: List[int], form: str = "{:x}\n", **more) -> List[str]:
+def answers(command: list[str], addresses: list[int], form: str = "{:x}\n", **more) -> list[str]:
     """The lines that a program writes for addresses on its standard input."""
     text = "".join(form.format(it) for it in addresses).encode()
     done = subprocess.run(command, input=text, capture_output=True, check=False, env={"PATH": os.environ["PATH"], "LC_ALL": "C"}, **more)
@@ -111,7 +111,7 @@ def escaped(name: str) -> str:
     return "".join("^" + chr(ord(it) + 64) if ord(it) < 32 or ord(it) == 127 else it for it in name)
 
 
-def compare_calls(program: str, path: str, addresses: List[int], said: List[str], tally: Tally) -> None:
+def compare_calls(program: str, path: str, addresses: list[int], said: list[str], tally: Tally) -> None:
     """What dladdr says by ctypes beside what it says by the C program."""
     by_c = answers(["sh", "-c", 'exec 3>&1 >/dev/null 2>&1; exec "$@"', "sh", program, path], addresses)
     tally["addresses by C"] += len(by_c)
@@ -146,7 +146,7 @@ def compare_dladdr(elfaddr: str, program: str, path: str, count: int, tally: Tal
             tally.fault(f"{path}: {address:x}: elfaddr {one}, dladdr {other}")
 
 
-def by_gdb(path: str, addresses: List[int]) -> List[str]:
+def by_gdb(path: str, addresses: list[int]) -> list[str]:
     with tempfile.NamedTemporaryFile("w", suffix=".gdb") as script:
         script.writelines(f"info symbol 0x{it:x}\n" for it in addresses)
         script.flush()
@@ -157,17 +157,17 @@ def by_gdb(path: str, addresses: List[int]) -> List[str]:
     return ["" if it.startswith("No symbol") else re.split(r" \+ \d+ in section | in section ", it)[0] for it in kept]
 
 
-def by_lines(*command: str) -> Callable[[str, List[int]], List[str]]:
+def by_lines(*command: str) -> Callable[[str, list[int]], list[str]]:
     """A tool that writes two lines for each address: a name with an offset where there is one, and the source."""
 
-    def ask(path: str, addresses: List[int]) -> List[str]:
+    def ask(path: str, addresses: list[int]) -> list[str]:
         names = [it for it in answers([*command, path], addresses, "0x{:x}\n") if it][::2]
         return ["" if it == "??" or it[0] == "(" else re.sub(r"\+0x[0-9a-f]+$", "", it) for it in names]
 
     return ask
 
 
-def by_nm(path: str, addresses: List[int]) -> List[str]:
+def by_nm(path: str, addresses: list[int]) -> list[str]:
     """The last symbol of `nm -n` up to the address."""
     said = subprocess.run(["nm", "-n", path], capture_output=True, check=False, env={"PATH": os.environ["PATH"], "LC_ALL": "C"}).stdout
     if not said:
@@ -188,12 +188,12 @@ TOOLS = {
 class Names:
     """The symbols of a file by name."""
 
-    def __init__(self, symbols: List[Symbol]) -> None:
-        self.by_name: Dict[str, List[Symbol]] = {}
+    def __init__(self, symbols: list[Symbol]) -> None:
+        self.by_name: dict[str, list[Symbol]] = {}
         for it in symbols:
             self.by_name.setdefault(it.name, []).append(it)
 
-    def covering(self, name: str, address: int) -> List[Symbol]:
+    def covering(self, name: str, address: int) -> list[Symbol]:
         return [it for it in self.by_name.get(name, []) if it.value <= address < it.value + max(it.size, 1)]
 
     def cause(self, own: str, other: str, address: int) -> str:
@@ -215,14 +215,14 @@ class Names:
         return "outer" if innermost(there) < innermost(best) else "further in"
 
 
-def innermost(it: Symbol) -> Tuple[bool, int, int]:
+def innermost(it: Symbol) -> tuple[bool, int, int]:
     return it.size > 0, it.value, -it.size
 
 
 WRONG = ("found", "further in", "elfaddr uncovered")
 
 
-def compare_others(elfaddr: str, path: str, count: int, tables: Dict[str, collections.Counter], tally: Tally) -> None:
+def compare_others(elfaddr: str, path: str, count: int, tables: dict[str, collections.Counter], tally: Tally) -> None:
     """One file beside the other tools."""
     image = Image(path)
     symbols = image.symbols(False) or image.symbols(True)

@@ -27,7 +27,6 @@ import time
 import timeit
 from collections import Counter, defaultdict, namedtuple
 from pathlib import Path
-from typing import Dict, List, Optional, Set, Tuple
 
 import damage
 from comparing import INDIRECT, UNIQUE, Finished, Tally, dynamic_symbols, parser_of, read_elf, run
@@ -41,7 +40,7 @@ BINDINGS = {**TRACE, "LD_DEBUG": "bindings", "LD_BIND_NOW": "1", "LD_WARN": "1"}
 # The longest time of a run on a damaged file in seconds.
 LONGEST = 2.0
 
-Key = Tuple[str, str, str]
+Key = tuple[str, str, str]
 real = functools.lru_cache(maxsize=None)(os.path.realpath)
 
 
@@ -51,14 +50,14 @@ Program = namedtuple("Program", "path linker files")
 Bindings = namedtuple("Bindings", "bound unresolved missing")
 
 
-def linker_of(path: str) -> Optional[str]:
+def linker_of(path: str) -> str | None:
     """The linker that a dynamically linked program names, if the file is one."""
     said = run(["readelf", "-lW", "--", path]).output if read_elf(path) else ""
     found = re.search(r"\[Requesting program interpreter: (.*)\]$", said, re.M)
     return found[1] if found and re.search(r"^  DYNAMIC ", said, re.M) else None
 
 
-def read_program(path: str) -> Optional[Program]:
+def read_program(path: str) -> Program | None:
     """A program with its files, if it is dynamically linked and the linker finds each library."""
     linker = linker_of(path)
     if not linker or not os.path.exists(linker):
@@ -69,7 +68,7 @@ def read_program(path: str) -> Optional[Program]:
     return Program(path, linker, [path, *LISTED.findall(listed.output)])
 
 
-def programs_in(paths: List[str]) -> List[str]:
+def programs_in(paths: list[str]) -> list[str]:
     """The dynamically linked programs among these and in the folders among these, each once."""
     files = [[path] if not os.path.isdir(path) else sorted({real(it.path) for it in os.scandir(path) if it.is_file()}) for path in paths]
     return [it for it in dict.fromkeys(real(it) for some in files for it in some) if linker_of(it)]
@@ -83,7 +82,7 @@ def is_own(program: Program, file: str, name: str) -> bool:
 
 def read_elfbind(program: Program, said: Finished) -> Bindings:
     """Takes what elfbind prints apart."""
-    bound: Dict[Key, Set[str]] = defaultdict(set)
+    bound: dict[Key, set[str]] = defaultdict(set)
     lines = LINE.findall(said.output)
     for file, reference, to in lines:
         name, _, version = reference.partition("@")
@@ -94,7 +93,7 @@ def read_elfbind(program: Program, said: Finished) -> Bindings:
 
 def read_linker(program: Program, said: Finished) -> Bindings:
     """Takes what the linker prints apart."""
-    bound: Dict[Key, Set[str]] = defaultdict(set)
+    bound: dict[Key, set[str]] = defaultdict(set)
     text = said.errors + said.output
     for file, to, name, version in BOUND.findall(text):
         if not is_own(program, file, name):
@@ -102,7 +101,7 @@ def read_linker(program: Program, said: Finished) -> Bindings:
     return Bindings(bound, 0, "undefined symbol" in text or "symbol lookup error" in text)
 
 
-def cause_of(name: str, files: Set[str]) -> str:
+def cause_of(name: str, files: set[str]) -> str:
     """Why a name is bound to other files."""
     found = [it for file in files if os.path.isfile(file) for it in dynamic_symbols(file) if it.name == name]
     if any(it.binding == UNIQUE for it in found):
@@ -152,7 +151,7 @@ def try_damaged(program: Program, elfbind: str, copies: int, seed: int, tally: T
     print(f"{copies} damaged copies: {dict(statuses)}, {longest:.2f} s at most")
 
 
-def print_times(programs: List[Tuple[int, Program]], elfbind: str) -> None:
+def print_times(programs: list[tuple[int, Program]], elfbind: str) -> None:
     """Prints the least time of five runs of elfbind on some programs, beside that in which the linker binds them."""
     least = lambda command, **variables: f"{1000 * min(timeit.repeat(lambda: run(command, **variables), number=1)):.1f} ms"
     for count, program in programs:

@@ -3,7 +3,7 @@
 import random
 import struct
 from collections import namedtuple
-from typing import Callable, Dict, Iterable, List, Set, Tuple
+from typing import Callable, Iterable
 
 from comparing import UNIQUE
 
@@ -23,7 +23,7 @@ class Object:
         table, = self.fields("Q", 32)
         self.parts = [self.fields("IIQQQQ", table + 56 * index) for index in range(*self.fields("H", 56))]
         dynamic = next(offset for kind, _, offset, *_ in self.parts if kind == 2)
-        self.entries: Dict[int, Tuple[int, int]] = {}
+        self.entries: dict[int, tuple[int, int]] = {}
         for place in range(dynamic, len(content) - 15, 16):
             tag, number = self.fields("QQ", place)
             if tag == 0:
@@ -33,7 +33,7 @@ class Object:
         # GNU ld puts the strings behind the symbols.
         self.count = (self.strings - self.symbols) // 24
 
-    def fields(self, form: str, place: int) -> Tuple[int, ...]:
+    def fields(self, form: str, place: int) -> tuple[int, ...]:
         return struct.unpack_from("<" + form, self.content, place)
 
     def number(self, place: int, form: str = "I") -> int:
@@ -50,16 +50,16 @@ class Object:
         place = self.strings + name
         return self.content[place : self.content.index(b"\0", place)].decode("latin-1")
 
-    def symbol(self, index: int) -> Tuple[str, int, int, int, int]:
+    def symbol(self, index: int) -> tuple[str, int, int, int, int]:
         """The name, the information, the visibility, the section index and the value of a symbol."""
         name, *fields = self.fields("IBBHQ", self.symbols + 24 * index)
         return self.text(name), *fields
 
-    def names_with(self, test: Callable[[int], bool]) -> Set[str]:
+    def names_with(self, test: Callable[[int], bool]) -> set[str]:
         """The names of the symbols whose information passes a test."""
         return {name for name, info, *_ in map(self.symbol, range(self.count)) if test(info)}
 
-    def definitions(self) -> List[Tuple[int, int]]:
+    def definitions(self) -> list[tuple[int, int]]:
         """The places of the definitions of versions, and of the first name of each."""
         found, place = [], self.offset(0x6FFFFFFC)
         while place:
@@ -68,7 +68,7 @@ class Object:
             place = place + step if step else 0
         return found
 
-    def needs(self) -> List[int]:
+    def needs(self) -> list[int]:
         """The places of the parts of the needs of versions."""
         found, place = [], self.offset(0x6FFFFFFE)
         while place:
@@ -80,7 +80,7 @@ class Object:
             place = place + step if step else 0
         return found
 
-    def numbers(self) -> Tuple[Set[int], Set[int]]:
+    def numbers(self) -> tuple[set[int], set[int]]:
         """The numbers of versions that symbols have, and those that definitions and needs have, their low 15 bits."""
         table = self.offset(0x6FFFFFF0)
         used = {self.number(table + 2 * i, "H") & 0x7FFF for i in range(self.count)} if table else set()
@@ -98,12 +98,12 @@ class Object:
         numbers = [self.number(place, "H") & 0x7FFF for place in places]
         return len(set(numbers)) == len(numbers) and min(numbers, default=2) >= 2 and max(used, default=0) <= max(known, default=1)
 
-    def versions(self) -> List[str]:
+    def versions(self) -> list[str]:
         """The names of the versions that are defined."""
         return [self.text(self.number(aux)) for _, aux in self.definitions()]
 
 
-def change_of_symbol(held: Object, chance: random.Random, kinds: List[int]) -> Change:
+def change_of_symbol(held: Object, chance: random.Random, kinds: list[int]) -> Change:
     """A change of a symbol."""
     index = chance.randrange(1, held.count)
     name, info, other, _, value = held.symbol(index)
@@ -147,7 +147,7 @@ def change_of_version(held: Object, chance: random.Random) -> Change:
     ))
 
 
-def change_of(held: Object, chance: random.Random, kinds: List[int]) -> Change:
+def change_of(held: Object, chance: random.Random, kinds: list[int]) -> Change:
     """A change of a file."""
     what = chance.random()
     if what < 0.1 and 30 in held.entries:
@@ -158,7 +158,7 @@ def change_of(held: Object, chance: random.Random, kinds: List[int]) -> Change:
     return change_of_symbol(held, chance, kinds)
 
 
-def changed(content: bytes, chance: random.Random, kinds: List[int]) -> Tuple[bytes, List[Change]]:
+def changed(content: bytes, chance: random.Random, kinds: list[int]) -> tuple[bytes, list[Change]]:
     """A copy of a file with one to three changes, which the linker has room for."""
     while True:
         copy, changes = bytearray(content), []
@@ -170,6 +170,6 @@ def changed(content: bytes, chance: random.Random, kinds: List[int]) -> Tuple[by
             return bytes(copy), changes
 
 
-def unique_names(files: Iterable[bytes]) -> Set[str]:
+def unique_names(files: Iterable[bytes]) -> set[str]:
     """The names of which a file has a unique symbol."""
     return set().union(*(it.names_with(lambda info: info >> 4 == UNIQUE) for it in map(Object, files)))

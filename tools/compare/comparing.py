@@ -10,7 +10,7 @@ import re
 import subprocess
 import sys
 from collections import namedtuple
-from typing import Callable, Iterator, List, Optional, Tuple
+from typing import Callable, Iterator
 
 ROOT = pathlib.Path(__file__).resolve().parents[2]
 MAGIC = b"\x7fELF"
@@ -72,7 +72,7 @@ class Tally(collections.Counter):
 ended = Tally.ended
 
 
-def run(command: List[str], seconds=600, **variables: str) -> Finished:
+def run(command: list[str], seconds=600, **variables: str) -> Finished:
     """Runs a command in the C locale, without what it would hand to a dynamic linker; ends the script where it can't be run."""
     clean = {name: held for name, held in os.environ.items() if not name.startswith("LD_")}
     try:
@@ -134,13 +134,13 @@ def symbol_of(said: dict, name: str, version: str = "", is_shown: bool = True) -
     return Symbol(name, version, is_shown, said["Value"], said["Size"], *(raw(said[field]) for field in ("Type", "Binding", "Section")))
 
 
-def symbols_of(path: str) -> List[Symbol]:
+def symbols_of(path: str) -> list[Symbol]:
     """The symbols of .symtab that llvm-readelf lists."""
     return [symbol_of(it, it["Name"]["Value"]) for it in parts(llvm(path, "--symbols"), "Symbols", "Symbol")]
 
 
 @functools.lru_cache(maxsize=8)
-def dynamic_symbols(path: str) -> Tuple[Symbol, ...]:
+def dynamic_symbols(path: str) -> tuple[Symbol, ...]:
     """The dynamic symbols that llvm-readelf lists."""
     said = llvm(path, "--dyn-syms", "-V")
     needs = {it["Index"] % 0x8000 for need in parts(said, "VersionRequirements", "Dependency") for it in parts(need, "Entries", "Entry")}
@@ -153,12 +153,12 @@ def dynamic_symbols(path: str) -> Tuple[Symbol, ...]:
     return tuple(found)
 
 
-def texts_of(path: str, *tags: str) -> List[str]:
+def texts_of(path: str, *tags: str) -> list[str]:
     """The texts of the dynamic entries with these tags that GNU's readelf lists, as those of NEEDED."""
     return re.findall(rf"\((?:{'|'.join(tags)})\) +[^\[]*\[(.*)\]$", run(["readelf", "-dW", "--", path]).output, re.M)
 
 
-def build_ids(path: str) -> List[str]:
+def build_ids(path: str) -> list[str]:
     """The build id that llvm-readelf shows, in a list, if there is one."""
     return re.findall(r"'Build ID': '([0-9a-f]+)'", str(llvm(path, "-n").get("Notes")))[:1]
 
@@ -182,9 +182,9 @@ def relocation_of(row: "re.Match", has_addends: bool) -> Relocation:
     return Relocation(digits, int(row[1], 16), int(row[2], 16), row[3], addend, text)
 
 
-def relocation_tables(path: str, *options: str) -> List[RelocationTable]:
+def relocation_tables(path: str, *options: str) -> list[RelocationTable]:
     """The tables that GNU's readelf lists, of sections or (-D) of the dynamic segment: llvm-readelf writes none in JSON."""
-    found: List[RelocationTable] = []
+    found: list[RelocationTable] = []
     for line in run(["readelf", "-rW", *options, "--", path]).output.splitlines():
         if start := re.match(r"Relocation section '(.*)' at |'(\w+)' relocation section at ", line):
             found.append(RelocationTable(start[1] or start[2], False, [], []))
@@ -197,7 +197,7 @@ def relocation_tables(path: str, *options: str) -> List[RelocationTable]:
     return found
 
 
-def files_of(paths: List[str]) -> Iterator[str]:
+def files_of(paths: list[str]) -> Iterator[str]:
     """The files, and those in the folders, but for links."""
     for path in paths:
         if not os.path.isdir(path):
@@ -208,7 +208,7 @@ def files_of(paths: List[str]) -> Iterator[str]:
             yield from (it for it in inside if os.path.isfile(it) and not os.path.islink(it))
 
 
-def spread(count: int, largest: int) -> List[pathlib.Path]:
+def spread(count: int, largest: int) -> list[pathlib.Path]:
     """So many files of class 64 that are spread over those of /usr/bin and of the folder of libraries, below a size."""
     files = (it for folder in ("/usr/bin", "/usr/lib/x86_64-linux-gnu") for it in sorted(pathlib.Path(folder).iterdir()))
     found = [it for it in files if it.is_file() and not it.is_symlink() and it.stat().st_size < largest and read_elf(it)[4:5] == b"\2"]
@@ -223,7 +223,7 @@ def stripped(content: bytes) -> bytes:
     return bytes(copy)
 
 
-def parser_of(doc: Optional[str], *programs: str, files: str = "", **numbers: int) -> argparse.ArgumentParser:
+def parser_of(doc: str | None, *programs: str, files: str = "", **numbers: int) -> argparse.ArgumentParser:
     """A reader of arguments, with an option for the path of each of these programs and for each of these numbers, and with files
     where their number is given, as `*`."""
     # Names that aren't UTF-8 go out as they came in.
@@ -238,7 +238,7 @@ def parser_of(doc: Optional[str], *programs: str, files: str = "", **numbers: in
     return parser
 
 
-def compare_all(doc: Optional[str], tally: Tally, compare: Callable[..., None], *programs: str) -> int:
+def compare_all(doc: str | None, tally: Tally, compare: Callable[..., None], *programs: str) -> int:
     """Compares each file that is given by its path, by that of the program, if one is named, and the tally."""
     given = parser_of((doc or "") + ABOUT, *programs, files="+").parse_args()
     for path in filter(read_elf, files_of(given.files)):

@@ -20,7 +20,6 @@ import concurrent.futures
 import glob
 import os
 import sys
-from typing import Dict, List, Optional, Tuple
 
 from comparing import ABSOLUTE, INDIRECT, ROOT, THREAD, UNDEFINED, UNIQUE, Tally, dynamic_symbols, parser_of, read_elf
 from loading import asked
@@ -28,16 +27,16 @@ from loading import asked
 sys.path.insert(1, str(ROOT / "bindings" / "python"))
 
 
-def queries_of(path: str) -> Tuple[List[Tuple[str, Optional[str], str]], int]:
+def queries_of(path: str) -> tuple[list[tuple[str, str | None, str]], int]:
     """What is asked about a file: each name, with a version or none, and what this counts as; and how many names have several
     versions."""
-    versions: Dict[str, Dict[str, None]] = {}
+    versions: dict[str, dict[str, None]] = {}
     for it in filter(lambda it: it.name, dynamic_symbols(path)):
         of_name = versions.setdefault(it.name, {})
         if it.version and it.section != UNDEFINED:
             of_name[it.version] = None
     listed = sorted({version for of_name in versions.values() for version in of_name})
-    queries: List[Tuple[str, Optional[str], str]] = [(name, None, "names") for name in versions]
+    queries: list[tuple[str, str | None, str]] = [(name, None, "names") for name in versions]
     for name, of_name in versions.items():
         queries += [(name, version, "pairs") for version in of_name]
         # The first two versions that the name doesn't have.

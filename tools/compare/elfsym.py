@@ -20,7 +20,6 @@ import sys
 import tempfile
 from collections import defaultdict
 from pathlib import Path
-from typing import List, Set, Tuple
 
 from comparing import ABSOLUTE, LOCAL, THREAD, UNDEFINED, Symbol, Tally, compare_all, dynamic_symbols, read_elf, run, stripped, texts_of
 
@@ -43,7 +42,7 @@ class Listing:
                 self.symbols[it.name].append(it)
 
 
-def wanted_of(symbols: List[Symbol], version: str) -> Set[Tuple[int, int]]:
+def wanted_of(symbols: list[Symbol], version: str) -> set[tuple[int, int]]:
     """The values and sizes that are right for a name with these symbols, asked with a version or without one."""
     plain = {(it.value, it.size) for it in symbols if not it.version}
     if version:

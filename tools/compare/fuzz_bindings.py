@@ -15,7 +15,6 @@ import subprocess
 import sys
 import tempfile
 from pathlib import Path
-from typing import Dict, List
 
 from bindings import BINDINGS, Program, read_elfbind, read_linker
 from changed_objects import Change, Object, changed, unique_names
@@ -40,7 +39,7 @@ COMPILED = (
 )
 
 
-def told(changes: List[Change]) -> str:
+def told(changes: list[Change]) -> str:
     return ", ".join(f"{it.what} {it.number:#x}" for it in changes)
 
 
@@ -50,7 +49,7 @@ class Comparison:
     def __init__(self, elfbind: str, elfsym: str, room: str, tally: Tally) -> None:
         self.elfbind, self.elfsym, self.room, self.tally = elfbind, elfsym, room, tally
 
-    def bindings(self, files: Dict[str, bytes], file: str, changes: List[Change]) -> None:
+    def bindings(self, files: dict[str, bytes], file: str, changes: list[Change]) -> None:
         """Compares the bindings of a program one of whose files was changed."""
         paths = [f"{self.room}/{name}" for name in SCOPE]
         Path(self.room, file).write_bytes(files[file])
@@ -75,7 +74,7 @@ class Comparison:
         if whole and own.missing != reads.missing:
             self.tally.fault(f"{file}: elfbind ends with {said.status}, a missing symbol for the linker: {reads.missing}: {told(changes)}")
 
-    def symbols(self, path: Path, content: bytes, changes: List[Change]) -> None:
+    def symbols(self, path: Path, content: bytes, changes: list[Change]) -> None:
         """Compares what is found by name and version in a library that was changed."""
         copy = Path(self.room, "copy.so")
         copy.write_bytes(content)

@@ -11,12 +11,11 @@ section 0.
 """
 import re
 import sys
-from typing import Dict, List
 
 from comparing import Tally, compare_all, llvm, parts, raw, run
 
 # The name that elfinfo prints for a number of a field, by the numbers that the gABI gives, and the word for another number.
-NAMES: Dict[str, Dict[int, str]] = {
+NAMES: dict[str, dict[int, str]] = {
     "class": {0: "None", 1: "ThirtyTwo", 2: "SixtyFour"},
     "data": {0: "None", 1: "LittleEndian", 2: "BigEndian"},
     "version": {0: "None", 1: "Current"},
@@ -45,15 +44,15 @@ FIELDS = {
     "sh_str_index": "StringTableSectionIndex"}
 
 
-def fields_of(head: str) -> Dict[str, str]:
+def fields_of(head: str) -> dict[str, str]:
     """The fields of the ELF header that elfinfo prints, by their labels."""
-    found: Dict[str, str] = {}
+    found: dict[str, str] = {}
     for label, value in re.findall(r"^    (.+?): +(.*)$", head, re.M):
         found[label if label not in found else f"{label} (2)"] = value.rstrip()
     return found
 
 
-def wanted_fields(reads: dict) -> Dict[str, str]:
+def wanted_fields(reads: dict) -> dict[str, str]:
     """The fields as elfinfo must print them."""
     found = {}
     for label, value in ((label, (reads["Ident"] if label in IDENT else reads)[name]) for label, name in {**IDENT, **FIELDS}.items()):
@@ -63,7 +62,7 @@ def wanted_fields(reads: dict) -> Dict[str, str]:
     return found
 
 
-def kind_of(number: int, names: Dict[int, str], last: int, refusal: str) -> str:
+def kind_of(number: int, names: dict[int, str], last: int, refusal: str) -> str:
     """How elfinfo must print a type, of those below `last`."""
     word = next((word for first, word in reversed(WORDS.items()) if number >= first), None)
     name = names.get(number) or (f"{word}({number})" if word and number < last else None)
@@ -84,7 +83,7 @@ def wanted_segment(index: int, it: dict) -> str:
     return f"{index} {kind_of(raw(it['Type']), SEGMENTS, 0x80000000, 'Invalid type')} "
 
 
-def compare_list(path: str, what: str, says: List[str], wanted: List[str], tally: Tally) -> None:
+def compare_list(path: str, what: str, says: list[str], wanted: list[str], tally: Tally) -> None:
     """Compares the lines of sections or of segments."""
     if len(says) != len(wanted):
         tally.differ(path, what, len(says), len(wanted))

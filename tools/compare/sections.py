@@ -18,7 +18,6 @@ import ctypes
 import itertools
 import re
 import sys
-from typing import List, Tuple
 
 from comparing import LOCAL, ROOT, UNDEFINED, Tally, compare_all, dynamic_symbols, llvm, parts, relocation_tables
 
@@ -44,7 +43,7 @@ def read_note(said: dict) -> Note:
     return Note(number, None if owner.startswith("GA") else owner.partition("\0")[0], said["Data size"])
 
 
-def read_notes(path: str) -> List[Tuple[str, List[Note]]]:
+def read_notes(path: str) -> list[tuple[str, list[Note]]]:
     """The notes that llvm-readelf lists, by section."""
     found = []
     for section in parts(llvm(path, "-n"), "Notes", "NoteSection"):
@@ -82,7 +81,7 @@ def compare_packed(file, path: str, tally: Tally) -> None:
         tally.differ(path, "packed relocations", says, reads)
 
 
-def looked_up(file, table, names: List[bytes]) -> list:
+def looked_up(file, table, names: list[bytes]) -> list:
     """The status of the look-up of each name, whether a symbol was found, and its index."""
     from xmas_elf._archive import library
     from xmas_elf._declarations import ANSWER, RANGE
