@@ -3,19 +3,17 @@
 
     tools/compare/bindings.py [--elfbind PATH] [--damaged N] [--seed N] [--times N] FILE..
 
-The programs are the dynamically linked ones among the files, and in the folders among them. The files of each are the
-program and its libraries in the order in which the linker lists them (as ldd does), without linux-vdso. elfbind is run on
-them, and the linker binds all references at once and prints each (BINDINGS), so that it runs nothing. The two are compared
-as sets of a file, the file it is bound to, the name and the version. Left out on both sides are the linker's own look-ups
-(`is_own`). Status 1 of elfbind and an undefined symbol that the linker reports must come together.
+The programs are the dynamically linked ones among the files, and in the folders among them. elfbind is run on a program and its
+libraries in the order in which the linker lists them, without linux-vdso; the linker binds all references at once and prints
+each (BINDINGS), and runs nothing. The two are compared as sets of a file, the file it is bound to, the name and the version,
+without the linker's own look-ups (`is_own`). Status 1 of elfbind and an undefined symbol for the linker must come together.
 
 Another binding is a line with its cause: `unique`, since glibc merges symbols of type STB_GNU_UNIQUE by name over the
 process; `ifunc`, an indirect function; or `unexplained`, which is a difference.
 
 --damaged N runs elfbind on N copies of the files of the program with fewest bindings, with one damaged, at random
 from the seed: it must end within two seconds, with status 0 or 1. --times N prints for the N programs with most
-bindings the least time of five runs of elfbind, and of the linker, with and without binding (it prints only the
-libraries then).
+bindings the least time of five runs of elfbind, and of the linker, with and without binding.
 """
 import functools
 import os

@@ -4,13 +4,12 @@ with what nm and readelf print.
 
     tools/compare/dump.py [FILE..]
 
-Takes FILE, else 300 files spread over the small ones of /usr/bin and /usr/lib/x86_64-linux-gnu. Compared are, of each file and
-of a copy without section headers: the needed libraries, the name and the run path, the build id, the dynamic symbols with the
-names and numbers of their versions, the versions needed and defined, the dynamic entries and the relocations; of each file
-besides its sections; and for up to 200 names with a version the symbol that is found by both, and by the name alone where the
-version is the default one. The programs in C print the build id and these symbols, and the entries and relocations of the
-dynamic segment. A file without sections, or of debugging data alone, is passed over. The programs are built over the archive
-in crates/elf_c/out, or in the folder that XMAS_ELF_ARCHIVE names."""
+Takes FILE, else 300 files spread over the small ones of the system. Compared are, of each file and of a copy without section
+headers: the needed libraries, the name and the run path, the build id, the dynamic symbols with their versions, the versions
+needed and defined, the dynamic entries and the relocations; of each file besides its sections; and for up to 200 names with a
+version the symbol that is found by both, and by the name alone where the version is the default one. The programs in C print
+the build id, these symbols, and the entries and relocations of the dynamic segment. A file without sections, or of debugging
+data alone, is passed over. The archive is that of crates/elf_c/out, or of the folder that XMAS_ELF_ARCHIVE names."""
 import concurrent.futures
 import functools
 import itertools

@@ -4,11 +4,10 @@
     tools/compare/fuzz_bindings.py [--elfbind PATH] [--elfsym PATH] [--seed N] [--count N]
 
 docs/TESTS.md says what is changed at random from the seed, and what isn't compared. elfbind is run on N copies of a program or
-of one of its two libraries, and compared as by tools/compare/bindings.py; where the linker ends early, as where it copies from
-an address that isn't there, what it has printed is compared. Of N copies of a library elfsym, dlsym and dlvsym are asked for
-each name, for each name with each version, and for each name with a version that the file doesn't have. Compared are whether a
-symbol is found, and its address; of thread-local symbols only the first. No copy for this has a symbol of the type
-STT_GNU_IFUNC, whose resolver dlsym would run. Objects of class 32 are not tried: the linker for them is on few systems.
+of one of its two libraries, and compared as by tools/compare/bindings.py; where the linker ends early, what it has printed is
+compared. Of N copies of a library elfsym, dlsym and dlvsym are asked for each name, alone, with each version, and with one that
+the file doesn't have. Compared are whether a symbol is found, and its address; of thread-local symbols only the first. No copy
+for this has a symbol of the type STT_GNU_IFUNC, whose resolver dlsym would run. Objects of class 32 are not tried.
 """
 import random
 import subprocess

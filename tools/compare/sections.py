@@ -5,11 +5,9 @@
 
 Of each section of notes `llvm-readelf -n` says how many there are, and of each the type, the name and the size of the
 description, but for the names of GNU's build attributes, which hold other bytes. `readelf -rW` has the addresses of each
-section of packed relocations.
-
-The check of GNU's hash table must be OK. Each name that `llvm-readelf --dyn-syms` lists as defined and not local must be found
-at an index at which it is listed so, whatever its version. Each other name must not be found, or at an index at which it is
-listed: linkers put some undefined symbols of programs into the table.
+section of packed relocations. The check of GNU's hash table must be OK. Each name that `llvm-readelf --dyn-syms` lists as
+defined and not local must be found at an index at which it is listed so, whatever its version. Each other name must not be
+found, or at an index at which it is listed: linkers put some undefined symbols of programs into the table.
 
 The static library is called by way of bindings/python, whose shared object bindings/python/wheel_backend.py links.
 """
