@@ -78,25 +78,26 @@ def is_own(program: Program, file: str, name: str) -> bool:
     return is_of_linker or name == "__libc_early_init" or (file == program.path and name in OWN_NAMES)
 
 
+def bound_in(program: Program, rows) -> dict[Key, set[str]]:
+    """The files to which names are bound, by rows of a file, the one that it is bound to, a name and its version."""
+    bound: dict[Key, set[str]] = defaultdict(set)
+    for file, to, name, version in rows:
+        if not is_own(program, file, name):
+            bound[real(file), name, version].add(real(to))
+    return bound
+
+
 def read_elfbind(program: Program, said: Finished) -> Bindings:
     """Takes what elfbind prints apart."""
-    bound: dict[Key, set[str]] = defaultdict(set)
     lines = LINE.findall(said.output)
-    for file, reference, to in lines:
-        name, _, version = reference.partition("@")
-        if to and not is_own(program, file, name):
-            bound[real(file), name, version].add(real(to))
+    bound = bound_in(program, ((file, to, *reference.partition("@")[::2]) for file, reference, to in lines if to))
     return Bindings(bound, sum(not to for _, _, to in lines), said.status != 0)
 
 
 def read_linker(program: Program, said: Finished) -> Bindings:
     """Takes what the linker prints apart."""
-    bound: dict[Key, set[str]] = defaultdict(set)
     text = said.errors + said.output
-    for file, to, name, version in BOUND.findall(text):
-        if not is_own(program, file, name):
-            bound[real(file), name, version].add(real(to))
-    return Bindings(bound, 0, "undefined symbol" in text or "symbol lookup error" in text)
+    return Bindings(bound_in(program, BOUND.findall(text)), 0, "undefined symbol" in text or "symbol lookup error" in text)
 
 
 def cause_of(name: str, files: set[str]) -> str:

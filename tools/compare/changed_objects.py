@@ -59,26 +59,21 @@ class Object:
         """The names of the symbols whose information passes a test."""
         return {name for name, info, *_ in map(self.symbol, range(self.count)) if test(info)}
 
+    def chain(self, place: int, step: int, most: int = 1 << 16) -> list[int]:
+        """The places of records from one on, of which each has at a place the offset of the next."""
+        found = [place] if place else []
+        while found and len(found) < most and (offset := self.number(found[-1] + step)):
+            found.append(found[-1] + offset)
+        return found
+
     def definitions(self) -> list[tuple[int, int]]:
         """The places of the definitions of versions, and of the first name of each."""
-        found, place = [], self.offset(0x6FFFFFFC)
-        while place:
-            aux, step = self.fields("II", place + 12)
-            found.append((place, place + aux))
-            place = place + step if step else 0
-        return found
+        return [(it, it + self.number(it + 12)) for it in self.chain(self.offset(0x6FFFFFFC), 16)]
 
     def needs(self) -> list[int]:
         """The places of the parts of the needs of versions."""
-        found, place = [], self.offset(0x6FFFFFFE)
-        while place:
-            count, _, aux, step = self.fields("HIII", place + 2)
-            part = place + aux
-            for _ in range(count):
-                found.append(part)
-                part += self.number(part + 12)
-            place = place + step if step else 0
-        return found
+        found = self.chain(self.offset(0x6FFFFFFE), 12)
+        return [part for it in found for part in self.chain(it + self.number(it + 8), 12, self.number(it + 2, "H"))]
 
     def numbers(self) -> tuple[set[int], set[int]]:
         """The numbers of versions that symbols have, and those that definitions and needs have, their low 15 bits."""
@@ -109,15 +104,14 @@ def change_of_symbol(held: Object, chance: random.Random, kinds: list[int]) -> C
     name, info, other, _, value = held.symbol(index)
     place = held.symbols + 24 * index
     what = chance.choice(("type", "binding", "visibility", "section", "value"))
-    if what == "type":
-        return Change(f"type of {name}", place + 4, "<B", info // 16 * 16 + chance.choice(kinds))
-    if what == "binding":
-        return Change(f"binding of {name}", place + 4, "<B", chance.choice((0, 1, 2, 3, 10, 13)) * 16 + info % 16)
-    if what == "visibility":
-        return Change(f"visibility of {name}", place + 5, "<B", other // 4 * 4 + chance.randrange(4))
-    if what == "section":
-        return Change(f"section of {name}", place + 6, "<H", chance.choice((0, 1, 5, 0xFFF1, 0xFFF2)))
-    return Change(f"value of {name}", place + 8, "<Q", chance.choice((0, value, value + 4)))
+    at, form, number = {
+        "type": lambda: (4, "<B", info // 16 * 16 + chance.choice(kinds)),
+        "binding": lambda: (4, "<B", chance.choice((0, 1, 2, 3, 10, 13)) * 16 + info % 16),
+        "visibility": lambda: (5, "<B", other // 4 * 4 + chance.randrange(4)),
+        "section": lambda: (6, "<H", chance.choice((0, 1, 5, 0xFFF1, 0xFFF2))),
+        "value": lambda: (8, "<Q", chance.choice((0, value, value + 4))),
+    }[what]()
+    return Change(f"{what} of {name}", place + at, form, number)
 
 
 def change_of_version(held: Object, chance: random.Random) -> Change:

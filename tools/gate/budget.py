@@ -194,27 +194,22 @@ def write(paths) -> int:
 
 def check() -> int:
     page = PAGE.read_text(encoding="utf-8")
-    total = TOTAL.search(page)
+    total, rows = TOTAL.search(page), re.findall(r"^\| (?!\*\*total|Part).*\| ([\d.]+) \|$", page, re.M)
     if not total:
         print("docs/GATE.md: the table has no total")
         return 1
-    rows = re.findall(r"^\| (?!\*\*total|Part).*\| ([\d.]+) \|$", page, re.M)
     whole, parts = float(total[1]), sum(map(float, rows))
     # Each row is rounded.
     if abs(whole - parts) > 0.1 * (len(rows) + 1):
         print(f"docs/GATE.md: the parts are {parts:.1f} processor minutes, and the total is {whole:.1f}")
         return 1
-    print(f"the gate took {whole:.1f} of {BUDGET} processor minutes when it was last measured")
-    if whole > BUDGET:
-        print("FAILED: that is more than the budget")
+    print(f"the gate took {whole:.1f} of {BUDGET} processor minutes when it was last measured" + (": FAILED" if whole > BUDGET else ""))
     return 1 if whole > BUDGET else 0
 
 
 def main(words: list) -> int:
-    if words[:1] == ["run"] and len(words) > 1:
-        return run(words[1:])
-    if words[:1] == ["write"] and len(words) > 1:
-        return write(words[1:])
+    if words[:1] in (["run"], ["write"]) and len(words) > 1:
+        return {"run": run, "write": write}[words[0]](words[1:])
     if words == ["check"]:
         return check()
     print(__doc__, file=sys.stderr)

@@ -1,4 +1,5 @@
 """Copies of a repository in which the functions of one crate are edited and checked."""
+import contextlib
 import dataclasses
 import functools
 import os
@@ -59,26 +60,16 @@ class Checked:
 kit = functools.cache(built.kit)
 
 
-def check(folder: pathlib.Path, *words: str, verb: str = "check", limit=None) -> Checked:
-    """Checks the crate in a folder, or does what else `rt` does with a crate."""
-    return checked(folder, ["rt", verb, *words], limit)
-
-
-def check_once(folder: pathlib.Path, *words: str, limit=None) -> Checked:
-    """Checks the crate in a folder, and keeps nothing for a later check. `rt check` would keep what it proves, and for
-    long checks starts several processes one after another, each of which loads the libraries."""
-    try:
-        crates = kit().crates_below(str(folder.parent.parent))
-        crate = next(it for it in crates if os.path.samefile(it.folder, folder))
-        ran = [kit().RATTLE, "check", *crate.words(list(words), keeps=False)]
-    except (AttributeError, OSError, StopIteration, SystemExit, TypeError):
-        # Another kit may have other names for these.
-        return check(folder, *words, limit=limit)
-    return checked(folder, ran, limit)
-
-
-def checked(folder: pathlib.Path, ran: list, limit=None) -> Checked:
-    """What a check says, and what it takes. A process that takes more processor seconds than the limit is ended."""
+def check(folder: pathlib.Path, *words: str, verb="check", keeps=True, limit=None) -> Checked:
+    """Checks the crate in a folder, or does what else `rt` does with a crate; what it says, and what it takes. A process that
+    takes more processor seconds than the limit is ended. `rt check` keeps what it proves, and for long checks starts several
+    processes one after another, each of which loads the libraries: not where nothing is to be kept for a later check."""
+    ran = ["rt", verb, *words]
+    # Another kit may have other names for these.
+    with contextlib.suppress(AttributeError, OSError, StopIteration, SystemExit, TypeError):
+        if not keeps:
+            crate = next(it for it in kit().crates_below(str(folder.parent.parent)) if os.path.samefile(it.folder, folder))
+            ran = [kit().RATTLE, verb, *crate.words(list(words), keeps=False)]
     kept = {"stdout": subprocess.PIPE, "stderr": subprocess.STDOUT, "text": True, "errors": "replace"}
     limited = limit and (lambda: resource.setrlimit(resource.RLIMIT_CPU, (limit, limit + 5)))
     with subprocess.Popen(ran, cwd=folder, preexec_fn=limited, **kept) as started:
@@ -109,8 +100,8 @@ class Room:
         self.root, self.crate, self.below, self.is_whole = root, crate, below, whole
         self.folder, self.clean, self.kept = place / "crates" / crate.name, place / "clean", kept
         self.words = [] if whole else ["--allow-holes"]
-        # what each check took
-        self.times = []
+        # what the checks took
+        self.seconds = 0
         place.mkdir()
         needed = [*below, crate.name]
         lines = (root / "crates.txt").read_text(encoding="utf-8").splitlines(keepends=True)
@@ -187,15 +178,15 @@ class Room:
             for file in copy.rglob("*.antt"):
                 written(file, re.sub(rf"Rattle\.{self.crate.name}\.proofs(\.[\w+]+)+", moved, file.read_text(encoding="utf-8")))
 
-    def check(self, edits, tried: Tried, functions) -> Checked:
-        """What a check of these functions says of the crate with these edits made (none: of all)."""
+    def check(self, tried: Tried, functions) -> Checked:
+        """What a check of these functions says of the crate with edits made (none: of all)."""
         self.make(tried)
         paths = sorted({self.crate.told_path(one) for one in functions})
         for path in paths:
             file = self.folder.joinpath("proofs", *path.split("::")[1:], "Answers.antt")
             written(file, (file.read_text(encoding="utf-8") if file.exists() else "") + UNPRINTED)
         ran = self.check_only(paths)
-        self.times.append((ran.seconds, edits[0].label() if len(edits) == 1 else f"{self.crate.name}: {len(edits)} edits"))
+        self.seconds += ran.seconds
         return ran
 
     def uncompiled(self, edits) -> list:
@@ -213,8 +204,7 @@ class Room:
     def check_only(self, functions) -> Checked:
         """A check of some functions, by their paths, and of what they call; of none: of the whole crate."""
         words = ["--jobs", "1", *self.words, *(word for name in functions for word in ("--only", name))]
-        one = check if self.keeps() else check_once
-        ran = one(self.folder, *words, limit=LIMIT_OF_WHOLE if self.is_whole else LIMIT)
+        ran = check(self.folder, *words, keeps=self.keeps(), limit=LIMIT_OF_WHOLE if self.is_whole else LIMIT)
         unknown = NO_FUNCTION.search(ran.said)
         # A method of a built-in type has no such name: its edit is then tried alone.
         return self.check_only([it for it in functions if it != unknown[1]]) if unknown else ran
@@ -222,7 +212,7 @@ class Room:
     def left_open(self, edits) -> list:
         """What is left open of each of these functions beside themselves, in a check of them all."""
         tried = self.crate.tried(edits, self.is_whole)
-        ran = self.check(edits, tried, [tried.of[it.label()][0] for it in edits])
+        ran = self.check(tried, [tried.of[it.label()][0] for it in edits])
         if not ran.reached():
             return [(edits[0], "the check did not come to an end")]
         goals = tried.goals(ran.said)
@@ -247,13 +237,13 @@ class Room:
         """Each edit with the goal for which it is refused, or with none and a fault."""
         tried = self.crate.tried(edits, self.is_whole)
         functions = {one for some in tried.of.values() for one in some}
-        ran = self.check(edits, tried, [] if self.is_whole else functions - {None})
+        ran = self.check(tried, [] if self.is_whole else functions - {None})
         reached, goals = ran.reached(), tried.goals(ran.said)
         if not self.is_whole and len(edits) == 1 and (None in functions or reached and not goals):
             # A line that stands in no function, as a constant's, and what a function does for others, may be refused there.
             whole = self.whole()
             judged = whole.judge(edits)
-            self.times += whole.times
+            self.seconds += whole.seconds
             return judged
         if not reached and len(edits) > 1:
             if ran.is_cut:

@@ -2,8 +2,8 @@
 """Wants the prover to refuse each wrong body of crates/NAME/wrong-bodies/TOPIC/*.edit.
 
 How they are tried, many in one check of a copy of their crate, stands in docs/WRONG_BODIES.md. Each crate must be proved as it
-stands, and is checked first, unless `rt ci` has just proved it. At the end stand what the checks of each crate took, and the
-slowest ones. The last line is `N refused, M failed`.
+stands, and is checked first, unless `rt ci` has just proved it. At the end stands what the checks of each crate took. The last
+line is `N refused, M failed`.
 """
 import argparse
 import collections
@@ -23,9 +23,6 @@ from pages.sources import ROOT
 # The names of the edits that must stay, and the commit at which each edit was last refused.
 MUST_STAY = ROOT / "docs" / "wrong_bodies.txt"
 REFUSED_AT = ROOT / "docs" / "wrong_bodies_commit.txt"
-
-# How many checks are listed at the end.
-SLOWEST = 12
 
 FLAGS = {
     "gate": "those of docs/wrong_bodies.txt, and those since the commit of docs/wrong_bodies_commit.txt; all where it isn't known here",
@@ -52,7 +49,7 @@ class Trial:
     def __init__(self, root: pathlib.Path, names, jobs: int, since=None, proved=False):
         self.root, self.jobs, self.proved, self.lock = root, jobs, proved, threading.Lock()
         self.of_crate = collections.Counter()
-        self.refused, self.failed, self.times, self.tasks = [], [], [], []
+        self.refused, self.failed, self.tasks = [], [], []
         self.may_be_empty = since is not None
         used = sources.crates(root)
         for name in used:
@@ -100,8 +97,7 @@ class Trial:
             for edit, goal, fault in room.judge(batch):
                 self.tell(edit, goal, fault)
         with self.lock:
-            self.of_crate[task.crate.name] += sum(it[0] for it in room.times)
-            self.times += room.times
+            self.of_crate[task.crate.name] += room.seconds
 
     def run(self) -> int:
         # Lower crates first, since a check locks the crates below. Then the longest batch first, so that none is the last to end.
@@ -111,10 +107,6 @@ class Trial:
                 it.result()
         for name, seconds in self.of_crate.items():
             print(f"{name}: {seconds:.0f} processor seconds")
-        if self.times:
-            print(f"{sum(it[0] for it in self.times):.0f} processor seconds in {len(self.times)} checks of wrong bodies, of these")
-        for seconds, what in sorted(self.times, reverse=True)[:SLOWEST]:
-            print(f"{seconds:6.0f} {what}")
         if self.failed:
             print(f"FAILED: {' '.join(sorted(self.failed))}")
         print(f"{len(self.refused)} refused, {len(self.failed)} failed")
