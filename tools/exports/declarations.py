@@ -5,7 +5,7 @@ It writes the statuses (tools/exports/statuses.py), structs and functions in bin
 ffi.rs and, from bindings/constants.toml, constants.rs in bindings/rust/src; the modules for Python
 (python_declarations.py); and calls for tests (calls.py). --check: writes nothing, and fails where a file differs, where the
 `#[repr(C)]` structs or the exported functions of crates/elf_c/src are others than those of the list, or where a list of
-statuses is another than its definition has (refusals.py)."""
+statuses is another than its definition has."""
 import itertools
 import pathlib
 import re
@@ -16,10 +16,9 @@ sys.path.insert(1, str(pathlib.Path(__file__).resolve().parents[1]))
 import calls
 import listing
 import python_declarations
-import refusals
 import statuses
 from listing import FILLED, IN, OUT, ROOT, SLICE, VALUE
-from pages.writing import differing, ended, parser_of
+from pages.sources import differing, ended, parser_of
 
 HEADER = ROOT / "bindings/include/xmas_elf.h"
 RUST = ROOT / "bindings/rust/src"
@@ -229,7 +228,7 @@ def main():
     if is_check:
         named = {name for one in listed.functions for name in one.statuses + one.item_statuses + one.never}
         failed += [f"the list names the status {name}, which is none" for name in sorted(named - set(ALL_STATUSES))]
-        failed += differing_sources(listed) + refusals.differing(listed)
+        failed += differing_sources(listed) + statuses.differing(listed)
     return ended(failed, f"{len(listed.functions)} exports, {len(listed.structs)} structs, {len(failed)} differences")
 
 

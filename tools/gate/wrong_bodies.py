@@ -15,8 +15,7 @@ import threading
 from typing import NamedTuple
 
 import changed
-from edit_rooms import Room, check
-from edits import BATCH, Edit, EditedCrate, batches_of
+from edits import BATCH, Edit, EditedCrate, Room, batches_of, check
 from pages import sources
 from pages.sources import ROOT
 

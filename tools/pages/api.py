@@ -21,9 +21,8 @@ import sys
 sys.path.insert(0, str(pathlib.Path(__file__).resolve().parents[1]))
 from exports import listing
 from pages import errors
-from pages.sources import ITEM, ROOT, impls_of, modules, public_items, read
+from pages.sources import ITEM, ROOT, anchor, differing, ended, impls_of, modules, parser_of, public_items, read
 from pages.definitions import uses_in
-from pages.writing import anchor, differing, ended, parser_of
 
 PAGES = ROOT / "docs" / "api"
 

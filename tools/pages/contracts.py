@@ -22,8 +22,7 @@ import tomllib
 
 sys.path.insert(0, str(pathlib.Path(__file__).resolve().parents[1]))
 from gate.edits import EditedCrate
-from pages.sources import ROOT, Crate
-from pages.writing import ended, parser_of
+from pages.sources import ROOT, Crate, ended, parser_of
 
 REASONS = ROOT / "docs" / "contracts.toml"
 

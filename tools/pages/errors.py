@@ -11,8 +11,7 @@ import re
 import sys
 
 sys.path.insert(0, str(pathlib.Path(__file__).resolve().parents[1]))
-from pages.sources import ROOT, read
-from pages.writing import ended
+from pages.sources import ROOT, ended, read
 
 CRATES = ("elf_base", "elf_records", "xmas_elf")
 ENUM = ROOT / "crates/elf_base/src/error.rt"

@@ -46,7 +46,7 @@ PATHS = {
     "tools/exports/python.sh": of("elf_c", "bindings/python/xmas_elf", "bindings/python/speed.py"),
     "tools/web/page.py": of("elf_c", "bindings/web"),
     "tools/web/web.sh": of("elf_c", "bindings/web/*.js", "tools/web"),
-    "tools/gate/wrong_bodies.py": ("crates", "tools/gate/edit*.py"),
+    "tools/gate/wrong_bodies.py": ("crates", "tools/gate/edits.py"),
     "tools/gate/quick.sh": ("crates", "tools"),
     ".ci/run": ("crates", "tools"),
 }

@@ -14,7 +14,7 @@ import re
 import sys
 
 sys.path.insert(0, str(pathlib.Path(__file__).resolve().parents[1]))
-from pages.writing import ROOT, differing, ended, parser_of
+from pages.sources import ROOT, differing, ended, parser_of
 
 PAGE = ROOT / "CONTRIBUTING.md"
 PLACE = re.compile(r"(?<=<!-- layers -->\n).*(?=\n<!-- /layers -->)", re.S)

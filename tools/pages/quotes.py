@@ -16,8 +16,7 @@ import re
 import sys
 
 sys.path.insert(0, str(pathlib.Path(__file__).resolve().parents[1]))
-from pages.sources import ROOT, read
-from pages.writing import anchor, ended
+from pages.sources import ROOT, anchor, ended, read
 
 BLOCK = re.compile(r"^ *```(rust|antt)\n(.*?)^ *```$", re.MULTILINE | re.DOTALL)
 ENDS = {"rust": ".rt", "antt": ".antt"}

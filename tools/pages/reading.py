@@ -17,7 +17,7 @@ import sys
 
 sys.path.insert(0, str(pathlib.Path(__file__).resolve().parents[1]))
 from pages.definitions import Reader
-from pages.writing import ROOT, differing, ended, parser_of
+from pages.sources import ROOT, differing, ended, parser_of
 
 PAGE = ROOT / "docs" / "READING.md"
 

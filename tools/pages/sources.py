@@ -4,9 +4,12 @@
     for path, item in public_items(sources, "elf_base"):    path, item.kind, item.name, item.doc, item.text
     Crate(ROOT / "crates" / "elf_base").functions           each with its file, its lines and the path by which a check names it
 
+Also what scripts share that write files from the sources, and with --check compare them.
+
 An item begins at the left margin, a method four blanks further in, and the brace of a body stands alone on its line
 where a function has clauses.
 """
+import argparse
 import collections
 import dataclasses
 import pathlib
@@ -294,3 +297,30 @@ class Crate:
         *above, name = self.told_path(one).split("::")[1:]
         found = [it.relative_to(self.folder / "proofs").parts for it in (self.folder / "proofs").rglob(name) if it.is_dir()]
         return [it for it in found if [part for part in it[:-1] if part != "fn"] == above]
+
+
+def parser_of(doc) -> argparse.ArgumentParser:
+    """The arguments of a script, which are described in its head."""
+    parser = argparse.ArgumentParser(description=doc, formatter_class=argparse.RawDescriptionHelpFormatter)
+    parser.add_argument("--check", action="store_true", help="write nothing, and fail where something differs")
+    return parser
+
+
+def anchor(heading: str) -> str:
+    """What a link names a heading by."""
+    return re.sub(r"[^\w\- ]", "", heading.lower()).replace(" ", "-")
+
+
+def differing(texts: dict, is_check: bool) -> list:
+    """Writes each file, or says of those that have another text."""
+    for path, text in texts.items():
+        if not is_check:
+            path.write_text(text, encoding="utf-8")
+    return [f"{path.relative_to(ROOT)} is not what the sources give" for path, text in texts.items()
+            if not path.exists() or path.read_text(encoding="utf-8") != text]
+
+
+def ended(faults: list, said: str) -> int:
+    """Prints faults, and what is said behind them; gives the status."""
+    print("\n".join([*faults, said]))
+    return 1 if faults else 0

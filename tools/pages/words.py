@@ -13,7 +13,7 @@ import pathlib
 import re
 import sys
 
-from writing import ROOT, ended
+from sources import ROOT, ended
 
 PAGES = ("*.md", "docs/*.md", "bindings/**/*.md", "bench/*.md", "oracle/*.md", "tools/*.md")
 

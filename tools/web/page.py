@@ -24,7 +24,7 @@ sys.path.insert(1, str(pathlib.Path(__file__).resolve().parents[1]))
 import files
 import readelf
 from compare import comparing, damage
-from comparison import PANEL, compare_file, compare_segments, compare_tables, symbol_form
+from readelf import PANEL, compare_file, compare_segments, compare_tables, symbol_form
 
 try:
     from chromium import By, Chromium
