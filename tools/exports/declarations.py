@@ -3,7 +3,7 @@
 
 It writes the statuses (tools/exports/statuses.py), structs and functions in bindings/include/xmas_elf.h; error.rs, records.rs,
 ffi.rs and, from bindings/constants.toml, constants.rs in bindings/rust/src; the modules for Python
-(python_declarations.py); and calls for tests (calls.py). --check: writes nothing, and fails where a file differs, where the
+(python_declarations.py); and calls for tests. --check: writes nothing, and fails where a file differs, where the
 `#[repr(C)]` structs or the exported functions of crates/elf_c/src are others than those of the list, or where a list of
 statuses is another than its definition has."""
 import itertools
@@ -13,7 +13,6 @@ import sys
 import textwrap
 
 sys.path.insert(1, str(pathlib.Path(__file__).resolve().parents[1]))
-import calls
 import listing
 import python_declarations
 import statuses
@@ -183,6 +182,105 @@ def constants_text():
     return "\n".join(lines) + "\n"
 
 
+# A call of each export for the tests in C and Rust, so that a new export is called without a line by hand. What the tests ask of
+# every call stands in bindings/c/every.c and bindings/rust/src/tests.rs.
+
+ROOM = 3
+CALLS_HEAD = """/* A call of each export, by the parts of a `struct asked`. Written by tools/exports/declarations.py. */
+
+/* What a call writes: its first and its second output. */
+union output {
+"""
+RUST_CALLS_HEAD = """//! A call of each export, for the tests. Written by tools/exports/declarations.py.
+
+use crate::records::*;
+use crate::{ffi, Error};
+
+// What the calls are asked with.
+pub(crate) struct Asked<'a> {
+    pub(crate) input: &'a [u8],
+    pub(crate) header: Header,
+    pub(crate) part: Range,
+    pub(crate) table: SymbolTable,
+    pub(crate) hash: FoundTable,
+    pub(crate) addresses: AddressIndex,
+    pub(crate) name: &'a [u8],
+    pub(crate) section: u64,
+    pub(crate) index: u64,
+}
+
+// Hands on the name of each call, its answer, and the refusals that it may answer.
+pub(crate) fn every(asked: &Asked<'_>, mut heard: impl FnMut(&str, Result<(), Error>, &[Error])) {
+    let (input, header, part, table) = (asked.input, &asked.header, &asked.part, &asked.table);
+    let (hash, name, ranges) = (&asked.hash, asked.name, &[asked.part]);
+    let (address_index, numbers) = (&asked.addresses, &[asked.index, asked.section]);
+"""
+
+
+# What is handed to a parameter: of numbers but the one named `section` the index, of records but these a part of the input, and
+# of slices but these a name.
+PLACES = {"header": "header", "symbol_table": "table", "hash_table": "hash", "address_index": "address_index"}
+C_SLICES = {"input": "a->bytes, a->size", "ranges": "&a->part, 1", "words": "a->words, a->words_count", "addresses": "a->numbers, 2"}
+RUST_SLICES = {"input": "input", "ranges": "ranges", "words": "&[0, 1]", "addresses": "numbers"}
+
+
+def number_for(parameter):
+    return "section" if parameter.name == "section" else "index"
+
+
+def c_call(function, listed):
+    """A function that makes a call; what it writes goes into the next output."""
+    place, arguments = 0, []
+    for one in function.parameters:
+        written = f"out[{place}].of_{one.type}"
+        arguments.append({
+            VALUE: f"({listed.c_type(one.type)})a->{number_for(one)}",
+            IN: f"&a->{PLACES.get(one.type, 'part')}",
+            SLICE: C_SLICES.get(one.name, "a->name, a->name_size"),
+            OUT: f"&{written}[0]",
+            FILLED: f"{written}, {ROOM}",
+        }[one.kind])
+        place += one.kind in (OUT, FILLED)
+    call = f"{function.export}({', '.join(arguments)})"
+    lines = [f"static uint32_t any_{function.name}(const struct asked *a, union output *out)", "{"]
+    if function.result == "status":
+        return [*lines, *["    (void)out;"] * (place == 0), f"    return {call};", "}"]
+    return [*lines, f"    (void){call};", "    return XMAS_ELF_OK;", "}"]
+
+
+def c_calls_text(listed):
+    written = dict.fromkeys(one.type for function in listed.functions for one in function.parameters if one.kind in (OUT, FILLED))
+    lines = [CALLS_HEAD + "\n".join(f"    {listed.c_type(kind)} of_{kind}[{ROOM}];" for kind in written), "};", ""]
+    rows = []
+    for function in listed.functions:
+        lines += c_call(function, listed)
+        statuses = ["XMAS_ELF_OK", *map(listing.constant, function.statuses)]
+        rows.append(f'    {{"{function.name}", any_{function.name}, {{{", ".join(statuses)}}}, {len(statuses)}}},')
+    longest = 1 + max(len(function.statuses) for function in listed.functions)
+    lines += ["", "static const struct any {", "    const char *name;", "    uint32_t (*call)(const struct asked *, union output *);"]
+    lines += [f"    uint32_t answers[{longest}];", "    size_t answers_count;", "} every[] = {", *rows, "};"]
+    return "\n".join(lines) + "\n"
+
+
+def rust_calls_text(listed):
+    lines = []
+    for function in listed.functions:
+        arguments = ", ".join({
+            VALUE: f"asked.{number_for(one)}" + ("" if one.type == "u64" else f" as {listed.rust_type(one.type)}"),
+            IN: PLACES.get(one.type, "part"),
+            SLICE: RUST_SLICES.get(one.name, "name"),
+            FILLED: f"&mut [{listed.rust_type(one.type)}::default(); {ROOM}]",
+        }[one.kind] for one in function.parameters if one.kind != OUT)
+        call = f"ffi::{function.name}({arguments})"
+        if function.result == "status":
+            lines += [f"    let answer = {call}.map(|_| ());"]
+        else:
+            lines += [f"    {'let _size = ' if function.result == 'size' else ''}{call};", "    let answer = Ok(());"]
+        refusals = ", ".join(f"Error::{name}" for name in function.statuses)
+        lines.append(f'    heard("{function.name}", answer, &[{refusals}]);')
+    return RUST_CALLS_HEAD + "\n".join(lines) + "\n}\n"
+
+
 # The sources.
 
 EXPORT = re.compile(r'#\[unsafe\(no_mangle\)\]\s+pub extern "C" fn (\w+)\s*\(([^)]*)\)\s*(?:-> (\w+))?', re.S)
@@ -222,8 +320,8 @@ def main():
     wanted[RUST / "records.rs"] = "\n".join([RECORDS_HEAD, *(line for it in listed.structs for line in rust_struct(it, listed)), ""])
     wanted |= {statuses.PINNED: "\n".join(statuses.numbered(rows)) + "\n", RUST / "error.rs": "\n".join(statuses.rust_part(rows)) + "\n"}
     wanted |= {RUST / "constants.rs": constants_text(), **python_declarations.texts(wanted[HEADER])}
-    wanted[RUST / "calls.rs"] = calls.rust_text(listed)
-    wanted[ROOT / "bindings/c/calls.h"] = calls.c_text(listed)
+    wanted[RUST / "calls.rs"] = rust_calls_text(listed)
+    wanted[ROOT / "bindings/c/calls.h"] = c_calls_text(listed)
     failed = differing(wanted, is_check)
     if is_check:
         named = {name for one in listed.functions for name in one.statuses + one.item_statuses + one.never}
