@@ -1,14 +1,11 @@
 """Reads bindings/exports.toml: the structs and functions that cross the edge of the static library `elf_c`.
 
-    import listing
-    listed = listing.read()
-    for struct in listed.structs: struct.name, struct.fields[0].name, struct.fields[0].type
-    for function in listed.functions: function.export, function.parameters[0].type, function.statuses
+    for struct in listing.read().structs: struct.name, struct.fields[0].name, struct.fields[0].type
+    for function in listing.read().functions: function.export, function.parameters[0].type, function.statuses
 
-A type is a number (`u8` .. `u64`, `usize`), an array of bytes (`[u8; 7]`) or the name of a struct of the list. A
-parameter's `kind` says how it crosses: VALUE a number; IN a pointer to one value that is read; OUT a pointer to one
-value that is written where the call is OK; SLICE a pointer and a count of values that are read; FILLED a pointer and a
-count of values that are written in part."""
+A type is a number (`u8` .. `u64`, `usize`), an array of bytes (`[u8; 7]`) or the name of a struct of the list. A parameter's
+`kind` says how it crosses: VALUE a number; IN a pointer to one value that is read; OUT a pointer to one value that is written
+where the call is OK; SLICE a pointer and a count of values that are read; FILLED one of values that are written in part."""
 import pathlib
 import re
 import tomllib

@@ -3,9 +3,8 @@
 
     tools/gate/built.py
 
-`rt ci` of some kits leaves a library in out/rlib without the sum of its sources, its stamp, and `rt check` of a crate
-above proves and builds it once more then. This writes the stamps, of libraries that are newer than their sources. Of a
-kit that knows no stamps nothing is written.
+`rt ci` of some kits leaves a library in out/rlib without its stamp, the sum of its sources, and `rt check` of a crate above
+builds it once more then. This writes the stamps of libraries that are newer than their sources; none of a kit that has none.
 """
 import importlib
 import os

@@ -4,10 +4,9 @@ stand in, and the crates above them.
 
     tools/gate/changed.py [COMMIT]        COMMIT: by default where this branch left origin/main, else the last commit
 
-Each line is `bodies CRATE`, `contracts CRATE` or `data CRATE` for a crate that changed, `function CRATE FILE PATH`
-for a function of it, and `above CRATE`, lowest first. A change of bodies alone changes nothing that a proof of
-another function rests on. Any other change of a source, a definition or a lemma counts as one of contracts, and
-what the gate alone reads of a crate (its wrong bodies, the stored run) as one of data.
+Each line is `bodies CRATE`, `contracts CRATE` or `data CRATE` for a crate that changed, `function CRATE FILE PATH` for a function
+of it, and `above CRATE`, lowest first. A change of bodies alone changes nothing that a proof of another function rests on. Any
+other change of a source, a definition or a lemma counts as one of contracts, and of what the gate alone reads as one of data.
 """
 import dataclasses
 import pathlib

@@ -5,14 +5,12 @@
     tools/pages/api.py --check    fails where a page isn't what the sources give, where a public item stands on none, and
                                   where crates/xmas_elf/specs/Types.antt lacks a name; writes nothing
 
-tools/pages/sources.py reads the sources. An item stands on the page of the crate that declares it, under its public
-path there. At the end of elf_base's page stands which calls return which error, as tools/pages/errors.py reads it off
-their docs.
+An item stands on the page of the crate that declares it, under its public path there. At the end of elf_base's page stands which
+calls return which error, as tools/pages/errors.py reads it off their docs.
 
-The clauses of other crates import the types, constants and errors of xmas_elf from Types.antt. A `pub use` passes on
-what a lower crate declares. What xmas_elf itself declares reaches no other crate through one, neither in Types.antt nor
-by way of Prelude.antt: an import there is refused with "has no `Thing` that can be named from here". So such a name
-counts only where Types.antt has an `abbrev pub` of it.
+The clauses of other crates import the types, constants and errors of xmas_elf from Types.antt. A `pub use` passes on what a lower
+crate declares, but nothing that xmas_elf itself declares: an import there is refused with "has no `Thing` that can be named from
+here". So such a name counts only where Types.antt has an `abbrev pub` of it.
 """
 import pathlib
 import re

@@ -1,18 +1,13 @@
 #!/usr/bin/env python3
 """Lists the public functions whose contracts leave something open.
 
-    tools/pages/contracts.py            prints the list
-    tools/pages/contracts.py --check    fails at a line of the list without a reason in docs/contracts.toml, and at a
-                                  reason for a line that isn't there
-
-A line is a kind and a function, as `one-sided elf_linking::view::loaded::bytes_from`. The kinds are:
+    tools/pages/contracts.py            prints the list: a kind and a function, as `no-place elf_linking::view::loaded::bytes_from`
+    tools/pages/contracts.py --check    fails at a line of the list without a reason in docs/contracts.toml, at a reason for a line
+                                        that isn't there, and at a function or clause that the end of that file names in vain
 
     one-sided    the clauses speak of a result that is Ok or Some, and of no other
     no-place     a slice of the input is returned, and no clause says where it lies
     no-wrong     a caller has no wrong body
-
-At the end docs/contracts.toml has the clauses that rule out no wrong body by themselves; --check fails where no such
-function or clause is there.
 """
 import fnmatch
 import pathlib

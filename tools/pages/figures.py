@@ -3,13 +3,12 @@
 
     tools/pages/figures.py
 
-A figure names its commit, its command and its machine in one form, in one line:
+A figure names its commit, its command and its machine in one line, behind which more may stand:
 
     Measured at COMMIT by `COMMAND` on MACHINE.
 
-behind which more may stand, after a full stop, a colon, a semicolon or an opening bracket. What a command measures
-is in PATHS, by its first word. A figure whose sources have changed, whose commit isn't in this history, or whose
-line has another form is a warning: the script fails at none of them.
+What a command measures is in PATHS, by its first word. A figure whose sources have changed, whose commit isn't in this history,
+or whose line has another form is a warning: the script fails at none of them.
 """
 import pathlib
 import re

@@ -5,9 +5,8 @@
     tools/pages/layers.py            writes the picture
     tools/pages/layers.py --check    fails where the page has another; writes nothing
 
-The picture is a Mermaid flowchart, with a line for each crate that uses others of the repository. A comment of
-crates.txt begins a group; the crates of tests are left out. Above the archive for C stand the languages that call
-it, by the folders of bindings/.
+The picture is a Mermaid flowchart, with a line for each crate that uses others of the repository. A comment of crates.txt begins a
+group; the crates of tests are left out. Above the archive stand the languages that call it, by the folders of bindings/.
 """
 import pathlib
 import re

@@ -2,10 +2,9 @@
 """Wants each code block of the pages to stand in a file of the repository that the gate proves, and each
 link to lead somewhere.
 
-A block is told by its language, `rust` or `antt`. Its paragraphs must all stand in one source file of
-crates/, but for how their lines are broken. Of a paragraph of imports, `ghost use PATH.{NAME, NAME}`, the
-file must import each name by that path: a page shows the imports that its example needs, and the file has
-those of its other functions too. The pages of docs/api have a script of their own for their blocks.
+A block is told by its language, `rust` or `antt`. Its paragraphs must all stand in one source file of crates/, but for how their
+lines are broken. Of a paragraph of imports, `ghost use PATH.{NAME, NAME}`, the file must import each name by that path, and may
+import more. The pages of docs/api have a script of their own for their blocks.
 
 A link may name a heading of its page or of another, or a line of a file, as `specs/Text.antt#L12`. A path to a caller
 that a page names, as `callers::first::data_named`, must lead to one; without a crate before it, it is one of

@@ -3,11 +3,9 @@
 
     tools/pages/words.py
 
-The words are those of WORDS. A page says instead that a call returns a value or an error, that the prover rejects a
-body, or that code follows a chain. Code blocks, text in backquotes, link targets, comments and the generated parts of
-pages are not counted, since a word may be a name there.
-
-The comments of each crate count too, those above definitions and items, and those of the exports, which the header has.
+The words are those of WORDS. A page says instead that a call returns a value or an error, that the prover rejects a body, or that
+code follows a chain. Code blocks, text in backquotes, link targets, comments and the generated parts of pages are not counted,
+since a word may be a name there. The comments of each crate count too, and those of the exports, which the header has.
 """
 import pathlib
 import re
