@@ -80,19 +80,16 @@ ORACLES = {
 }
 
 
-def machine() -> str:
-    """The system and the processor's family, as pages name them."""
-    names = platform.freedesktop_os_release()
-    return f"{names['NAME'].split()[0]} {names.get('VERSION_ID', '')} ({platform.machine().replace('_', '-')})"
-
-
 def write(counts: dict):
     """Puts the lines of comparisons into the page in place of those that it has of them."""
     text = PAGE.read_text(encoding="utf-8")
     commit = subprocess.run(["git", "rev-parse", "--short", "HEAD"], cwd=ROOT, capture_output=True, text=True, check=True).stdout.strip()
     lines = dict(re.findall(r"^- `(\w+)`: (.*)$", ROOM.search(text)[0], re.M))
+    # The system and the processor's family, as pages name them.
+    system = platform.freedesktop_os_release()
+    machine = f"{system['NAME'].split()[0]} {system.get('VERSION_ID', '')} ({platform.machine().replace('_', '-')})"
     for name, (said, words) in counts.items():
-        lines[name] = f"{said}. Measured at {commit} by `{' '.join(words)}` on {machine()}."
+        lines[name] = f"{said}. Measured at {commit} by `{' '.join(words)}` on {machine}."
     held = "".join(f"- `{name}`: {lines[name]}\n" for name in ORACLES if name in lines)
     PAGE.write_text(ROOM.sub(lambda _: held, text, count=1), encoding="utf-8")
 

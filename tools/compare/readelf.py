@@ -78,11 +78,6 @@ def wanted_section(it: dict) -> str:
     return f"{it['Index']} {kind} ! {reason}" if reason else f"{it['Index']} {kind} = {name}"
 
 
-def wanted_segment(index: int, it: dict) -> str:
-    """The front of the line of a segment, up to its type."""
-    return f"{index} {kind_of(raw(it['Type']), SEGMENTS, 0x80000000, 'Invalid type')} "
-
-
 def compare_list(path: str, what: str, says: list[str], wanted: list[str], tally: Tally) -> None:
     """Compares the lines of sections or of segments."""
     if len(says) != len(wanted):
@@ -114,7 +109,9 @@ def compare(path: str, elfinfo: str, tally: Tally) -> None:
         tally.differ(path, label, says.get(label, "nothing"), wanted[label])
     lines = {
         "sections": (sections, [wanted_section(it) for it in parts(reads, "Sections", "Section") if it["Index"]]),
-        "segments": (segments, [wanted_segment(*it) for it in enumerate(parts(reads, "ProgramHeaders", "ProgramHeader"))])}
+        # The front of the line of a segment, up to its type.
+        "segments": (segments, [f"{index} {kind_of(raw(it['Type']), SEGMENTS, 0x80000000, 'Invalid type')} "
+                                for index, it in enumerate(parts(reads, "ProgramHeaders", "ProgramHeader"))])}
     for (what, (text, wanted)), name in zip(lines.items(), ("Sections", "ProgramHeaders")):
         if name in reads:
             compare_list(path, what, [it for it in text.split("\n") if it], wanted, tally)

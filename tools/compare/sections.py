@@ -34,25 +34,17 @@ NOTES, RELR, GNU_HASH = 7, 19, 0x6FFFFFF6
 Note = collections.namedtuple("Note", "kind name size")
 
 
-def read_note(said: dict) -> Note:
-    """A note of llvm-readelf's; without its name where GNU's build attributes have bytes in it."""
-    unknown, owner = UNKNOWN_TYPE.match(said["Type"]), said["Owner"]
-    number = int(unknown[1], 16) if unknown else TYPES.get(said["Type"].split(" ")[0])
-    return Note(number, None if owner.startswith("GA") else owner.partition("\0")[0], said["Data size"])
-
-
 def read_notes(path: str) -> list[tuple[str, list[Note]]]:
-    """The notes that llvm-readelf lists, by section."""
+    """The notes that llvm-readelf lists, by section; without names where GNU's build attributes have bytes in them."""
     found = []
     for section in parts(llvm(path, "-n"), "Notes", "NoteSection"):
-        notes = section.get("Note", [])
-        found.append((section["Name"], [read_note(it) for it in (notes if isinstance(notes, list) else [notes])]))
+        notes, read = section.get("Note", []), []
+        for it in notes if isinstance(notes, list) else [notes]:
+            unknown, owner = UNKNOWN_TYPE.match(it["Type"]), it["Owner"]
+            number = int(unknown[1], 16) if unknown else TYPES.get(it["Type"].split(" ")[0])
+            read.append(Note(number, None if owner.startswith("GA") else owner.partition("\0")[0], it["Data size"]))
+        found.append((section["Name"], read))
     return found
-
-
-def same_note(says: Note, reads: Note) -> bool:
-    """Whether both show the same note, as far as it can be compared."""
-    return says._replace(name=None) == reads._replace(name=None) and (reads.name is None or says.name == reads.name)
 
 
 def compare_notes(file, path: str, tally: Tally) -> None:
@@ -65,7 +57,8 @@ def compare_notes(file, path: str, tally: Tally) -> None:
     for (name, one), (_, other) in zip(says, reads):
         tally["sections of notes"] += 1
         tally["notes"] += len(one)
-        if len(one) != len(other) or not all(map(same_note, one, other)):
+        known = [ours if theirs.name is not None else ours._replace(name=None) for ours, theirs in zip(one, other)]
+        if len(one) != len(other) or known != other:
             tally.differ(path, name, one, other)
 
 

@@ -105,14 +105,6 @@ def compare_maps(said: list, path: str, tally: Tally) -> None:
             tally.differ(path, f"page {page:x}", own.get(page), found.get(page))
 
 
-def compare_plan(ours: str, path: str, tally: Tally) -> None:
-    said = [line.split() for line in tally.output(path, ours, "plan", path).splitlines()]
-    compare_relocations(said, path, tally)
-    # A program that waits for the seconds of its argument can be looked at while it runs.
-    if os.path.basename(path) == "sleep":
-        compare_maps(said, path, tally)
-
-
 def compare_bind(ours: str, path: str, tally: Tally) -> None:
     program = None if ".so" in os.path.basename(path) else read_program(path)
     if not program:
@@ -135,7 +127,11 @@ def main() -> int:
         tally["files"] += 1
         compare_sizes(given.elftools, path, tally)
         compare_trace(given.elftools, path, tally)
-        compare_plan(given.elftools, path, tally)
+        said = [line.split() for line in tally.output(path, given.elftools, "plan", path).splitlines()]
+        compare_relocations(said, path, tally)
+        # A program that waits for the seconds of its argument can be looked at while it runs.
+        if os.path.basename(path) == "sleep":
+            compare_maps(said, path, tally)
         if not path.startswith(str(ROOT)):
             compare_bind(given.elftools, path, tally)
     return tally.ended()

@@ -12,7 +12,6 @@ the errors that they name. A definition may name an error that the export never 
 list has these under `never`. So no status that a contract allows is missing in the list."""
 import functools
 import re
-import sys
 
 from listing import ROOT, constant
 from pages import errors
@@ -57,14 +56,6 @@ def statuses():
 def numbered(rows):
     """The lines of bindings/statuses.txt: a number and a name each."""
     return [f"{number} {constant(name)}" for number, name in [(0, "Ok"), *((number, name) for name, number, _ in rows)]]
-
-
-def check_numbers_kept(rows):
-    """Fails where a line of bindings/statuses.txt is no longer true."""
-    pinned = PINNED.read_text().splitlines() if PINNED.exists() else []
-    for line in pinned:
-        if line not in numbered(rows):
-            sys.exit(f"{PINNED}: {line}: a number never changes, and here it has another name")
 
 
 def longest(rows):

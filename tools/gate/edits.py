@@ -13,7 +13,7 @@ import sys
 
 sys.path.insert(0, str(pathlib.Path(__file__).resolve().parents[1]))
 from gate import built
-from pages.sources import Crate, Function
+from pages.sources import Crate, Function, Source
 
 # The edits of one batch share what a check costs before the first goal. With more the check takes too long (LIMIT).
 BATCH = 60
@@ -152,29 +152,24 @@ class EditedCrate(Crate):
     def tried(self, edits, whole=False):
         """The crate with these edits made, among stand-ins or the whole crate: one alone in its place, of several each
         beside the right function where it can."""
-        beside = collections.defaultdict(list)
-        for number, edit in enumerate(edits if len(edits) > 1 else []):
-            if edit.beside():
-                beside[edit.beside()].append((edit, self.renamed(edit, number)))
-        apart = {edit.label() for some in beside.values() for edit, _ in some}
+        numbered = enumerate(edits if len(edits) > 1 else [])
+        apart = {edit.label(): (edit.beside(), *self.renamed(edit, number)) for number, edit in numbered if edit.beside()}
         placed = [it for it in edits if it.label() not in apart]
         in_place = {one for it in placed for one in it.functions if one}
         over = self.texts if whole else self.with_stand_ins(in_place)
         texts = self.changed(placed, over)
-        now, of = {it: it for it in self.functions}, {}
-        for file in {it.file for it in beside}:
-            lines, shift = texts.get(file, over[file]).split("\n"), 0
-            for one in (it for it in self.functions if it.file == file):
-                now[one] = one.moved(shift)
-                for edit, (name, copy) in beside[one]:
-                    at = one.last + shift
-                    lines[at:at] = copy
-                    of[edit.label()] = [Function(file, at + 1, at + len(copy), one.path.removesuffix(one.name()) + name, body=at + 1, owner=one.owner)]
-                    shift += len(copy)
-            texts[file] = "\n".join(lines)
-        copies = {of[it.label()][0]: it.beside() for it in edits if it.label() in apart}
-        of |= {it.label(): [one and now[one] for one in it.functions] for it in edits if it.label() not in apart}
-        return Tried(self, texts, [*now.values(), *copies], of, copies, set() if whole else in_place)
+        # From the end on, so that the lines above stay at their places.
+        for one, _, copy in sorted(reversed(apart.values()), key=lambda it: -it[0].last):
+            lines = texts.get(one.file, over[one.file]).split("\n")
+            texts[one.file] = "\n".join([*lines[: one.last], *copy, *lines[one.last :]])
+        now = {(it.file, it.path): it for it in self.functions}
+        for file, text in texts.items():
+            now |= {(file, it.path): it for it in Source(self.folder, self.folder / file, text).functions}
+        there = lambda one, name: now[one.file, one.path.removesuffix(one.name()) + name]
+        of = {label: [there(one, name)] for label, (one, name, _) in apart.items()}
+        of |= {it.label(): [one and there(one, one.name()) for one in it.functions] for it in placed}
+        copies = {there(one, name): one for one, name, _ in apart.values()}
+        return Tried(self, texts, [*now.values()], of, copies, set() if whole else in_place)
 
 
 @dataclasses.dataclass
@@ -335,13 +330,6 @@ class Room:
         """The path of a function below its crate, which is that of the folder of its proof."""
         return self.crate.told_path(one).split("::")[1:]
 
-    def give_proof(self, one: Function):
-        """Puts the proof of a function, if it has one, in the place of its stand-in's."""
-        proofs = self.folder / "proofs"
-        shutil.rmtree(proofs.joinpath(*self.path_of(one)))
-        for parts in self.crate.proofs_of(one):
-            shutil.copytree(self.crate.folder.joinpath("proofs", *parts), proofs.joinpath(*parts))
-
     def whole(self):
         """Another room, with the crate as it stands."""
         place = self.folder.parent.parent / "whole"
@@ -353,15 +341,19 @@ class Room:
         return self.kept is not None and self.kept.is_dir()
 
     def make(self, tried: Tried):
-        """Makes edits in the crate as it was before any, over what a check of it kept; and the proofs of functions beside others."""
+        """Makes edits in the crate as it was before any, over what a check of it kept, with the proofs of the functions that are
+        edited in place of their stand-ins, and of those beside others."""
         shutil.rmtree(self.folder)
         shutil.copytree(self.clean, self.folder)
         if self.keeps():
             shutil.copytree(self.kept, self.folder / "out" / "incremental", copy_function=copied)
         for file, text in tried.texts.items():
             written(self.folder / file, text)
+        proofs = self.folder / "proofs"
         for one in filter(self.crate.stands_in, tried.in_place):
-            self.give_proof(one)
+            shutil.rmtree(proofs.joinpath(*self.path_of(one)))
+            for parts in self.crate.proofs_of(one):
+                shutil.copytree(self.crate.folder.joinpath("proofs", *parts), proofs.joinpath(*parts))
         for copy, one in tried.copies.items():
             self.copy_proofs(one, copy.name())
 

@@ -104,7 +104,8 @@ class CratePage:
             if not block.trait:
                 self.block(block, label)
                 continue
-            given = block.source.given_by(block.trait)
+            # The traits that the file implements for all types of a trait of its own.
+            given = re.findall(rf"^impl<\w: {block.trait}> (\w+) for \w ", block.source.text, re.M)
             traits += given or [block.trait.split("::")[-1]]
             shown += [] if given else [self.members(block)]
         said = sorted({*traits} - {"Drop", ""})

@@ -137,7 +137,7 @@ class Reader:
         """The types that implement all of the bounds that this repository declares, as `Entry + Record`."""
         sets = []
         for trait in re.findall(r"\w+", bounds):
-            blocks = [it for source in self.sources.values() for it in source.impls() if it.trait == trait]
+            blocks = [it for source in self.sources.values() for it in source.blocks if it.trait == trait]
             through = [re.match(rf"impl<{it.type}: (\w+)>", it.source.lines[it.at]) for it in blocks]
             found = {it.type for it in blocks if len(it.type) > 1}
             sets += [set.union(found, *(self.implementors(it[1]) for it in through if it))] if blocks else []

@@ -56,10 +56,6 @@ class Function:
     def name(self) -> str:
         return self.path.rpartition("::")[2]
 
-    def moved(self, lines: int):
-        """The function so many lines further down."""
-        return dataclasses.replace(self, first=self.first + lines, last=self.last + lines, body=self.body + lines)
-
 
 def label_of(found: re.Match) -> tuple:
     """The name of a block in the path of a function, and the type of an impl of no trait."""
@@ -77,14 +73,15 @@ def label_of(found: re.Match) -> tuple:
 class Source:
     """A source file of a crate: its items, blocks and functions, and what its `use` items bring."""
 
-    def __init__(self, folder: pathlib.Path, path: pathlib.Path):
+    def __init__(self, folder: pathlib.Path, path: pathlib.Path, text=None):
         self.crate, self.path, self.file = folder.name, path, str(path.relative_to(folder))
-        self.text = path.read_text(encoding="utf-8")
+        self.text = path.read_text(encoding="utf-8") if text is None else text
         self.lines = self.text.split("\n")
         module = path.relative_to(folder / "src").with_suffix("")
         self.module = "" if module.name in ("lib", "main") and len(module.parts) == 1 else "::".join(module.parts)
         self.path_of = "::".join(it for it in (self.crate, self.module) if it)
-        self.items = {it.name: it for it in self.items_at_margin()}
+        found = [(at, it) for at, line in enumerate(self.lines) if (it := ITEM.match(line))]
+        self.items = {it[2]: Item(it[1].split()[-1], it[2], self.doc_above(at), self.text_from(at, ""), self, at) for at, it in found}
         self.uses = list(self.read_uses())
         self.blocks = list(self.read_blocks())
         self.functions = list(self.read_functions())
@@ -117,11 +114,6 @@ class Source:
                 break
         return "\n".join(taken)
 
-    def items_at_margin(self):
-        for at, line in enumerate(self.lines):
-            if found := ITEM.match(line):
-                yield Item(found[1].split()[-1], found[2], self.doc_above(at), self.text_from(at, ""), self, at)
-
     def read_uses(self):
         """Each name that a `use` item brings: whether it is public, the path, and the name there."""
         for public, whole in USE.findall(self.text):
@@ -135,9 +127,6 @@ class Source:
             if re.match(r"(pub(\(\w+\))? )?(impl|trait)\b", line) and (found := BLOCK.match(" ".join(self.lines[at : at + 7]).split("{")[0] + "{")):
                 end = at if line.endswith("}") else self.lines.index("}", at)
                 yield Block(found[3] or "", found[5], self, at, end, found[1] == "trait", *label_of(found))
-
-    def impls(self) -> list:
-        return [it for it in self.blocks if not it.is_trait]
 
     def block_at(self, at: int):
         return next((it for it in self.blocks if it.at <= at <= it.end), None)
@@ -168,10 +157,6 @@ class Source:
                 of = block and (block.trait if block.trait and len(block.type) == 1 else block.type) or ""
                 yield Function(self.file, first or at, last, path, at, body, block.owner if block else "", in_trait, of)
             first = None
-
-    def given_by(self, trait: str) -> list:
-        """The traits that this file implements for all types of a trait of its own."""
-        return re.findall(rf"^impl<\w: {trait}> (\w+) for \w ", self.text, re.M)
 
 
 def spread(path: str) -> list:
@@ -229,8 +214,9 @@ def public_items(sources: dict, crate: str):
 def impls_of(sources: dict, item: Item):
     """The impl blocks of a type, in the order of the files of its crate."""
     for (crate, _), source in sources.items():
-        for block in source.impls():
-            if crate == item.source.crate and block.type == item.name and meant(sources, source, block.type) is item:
+        for block in source.blocks:
+            is_of = crate == item.source.crate and not block.is_trait and block.type == item.name
+            if is_of and meant(sources, source, block.type) is item:
                 yield block
 
 
