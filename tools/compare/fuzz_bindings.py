@@ -16,7 +16,7 @@ import sys
 import tempfile
 from collections import namedtuple
 from pathlib import Path
-from typing import Callable, Iterable
+from typing import Callable, Iterable, NamedTuple
 
 from bindings import BINDINGS, Program, read_elfbind, read_linker
 from comparing import INDIRECT, ROOT, THREAD, UNIQUE, Tally, parser_of, run
@@ -126,10 +126,6 @@ class Object:
         numbers = [self.number(place, "H") & 0x7FFF for place in places]
         return len(set(numbers)) == len(numbers) and min(numbers, default=2) >= 2 and max(used, default=0) <= max(known, default=1)
 
-    def versions(self) -> list[str]:
-        """The names of the versions that are defined."""
-        return [self.text(self.number(aux)) for _, aux in self.definitions()]
-
 
 def change_of_symbol(held: Object, chance: random.Random, kinds: list[int]) -> Change:
     """A change of a symbol."""
@@ -206,11 +202,13 @@ def told(changes: list[Change]) -> str:
     return ", ".join(f"{it.what} {it.number:#x}" for it in changes)
 
 
-class Comparison:
+class Comparison(NamedTuple):
     """The programs of a run, the folder of the copies, and the counts."""
 
-    def __init__(self, elfbind: str, elfsym: str, room: str, tally: Tally) -> None:
-        self.elfbind, self.elfsym, self.room, self.tally = elfbind, elfsym, room, tally
+    elfbind: str
+    elfsym: str
+    room: str
+    tally: Tally
 
     def bindings(self, files: dict[str, bytes], file: str, changes: list[Change]) -> None:
         """Compares the bindings of a program one of whose files was changed."""
@@ -243,7 +241,8 @@ class Comparison:
         copy.write_bytes(content)
         held = Object(content)
         names = sorted({held.symbol(i)[0] for i in range(1, held.count)} - {""})
-        versions = sorted(set(Object(path.read_bytes()).versions()) | set(held.versions()) | {"ABSENT"})
+        defined = {of.text(of.number(aux)) for of in (held, Object(path.read_bytes())) for _, aux in of.definitions()}
+        versions = sorted(defined | {"ABSENT"})
         queries = [(name, version) for name in names for version in (None, *versions)]
         loaded = asked(str(copy), queries, 10, LD_LIBRARY_PATH=self.room)
         if loaded is None:

@@ -5,15 +5,14 @@
 
 Drops files on the page and compares what it shows with readelf; opens damaged and foreign files, an empty one and one that
 doesn't fit; filters and scrolls a long table; stops work; and goes through the page by the keyboard. FOLDER is a built one,
-bindings/web/out/site where none is given. Where Debian's selenium or its driver isn't installed it says so, and the
-status is 0.
+bindings/web/out/site where none is given. It needs Debian's selenium and its driver.
 """
 import argparse
 import functools
 import http.server
+import itertools
 import pathlib
 import re
-import shutil
 import subprocess
 import sys
 import tempfile
@@ -23,13 +22,9 @@ import time
 sys.path.insert(1, str(pathlib.Path(__file__).resolve().parents[1]))
 import files
 import readelf
+from chromium import By, Chromium
 from compare import comparing, damage
 from readelf import PANEL, compare_file, compare_segments, compare_tables, symbol_form
-
-try:
-    from chromium import By, Chromium
-except ImportError as missing:
-    Chromium, WHY = None, missing
 
 TOP = pathlib.Path(__file__).resolve().parents[2]
 MOST_ROWS = 800
@@ -224,13 +219,6 @@ CHECKS = TERMS % """Array.from(document.querySelectorAll(".card")).find((it) =>
   it.querySelector("h3")?.textContent === "What the checks say").querySelectorAll("dt")"""
 
 
-def said_of(test, tab, label):
-    """The texts of a column of a table, by row; none where the table hasn't the column."""
-    test.tab(tab)
-    labels, (_, rows) = test.page.texts(f"{PANEL} [role=columnheader]"), test.rows()
-    return {index: row[labels.index(label)] for index, row in rows.items()} if label in labels else {}
-
-
 def try_hardening(test):
     """What the overview says of how a file is hardened, for programs linked in several ways and shared objects."""
     programs = list(files.hardened(test.room))
@@ -283,21 +271,26 @@ def try_examples(test):
     with each section and each segment, and with the hash table."""
     size, kind, end = "header_size does not match size of header", "Invalid sh type", "entry point out of range"
     align, outside = "Invalid combination of virtual_addr, offset, and align", "Data is out of range"
-    rows = lambda count, said, faults: {**dict.fromkeys(range(count), said), **faults}
+    cells = lambda count, said, faults: {**dict.fromkeys(range(count), said), **faults}
     good = ["Header: passes", "Sections: passes", "Segments: passes", "Hash table .hash: passes its check"]
     bad = [f"Header: {size}", f"Sections: {kind} at section 15", f"Segments: {end} at segment 5, and 1 more",
            "Hash table .hash: Chain index is out of range"]
-    wanted = {"example.elf": [good, rows(19, "passes", {}), {}, rows(8, "passes", {}), {}],
-              "example-with-faults.elf": [bad, rows(19, "passes", {15: kind}), rows(19, "", {11: outside, 15: kind}),
-                                          rows(8, "passes", {5: end, 7: align}), rows(8, "", {5: outside})]}
+    wanted = {"example.elf": [good, cells(19, "passes", {}), {}, cells(8, "passes", {}), {}],
+              "example-with-faults.elf": [bad, cells(19, "passes", {15: kind}), cells(19, "", {11: outside, 15: kind}),
+                                          cells(8, "passes", {5: end, 7: align}), cells(8, "", {5: outside})]}
     for name, said in wanted.items():
         test.page.run("document.querySelector('.brand')?.click(), document.body.dataset.state = 'waiting'")
         test.page.click(f"[data-example='{name}']")
         test.page.wait("document.body.dataset.state === 'ready' && !document.querySelector('.overview .pending')")
         test.tab("Overview")
         test.same(f"{name}: errors in the overview", test.page.text(".overview .refusal") is not None, name != "example.elf")
-        columns = [said_of(test, tab, label) for tab in ("Sections", "Segments") for label in ("Check", "Data")]
-        test.same(f"{name}: checks, and those of sections and segments with their data", [test.page.run(CHECKS), *columns], said)
+        shown = [test.page.run(CHECKS)]
+        for tab in ("Sections", "Segments"):
+            test.tab(tab)
+            labels, (_, rows) = test.page.texts(f"{PANEL} [role=columnheader]"), test.rows()
+            # A table without faults hasn't all columns.
+            shown += [{index: row[labels.index(it)] for index, row in rows.items()} if it in labels else {} for it in ("Check", "Data")]
+        test.same(f"{name}: checks, and those of sections and segments with their data", shown, said)
         printed = subprocess.run(["readelf", "--all", "--wide", test.site / name], capture_output=True).stderr
         test.same(f"{name}: errors by readelf", bool(printed), name != "example.elf")
 
@@ -408,18 +401,6 @@ def try_stop(test):
     test.same("stopped", "was stopped" in test.page.text("#message"), True)
 
 
-def stops_of(page):
-    """What Tab leads to from the first stop on, until it leaves the page."""
-    stops = []
-    for _ in range(80):
-        page.keys("TAB")
-        stop = page.run(STOP)
-        if stop["isBody"]:
-            break
-        stops.append(stop)
-    return stops
-
-
 def unnamed(page):
     """What a screen reader meets without a name."""
     nodes = [it for it in page.send("Accessibility.getFullAXTree")["nodes"] if not it["ignored"]]
@@ -442,7 +423,9 @@ def try_keyboard(test):
     page = test.page
     test.open(TOP / "crates/elfnm/data/add.o", tab="Overview")
     page.run("document.activeElement?.blur(), window.getSelection()?.removeAllRanges(), document.querySelector('.skip').focus()")
-    stops = stops_of(page)
+    # What Tab leads to from the first stop on, until it leaves the page.
+    pressed = (page.keys("TAB") or page.run(STOP) for _ in range(80))
+    stops = [*itertools.takewhile(lambda it: not it["isBody"], pressed)]
     test.same("each stop of the keyboard has a name", [it for it in stops if not it["name"]], [])
     test.same("each stop of the keyboard is seen", [it for it in stops if not it["isSeen"]], [])
     order = ["Open a file", "Overview", "Bytes", "Go to", "Number in base 16", "Go", "Bytes", "Fields of the record"]
@@ -612,24 +595,17 @@ def try_old_browser(test):
     test.page.wait("document.body?.dataset.state === 'ready'")
 
 
-def serve(site):
-    handler = functools.partial(http.server.SimpleHTTPRequestHandler, directory=str(site))
-    handler.func.log_message = lambda *_: None
-    server = http.server.ThreadingHTTPServer(("127.0.0.1", 0), handler)
-    threading.Thread(target=server.serve_forever, daemon=True).start()
-    return server.server_address[1]
-
-
 def main():
     parser = argparse.ArgumentParser()
     parser.add_argument("--site", type=pathlib.Path, default=TOP / "bindings/web/out/site")
     parser.add_argument("--files", type=int, default=50)
     parser.add_argument("--only", default="")
     options = parser.parse_args()
-    if not Chromium or not shutil.which("chromedriver"):
-        print(f"web: the page is not tested: {WHY if not Chromium else 'chromedriver is not installed'}")
-        return 0
-    with tempfile.TemporaryDirectory() as room, Chromium(f"http://127.0.0.1:{serve(options.site)}/", *SIZE) as page:
+    http.server.SimpleHTTPRequestHandler.log_message = lambda *_: None
+    handler = functools.partial(http.server.SimpleHTTPRequestHandler, directory=str(options.site))
+    server = http.server.ThreadingHTTPServer(("127.0.0.1", 0), handler)
+    threading.Thread(target=server.serve_forever, daemon=True).start()
+    with tempfile.TemporaryDirectory() as room, Chromium(f"http://127.0.0.1:{server.server_port}/", *SIZE) as page:
         test = Test(page, options.site, options.files, pathlib.Path(room))
         page.wait("document.body?.dataset.state === 'ready'")
         for name, it in list(globals().items()):
