@@ -109,7 +109,6 @@ def escaped(name: str) -> str:
 
 
 def compare_dladdr(elfaddr: str, program: str, path: str, count: int, tally: Tally) -> None:
-    """One library beside dladdr."""
     try:
         image = Image(path)
     except ValueError:
@@ -207,7 +206,6 @@ WRONG = ("found", "further in", "elfaddr uncovered")
 
 
 def compare_others(elfaddr: str, path: str, count: int, tables: dict[str, collections.Counter], tally: Tally) -> None:
-    """One file beside the other tools."""
     image = Image(path)
     symbols = image.symbols(False) or image.symbols(True)
     # Addresses in code and data that the file has: tools don't agree on what isn't there.

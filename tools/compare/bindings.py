@@ -88,14 +88,12 @@ def bound_in(program: Program, rows) -> dict[Key, set[str]]:
 
 
 def read_elfbind(program: Program, said: Finished) -> Bindings:
-    """Takes what elfbind prints apart."""
     lines = LINE.findall(said.output)
     bound = bound_in(program, ((file, to, *reference.partition("@")[::2]) for file, reference, to in lines if to))
     return Bindings(bound, sum(not to for _, _, to in lines), said.status != 0)
 
 
 def read_linker(program: Program, said: Finished) -> Bindings:
-    """Takes what the linker prints apart."""
     text = said.errors + said.output
     return Bindings(bound_in(program, BOUND.findall(text)), 0, "undefined symbol" in text or "symbol lookup error" in text)
 

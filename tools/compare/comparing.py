@@ -130,7 +130,6 @@ Symbol = namedtuple("Symbol", "name version is_shown value size kind binding sec
 
 
 def symbol_of(said: dict, name: str, version: str = "", is_shown: bool = True) -> Symbol:
-    """A symbol that llvm-readelf lists, by its name and version."""
     return Symbol(name, version, is_shown, said["Value"], said["Size"], *(raw(said[field]) for field in ("Type", "Binding", "Section")))
 
 
@@ -172,7 +171,6 @@ RelocationTable = namedtuple("RelocationTable", "section has_addends rows packed
 
 
 def relocation_of(row: "re.Match", has_addends: bool) -> Relocation:
-    """The relocation of a line of readelf."""
     digits, addend, text = len(row[1]), None, ""
     # An addend stands last, after a sign where there is a symbol, and else as a number of the width of an address.
     if has_addends and (shown := re.search(r"(?:([+-]) |\s)(-?[0-9a-f]+)$", row[4])):

@@ -61,7 +61,6 @@ def verdict(symbol, loaded: str) -> str:
 
 
 def compare(path: str) -> Tally:
-    """Compares the answers about one library."""
     from xmas_elf import ElfError, ElfFile
 
     (queries, several), tally = queries_of(path), Tally()

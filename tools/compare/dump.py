@@ -117,7 +117,6 @@ def differing(tally, path, printed, wanted):
 
 
 def compare(programs, find, dynamic, path):
-    """Compares what the programs print of a file."""
     tally, wanted, data = Tally("dump"), Wanted(path), read_elf(path)
     if wanted.is_bare or not wanted.sections:
         return tally

@@ -52,7 +52,6 @@ def wanted_of(symbols: list[Symbol], version: str) -> set[tuple[int, int]]:
 
 
 def compare_line(path: str, reference: str, line: str, reads: Listing, tally: Tally) -> None:
-    """Compares the line of one name, or of one with a version."""
     name, _, version = reference.partition("@")
     symbols = reads.symbols.get(name, [])
     wanted = wanted_of(symbols, version)

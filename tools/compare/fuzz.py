@@ -51,33 +51,24 @@ def run(program, paths, room):
         return started.returncode, output.read(), used.ru_utime + used.ru_stime
 
 
-def hash_file(names, words):
-    """Class 64: symbols of these names, and a hash table of these words."""
-    layout = damage.Layout(True, "little")
-    held, places = damage.texts(names)
+def hash_file(count, buckets, last=0, words=()) -> bytes:
+    """Class 64: so many symbols, and so many buckets that all lead to one chain of all symbols upwards, which ends in a number;
+    or a hash table of these words."""
+    layout, chain = damage.Layout(True, "little"), [0, *range(2, count + 1), last]
+    held, places = damage.texts(b"n%05d" % k for k in range(count))
     symbols = bytes(24) + b"".join(layout.symbol(place, 0x12, 1, 1) for place in places)
-    return damage.elf_file([(b".dynstr", 3, held, 0, 0), (b".dynsym", 11, symbols, 1, 24), (b".hash", 5, layout.words(*words), 2, 4)])
-
-
-def names(count) -> list:
-    return [b"n%05d" % k for k in range(count)]
-
-
-def shared_chain(count) -> bytes:
-    """A file whose buckets all lead to one chain of all names, upwards."""
-    return hash_file(names(count), [count, count + 1, *[1] * count, 0, *range(2, count + 1), 0])
+    table = layout.words(*(words or [buckets, count + 1, *[1] * buckets, *chain]))
+    return damage.elf_file([(b".dynstr", 3, held, 0, 0), (b".dynsym", 11, symbols, 1, 24), (b".hash", 5, table, 2, 4)])
 
 
 def long_files():
     """Files a little below 1 MB whose work is as much as their bytes allow, each with its name."""
     count = 20_000
-    good = damage.hash_words(names(count), count // 2)
-    yield "a good hash table of 20,000 names", hash_file(names(count), good)
-    one = [1, count + 1, 1, 0, *range(2, count + 1), 0]
-    yield f"20,000 names on the chain of one bucket{SLOW}", hash_file(names(count), one)
-    yield f"20,000 buckets that share one chain of 20,000 names{SLOW}", shared_chain(count)
-    looped = [count, count + 1, *[1] * count, 0, *range(2, count + 1), 1]
-    yield f"20,000 buckets that share one looped chain{SLOW}", hash_file(names(count), looped)
+    good = damage.hash_words([b"n%05d" % k for k in range(count)], count // 2)
+    yield "a good hash table of 20,000 names", hash_file(count, 0, words=good)
+    yield f"20,000 names on the chain of one bucket{SLOW}", hash_file(count, 1)
+    yield f"20,000 buckets that share one chain of 20,000 names{SLOW}", hash_file(count, count)
+    yield f"20,000 buckets that share one looped chain{SLOW}", hash_file(count, count, last=1)
     layout, data = damage.Layout(True, "little"), bytearray(damage.worked(True, "little"))
     start, old = len(data), layout.get(data, 0, layout.header["shoff"])
     data += data[old : old + 64 * 22] + bytes(64 * (15_000 - 22))
@@ -151,7 +142,7 @@ def main() -> int:
         for name, data in long_files():
             fuzzing.files_at_once([(name, data)])
         # A check that walks along the chain for each name would take minutes.
-        pathlib.Path(room, "shared").write_bytes(shared_chain(200_000))
+        pathlib.Path(room, "shared").write_bytes(hash_file(200_000, 200_000))
         fuzzing.check("elfinfo", ["200,000 buckets that share one chain of 200,000 names"], [f"{room}/shared"])
         for some in (range(options.count)[at : at + AT_ONCE] for at in range(0, options.count, AT_ONCE)):
             fuzzing.files_at_once([(f"damage.damaged({options.seed}, {k})", damage.damaged(options.seed, k)) for k in some])

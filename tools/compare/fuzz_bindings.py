@@ -128,7 +128,6 @@ class Object:
 
 
 def change_of_symbol(held: Object, chance: random.Random, kinds: list[int]) -> Change:
-    """A change of a symbol."""
     index = chance.randrange(1, held.count)
     name, info, other, _, value = held.symbol(index)
     place = held.symbols + 24 * index
@@ -171,7 +170,6 @@ def change_of_version(held: Object, chance: random.Random) -> Change:
 
 
 def change_of(held: Object, chance: random.Random, kinds: list[int]) -> Change:
-    """A change of a file."""
     what = chance.random()
     if what < 0.1 and 30 in held.entries:
         number, place = held.entries[30]

@@ -79,7 +79,6 @@ def wanted_section(it: dict) -> str:
 
 
 def compare_list(path: str, what: str, says: list[str], wanted: list[str], tally: Tally) -> None:
-    """Compares the lines of sections or of segments."""
     if len(says) != len(wanted):
         tally.differ(path, what, len(says), len(wanted))
     for one, other in zip(says, wanted):
@@ -92,7 +91,6 @@ def compare_list(path: str, what: str, says: list[str], wanted: list[str], tally
 
 
 def compare(path: str, elfinfo: str, tally: Tally) -> None:
-    """Runs both programs on a file and compares what they print."""
     tally["files"] += 1
     status, own, errors = run([elfinfo, path])
     reads = llvm(path, "-h", "-S", "-l")

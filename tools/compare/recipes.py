@@ -135,7 +135,6 @@ def largest(path: str) -> list:
 
 
 def compare_largest(tally: Tally, path: str) -> None:
-    """Compares the sizes that the recipe in Python prints."""
     done = subprocess.run([sys.executable, "-c", LARGEST, path], cwd=PACKAGE, capture_output=True, text=True)
     ours = [int(line.split()[0]) for line in done.stdout.splitlines()]
     if done.returncode or ours != largest(path):

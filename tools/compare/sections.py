@@ -48,7 +48,6 @@ def read_notes(path: str) -> list[tuple[str, list[Note]]]:
 
 
 def compare_notes(file, path: str, tally: Tally) -> None:
-    """Compares the notes of each section."""
     text = lambda name: bytes(name).partition(b"\0")[0].decode("utf-8", "replace")
     says = [(section.name, [Note(it.type, text(it.name), len(it.desc)) for it in section.notes()]) for section in file.sections() if section.type == NOTES]
     reads = read_notes(path)
@@ -63,7 +62,6 @@ def compare_notes(file, path: str, tally: Tally) -> None:
 
 
 def compare_packed(file, path: str, tally: Tally) -> None:
-    """Compares the addresses of packed relocations of each section."""
     says = [(it.name, list(it.packed_relocations())) for it in file.sections() if it.type == RELR]
     reads = [(it.section, it.packed) for it in relocation_tables(path) if it.packed]
     tally["RELR sections"] += len(says)
@@ -108,7 +106,6 @@ def compare_table(file, section, path: str, tally: Tally) -> None:
 
 
 def compare(path: str, tally: Tally) -> None:
-    """Compares what the library says of a file."""
     from xmas_elf import ElfError, ElfFile
 
     tally["files"] += 1

@@ -122,7 +122,6 @@ class Trial:
         return 1 if self.failed else 0
 
     def list(self) -> int:
-        """Prints the batches."""
         for task in self.tasks:
             for number, batch in enumerate(task.batches):
                 print(f"{task.crate.name}, batch {number}: {len(batch)} edits")

@@ -76,7 +76,6 @@ def changed(room, path, name, change):
 
 
 def without_sections(room, path):
-    """A file without its section headers."""
     return changed(room, path, f"bare-{path.name}", comparing.stripped)
 
 

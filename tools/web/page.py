@@ -143,7 +143,6 @@ class Test:
         self.page.click(f"#tab-{title.lower().replace(' ', '')}")
 
     def tabs(self):
-        """Opens each tab in turn."""
         for title in TABS:
             self.tab(title)
             yield title
@@ -161,7 +160,6 @@ class Test:
         return bool(options)
 
     def go(self, what, number):
-        """Goes to an address or an offset."""
         self.page.run(f"(() => {{ const it = document.getElementById('go'); it.elements.what.value = '{what}';"
                       f" it.elements.where.value = '{number:x}'; it.requestSubmit(); }})()")
 
