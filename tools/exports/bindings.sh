@@ -89,18 +89,10 @@ for program in "$room/nm_c" "$room/find_c" "$room/dynamic_c" "$room/addresses_c"
 done
 # The mappings of a program beside those of its process, in which those of zeros have no path; and the symbols of its functions
 # in their middle, by the values and sizes of nm.
-cat > "$room/mapped.c" << 'END'
-#include <stdio.h>
+echo '#include <stdio.h>
 int numbers[40000];
-int main(void)
-{
-    FILE *maps = fopen("/proc/self/maps", "r");
-    char line[512];
-    while (fgets(line, sizeof line, maps)) fputs(line, stdout);
-    return numbers[0];
-}
-END
-gcc "$room/mapped.c" -o "$room/mapped" -Wl,-z,norelro
+int main(void) { FILE *maps = fopen("/proc/self/maps", "r"); int it; while ((it = getc(maps)) != EOF) putchar(it); return numbers[0]; }' |
+    gcc -x c - -o "$room/mapped" -Wl,-z,norelro
 mapped() {
     local base="" range rights offset
     "$room/mapped" | grep "$1\$" | while read -r range rights offset _; do

@@ -211,23 +211,10 @@ BIND.add("such a table to check", f"--check {CHAINED} caller", 1, f"{CHAINED}: C
 BIND.add("such definitions to check", "--check cut.so", 1, "cut.so: Version record is cut off\n")
 
 LOAD_USAGE = "elfload [--page <size>] <binary_path>.."
-PAGES_PLAN = """library.so
-class 64
-type 3
-machine 62
-entry 0
-span 0-c000
-relro 4000-8000
-tls none
-stack rw-
-interpreter none
-kernel
-0-4000 r-xp 0 file
-4000-c000 rw-p 0 file
-glibc
-0-4000 r-xp 0 file
-4000-c000 rw-p 0 file
-"""
+# In pages of 16 KB the library takes more room, and its parts lie in others.
+LIBRARY_HEAD = PLANS[PLANS.index(b"library.so\n") : PLANS.rindex(b"kernel\n")]
+PAGES_HEAD = LIBRARY_HEAD.replace(b"span 0-a000", b"span 0-c000").replace(b"relro 7000-8000", b"relro 4000-8000")
+PAGES_MAPS = b"0-4000 r-xp 0 file\n4000-c000 rw-p 0 file\n"
 LOAD_HELP = f"""usage: {LOAD_USAGE}
 Prints the header of each file, what else a loader asks for, and what Linux (kernel) and glibc map.
 --page <size>  the size of a page in bytes, a power of two; 4096 without it
@@ -238,7 +225,7 @@ LOAD.misused({
     "a size that is no power of two": "--page 4097 counter", "a size that is no number": "--page 0x1000 counter"})
 LOAD.prints({
     "help": ("--help", LOAD_HELP), "two files": ("counter library.so", PLANS),
-    "pages of 16 kb": ("--page 16384 library.so", PAGES_PLAN),
+    "pages of 16 kb": ("--page 16384 library.so", PAGES_HEAD + b"kernel\n" + PAGES_MAPS + b"glibc\n" + PAGES_MAPS),
     "a file for aarch64": ("aarch64.elf", COUNTER_PLAN.replace(b"counter", b"aarch64.elf").replace(b"machine 62", b"machine 183"))})
 LOAD.fails({
     "pages larger than a file is linked for": (
