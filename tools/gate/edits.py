@@ -330,12 +330,6 @@ class Room:
         """The path of a function below its crate, which is that of the folder of its proof."""
         return self.crate.told_path(one).split("::")[1:]
 
-    def whole(self):
-        """Another room, with the crate as it stands."""
-        place = self.folder.parent.parent / "whole"
-        shutil.rmtree(place, ignore_errors=True)
-        return Room(self.root, self.crate, self.below, place, self.crate.folder / "out" / "incremental", whole=True)
-
     def keeps(self) -> bool:
         """Whether a check of the crate kept what the checks here can begin with."""
         return self.kept is not None and self.kept.is_dir()
@@ -435,7 +429,9 @@ class Room:
         reached, goals = ran.reached(), tried.goals(ran.said)
         if not self.is_whole and len(edits) == 1 and (None in functions or reached and not goals):
             # A line that stands in no function, as a constant's, and what a function does for others, may be refused there.
-            whole = self.whole()
+            place = self.folder.parent.parent / "whole"
+            shutil.rmtree(place, ignore_errors=True)
+            whole = Room(self.root, self.crate, self.below, place, self.crate.folder / "out" / "incremental", whole=True)
             judged = whole.judge(edits)
             self.seconds += whole.seconds
             return judged

@@ -18,7 +18,7 @@ import sys
 sys.path.insert(0, str(pathlib.Path(__file__).resolve().parents[1]))
 from pages.sources import ROOT, below, crates
 
-PAGES = ("README.md", "CONTRIBUTING.md", "CALLING.md", "docs", "bindings", "bench")
+PAGES = ("README.md", "CONTRIBUTING.md", "CALLING.md", "docs/*.md", "bindings/*.md", "bench/*.md")
 
 # The crate of the program that a comparison runs, by the name of its script.
 PROGRAMS = {"readelf": "elfinfo", "recipes": "elftools", "tools": "elftools", "elfsym": "elfsym", "bindings": "elfbind", "rust": "elfanswers",
@@ -51,17 +51,7 @@ PATHS = {
 }
 
 FIGURE = re.compile(r"Measured at ([0-9a-f]{7,40}) by `([^`]+)` on (.+?)(?=[.:;](?:\s|$)| \(|$)")
-OTHER = re.compile(r"\b[Mm]easured (?:at|by)\b")
-
-
-def lines_of_pages():
-    """Each line of the pages, with its place."""
-    for name in PAGES:
-        path = ROOT / name
-        for page in [path] if path.is_file() else sorted(path.rglob("*.md")):
-            if "node_modules" not in page.parts and "target" not in page.parts:
-                for number, line in enumerate(page.read_text(encoding="utf-8").splitlines(), 1):
-                    yield f"{page.relative_to(ROOT)}:{number}", line
+OTHER = r"\b[Mm]easured (at|by)\b"
 
 
 def git(*arguments: str) -> subprocess.CompletedProcess:
@@ -81,13 +71,14 @@ def age(commit: str, command: str) -> str:
 
 def main() -> int:
     figures = warnings = 0
-    for place, line in lines_of_pages():
+    for it in git("grep", "--untracked", "-nE", OTHER, "--", *PAGES).stdout.splitlines():
+        place, line = re.match(r"(.*?:\d+):(.*)", it).groups()
         found = FIGURE.findall(line)
         for commit, command, machine in found:
             warning = age(commit, command)
             figures, warnings = figures + 1, warnings + bool(warning)
             print(f"{place}: {commit}, `{command}`, {machine}: {'WARNING: ' + warning if warning else 'as measured'}")
-        if not found and OTHER.search(line):
+        if not found:
             warnings += 1
             print(f"{place}: WARNING: no commit, command and machine in the form of tools/pages/figures.py: {line[:90]}")
     print(f"{figures} figures, {warnings} warnings")
