@@ -12,7 +12,7 @@ here is skipped, and the line says what is missing. Each line of docs/TESTS.md b
 keeps its line. The exit status is 1 if one found a difference.
 """
 import argparse
-import dataclasses
+import collections
 import os
 import pathlib
 import platform
@@ -38,15 +38,9 @@ def built(name: str) -> str:
     return f"crates/{name}/out/{name}"
 
 
-@dataclasses.dataclass
-class Oracle:
-    """A comparison: what its script of that name runs on whole and as a sample, and the programs and files that it needs."""
-
-    whole: list
-    sample: list
-    needs: tuple
-    # What builds or fetches something that it needs, and fails where that can't be had.
-    first: tuple = ()
+class Oracle(collections.namedtuple("Oracle", "whole sample needs first", defaults=[()])):
+    """A comparison: what its script of that name runs on whole and as a sample, the programs and files that it needs, and what
+    builds or fetches something that it needs, and fails where that can't be had."""
 
     def missing(self) -> str:
         """What it needs and isn't here, or nothing."""

@@ -16,7 +16,7 @@ import sys
 import tempfile
 from collections import namedtuple
 from pathlib import Path
-from typing import Callable, Iterable, NamedTuple
+from typing import Callable, Iterable
 
 from bindings import BINDINGS, Program, read_elfbind, read_linker
 from comparing import INDIRECT, ROOT, THREAD, UNIQUE, Tally, parser_of, run
@@ -200,13 +200,8 @@ def told(changes: list[Change]) -> str:
     return ", ".join(f"{it.what} {it.number:#x}" for it in changes)
 
 
-class Comparison(NamedTuple):
+class Comparison(namedtuple("Comparison", "elfbind elfsym room tally")):
     """The programs of a run, the folder of the copies, and the counts."""
-
-    elfbind: str
-    elfsym: str
-    room: str
-    tally: Tally
 
     def bindings(self, files: dict[str, bytes], file: str, changes: list[Change]) -> None:
         """Compares the bindings of a program one of whose files was changed."""

@@ -8,11 +8,11 @@ Each line is `bodies CRATE`, `contracts CRATE` or `data CRATE` for a crate that 
 of it, and `above CRATE`, lowest first. A change of bodies alone changes nothing that a proof of another function rests on. Any
 other change of a source, a definition or a lemma counts as one of contracts, and of what the gate alone reads as one of data.
 """
-import dataclasses
 import pathlib
 import re
 import subprocess
 import sys
+import types
 
 sys.path.insert(0, str(pathlib.Path(__file__).resolve().parents[1]))
 from pages import sources
@@ -20,14 +20,6 @@ from pages.definitions import Reader
 from pages.sources import ROOT
 
 HUNK = re.compile(r"^@@ -\d+(?:,\d+)? \+(\d+)(?:,(\d+))? @@", re.M)
-
-
-@dataclasses.dataclass
-class Change:
-    """What changed in a crate: its kind, and the functions that differ."""
-
-    kind: str = "data"
-    functions: list = dataclasses.field(default_factory=list)
 
 
 def git(*words: str, check=True) -> str:
@@ -60,7 +52,7 @@ def changed_lines(commit: str, path: str):
     return [line for first, count in spans for line in (range(first, first + count) if count else (first, first + 1))]
 
 
-def read_source(change: Change, crate, commit: str, path: str):
+def read_source(change, crate, commit: str, path: str):
     """Adds what changed in a source file of a crate."""
     file, lines = path.split("/", 2)[2], changed_lines(commit, path)
     if lines is None:
@@ -85,7 +77,8 @@ def changes(commit: str) -> dict:
         _, name, part, *_ = path.split("/", 2) + [""]
         if not (ROOT / "crates" / name / "src").is_dir():
             continue
-        change = found.setdefault(name, Change())
+        # Its kind, and the functions that differ.
+        change = found.setdefault(name, types.SimpleNamespace(kind="data", functions=[]))
         if part.startswith("src/") and part.endswith(".rt"):
             read_source(change, sources.Crate(ROOT / "crates" / name), commit, path)
         elif part.startswith(("specs/", "proofs/", "src/")):

@@ -13,7 +13,7 @@ import sys
 
 sys.path.insert(0, str(pathlib.Path(__file__).resolve().parents[1]))
 from gate import built
-from pages.sources import Crate, Function, Source
+from pages.sources import Crate, Function
 
 # The edits of one batch share what a check costs before the first goal. With more the check takes too long (LIMIT).
 BATCH = 60
@@ -51,16 +51,16 @@ pub {name}_spec : {{M : Type 1}} → statement M
 
 @dataclasses.dataclass
 class Edit:
-    """A wrong body: which texts of which files it changes, and the functions that these stand in."""
+    """A wrong body: which texts of which files it changes, the functions that these stand in, why it can't be tried, whether each
+    changed line stands in a function's body, so that no other function can see the change, and the clause that it breaks, if it
+    names one."""
 
     crate: str
     name: str
     changes: list
     functions: set
     fault: str = ""
-    # whether each changed line stands in a function's body, so that no other function can see the change
     inside: bool = True
-    # the clause that it breaks, if it names one
     clause: str = ""
 
     def label(self) -> str:
@@ -152,37 +152,34 @@ class EditedCrate(Crate):
     def tried(self, edits, whole=False):
         """The crate with these edits made, among stand-ins or the whole crate: one alone in its place, of several each
         beside the right function where it can."""
-        numbered = enumerate(edits if len(edits) > 1 else [])
-        apart = {edit.label(): (edit.beside(), *self.renamed(edit, number)) for number, edit in numbered if edit.beside()}
+        beside = collections.defaultdict(list)
+        for number, edit in enumerate(edits if len(edits) > 1 else []):
+            if edit.beside():
+                beside[edit.beside()].append((edit, self.renamed(edit, number)))
+        apart = {edit.label() for some in beside.values() for edit, _ in some}
         placed = [it for it in edits if it.label() not in apart]
         in_place = {one for it in placed for one in it.functions if one}
         over = self.texts if whole else self.with_stand_ins(in_place)
         texts = self.changed(placed, over)
-        # From the end on, so that the lines above stay at their places.
-        for one, _, copy in sorted(reversed(apart.values()), key=lambda it: -it[0].last):
-            lines = texts.get(one.file, over[one.file]).split("\n")
-            texts[one.file] = "\n".join([*lines[: one.last], *copy, *lines[one.last :]])
-        now = {(it.file, it.path): it for it in self.functions}
-        for file, text in texts.items():
-            now |= {(file, it.path): it for it in Source(self.folder, self.folder / file, text).functions}
-        there = lambda one, name: now[one.file, one.path.removesuffix(one.name()) + name]
-        of = {label: [there(one, name)] for label, (one, name, _) in apart.items()}
-        of |= {it.label(): [one and there(one, one.name()) for one in it.functions] for it in placed}
-        copies = {there(one, name): one for one, name, _ in apart.values()}
-        return Tried(self, texts, [*now.values()], of, copies, set() if whole else in_place)
+        now, of = {it: it for it in self.functions}, {}
+        for file in {it.file for it in beside}:
+            lines, shift = texts.get(file, over[file]).split("\n"), 0
+            for one in (it for it in self.functions if it.file == file):
+                now[one] = one.moved(shift)
+                for edit, (name, copy) in beside[one]:
+                    at = one.last + shift
+                    lines[at:at] = copy
+                    of[edit.label()] = [Function(file, at + 1, at + len(copy), one.path.removesuffix(one.name()) + name, body=at + 1, owner=one.owner)]
+                    shift += len(copy)
+            texts[file] = "\n".join(lines)
+        copies = {of[it.label()][0]: it.beside() for it in edits if it.label() in apart}
+        of |= {it.label(): [one and now[one] for one in it.functions] for it in edits if it.label() not in apart}
+        return Tried(self, texts, [*now.values(), *copies], of, copies, set() if whole else in_place)
 
 
-@dataclasses.dataclass
-class Tried:
+class Tried(collections.namedtuple("Tried", "crate texts functions of copies in_place")):
     """A crate with edits made: the files that changed, the functions where they stand there, those by which each edit is
     judged, of the wrong ones that stand beside a right one, that one, and those that are edited in place of a stand-in."""
-
-    crate: EditedCrate
-    texts: dict
-    functions: list
-    of: dict
-    copies: dict
-    in_place: set
 
     def function_at(self, file: str, line: int):
         held = [it for it in self.functions if it.file == file and it.first <= line <= it.last]
@@ -234,14 +231,8 @@ def batches_of(crate: EditedCrate, edits) -> list:
     return batches
 
 
-@dataclasses.dataclass
-class Checked:
+class Checked(collections.namedtuple("Checked", "said status seconds is_cut")):
     """What a check said, its status, its processor seconds, and whether it was ended at its limit."""
-
-    said: str
-    status: int
-    seconds: float
-    is_cut: bool = False
 
     def reached(self):
         """The line with which the check of the crate itself ended: libraries below that are stale are built before it, and

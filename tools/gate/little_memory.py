@@ -8,7 +8,7 @@ output, whether the next write works again or all fail. The last run is as if no
 writes as they like, or a few bytes each. A library made by gcc stands before the C library's calls. Run it at the top of the
 repository, once the programs are built: tools/gate/little_memory.py [PROGRAM..]
 """
-import dataclasses
+import collections
 import itertools
 import os
 import pathlib
@@ -26,16 +26,9 @@ FIRST_LINES = "".join(f"a.elf {line}\n" for line in (
     "own@V1 -> a.elf 0x4e3", "own@V1 -> a.elf 0x4e3", "choose@V1 -> a.elf 0x4f5"))
 
 
-@dataclasses.dataclass(frozen=True)
-class Program:
-    """A program: its words behind the path of the file, the files, and the output that is wanted of the first."""
-
-    name: str
-    words: list
-    files: dict
-    first: bytes
-    # So many bytes a read and a write takes where it takes few.
-    few: tuple
+class Program(collections.namedtuple("Program", "name words files first few")):
+    """A program: its words behind the path of the file, the files, the output that is wanted of the first, and how many bytes a
+    read and a write takes where it takes few."""
 
     def texts(self) -> list:
         """What it says where it can't read its arguments, can't read the file, lacks memory, and can't write."""

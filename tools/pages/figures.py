@@ -16,14 +16,13 @@ import subprocess
 import sys
 
 sys.path.insert(0, str(pathlib.Path(__file__).resolve().parents[1]))
+from compare.all import ORACLES
 from pages.sources import ROOT, below, crates
 
 PAGES = ("README.md", "CONTRIBUTING.md", "CALLING.md", "docs/*.md", "bindings/*.md", "bench/*.md")
 
-# The crate of the program that a comparison runs, by the name of its script.
-PROGRAMS = {"readelf": "elfinfo", "recipes": "elftools", "tools": "elftools", "elfsym": "elfsym", "bindings": "elfbind", "rust": "elfanswers",
-    "fuzz": "elfanswers", "sections": "elf_c", "dump": "elf_c", "dlsym": "elf_c", "fuzz_bindings": "elfbind", "addresses": "elfaddr",
-    "sizes": "elfsize", "loads": "elfload"}
+# The crate whose program or archive a comparison runs, by the name of its script.
+PROGRAMS = {name: it.needs[0].split("/")[1] for name, it in ORACLES.items()}
 
 
 def of(crate: str, *others: str) -> tuple:

@@ -11,7 +11,6 @@ where a function has clauses.
 """
 import argparse
 import collections
-import dataclasses
 import pathlib
 import re
 
@@ -32,29 +31,23 @@ Item = collections.namedtuple("Item", "kind name doc text source at")
 Block = collections.namedtuple("Block", "trait type source at end is_trait label owner")
 
 
-@dataclasses.dataclass(frozen=True)
-class Function:
-    """A function of a source file, by the lines that it takes, its attributes among them."""
+FUNCTION_FIELDS = "file first last path named_at body owner in_trait of"
 
-    file: str
-    first: int
-    last: int
-    path: str
-    # the line of its name, and the line that opens the body
-    named_at: int = 0
-    body: int = 0
-    # the type of an inherent method, which a check names by the module of that type
-    owner: str = ""
-    # whether it stands in a trait or an impl of one, and so can't have another name
-    in_trait: bool = False
-    # its trait, or its type where it is of no trait
-    of: str = ""
+
+class Function(collections.namedtuple("Function", FUNCTION_FIELDS, defaults=(0, 0, "", False, ""))):
+    """A function of a source file, by the lines that it takes, its attributes among them, the line of its name, and the line that
+    opens the body. The owner is the type of an inherent method, which a check names by the module of that type. One that stands
+    in a trait or an impl of one can't have another name. Last its trait, or its type where it is of no trait."""
 
     def tail(self) -> str:
         return "::".join(self.path.split("::")[-2:])
 
     def name(self) -> str:
         return self.path.rpartition("::")[2]
+
+    def moved(self, lines: int):
+        """The function so many lines further down."""
+        return self._replace(first=self.first + lines, last=self.last + lines, body=self.body + lines)
 
 
 def label_of(found: re.Match) -> tuple:
@@ -73,9 +66,9 @@ def label_of(found: re.Match) -> tuple:
 class Source:
     """A source file of a crate: its items, blocks and functions, and what its `use` items bring."""
 
-    def __init__(self, folder: pathlib.Path, path: pathlib.Path, text=None):
+    def __init__(self, folder: pathlib.Path, path: pathlib.Path):
         self.crate, self.path, self.file = folder.name, path, str(path.relative_to(folder))
-        self.text = path.read_text(encoding="utf-8") if text is None else text
+        self.text = path.read_text(encoding="utf-8")
         self.lines = self.text.split("\n")
         module = path.relative_to(folder / "src").with_suffix("")
         self.module = "" if module.name in ("lib", "main") and len(module.parts) == 1 else "::".join(module.parts)
