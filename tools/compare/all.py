@@ -5,11 +5,10 @@
     tools/compare/all.py --sample     each over a few files, some seconds each; writes nothing
     tools/compare/all.py .. NAME..    these alone, as `readelf dlsym`
 
-The programs and the archive are those that `rt run` and `rt lib` leave in crates/*/out. XMAS_ELF_CRATE: a folder with the
-files of the Rust crate, where Cargo has no registry (tools/compare/rust.py --crate). A comparison that needs what isn't
-here is skipped, and the line says what is missing. Each line of docs/TESTS.md between `<!-- oracles -->` and
-`<!-- /oracles -->` has the counts of one comparison, its commit and the machine; a comparison that was skipped or failed
-keeps its line. The exit status is 1 if one found a difference.
+The programs and the archive are those that `rt run` and `rt lib` leave in crates/*/out. XMAS_ELF_CRATE: a folder with the files of
+the Rust crate, where Cargo has no registry. A comparison that needs what isn't here is skipped, and the line says what is
+missing. Each line of docs/TESTS.md between `<!-- oracles -->` and `<!-- /oracles -->` has the counts of one comparison, its commit
+and the machine; one that was skipped or failed keeps its line. The exit status is 1 if one found a difference.
 """
 import argparse
 import collections

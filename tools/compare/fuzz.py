@@ -3,10 +3,9 @@
 
     tools/compare/fuzz.py --seed S --count N
 
-File K of a seed is `damage.damaged(S, K)`, the same each time; the long files of `long_files` come first.
-Wanted of `elfinfo` and `elfanswers`: each ends with status 0 or 1, writes nothing else where it is built by
-Rattle's own compiler than where it is built by LLVM, in 512 MB. As built by LLVM it takes no more than 2
-seconds of a processor for a file below 1 MB, but for three of the long files, which are told of with the
+File K of a seed is `damage.damaged(S, K)`, the same each time; the long files of `long_files` come first. Wanted of `elfinfo` and
+`elfanswers`: each ends with status 0 or 1, and writes the same where either compiler built it, in 512 MB. As built by LLVM it
+takes no more than 2 seconds of a processor for a file below 1 MB, but for three of the long files, which are told of with the
 cause. What isn't so is printed with the number of the file, and the status is then 1.
 """
 import collections

@@ -3,9 +3,10 @@
 
     tools/compare/recipes.py [--elftools PATH] [FILE..]
 
-`elftools recipes` runs each recipe over a file. The recipe in Python is run where tools/exports/python.sh has built the package. Without files it takes the programs and libraries of SYSTEM, and what gcc
-makes of a small source here: an object file, a program and a shared object of class 64, and by -m32 of class 32 an
-object file and, by -nostdlib, a shared object. Files that it doesn't read count as differences.
+`elftools recipes` runs each recipe over a file. The recipe in Python is run where tools/exports/python.sh has built the package.
+Without files it takes the programs and libraries of SYSTEM, and what gcc makes of a small source here: an object file, a program
+and a shared object of class 64, and by -m32 of class 32 an object file and, by -nostdlib, a shared object. Files that it doesn't
+read count as differences.
 """
 import re
 import subprocess

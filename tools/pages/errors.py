@@ -1,10 +1,10 @@
 #!/usr/bin/env python3
 """Which calls return which error of `ElfError`, by the docs of the calls.
 
-The doc of a call names the errors that it returns, such as `DataRange`, and the calls whose errors it
-passes on: "those of `bytes::text_at`", "as in `parse_header`" or "The result of `lookup`". tools/pages/api.py
-writes the table into docs/api/elf_base.md. Run by itself, tools/pages/errors.py fails if a doc names a call that it
-doesn't find, and if no call returns an error, except for those in UNUSED.
+The doc of a call names the errors that it returns, such as `DataRange`, and the calls whose errors it passes on: "those of
+`bytes::text_at`", "as in `parse_header`" or "The result of `lookup`". tools/pages/api.py writes the table into
+docs/api/elf_base.md. This script fails if a doc names a call that it doesn't find, and if no call returns an error, except for
+those in UNUSED.
 """
 import pathlib
 import re

@@ -6,10 +6,9 @@
 
 Both print how many definitions the contracts of some calls lead to, and fail where there are more than the call's bound.
 
-The page is written by hand but for two kinds of rooms. One names calls, by `<!-- read CRATE::MODULE CALL .. -->`,
-and takes a row for each definition that their clauses lead to (tools/pages/definitions.py), but for those that stand
-in a room above. The other names bytes of a file of the repository, by `<!-- bytes FILE FIRST COUNT -->`, and takes
-them in hexadecimal. A room ends with `<!-- end -->`.
+The page is written by hand but for two kinds of rooms. `<!-- read CRATE::MODULE CALL .. -->` takes a row for each definition that
+the clauses of these calls lead to (tools/pages/definitions.py), but for those that stand in a room above.
+`<!-- bytes FILE FIRST COUNT -->` takes bytes of a file of the repository in hexadecimal. A room ends with `<!-- end -->`.
 """
 import pathlib
 import re
