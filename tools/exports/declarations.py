@@ -20,7 +20,7 @@ from listing import FILLED, IN, OUT, ROOT, SLICE, VALUE
 from pages.sources import differing, ended, parser_of
 
 HEADER = ROOT / "bindings/include/xmas_elf.h"
-RUST = ROOT / "bindings/rust/src"
+RUST, PACKAGE = ROOT / "bindings/rust/src", ROOT / "bindings/python/xmas_elf"
 SOURCES = ROOT / "crates/elf_c/src"
 FIRST, LAST = "/* The structs and functions, written by tools/exports/declarations.py. */", "/* End of the structs and functions. */"
 WIDTH = 118
@@ -90,18 +90,14 @@ def described(function):
     return " ".join(parts)
 
 
-def c_function(function, listed):
-    lines = c_comment(described(function))
-    start = f"{'XMAS_ELF_NODISCARD ' if function.statuses else ''}{RESULTS[function.result][0]} {function.export}("
-    return lines + laid_out(start, parameters(function, C, listed), ") XMAS_ELF_NOEXCEPT;", "") + [""]
-
-
 def header_text(listed, rows):
     text, lines = HEADER.read_text(encoding="utf-8"), [FIRST]
     for struct in listed.structs:
         lines += c_struct(struct, listed)
     for function in listed.functions:
-        lines += c_function(function, listed)
+        start = f"{'XMAS_ELF_NODISCARD ' if function.statuses else ''}{RESULTS[function.result][0]} {function.export}("
+        declared = laid_out(start, parameters(function, C, listed), ") XMAS_ELF_NOEXCEPT;", "")
+        lines += [*c_comment(described(function)), *declared, ""]
     lines[-1] = LAST
     for part, first, last in ((statuses.c_part(rows), statuses.FIRST, statuses.LAST), (lines, FIRST, LAST)):
         text = text[: text.index(first)] + "\n".join(part) + text[text.index(last) + len(last) :]
@@ -129,8 +125,8 @@ fn answered<T>(status: u32, value: T) -> Result<T, Error> {
 '''
 
 
-def rust_comment(text, mark="///", indent=""):
-    return wrapped(text.replace("xmas_elf_", ""), f"{indent}{mark} ", f"{indent}{mark} ")
+def rust_comment(text, indent=""):
+    return wrapped(text.replace("xmas_elf_", ""), f"{indent}/// ", f"{indent}/// ")
 
 
 def rust_struct(struct, listed):
@@ -171,9 +167,8 @@ def ffi_text(listed):
 
 
 def constants_text():
-    lines = ["//! Numbers of the ELF standard by their names there. Written by tools/exports/declarations.py."]
     # A few names of GNU's end in small letters.
-    lines.append("#![allow(non_upper_case_globals)]")
+    lines = ["//! Numbers of the ELF standard by their names there. Written by tools/exports/declarations.py.", "#![allow(non_upper_case_globals)]"]
     for group, some in itertools.groupby(listing.constants(), lambda it: it.group):
         lines += ["", f"// {group}."]
         for one in some:
@@ -186,11 +181,6 @@ def constants_text():
 # every call stands in bindings/c/every.c and bindings/rust/src/tests.rs.
 
 ROOM = 3
-CALLS_HEAD = """/* A call of each export, by the parts of a `struct asked`. Written by tools/exports/declarations.py. */
-
-/* What a call writes: its first and its second output. */
-union output {
-"""
 RUST_CALLS_HEAD = """//! A call of each export, for the tests. Written by tools/exports/declarations.py.
 
 use crate::records::*;
@@ -250,7 +240,9 @@ def c_call(function, listed):
 
 def c_calls_text(listed):
     written = dict.fromkeys(one.type for function in listed.functions for one in function.parameters if one.kind in (OUT, FILLED))
-    lines = [CALLS_HEAD + "\n".join(f"    {listed.c_type(kind)} of_{kind}[{ROOM}];" for kind in written), "};", ""]
+    lines = ["/* A call of each export, by the parts of a `struct asked`. Written by tools/exports/declarations.py. */", ""]
+    lines += ["/* What a call writes: its first and its second output. */", "union output {"]
+    lines += [*(f"    {listed.c_type(kind)} of_{kind}[{ROOM}];" for kind in written), "};", ""]
     rows = []
     for function in listed.functions:
         lines += c_call(function, listed)
@@ -272,12 +264,9 @@ def rust_calls_text(listed):
             FILLED: f"&mut [{listed.rust_type(one.type)}::default(); {ROOM}]",
         }[one.kind] for one in function.parameters if one.kind != OUT)
         call = f"ffi::{function.name}({arguments})"
-        if function.result == "status":
-            lines += [f"    let answer = {call}.map(|_| ());"]
-        else:
-            lines += [f"    {'let _size = ' if function.result == 'size' else ''}{call};", "    let answer = Ok(());"]
-        refusals = ", ".join(f"Error::{name}" for name in function.statuses)
-        lines.append(f'    heard("{function.name}", answer, &[{refusals}]);')
+        other = [f"    {'let _size = ' if function.result == 'size' else ''}{call};", "    let answer = Ok(());"]
+        lines += [f"    let answer = {call}.map(|_| ());"] if function.result == "status" else other
+        lines.append(f'    heard("{function.name}", answer, &[{", ".join(f"Error::{name}" for name in function.statuses)}]);')
     return RUST_CALLS_HEAD + "\n".join(lines) + "\n}\n"
 
 
@@ -321,9 +310,9 @@ def main():
     wanted = {HEADER: header_text(listed, rows), RUST / "ffi.rs": ffi_text(listed)}
     wanted[RUST / "records.rs"] = "\n".join([RECORDS_HEAD, *(line for it in listed.structs for line in rust_struct(it, listed)), ""])
     wanted |= {statuses.PINNED: "\n".join(statuses.numbered(rows)) + "\n", RUST / "error.rs": "\n".join(statuses.rust_part(rows)) + "\n"}
-    wanted |= {RUST / "constants.rs": constants_text(), **python_declarations.texts(wanted[HEADER])}
-    wanted[RUST / "calls.rs"] = rust_calls_text(listed)
-    wanted[ROOT / "bindings/c/calls.h"] = c_calls_text(listed)
+    wanted |= {RUST / "constants.rs": constants_text(), PACKAGE / "constants.py": python_declarations.constants()}
+    wanted[PACKAGE / "_declarations.py"] = python_declarations.declarations(wanted[HEADER])
+    wanted |= {RUST / "calls.rs": rust_calls_text(listed), ROOT / "bindings/c/calls.h": c_calls_text(listed)}
     failed = differing(wanted, is_check)
     if is_check:
         named = {name for one in listed.functions for name in one.statuses + one.item_statuses + one.never}

@@ -8,9 +8,8 @@ import re
 import textwrap
 
 import listing
-from listing import FILLED, ROOT, SLICE, VALUE
+from listing import FILLED, SLICE, VALUE
 
-PACKAGE = ROOT / "bindings/python/xmas_elf"
 LETTERS = {"u8": "B", "u16": "H", "u32": "I", "u64": "Q"}
 KINDS = {"u8": "c_uint8", "u16": "c_uint16", "u32": "c_uint32", "u64": "c_uint64", "usize": "c_size_t"}
 RESULTS = {"status": "c_uint32", "size": "c_size_t", "none": "None"}
@@ -110,15 +109,6 @@ def export(function):
     return RESULTS[function.result], [kind for some in kinds for kind in some]
 
 
-def exports(listed):
-    lines = ["", "# What each export answers, and its parameters: a slice is a pointer and a count."]
-    lines.append("EXPORTS: Dict[str, Tuple[Any, Tuple[Any, ...]]] = {")
-    for function in listed.functions:
-        result, kinds = export(function)
-        lines.append(f'    "{function.export}": ({result}, ({", ".join(kinds)},)),')
-    return lines + ["}", ""]
-
-
 def statuses(text):
     rows = re.findall(r"/\* (.*?)\. \*/\n\s+XMAS_ELF_(\w+) = (\d+)", text)
     assert len(rows) > 60
@@ -136,7 +126,12 @@ def declarations(header):
     lines = [head.replace("{groups}", ", ".join(sorted(set(NAMED.values()))))]
     for struct in listed.structs:
         lines += record(struct, listed)
-    return "\n".join(lines + exports(listed) + statuses(header)) + "\n"
+    lines += ["", "# What each export answers, and its parameters: a slice is a pointer and a count."]
+    lines.append("EXPORTS: Dict[str, Tuple[Any, Tuple[Any, ...]]] = {")
+    for function in listed.functions:
+        result, kinds = export(function)
+        lines.append(f'    "{function.export}": ({result}, ({", ".join(kinds)},)),')
+    return "\n".join([*lines, "}", "", *statuses(header)]) + "\n"
 
 
 def constants():
@@ -151,8 +146,3 @@ def constants():
     lines.append("")
     lines += [f"{it.name} = {it.prefix}.{it.name}" for it in listing.constants()]
     return "\n".join(lines) + "\n"
-
-
-def texts(header):
-    """The two modules, by the header for C."""
-    return {PACKAGE / "_declarations.py": declarations(header), PACKAGE / "constants.py": constants()}
