@@ -4,8 +4,8 @@
 It writes the statuses (tools/exports/statuses.py), structs and functions in bindings/include/xmas_elf.h; error.rs, records.rs,
 ffi.rs and, from bindings/constants.toml, constants.rs in bindings/rust/src; the modules for Python
 (python_declarations.py); and calls for tests. --check: writes nothing, and fails where a file differs, where the
-`#[repr(C)]` structs or the exported functions of crates/elf_c/src are others than those of the list, or where a list of
-statuses is another than its definition has."""
+`#[repr(C)]` structs or the exported functions of crates/elf_c/src are others than those of the list, where a list of
+statuses is another than its definition has, or where a named number of the crates or of elf.h is another."""
 import itertools
 import pathlib
 import re
@@ -272,6 +272,8 @@ def rust_calls_text(listed):
 
 # The sources.
 
+ELF_H = pathlib.Path("/usr/include/elf.h")
+CONSTANT = re.compile(r"/// `(\w+)`[^\n]*\n(?:///[^\n]*\n)*pub const \w+: \w+ = (\w+);")
 EXPORT = re.compile(r'#\[unsafe\(no_mangle\)\]\s+pub extern "C" fn (\w+)\s*\(([^)]*)\)\s*(?:-> (\w+))?', re.S)
 STRUCT = re.compile(r"#\[repr\(C\)\]\s+(?:#\[[^\]]*\]\s+)*pub struct (\w+)(?:<[^>]*>)? \{(.*?)^\}", re.S | re.M)
 
@@ -302,6 +304,20 @@ def differing_sources(listed):
     return found
 
 
+def differing_numbers():
+    """How many named numbers of the crates, and of elf.h, if it is here, bindings/constants.toml has too, and those that differ. A
+    constant of crates/NAME/src has the name in backticks with which its doc begins; a relocation type has its name in the
+    definition of elf_linking too."""
+    numbers, text = {it.name: it.value for it in listing.constants()}, lambda path: path.read_text(encoding="utf-8", errors="replace")
+    places = [(path, *it) for path in sorted(ROOT.glob("crates/*/src/**/*.rt")) for it in CONSTANT.findall(text(path))]
+    path = ROOT / "crates/elf_linking/specs/RelocationNames.antt"
+    places += [(path, name, number) for number, name in re.findall(r'\((\d+), codes "(\w+)"\)', text(path))]
+    said = re.findall(r"^#define\s+(\w+)\s+(0x[0-9a-fA-F]+|\d+)\b", text(ELF_H), re.M) if ELF_H.exists() else []
+    known = [it for it in [*places, *((ELF_H, *it) for it in said)] if it[1] in numbers]
+    return len(known), [f"{path}: {name} is {number}, in the list {numbers[name]}"
+                        for path, name, number in known if numbers[name] != int(number.replace("_", ""), 0)]
+
+
 def main():
     is_check, listed, rows = parser_of(__doc__).parse_args().check, listing.read(), statuses.statuses()
     for line in statuses.PINNED.read_text().splitlines():
@@ -318,7 +334,10 @@ def main():
         named = {name for one in listed.functions for name in one.statuses + one.item_statuses + one.never}
         failed += [f"the list names the status {name}, which is none" for name in sorted(named - set(ALL_STATUSES))]
         failed += differing_sources(listed) + statuses.differing(listed)
-    return ended(failed, f"{len(listed.functions)} exports, {len(listed.structs)} structs, {len(failed)} differences")
+    count, others = differing_numbers()
+    failed += others if is_check else []
+    said = f"{len(listed.functions)} exports, {len(listed.structs)} structs, {count} named numbers"
+    return ended(failed, f"{said}, {len(failed)} differences")
 
 
 if __name__ == "__main__":
