@@ -60,6 +60,8 @@ int main(int count, char **words) {
 }
 """
 
+# Control characters as elfaddr writes them.
+CONTROLS = {it: f"^{chr(it + 64)}" for it in (*range(32), 127)}
 # Types of symbols that name addresses: none, an object, a function, an indirect function. A section index from RESERVED on is none.
 TYPES, RESERVED = (0, 1, 2, INDIRECT), 0xFF00
 
@@ -103,11 +105,6 @@ def answers(command: list[str], addresses: list[int], form: str = "{:x}\n", **mo
     return done.stdout.decode("utf-8", "surrogateescape").split("\n")[:-1]
 
 
-def escaped(name: str) -> str:
-    """A name with its control characters as elfaddr writes them."""
-    return "".join("^" + chr(ord(it) + 64) if ord(it) < 32 or ord(it) == 127 else it for it in name)
-
-
 def compare_dladdr(elfaddr: str, program: str, path: str, count: int, tally: Tally) -> None:
     try:
         image = Image(path)
@@ -133,7 +130,7 @@ def compare_dladdr(elfaddr: str, program: str, path: str, count: int, tally: Tal
             continue
         tally["addresses"] += 1
         tally["named"] += other != "none"
-        if not (one == "?" or one.rpartition("+")[0] in image.sections if other == "none" else one == escaped(other)):
+        if not (one == "?" or one.rpartition("+")[0] in image.sections if other == "none" else one == other.translate(CONTROLS)):
             tally.fault(f"{path}: {address:x}: elfaddr {one}, dladdr {other}")
 
 

@@ -22,19 +22,14 @@ def kit():
     return importlib.import_module("rtlib")
 
 
-def newest(folder: str) -> float:
-    """When the last of a crate's sources changed."""
-    files = (it for part in ("src", "specs", "proofs") for it in pathlib.Path(folder, part).rglob("*") if it.is_file())
-    return max((it.stat().st_mtime for it in files), default=0)
-
-
 def main() -> int:
     os.chdir(ROOT)
     written = []
     try:
         for crate in kit().crates_below(str(ROOT)):
             folder, built = pathlib.Path(crate.folder), pathlib.Path(crate.rlib)
-            sources = max(newest(it.folder) for it in [crate, *crate.below()])
+            parts = [pathlib.Path(it.folder, part) for it in [crate, *crate.below()] for part in ("src", "specs", "proofs")]
+            sources = max((file.stat().st_mtime for part in parts for file in part.rglob("*") if file.is_file()), default=0)
             # Files that an earlier run on this machine built and kept are older than the folder that they were put into.
             if (built / "format").is_file() and built.stat().st_mtime > sources and not crate.is_built():
                 (folder / "out" / "rlib" / "stamp").write_text(crate.stamp(), encoding="utf-8")

@@ -30,10 +30,7 @@ def base(given=None) -> str:
     """The commit that the files are compared with."""
     if given:
         return git("rev-parse", "--verify", given + "^{commit}").strip()
-    try:
-        return git("merge-base", "HEAD", "origin/main").strip()
-    except subprocess.CalledProcessError:
-        return git("rev-parse", "HEAD").strip()
+    return (git("merge-base", "HEAD", "origin/main", check=False) or git("rev-parse", "HEAD")).strip()
 
 
 def changed_files(commit: str) -> list:

@@ -242,10 +242,10 @@ def must_stay() -> list:
 def of_gate():
     """What the gate tries; None for all, where the commit of the last whole run isn't known here."""
     commit = REFUSED_AT.read_text(encoding="utf-8").strip() if REFUSED_AT.exists() else ""
-    if not commit or not changed.git("cat-file", "-t", commit, check=False).startswith("commit"):
-        print(f"{REFUSED_AT.name}: commit {commit or 'none'} is not here, so that all edits are tried")
-        return None
-    return Since(commit, set(must_stay()))
+    if commit and changed.git("cat-file", "-t", commit, check=False).startswith("commit"):
+        return Since(commit, set(must_stay()))
+    print(f"{REFUSED_AT.name}: commit {commit or 'none'} is not here, so that all edits are tried")
+    return None
 
 
 def store() -> int:

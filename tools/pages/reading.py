@@ -36,15 +36,6 @@ def place(path, line: int) -> str:
     return f"../{path.relative_to(ROOT)}#L{line}"
 
 
-def sentence(text: str) -> str:
-    """What stands above a definition, in one line of a table."""
-    return re.split(r"(?<=\.) ", " ".join(text.split()))[0].replace("|", "\\|").rstrip(".")
-
-
-def counted(count: int, one: str) -> str:
-    return f"{count} {one}{'' if count == 1 else 's'}"
-
-
 class Lists:
     """The lists of a page, in order: a definition has its row in the first list that needs it."""
 
@@ -64,14 +55,16 @@ class Lists:
         lines += ["| | Definition | Lines | What it says |", "|---:|---|---:|---|"]
         for one in found:
             if self.above.setdefault((one.path, one.line), len(self.above) + 1) == len(self.above) and one not in seen:
-                said = sentence(one.about) or {"type": "a type of the code"}.get(one.kind, "")
+                # The first sentence above the definition.
+                said = re.split(r"(?<=\.) ", " ".join(one.about.split()))[0].replace("|", "\\|").rstrip(".")
+                said = said or {"type": "a type of the code"}.get(one.kind, "")
                 lines.append(f"| {self.above[one.path, one.line]} | [`{one.name}`]({place(one.path, one.line)}) | {one.size} | {said} |")
         return "\n".join([*lines, "", f"Words of std: {', '.join(f'`{it}`' for it in self.reader.std)}.", ""])
 
     @staticmethod
     def sizes(found: list) -> str:
-        size, files = sum(one.size for one in found), len({one.path for one in found})
-        return f"{counted(len(found), 'definition')}, {counted(size, 'line')} in {counted(files, 'file')}"
+        counts = (len(found), "definition"), (sum(one.size for one in found), "line"), (len({one.path for one in found}), "file")
+        return "{}, {} in {}".format(*(f"{count} {one}{'' if count == 1 else 's'}" for count, one in counts))
 
 
 def bytes_of(named: str) -> str:
