@@ -170,16 +170,6 @@ Relocation = namedtuple("Relocation", "digits offset info kind addend shown")
 RelocationTable = namedtuple("RelocationTable", "section has_addends rows packed")
 
 
-def relocation_of(row: "re.Match", has_addends: bool) -> Relocation:
-    digits, addend, text = len(row[1]), None, ""
-    # An addend stands last, after a sign where there is a symbol, and else as a number of the width of an address.
-    if has_addends and (shown := re.search(r"(?:([+-]) |\s)(-?[0-9a-f]+)$", row[4])):
-        addend = int((shown[1] or "") + shown[2], 16)
-        text = ("-" if shown[1] == "-" and addend else "") + shown[2]
-        addend -= 16**digits if not shown[1] and addend >= 16**digits // 2 else 0
-    return Relocation(digits, int(row[1], 16), int(row[2], 16), row[3], addend, text)
-
-
 def relocation_tables(path: str, *options: str) -> list[RelocationTable]:
     """The tables that GNU's readelf lists, of sections or (-D) of the dynamic segment: llvm-readelf writes none in JSON."""
     found: list[RelocationTable] = []
@@ -191,7 +181,13 @@ def relocation_tables(path: str, *options: str) -> list[RelocationTable]:
         elif re.fullmatch("[0-9a-f]{16}|[0-9a-f]{8}", line):
             found[-1].packed.append(int(line, 16))
         elif row := re.match(r"([0-9a-f]{8,16}) +([0-9a-f]{8,16}) (\S+)(.*)$", line):
-            found[-1].rows.append(relocation_of(row, found[-1].has_addends))
+            digits, addend, text = len(row[1]), None, ""
+            # An addend stands last, after a sign where there is a symbol, and else as a number of the width of an address.
+            if found[-1].has_addends and (shown := re.search(r"(?:([+-]) |\s)(-?[0-9a-f]+)$", row[4])):
+                addend = int((shown[1] or "") + shown[2], 16)
+                text = ("-" if shown[1] == "-" and addend else "") + shown[2]
+                addend -= 16**digits if not shown[1] and addend >= 16**digits // 2 else 0
+            found[-1].rows.append(Relocation(digits, int(row[1], 16), int(row[2], 16), row[3], addend, text))
     return found
 
 

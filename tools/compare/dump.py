@@ -38,10 +38,6 @@ def built(room):
     return [f"{room}/dump", f"{room}/release/examples/dump"], f"{room}/find", f"{room}/dynamic"
 
 
-def numbered(number):
-    return f"{number % 0x8000}{'h' if number >= 0x8000 else ''}"
-
-
 # The lines of the dynamic entries and of relocations.
 TABLES = ("entry ", "relocation ", "address ")
 
@@ -81,7 +77,7 @@ class Wanted:
         lines = re.findall(r"^  [0-9a-f]+:( +[0-9a-f]+[h ]\(.*)$", printed, re.M)
         self.numbers = [f"{int(number, 16)}{mark.strip()}" for line in lines for number, mark in re.findall(r" ([0-9a-f]+)([h ])\(", line)]
         needs = [(need["FileName"], it) for need in parts(said, "VersionRequirements", "Dependency") for it in parts(need, "Entries", "Entry")]
-        number = lambda it: f"{numbered(it['Index'])} {it['Flags']['RawFlags']}"
+        number = lambda it: f"{it['Index'] % 0x8000}{'h' if it['Index'] >= 0x8000 else ''} {it['Flags']['RawFlags']}"
         # In no order.
         self.lines = [
             *(f"{word} {it}" for word, tag in (("needed", "NEEDED"), ("soname", "SONAME")) for it in texts_of(path, tag)),

@@ -30,15 +30,6 @@ SLOW = ", where the check without memory takes buckets and symbols times chains"
 AT_ONCE = 50
 
 
-def builds(name):
-    """The program as LLVM builds it, and as Rattle's own compiler does."""
-    folder = ROOT / "crates" / name / "out"
-    found = [folder / name, folder / f"{name}.by-rattle"]
-    if missing := [it.name for it in found if not it.exists()]:
-        print(f"not built, so not run: {', '.join(missing)}")
-    return [it for it in found if it.exists()]
-
-
 def run(program, paths, room):
     """The status, what was written and the seconds that a processor took."""
     limit = lambda: resource.setrlimit(resource.RLIMIT_CPU, (GIVEN_UP, GIVEN_UP))
@@ -81,7 +72,11 @@ class Fuzzing:
     def __init__(self, room):
         self.room, self.faults, self.files = room, 0, 0
         self.statuses, self.slowest = collections.Counter(), {}
-        self.programs = {name: builds(name) for name in ("elfinfo", "elfanswers")}
+        # Each program as LLVM builds it, and as Rattle's own compiler does.
+        built = {name: [ROOT / "crates" / name / "out" / it for it in (name, f"{name}.by-rattle")] for name in ("elfinfo", "elfanswers")}
+        if missing := [it.name for some in built.values() for it in some if not it.exists()]:
+            print(f"not built, so not run: {', '.join(missing)}")
+        self.programs = {name: [it for it in some if it.exists()] for name, some in built.items()}
 
     def fault(self, name, said):
         self.faults += 1

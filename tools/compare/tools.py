@@ -79,8 +79,8 @@ def compare_relocations(said: list, path: str, tally: Tally) -> None:
         tally.differ(path, f"relocation {key}", own[key], theirs[key])
 
 
-def mapped(path: str) -> dict:
-    """The pages of a file in a process that runs it: the offset of each and whether it is executable."""
+def compare_maps(said: list, path: str, tally: Tally) -> None:
+    """Compares the pages of a file in a process that runs it: the offset of each and whether it is executable."""
     with subprocess.Popen([path, "9"], stdout=subprocess.DEVNULL, stderr=subprocess.DEVNULL, stdin=subprocess.DEVNULL) as process:
         time.sleep(0.3)
         lines = Path(f"/proc/{process.pid}/maps").read_text(encoding="utf-8").splitlines()
@@ -91,11 +91,6 @@ def mapped(path: str) -> dict:
             start, end, kind, offset = re.match(r"(\w+)-(\w+) (\S+) (\w+)", line).groups()
             for page in range(int(start, 16), int(end, 16), PAGE):
                 found[page] = (int(offset, 16) + page - int(start, 16), kind[2] == "x")
-    return found
-
-
-def compare_maps(said: list, path: str, tally: Tally) -> None:
-    found = mapped(path)
     maps = [(int(it[1], 16), int(it[2], 16), it[3][2] == "x", int(it[4], 16)) for it in said if it[0] == "map"]
     base = min(found, default=0) - min((it[0] for it in maps), default=0)
     own = {base + start + more: (offset + more, is_code) for start, size, is_code, offset in maps for more in range(0, size, PAGE)}

@@ -62,20 +62,16 @@ def spread(names: list[str], refusals: dict[str, list[str]]) -> tuple[str, ...]:
     return tuple(dict.fromkeys(found))
 
 
-def struct(row: dict) -> Struct:
-    fields = tuple(Field(it["name"], it["type"], it["comment"], it.get("c", it["name"].rstrip("_"))) for it in row["fields"])
-    return Struct(**{"private_fields": False, **row, "fields": fields, "c_type": f"{PREFIX}{row['name']}_t"})
-
-
-def function(row: dict, refusals: dict[str, list[str]]) -> Function:
-    lists = {key: spread(row.get(key, []), refusals) for key in ("statuses", "item_statuses", "never")}
-    parameters = tuple(parameter(text) for text in row["parameters"])
-    return Function(**{**row, **lists, "parameters": parameters, "export": PREFIX + row["name"]})
-
-
 def read() -> Listed:
-    table = tomllib.loads(LIST.read_text(encoding="utf-8"))
-    return Listed(tuple(map(struct, table["structs"])), tuple(function(row, table["refusals"]) for row in table["functions"]))
+    table, structs, functions = tomllib.loads(LIST.read_text(encoding="utf-8")), [], []
+    for row in table["structs"]:
+        fields = tuple(Field(it["name"], it["type"], it["comment"], it.get("c", it["name"].rstrip("_"))) for it in row["fields"])
+        structs.append(Struct(**{"private_fields": False, **row, "fields": fields, "c_type": f"{PREFIX}{row['name']}_t"}))
+    for row in table["functions"]:
+        lists = {key: spread(row.get(key, []), table["refusals"]) for key in ("statuses", "item_statuses", "never")}
+        parameters = tuple(map(parameter, row["parameters"]))
+        functions.append(Function(**{**row, **lists, "parameters": parameters, "export": PREFIX + row["name"]}))
+    return Listed(tuple(structs), tuple(functions))
 
 
 def constant(status: str) -> str:

@@ -32,14 +32,6 @@ def texts() -> dict[str, str]:
     return {name: said[name] for name in names}
 
 
-def calls_in(source) -> dict[str, str]:
-    """The docs of the calls of a file, by `Type::call`, `Trait::call` or `module::call`."""
-    module = source.module.split("::")[0]
-    # Several enums are called `Type`. An impl for all types of a trait, as `impl<K: Kept> Entry for K`, goes by the trait.
-    owner = lambda of: f"{module}::{of}" if of in ("Type", "Type_") else of or module
-    return {f"{owner(one.of)}::{one.name()}": " ".join(source.doc_above(one.named_at - 1).split("\n")) for one in source.functions}
-
-
 def meant(name: str, caller: str, docs: dict[str, str]) -> str:
     """The call that a doc names: by its whole name, or as one of the same owner, or of any one owner."""
     for it in (name, f"{caller.split('::')[0]}::{name}"):
@@ -59,11 +51,14 @@ def returned(call: str, docs: dict[str, str], seen: frozenset[str] = frozenset()
 
 def calls_by_error() -> dict[str, list[str]]:
     """The calls that return each error, in the order of the enum and of the sources."""
+    # The docs of the calls, by `Type::call`, `Trait::call` or `module::call`.
     docs: dict[str, str] = {}
-    for source in read().values():
-        if source.crate in CRATES and source.module.split("::")[0] != "tests":
-            for call, doc in calls_in(source).items():
-                docs[call] = docs.get(call) or doc
+    for source in (it for it in read().values() if it.crate in CRATES and it.module.split("::")[0] != "tests"):
+        module = source.module.split("::")[0]
+        for one in source.functions:
+            # Several enums are called `Type`. An impl for all types of a trait, as `impl<K: Kept> Entry for K`, goes by the trait.
+            call = f"{f'{module}::{one.of}' if one.of in ('Type', 'Type_') else one.of or module}::{one.name()}"
+            docs[call] = docs.get(call) or " ".join(source.doc_above(one.named_at - 1).split("\n"))
     named = {call: returned(call, docs) for call in docs}
     return {name: [call for call in docs if name in named[call]] for name in texts()}
 

@@ -26,7 +26,10 @@ LEFT_OUT = "Tests"
 SAID = """An arrow leads from a crate to each that it uses. The kit's crates and those of tests are left out. `tools/pages/layers.py` draws this from `crates.txt`."""
 
 
-def picture() -> str:
+def main() -> int:
+    text = PAGE.read_text(encoding="utf-8")
+    if len(PLACE.findall(text)) != 1:
+        sys.exit("CONTRIBUTING.md: no room between <!-- layers --> and <!-- /layers -->")
     groups, uses, archives, group = {}, {}, [], "Crates"
     for line in (ROOT / "crates.txt").read_text(encoding="utf-8").splitlines():
         if line.startswith("#"):
@@ -43,14 +46,8 @@ def picture() -> str:
     lines += [f'  languages(["{languages}"]) -.-> {" & ".join(archives)}']
     used = {name: [it for it in all_used if it in uses] for name, all_used in uses.items()}
     lines += [f"  {name} --> {' & '.join(own)}" for name, own in used.items() if own]
-    return "\n".join([SAID, "", *lines, "```"])
-
-
-def main() -> int:
-    text = PAGE.read_text(encoding="utf-8")
-    if len(PLACE.findall(text)) != 1:
-        sys.exit("CONTRIBUTING.md: no room between <!-- layers --> and <!-- /layers -->")
-    faults = differing({PAGE: PLACE.sub(lambda _: picture(), text)}, parser_of(__doc__).parse_args().check)
+    picture = "\n".join([SAID, "", *lines, "```"])
+    faults = differing({PAGE: PLACE.sub(lambda _: picture, text)}, parser_of(__doc__).parse_args().check)
     return ended(faults, f"CONTRIBUTING.md: the picture of the layers, {len(faults)} faults")
 
 

@@ -54,7 +54,7 @@ def parameters_of(one):
     return found
 
 
-def module():
+def main(out):
     listed, header = listing.read(), HEADER.read_text()
     functions = {it.name: {"answers": ANSWERS[it.result], "parameters": [part for one in it.parameters for part in parameters_of(one)]}
                  for it in listed.functions}
@@ -62,10 +62,10 @@ def module():
     longest = int(re.search(r"#define XMAS_ELF_LONGEST_MESSAGE (\d+)", header)[1])
     parts = {"RECORDS": records_of(listed), "FUNCTIONS": functions, "STATUS": statuses, "LONGEST_MESSAGE": longest}
     lines = ["// Written by tools/web/records.py from bindings/include/xmas_elf.h: not to be edited.\n"]
-    return "".join(lines + [f"export const {name} = {json.dumps(part, indent=1)};\n" for name, part in parts.items()])
+    pathlib.Path(out).write_text("".join(lines + [f"export const {name} = {json.dumps(part, indent=1)};\n" for name, part in parts.items()]))
 
 
 if __name__ == "__main__":
     if len(sys.argv) != 2:
         sys.exit(__doc__)
-    pathlib.Path(sys.argv[1]).write_text(module())
+    main(sys.argv[1])
