@@ -43,14 +43,6 @@ FIELDS = {
     "sh_str_index": "StringTableSectionIndex"}
 
 
-def fields_of(head: str) -> dict[str, str]:
-    """The fields of the ELF header that elfinfo prints, by their labels."""
-    found: dict[str, str] = {}
-    for label, value in re.findall(r"^    (.+?): +(.*)$", head, re.M):
-        found[label if label not in found else f"{label} (2)"] = value.rstrip()
-    return found
-
-
 def wanted_fields(reads: dict) -> dict[str, str]:
     """The fields as elfinfo must print them."""
     found = {}
@@ -101,7 +93,10 @@ def compare(path: str, elfinfo: str, tally: Tally) -> None:
             tally.differ(path, "file", f"status {status} ({errors.strip()})", f"{sorted(reads)}")
         return
     head, sections, segments, *_ = re.split(r"^(?:sections|program headers|hash: .*)\n", own + "\n\n", flags=re.M)
-    says, wanted = fields_of(head), wanted_fields(reads["ElfHeader"])
+    # The fields of the ELF header that elfinfo prints, by their labels.
+    says, wanted = {}, wanted_fields(reads["ElfHeader"])
+    for label, value in re.findall(r"^    (.+?): +(.*)$", head, re.M):
+        says[label if label not in says else f"{label} (2)"] = value.rstrip()
     for label in (it for it in wanted if says.get(it) != wanted[it]):
         tally.differ(path, label, says.get(label, "nothing"), wanted[label])
     lines = {

@@ -135,13 +135,6 @@ def largest(path: str) -> list:
     return sorted(found.values(), reverse=True)[:10]
 
 
-def compare_largest(tally: Tally, path: str) -> None:
-    done = subprocess.run([sys.executable, "-c", LARGEST, path], cwd=PACKAGE, capture_output=True, text=True)
-    ours = [int(line.split()[0]) for line in done.stdout.splitlines()]
-    if done.returncode or ours != largest(path):
-        tally.differ(path, "the largest functions", ours or done.stderr[-200:], largest(path))
-
-
 def main() -> int:
     given, tally = parser_of(__doc__, "elftools", files="*").parse_args(), Tally("elftools", "files")
     is_built = (PACKAGE / "xmas_elf/libxmas_elf.so").exists()
@@ -152,7 +145,10 @@ def main() -> int:
         for path in files:
             compare(tally, given.elftools, path)
             if is_built:
-                compare_largest(tally, path)
+                done = subprocess.run([sys.executable, "-c", LARGEST, path], cwd=PACKAGE, capture_output=True, text=True)
+                ours = [int(line.split()[0]) for line in done.stdout.splitlines()]
+                if done.returncode or ours != largest(path):
+                    tally.differ(path, "the largest functions", ours or done.stderr[-200:], largest(path))
     return tally.ended() or int(not tally["files"])
 
 

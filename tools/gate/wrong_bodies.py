@@ -54,7 +54,8 @@ class Trial:
         for name in used:
             crate = EditedCrate(root / "crates" / name)
             edits = [crate.read_edit(it) for it in sorted((crate.folder / "wrong-bodies").glob("*/*.edit"))]
-            edits = [it for it in edits if not names or any(self.is_named(it, word) for word in names)]
+            parts_of = lambda edit: {*edit.label().split("/"), edit.label().rpartition("/")[0], edit.label()}
+            edits = [it for it in edits if not names or parts_of(it) & {*names}]
             if since is not None:
                 edits = [it for it in edits if since.touches(it)]
             for edit in edits:
@@ -63,11 +64,6 @@ class Trial:
             batches = batches_of(crate, [it for it in edits if not it.fault])
             if batches:
                 self.tasks.append(Task(crate, sources.below(used, name), batches))
-
-    @staticmethod
-    def is_named(edit: Edit, word: str) -> bool:
-        parts = edit.label().split("/")
-        return word in parts or word in ("/".join(parts[:2]), edit.label())
 
     def tell(self, edit: Edit, goal: str, fault: str):
         with self.lock:

@@ -194,19 +194,12 @@ class CratePage:
         return found
 
 
-def public_types(sources: dict) -> set:
-    """The structs, enums, types and constants that xmas_elf makes public, as TYPES is to name them."""
-    found = set()
-    for path, item in public_items(sources, "xmas_elf"):
-        *_, module, name = path.split("::")
-        if item.kind in ("struct", "enum", "type", "const"):
-            found.add(TYPE_OF[module] + name if name in ("Type", "Type_") else name)
-    return found
-
-
 def faults_of_types(sources: dict) -> list:
     """The names that TYPES lacks, those that it shouldn't have, and those that reach no other crate."""
-    wanted = public_types(sources) - set(NOT_IN_TYPES) | set(ONLY_IN_TYPES) | set(errors.texts())
+    # The structs, enums, types and constants that xmas_elf makes public, as TYPES is to name them.
+    found = [path.split("::")[-2:] for path, item in public_items(sources, "xmas_elf") if item.kind in ("struct", "enum", "type", "const")]
+    public = {TYPE_OF[module] + name if name in ("Type", "Type_") else name for module, name in found}
+    wanted = public - set(NOT_IN_TYPES) | set(ONLY_IN_TYPES) | set(errors.texts())
     # The names that their `pub use` lines pass on, each with the path behind it.
     lines = ("\n".join(re.findall(r"^pub use .*", it.read_text(encoding="utf-8"), re.M)) for it in (TYPES, PRELUDE))
     origins, behind = ({name: path for name, (path, _) in uses_in(it).items()} for it in lines)

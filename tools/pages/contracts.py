@@ -37,17 +37,6 @@ LENT = re.compile(r"&'a \[|-> &\[|Table<'a|Notes<'a")
 PLACE = re.compile(r"Lies|Lie[A-Z]|PartLies|ref_ptr|result ≡|table_bytes|≡ notes\.entry")
 
 
-def kinds_of(head: str) -> list:
-    """The kinds of lines that a public function has."""
-    if not re.search(r"^ *pub fn ", head, re.M):
-        return []
-    clauses = "\n".join(re.findall(r"^ *ensures .*(?:\n(?! *(?:ensures|requires) ).*)*", head, re.M))
-    returned = re.search(r"^ *(?:\)|.*fn .*\)) (-> .*)$", head, re.M)
-    is_one_sided = ONE_SIDE.search(clauses) and not OTHER_SIDE.search(clauses)
-    is_nowhere = returned and LENT.search(returned[1]) and not PLACE.search(clauses)
-    return ["one-sided"] * bool(is_one_sided) + ["no-place"] * bool(is_nowhere)
-
-
 def lines() -> list:
     """The whole list, in the order of the crates and of their files."""
     found = []
@@ -57,9 +46,16 @@ def lines() -> list:
         tried = {one.path for edit in edits for one in edit.functions if one}
         for one in crate.functions:
             head = crate.head(one)
-            found += [f"{kind} {one.path}" for kind in kinds_of(head)]
-            if name in CALLERS and re.search(r"^pub fn ", head, re.M) and "ensures" in head and one.path not in tried:
-                found.append(f"no-wrong {one.path}")
+            if not re.search(r"^ *pub fn ", head, re.M):
+                continue
+            clauses = "\n".join(re.findall(r"^ *ensures .*(?:\n(?! *(?:ensures|requires) ).*)*", head, re.M))
+            returned = re.search(r"^ *(?:\)|.*fn .*\)) (-> .*)$", head, re.M)
+            is_open = {
+                "one-sided": ONE_SIDE.search(clauses) and not OTHER_SIDE.search(clauses),
+                "no-place": returned and LENT.search(returned[1]) and not PLACE.search(clauses),
+                "no-wrong": name in CALLERS and re.search(r"^pub fn ", head, re.M) and clauses and one.path not in tried,
+            }
+            found += [f"{kind} {one.path}" for kind, is_one in is_open.items() if is_one]
     return found
 
 
