@@ -6,7 +6,7 @@
 The programs are the dynamically linked ones among the files, and in the folders among them. elfbind is run on a program and its
 libraries in the order in which the linker lists them, without linux-vdso; the linker binds all references at once and prints
 each (BINDINGS), and runs nothing. The two are compared as sets of a file, the file it is bound to, the name and the version,
-without the linker's own look-ups (`is_own`). Status 1 of elfbind and an undefined symbol for the linker must come together.
+without the linker's own look-ups. Status 1 of elfbind and an undefined symbol for the linker must come together.
 
 Another binding is a line with its cause: `unique`, since glibc merges symbols of type STB_GNU_UNIQUE by name over the
 process; `ifunc`, an indirect function; or `unexplained`, which is a difference.
@@ -72,17 +72,14 @@ def programs_in(paths: list[str]) -> list[str]:
     return [it for it in dict.fromkeys(real(it) for some in files for it in some) if linker_of(it)]
 
 
-def is_own(program: Program, file: str, name: str) -> bool:
-    """Whether a look-up is the linker's own."""
-    is_of_linker = "linux-vdso" in file or "linux-gate" in file or real(file) == real(program.linker)
-    return is_of_linker or name == "__libc_early_init" or (file == program.path and name in OWN_NAMES)
-
-
 def bound_in(program: Program, rows) -> dict[Key, set[str]]:
-    """The files to which names are bound, by rows of a file, the one that it is bound to, a name and its version."""
+    """The files to which names are bound, by rows of a file, the one that it is bound to, a name and its version; without the
+    linker's own look-ups."""
     bound: dict[Key, set[str]] = defaultdict(set)
     for file, to, name, version in rows:
-        if not is_own(program, file, name):
+        is_of_linker = "linux-vdso" in file or "linux-gate" in file or real(file) == real(program.linker)
+        is_own = is_of_linker or name == "__libc_early_init" or (file == program.path and name in OWN_NAMES)
+        if not is_own:
             bound[real(file), name, version].add(real(to))
     return bound
 

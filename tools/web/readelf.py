@@ -139,16 +139,12 @@ def compare_sections(test, path):
         # readelf names the flag SHF_GNU_RETAIN in files of GNU's ABI alone, and calls it `o` in others.
         own, read = ([*it[:2], *it[3:7], it[7].replace("R", "o"), *it[8:11]] for it in (shown, row))
         test.same(f"{path}: section {row[0]}", own, read)
-        test.same(f"{path}: type of section {row[0]}", shown[2], type_text(row[2]))
-
-
-def type_text(text):
-    """A type of sections that readelf doesn't know, by its number, or by the page's name for it."""
-    based = re.fullmatch(r"(LOOS|LOPROC|LOUSER)\+(0x)?([0-9a-f]+)", text)
-    if not based:
-        return text
-    number = {"LOOS": 0x60000000, "LOPROC": 0x70000000, "LOUSER": 0x80000000}[based[1]] + int(based[3], 16)
-    return {0x6fff4c03: "LLVM_ADDRSIG"}.get(number, hex(number))
+        kind = row[2]
+        # A type that readelf doesn't know, by its number, or by the page's name for it.
+        if based := re.fullmatch(r"(LOOS|LOPROC|LOUSER)\+(0x)?([0-9a-f]+)", kind):
+            number = {"LOOS": 0x60000000, "LOPROC": 0x70000000, "LOUSER": 0x80000000}[based[1]] + int(based[3], 16)
+            kind = {0x6fff4c03: "LLVM_ADDRSIG"}.get(number, hex(number))
+        test.same(f"{path}: type of section {row[0]}", shown[2], kind)
 
 
 def compare_segments(test, path, holds_sections=True):
