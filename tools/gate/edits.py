@@ -286,7 +286,9 @@ class Room:
 
     def __init__(self, root: pathlib.Path, crate: EditedCrate, below, place: pathlib.Path, kept=None, whole=False):
         self.root, self.crate, self.below, self.is_whole = root, crate, below, whole
-        self.folder, self.clean, self.kept = place / "crates" / crate.name, place / "clean", kept
+        self.folder, self.clean = place / "crates" / crate.name, place / "clean"
+        # what a check of the crate kept with which the checks here can begin, if it kept anything
+        self.kept = kept if kept and kept.is_dir() else None
         self.words = [] if whole else ["--allow-holes"]
         # what the checks took
         self.seconds = 0
@@ -321,16 +323,12 @@ class Room:
         """The path of a function below its crate, which is that of the folder of its proof."""
         return self.crate.told_path(one).split("::")[1:]
 
-    def keeps(self) -> bool:
-        """Whether a check of the crate kept what the checks here can begin with."""
-        return self.kept is not None and self.kept.is_dir()
-
     def make(self, tried: Tried):
         """Makes edits in the crate as it was before any, over what a check of it kept, with the proofs of the functions that are
         edited in place of their stand-ins, and of those beside others."""
         shutil.rmtree(self.folder)
         shutil.copytree(self.clean, self.folder)
-        if self.keeps():
+        if self.kept:
             shutil.copytree(self.kept, self.folder / "out" / "incremental", copy_function=copied)
         for file, text in tried.texts.items():
             written(self.folder / file, text)
@@ -383,7 +381,7 @@ class Room:
     def check_only(self, functions) -> Checked:
         """A check of some functions, by their paths, and of what they call; of none: of the whole crate."""
         words = ["--jobs", "1", *self.words, *(word for name in functions for word in ("--only", name))]
-        ran = check(self.folder, *words, keeps=self.keeps(), limit=LIMIT_OF_WHOLE if self.is_whole else LIMIT)
+        ran = check(self.folder, *words, keeps=bool(self.kept), limit=LIMIT_OF_WHOLE if self.is_whole else LIMIT)
         unknown = NO_FUNCTION.search(ran.said)
         # A method of a built-in type has no such name: its edit is then tried alone.
         return self.check_only([it for it in functions if it != unknown[1]]) if unknown else ran
