@@ -31,7 +31,7 @@ import sys
 import tempfile
 from typing import Callable
 
-from comparing import INDIRECT, LOAD, LOCAL, ROOT, Symbol, Tally, dynamic_symbols, llvm, parser_of, parts, raw, read_elf, symbols_of
+from comparing import INDIRECT, LOAD, LOCAL, ROOT, Symbol, Tally, dynamic_symbols, llvm, parser_of, parts, raw, read_elf, symbol_of
 from loading import named
 
 # The number of addresses of a library for which the C program calls dladdr.
@@ -79,7 +79,8 @@ class Image:
 
     def symbols(self, is_dynamic: bool) -> list[Symbol]:
         """The symbols with a name, in a section, of the types that name addresses."""
-        found = dynamic_symbols(self.path) if is_dynamic else symbols_of(self.path)
+        own = () if is_dynamic else parts(llvm(self.path, "--symbols"), "Symbols", "Symbol")
+        found = dynamic_symbols(self.path) if is_dynamic else [symbol_of(it, it["Name"]["Value"]) for it in own]
         is_label = lambda it: it.kind == 0 and it.binding == LOCAL and it.name.startswith(".L")
         return [it for it in found if it.name and it.kind in TYPES and 0 < it.section < RESERVED and not is_label(it)]
 

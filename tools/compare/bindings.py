@@ -95,14 +95,6 @@ def read_linker(program: Program, said: Finished) -> Bindings:
     return Bindings(bound_in(program, BOUND.findall(text)), 0, "undefined symbol" in text or "symbol lookup error" in text)
 
 
-def cause_of(name: str, files: set[str]) -> str:
-    """Why a name is bound to other files."""
-    found = [it for file in files if os.path.isfile(file) for it in dynamic_symbols(file) if it.name == name]
-    if any(it.binding == UNIQUE for it in found):
-        return "unique"
-    return "ifunc" if any(it.kind == INDIRECT for it in found) else "unexplained"
-
-
 def compare(program: Program, elfbind: str, tally: Tally) -> int:
     """Compares the bindings of a program, and returns how many there are."""
     said = run([elfbind, *program.files])
@@ -116,7 +108,8 @@ def compare(program: Program, elfbind: str, tally: Tally) -> int:
     for key in sorted(own.bound.keys() | reads.bound.keys()):
         says, does = own.bound.get(key, set()), reads.bound.get(key, set())
         if says != does:
-            cause = cause_of(key[1], says | does)
+            held = [it for file in says | does if os.path.isfile(file) for it in dynamic_symbols(file) if it.name == key[1]]
+            cause = "unique" if any(it.binding == UNIQUE for it in held) else "ifunc" if any(it.kind == INDIRECT for it in held) else "unexplained"
             line = f"{program.path}: {' '.join(key)}: elfbind says {sorted(says)}, the linker {sorted(does)}: {cause}"
             if cause == "unexplained":
                 tally.fault(line)

@@ -133,11 +133,6 @@ def symbol_of(said: dict, name: str, version: str = "", is_shown: bool = True) -
     return Symbol(name, version, is_shown, said["Value"], said["Size"], *(raw(said[field]) for field in ("Type", "Binding", "Section")))
 
 
-def symbols_of(path: str) -> list[Symbol]:
-    """The symbols of .symtab that llvm-readelf lists."""
-    return [symbol_of(it, it["Name"]["Value"]) for it in parts(llvm(path, "--symbols"), "Symbols", "Symbol")]
-
-
 @functools.lru_cache(maxsize=8)
 def dynamic_symbols(path: str) -> tuple[Symbol, ...]:
     """The dynamic symbols that llvm-readelf lists."""

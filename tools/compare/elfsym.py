@@ -51,16 +51,6 @@ def wanted_of(symbols: list[Symbol], version: str) -> set[tuple[int, int]]:
     return plain or set(defaults if len(defaults) == 1 else [])
 
 
-def compare_line(path: str, reference: str, line: str, reads: Listing, tally: Tally) -> None:
-    name, _, version = reference.partition("@")
-    symbols = reads.symbols.get(name, [])
-    wanted = wanted_of(symbols, version)
-    tally["others" if not wanted else "names with a version that has a symbol" if version else "names with a symbol"] += 1
-    tally["of them with several values"] += bool(wanted) and not version and len({(it.value, it.size) for it in symbols}) > 1
-    if line not in ({f"{reference} {value:#x} {size:#x}" for value, size in wanted} or {f"{reference}: none"}):
-        tally.differ(path, reference, line, sorted(wanted) or "none")
-
-
 def compare_file(path: str, file: str, elfsym: str, reads: Listing, tally: Tally) -> None:
     """Compares all that elfsym says of a file, which may be a copy, with what readelf lists."""
     tally["files"] += 1
@@ -72,7 +62,13 @@ def compare_file(path: str, file: str, elfsym: str, reads: Listing, tally: Tally
             tally.differ(path, "names", f"status {status}: {said.strip()}", f"{len(asked)} names")
             break
         for reference, line in zip(asked, lines):
-            compare_line(path, reference, line, reads, tally)
+            name, _, version = reference.partition("@")
+            symbols = reads.symbols.get(name, [])
+            wanted = wanted_of(symbols, version)
+            tally["others" if not wanted else "names with a version that has a symbol" if version else "names with a symbol"] += 1
+            tally["of them with several values"] += bool(wanted) and not version and len({(it.value, it.size) for it in symbols}) > 1
+            if line not in ({f"{reference} {value:#x} {size:#x}" for value, size in wanted} or {f"{reference}: none"}):
+                tally.differ(path, reference, line, sorted(wanted) or "none")
     status, own, said = run([elfsym, "--needed", file])
     needed = own.split("\n")[:-1]
     tally["needed libraries"] += len(needed)

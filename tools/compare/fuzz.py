@@ -117,13 +117,6 @@ class Fuzzing:
         self.check("elfanswers", [name for name, _ in held], paths)
         self.files += len(held)
 
-    def told(self, seconds):
-        print(f"{self.files} files in {seconds:.0f} s, {self.faults} not as they must be")
-        for (program, status), count in sorted(self.statuses.items()):
-            print(f"{program}: {count} files in runs that ended with {status}")
-        for program, (worst, name) in self.slowest.items():
-            print(f"{program}: at most {worst:.2f} s for one run: {name}")
-
 
 def main() -> int:
     options = parser_of(__doc__, seed=1, count=500).parse_args()
@@ -140,7 +133,11 @@ def main() -> int:
         fuzzing.check("elfinfo", ["200,000 buckets that share one chain of 200,000 names"], [f"{room}/shared"])
         for some in (range(options.count)[at : at + AT_ONCE] for at in range(0, options.count, AT_ONCE)):
             fuzzing.files_at_once([(f"damage.damaged({options.seed}, {k})", damage.damaged(options.seed, k)) for k in some])
-        fuzzing.told(time.monotonic() - began)
+    print(f"{fuzzing.files} files in {time.monotonic() - began:.0f} s, {fuzzing.faults} not as they must be")
+    for (program, status), count in sorted(fuzzing.statuses.items()):
+        print(f"{program}: {count} files in runs that ended with {status}")
+    for program, (worst, name) in fuzzing.slowest.items():
+        print(f"{program}: at most {worst:.2f} s for one run: {name}")
     return 1 if fuzzing.faults else 0
 
 

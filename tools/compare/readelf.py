@@ -69,18 +69,6 @@ def wanted_section(it: dict) -> str:
     return f"{it['Index']} {kind} ! {reason}" if reason else f"{it['Index']} {kind} = {name}"
 
 
-def compare_list(path: str, what: str, says: list[str], wanted: list[str], tally: Tally) -> None:
-    if len(says) != len(wanted):
-        tally.differ(path, what, len(says), len(wanted))
-    for one, other in zip(says, wanted):
-        tally[what] += 1
-        tally["expected errors"] += " ! " in other or " Err(" in other
-        # elfinfo takes a name by the offset of the string table alone, and llvm-readelf prints `<?>` for one beyond its size.
-        is_front = what == "segments" or other.endswith("= <?>")
-        if not one.startswith(other.removesuffix("<?>")) if is_front else one.rstrip(" ") != other.rstrip(" "):
-            tally.differ(path, what, one, other)
-
-
 def compare(path: str, elfinfo: str, tally: Tally) -> None:
     tally["files"] += 1
     status, own, errors = run([elfinfo, path])
@@ -105,10 +93,19 @@ def compare(path: str, elfinfo: str, tally: Tally) -> None:
         "segments": (segments, [f"{index} {kind_of(raw(it['Type']), SEGMENTS, 0x80000000, 'Invalid type')} "
                                 for index, it in enumerate(parts(reads, "ProgramHeaders", "ProgramHeader"))])}
     for (what, (text, wanted)), name in zip(lines.items(), ("Sections", "ProgramHeaders")):
-        if name in reads:
-            compare_list(path, what, [it for it in text.split("\n") if it], wanted, tally)
-        else:
+        if name not in reads:
             print(f"{path}: {what} not compared: llvm-readelf can't read their headers")
+            continue
+        says = [it for it in text.split("\n") if it]
+        if len(says) != len(wanted):
+            tally.differ(path, what, len(says), len(wanted))
+        for one, other in zip(says, wanted):
+            tally[what] += 1
+            tally["expected errors"] += " ! " in other or " Err(" in other
+            # elfinfo takes a name by the offset of the string table alone, and llvm-readelf prints `<?>` for one beyond its size.
+            is_front = what == "segments" or other.endswith("= <?>")
+            if not one.startswith(other.removesuffix("<?>")) if is_front else one.rstrip(" ") != other.rstrip(" "):
+                tally.differ(path, what, one, other)
 
 
 if __name__ == "__main__":

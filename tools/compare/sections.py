@@ -61,15 +61,6 @@ def compare_notes(file, path: str, tally: Tally) -> None:
             tally.differ(path, name, one, other)
 
 
-def compare_packed(file, path: str, tally: Tally) -> None:
-    says = [(it.name, list(it.packed_relocations())) for it in file.sections() if it.type == RELR]
-    reads = [(it.section, it.packed) for it in relocation_tables(path) if it.packed]
-    tally["RELR sections"] += len(says)
-    tally["packed relocations"] += sum(len(some) for _, some in says)
-    if says != reads:
-        tally.differ(path, "packed relocations", says, reads)
-
-
 def looked_up(file, table, names: list[bytes]) -> list:
     """The status of the look-up of each name, whether a symbol was found, and its index."""
     from xmas_elf._archive import library
@@ -112,7 +103,12 @@ def compare(path: str, tally: Tally) -> None:
     try:
         with ElfFile.load_from_path(path) as file:
             compare_notes(file, path, tally)
-            compare_packed(file, path, tally)
+            says = [(it.name, list(it.packed_relocations())) for it in file.sections() if it.type == RELR]
+            reads = [(it.section, it.packed) for it in relocation_tables(path) if it.packed]
+            tally["RELR sections"] += len(says)
+            tally["packed relocations"] += sum(len(some) for _, some in says)
+            if says != reads:
+                tally.differ(path, "packed relocations", says, reads)
             for section in (it for it in file.sections() if it.type == GNU_HASH):
                 tally["hash tables"] += 1
                 compare_table(file, section, path, tally)

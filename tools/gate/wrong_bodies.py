@@ -128,11 +128,6 @@ class Trial:
         return 1 if self.failed else 0
 
 
-def uncompiled(task: Task, room: Room):
-    """The edits that don't compile, and why."""
-    return [(edit, f"it does not compile: {why}") for batch in task.batches for edit, why in room.uncompiled(batch)]
-
-
 def unproved(task: Task, room: Room):
     """The functions that edits change, and whose right body isn't proved beside itself: that a wrong one is refused there says
     nothing."""
@@ -271,7 +266,8 @@ def main() -> int:
     since = of_gate() if given.gate else Since(given.since) if given.since else None
     trial = Trial(ROOT, given.names, max(given.jobs, 1), since, given.proved)
     if given.compile:
-        return trial.alone(uncompiled, "its edits were compiled")
+        faults = lambda task, room: ((edit, f"it does not compile: {why}") for some in task.batches for edit, why in room.uncompiled(some))
+        return trial.alone(faults, "its edits were compiled")
     if given.right:
         return trial.alone(unproved, "its right bodies were tried")
     if given.list:
