@@ -73,20 +73,6 @@ ORACLES = {
 }
 
 
-def write(counts: dict):
-    """Puts the lines of comparisons into the page in place of those that it has of them."""
-    text = PAGE.read_text(encoding="utf-8")
-    commit = subprocess.run(["git", "rev-parse", "--short", "HEAD"], cwd=ROOT, capture_output=True, text=True, check=True).stdout.strip()
-    lines = dict(re.findall(r"^- `(\w+)`: (.*)$", ROOM.search(text)[0], re.M))
-    # The system and the processor's family, as pages name them.
-    system = platform.freedesktop_os_release()
-    machine = f"{system['NAME'].split()[0]} {system.get('VERSION_ID', '')} ({platform.machine().replace('_', '-')})"
-    for name, (said, words) in counts.items():
-        lines[name] = f"{said}. Measured at {commit} by `{' '.join(words)}` on {machine}."
-    held = "".join(f"- `{name}`: {lines[name]}\n" for name in ORACLES if name in lines)
-    PAGE.write_text(ROOM.sub(lambda _: held, text, count=1), encoding="utf-8")
-
-
 def main() -> int:
     parser = argparse.ArgumentParser(description=__doc__, formatter_class=argparse.RawDescriptionHelpFormatter)
     parser.add_argument("--sample", action="store_true")
@@ -111,7 +97,14 @@ def main() -> int:
         elif not given.sample:
             counts[name] = (said, command)
     if counts:
-        write(counts)
+        # The lines of comparisons go into the page in place of those that it has of them, with the system and the processor's family.
+        text, system = PAGE.read_text(encoding="utf-8"), platform.freedesktop_os_release()
+        machine = f"{system['NAME'].split()[0]} {system.get('VERSION_ID', '')} ({platform.machine().replace('_', '-')})"
+        commit = subprocess.run(["git", "rev-parse", "--short", "HEAD"], cwd=ROOT, capture_output=True, text=True, check=True).stdout.strip()
+        lines = dict(re.findall(r"^- `(\w+)`: (.*)$", ROOM.search(text)[0], re.M))
+        lines |= {name: f"{said}. Measured at {commit} by `{' '.join(words)}` on {machine}." for name, (said, words) in counts.items()}
+        held = "".join(f"- `{name}`: {lines[name]}\n" for name in ORACLES if name in lines)
+        PAGE.write_text(ROOM.sub(lambda _: held, text, count=1), encoding="utf-8")
     print(f"{len(failed)} comparisons failed" + (f": {', '.join(failed)}" if failed else ""))
     return 1 if failed else 0
 

@@ -46,19 +46,6 @@ LARGEST = re.search(r"^```python$(.*?)^```$", (ROOT / "docs/RECIPES.md").read_te
 PACKAGE = ROOT / "bindings/python"
 
 
-def make(folder: Path) -> list:
-    """The files that gcc makes here; one that it can't make is told of and left out."""
-    (folder / "near.c").write_text(SOURCE)
-    (folder / "main.c").write_text(MAIN)
-    made = []
-    for name, arguments in MADE.items():
-        done = subprocess.run(["gcc", "-O1", *arguments, "-o", name], cwd=folder, capture_output=True, text=True)
-        made += [str(folder / name)] if done.returncode == 0 else []
-        if done.returncode != 0:
-            print(f"gcc makes no {name}: {done.stderr.strip().splitlines()[-1:]}")
-    return made
-
-
 def symbols(said: list, is_dynamic: bool) -> list:
     """The value, size and name of each symbol."""
     found = []
@@ -141,7 +128,15 @@ def main() -> int:
     if not is_built:
         print("recipes: the package for Python is not built: its recipe is not run")
     with tempfile.TemporaryDirectory() as room:
-        files = given.files or [*(str(ROOT / it) for it in OURS), *make(Path(room)), *(it for it in SYSTEM if Path(it).exists())]
+        Path(room, "near.c").write_text(SOURCE)
+        Path(room, "main.c").write_text(MAIN)
+        made = []
+        for name, arguments in MADE.items():
+            done = subprocess.run(["gcc", "-O1", *arguments, "-o", name], cwd=room, capture_output=True, text=True)
+            made += [f"{room}/{name}"] if done.returncode == 0 else []
+            if done.returncode != 0:
+                print(f"gcc makes no {name}: {done.stderr.strip().splitlines()[-1:]}")
+        files = given.files or [*(str(ROOT / it) for it in OURS), *made, *(it for it in SYSTEM if Path(it).exists())]
         for path in files:
             compare(tally, given.elftools, path)
             if is_built:

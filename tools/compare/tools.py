@@ -67,18 +67,6 @@ def compare_trace(ours: str, path: str, tally: Tally) -> None:
             tally.differ(path, "addresses", len(said), len(part))
 
 
-def compare_relocations(said: list, path: str, tally: Tally) -> None:
-    # readelf cuts names of types to 22 letters.
-    own = collections.Counter((it[0][:22], int(it[1], 16)) for it in said if it[0].startswith("R_") or it[0] == "relr")
-    theirs = collections.Counter()
-    for table in relocation_tables(path):
-        theirs.update((it.kind[:22], it.offset) for it in table.rows)
-        theirs.update(("relr", it) for it in table.packed)
-    tally["relocations"] += sum(own.values())
-    for key in list((own - theirs) + (theirs - own))[:3]:
-        tally.differ(path, f"relocation {key}", own[key], theirs[key])
-
-
 def compare_maps(said: list, path: str, tally: Tally) -> None:
     """Compares the pages of a file in a process that runs it: the offset of each and whether it is executable."""
     with subprocess.Popen([path, "9"], stdout=subprocess.DEVNULL, stderr=subprocess.DEVNULL, stdin=subprocess.DEVNULL) as process:
@@ -123,7 +111,14 @@ def main() -> int:
         compare_sizes(given.elftools, path, tally)
         compare_trace(given.elftools, path, tally)
         said = [line.split() for line in tally.output(path, given.elftools, "plan", path).splitlines()]
-        compare_relocations(said, path, tally)
+        # readelf cuts names of types to 22 letters.
+        own = collections.Counter((it[0][:22], int(it[1], 16)) for it in said if it[0].startswith("R_") or it[0] == "relr")
+        theirs = collections.Counter()
+        for table in relocation_tables(path):
+            theirs.update([*((it.kind[:22], it.offset) for it in table.rows), *(("relr", it) for it in table.packed)])
+        tally["relocations"] += sum(own.values())
+        for key in list((own - theirs) + (theirs - own))[:3]:
+            tally.differ(path, f"relocation {key}", own[key], theirs[key])
         # A program that waits for the seconds of its argument can be looked at while it runs.
         if os.path.basename(path) == "sleep":
             compare_maps(said, path, tally)

@@ -53,21 +53,16 @@ def leads(page: pathlib.Path, link: str) -> bool:
     return inside in map(anchor, HEADING.findall(text))
 
 
-def callers() -> tuple:
-    """The paths of the modules and items of the crates of callers, and the items without a doc of their own."""
-    known, faults = set(), []
-    for source in (it for it in read().values() if it.crate in CALLERS):
-        known |= {source.path_of, *(f"{source.path_of}::{name}" for name in source.items)}
-        docs = [it.doc for it in source.items.values()]
-        faults += [f"{source.path_of}: {it.name} has no doc of its own" for it in source.items.values() if not it.doc or docs.count(it.doc) > 1]
-    return known, faults
-
-
 def main() -> int:
     files = [it for it in ROOT.glob("crates/*/*/**/*") if it.suffix in ENDS.values() and "out" not in it.parts]
     texts = {it: one_line(it.read_text(encoding="utf-8")) for it in files}
     pages = [ROOT / "README.md", ROOT / "CONTRIBUTING.md", ROOT / "CALLING.md", *sorted((ROOT / "docs").rglob("*.md"))]
-    (known, faults), count = callers(), 0
+    # The paths of the modules and items of the crates of callers, and the items without a doc of their own.
+    known, faults, count = set(), [], 0
+    for source in (it for it in read().values() if it.crate in CALLERS):
+        known |= {source.path_of, *(f"{source.path_of}::{name}" for name in source.items)}
+        docs = [it.doc for it in source.items.values()]
+        faults += [f"{source.path_of}: {it.name} has no doc of its own" for it in source.items.values() if not it.doc or docs.count(it.doc) > 1]
     for page in pages:
         said, name = page.read_text(encoding="utf-8"), page.relative_to(ROOT)
         links = (it for it in LINK.findall(said) if "://" not in it)

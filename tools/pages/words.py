@@ -44,16 +44,14 @@ def prose_of(page: pathlib.Path) -> str:
     return text
 
 
-def comments_of(path: pathlib.Path) -> str:
-    """The comments of a file on their lines, but for names in backquotes."""
-    lines = [COMMENT.match(line) for line in path.read_text(encoding="utf-8").splitlines()]
-    return "\n".join(re.sub(r"`[^`]*`", "", line[1] or line[2] or "") if line else "" for line in lines)
-
-
 def main() -> int:
     pages = [it for names in PAGES for it in sorted(ROOT.glob(names)) if not OTHERS & set(it.relative_to(ROOT).parts)]
     sources = sorted([*ROOT.glob("crates/*/specs/**/*.antt"), *ROOT.glob("crates/*/src/**/*.rt"), ROOT / "bindings/exports.toml"])
-    texts = [*((it, prose_of(it)) for it in pages), *((it, comments_of(it)) for it in sources)]
+    texts = [(it, prose_of(it)) for it in pages]
+    for path in sources:
+        # The comments on their lines, but for names in backquotes.
+        lines = [COMMENT.match(line) for line in path.read_text(encoding="utf-8").splitlines()]
+        texts.append((path, "\n".join(re.sub(r"`[^`]*`", "", line[1] or line[2] or "") if line else "" for line in lines)))
     found = [f"{path.relative_to(ROOT)}:{number}: {word[0]}" for path, text in texts
              for number, line in enumerate(text.splitlines(), 1) for word in WORDS.finditer(line)]
     return ended(found, f"{len(found)} of the words on {len(pages)} pages and in comments")

@@ -21,15 +21,6 @@ HEADER = ROOT / "bindings" / "include" / "xmas_elf.h"
 ANSWERS = {"status": "uint32_t", "size": "size_t", "none": "void"}
 
 
-def printed(lines):
-    """What C prints of the structs, by these lines."""
-    source = '#include "xmas_elf.h"\n#include <stddef.h>\n#include <stdio.h>\nint main(void) {\n' + "\n".join(lines) + "\nreturn 0; }\n"
-    with tempfile.TemporaryDirectory() as room:
-        program = f"{room}/layout"
-        subprocess.run(["cc", "-x", "c", f"-I{HEADER.parent}", "-", "-o", program], input=source, text=True, check=True)
-        return subprocess.run([program], capture_output=True, text=True, check=True).stdout.split()
-
-
 def records_of(listed):
     """The layout of each struct: its size, and the place and the size of each member, and which record it is."""
     names = {struct.name for struct in listed.structs}
@@ -37,7 +28,13 @@ def records_of(listed):
     for struct in listed.structs:
         lines.append(f'printf("%zu\\n", sizeof({struct.c_type}));')
         lines += [f'printf("%zu %zu\\n", offsetof({struct.c_type}, {it.c_name}), sizeof((({struct.c_type} *)0)->{it.c_name}));' for it in struct.fields]
-    numbers, records = map(int, printed(lines)), {}
+    # What C prints of the structs, by these lines.
+    source = '#include "xmas_elf.h"\n#include <stddef.h>\n#include <stdio.h>\nint main(void) {\n' + "\n".join(lines) + "\nreturn 0; }\n"
+    with tempfile.TemporaryDirectory() as room:
+        program = f"{room}/layout"
+        subprocess.run(["cc", "-x", "c", f"-I{HEADER.parent}", "-", "-o", program], input=source, text=True, check=True)
+        printed = subprocess.run([program], capture_output=True, text=True, check=True).stdout
+    numbers, records = map(int, printed.split()), {}
     for struct in listed.structs:
         records[struct.name] = {"size": next(numbers), "members": [
             {"name": it.c_name, "at": next(numbers), "size": next(numbers), "record": it.type if it.type in names else None} for it in struct.fields]}
