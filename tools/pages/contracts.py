@@ -59,18 +59,6 @@ def lines() -> list:
     return found
 
 
-def lost(groups: list) -> list:
-    """The functions of the groups that aren't there, and the clauses that none of the functions of a group has."""
-    crates, found = [Crate(ROOT / "crates" / name) for name in LIBRARIES], []
-    heads = {one.path: crate.head(one) for crate in crates for one in crate.functions}
-    for group in groups:
-        own = {it: fnmatch.filter(heads, f"*::{it}") for it in group["of"]}
-        named = {it for names in own.values() for name in names for it in re.findall(r"ensures (\w+) {", heads[name])}
-        found += [it for it, names in own.items() if not names]
-        found += [it for it in (*group.get("clauses", ()), *group.get("but", ())) if it not in named]
-    return found
-
-
 def main() -> int:
     is_check, found = parser_of(__doc__).parse_args().check, lines()
     if not is_check:
@@ -80,7 +68,15 @@ def main() -> int:
     patterns = [pattern for group in reasons["reason"] for pattern in group["of"]]
     faults = [f"no reason: {line}" for line in found if not any(fnmatch.fnmatchcase(line, it) for it in patterns)]
     faults += [f"not in the list: {it}" for it in patterns if not fnmatch.filter(found, it)]
-    faults += [f"not in the sources: {it}" for it in lost(reasons["follows"])]
+    crates = [Crate(ROOT / "crates" / name) for name in LIBRARIES]
+    heads = {one.path: crate.head(one) for crate in crates for one in crate.functions}
+    # The functions of these groups that aren't there, and the clauses that none of the functions of a group has.
+    for group in reasons["follows"]:
+        own = {it: fnmatch.filter(heads, f"*::{it}") for it in group["of"]}
+        named = {it for names in own.values() for name in names for it in re.findall(r"ensures (\w+) {", heads[name])}
+        missing = [it for it, names in own.items() if not names]
+        missing += [it for it in (*group.get("clauses", ()), *group.get("but", ())) if it not in named]
+        faults += [f"not in the sources: {it}" for it in missing]
     return ended(faults, f"{REASONS.relative_to(ROOT)}: {len(found)} lines, {len(faults)} faults")
 
 

@@ -7,7 +7,6 @@ The words are those of WORDS. A page says instead that a call returns a value or
 code follows a chain. Code blocks, text in backquotes, link targets, comments and the generated parts of pages are not counted,
 since a word may be a name there. The comments of each crate count too, and those of the exports, which the header has.
 """
-import pathlib
 import re
 import sys
 
@@ -36,18 +35,15 @@ PARTS = (
 )
 
 
-def prose_of(page: pathlib.Path) -> str:
-    """A page with blanks in the place of all that isn't prose."""
-    text = page.read_text(encoding="utf-8")
-    for part in PARTS:
-        text = part.sub(lambda found: re.sub(r"[^\n]", " ", found[0]), text)
-    return text
-
-
 def main() -> int:
     pages = [it for names in PAGES for it in sorted(ROOT.glob(names)) if not OTHERS & set(it.relative_to(ROOT).parts)]
     sources = sorted([*ROOT.glob("crates/*/specs/**/*.antt"), *ROOT.glob("crates/*/src/**/*.rt"), ROOT / "bindings/exports.toml"])
-    texts = [(it, prose_of(it)) for it in pages]
+    texts = []
+    for page in pages:
+        text = page.read_text(encoding="utf-8")
+        for part in PARTS:
+            text = part.sub(lambda found: re.sub(r"[^\n]", " ", found[0]), text)
+        texts.append((page, text))
     for path in sources:
         # The comments on their lines, but for names in backquotes.
         lines = [COMMENT.match(line) for line in path.read_text(encoding="utf-8").splitlines()]
