@@ -134,7 +134,6 @@ fn push_symbols<E: Entry + Record>(
 }
 
 // Adds the runs of all pieces of a range of addresses.
-#[tactic(auto, using(crate::proofs::SplitRuns::none_inner, crate::proofs::SplitRuns::inner_step, crate::proofs::SplitRuns::all_inner))]
 fn push_runs<E: Entry + Record>(
     pieces: SymbolPieces<'_, '_, '_, E>,
     index: usize,
@@ -144,7 +143,7 @@ fn push_runs<E: Entry + Record>(
         (symbol_place pieces.entry) (symbol_limit pieces.entry) runs.old.items runs.new.items) }
 {
     for piece in pieces {
-        runs.push(symbol_run(index, &piece))?;
+        push_one(symbol_run(index, &piece), runs)?;
     }
     Ok(())
 }
