@@ -1,6 +1,6 @@
 -- The runs of a file with the bytes of sections by symbol, up to a place.
-use Rattle.std.proofs.Common.{◌≡◌, ℕ, ◌+◌, ◌-◌, ◌<◌, ◌≤◌, ◌==◌, Bool, true, false, List, [], ◌∷◌, ◌++◌, Option, None, Some, if◌then◌else◌, length, max, min, refl, ap, sym, subst, ◌∙◌, map, append_assoc, append-nil, arith}
-use Rattle.std.specs.List.{All, AllZip}
+use Rattle.std.proofs.Common.{◌≡◌, ℕ, ◌+◌, ◌-◌, ◌<◌, ◌≤◌, ◌==◌, Bool, true, false, List, [], ◌∷◌, ◌++◌, Option, None, Some, if◌then◌else◌, max, min, refl, ap, sym, subst, ◌∙◌, map, append_assoc, append-nil, arith}
+use Rattle.std.specs.List.{AllZip}
 use Rattle.std.proofs.lemmas.Bool.{eqb-true}
 use Rattle.std.proofs.lemmas.List.{map-append}
 use Rattle.std.proofs.lemmas.List.Elements.{All-append, All-cons, All-nil, All-push}
@@ -16,7 +16,7 @@ use Rattle.elf_addresses.specs.declared.pieces.Pieces.{Pieces}
 use Rattle.elf_addresses.specs.declared.symbol_pieces.SymbolPiece.{SymbolPiece}
 use Rattle.elf_addresses.specs.declared.symbol_pieces.SymbolPieces.{SymbolPieces}
 use Rattle.elfsize.specs.Parts.{numbered, run_of}
-use Rattle.elfsize.specs.Split.{AddsInner, AddsPiece, AreInner, AreInnerRuns, ArePieceRuns, AreRunsIn, AreSectionRuns, AreSmall, AreSplit, address_at, joined_runs, owner_section, rest_of, section_place, symbol_run}
+use Rattle.elfsize.specs.Split.{AddsInner, AddsPiece, AreInner, ArePieceRuns, AreRunsIn, AreSmall, AreSplit, address_at, joined_runs, owner_section, rest_of, section_place, symbol_run}
 use Rattle.elfsize.specs.Totals.{all_bytes, listed}
 use Rattle.elfsize.specs.declared.totals.Run.{Run}
 use Rattle.xmas_elf.specs.Symbol.{SymbolFields}

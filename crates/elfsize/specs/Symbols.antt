@@ -3,7 +3,6 @@
 use Rattle.std.specs.Prelude.{◌≡◌, ◌≢◌, ℕ, ◌≤◌, ◌<◌, ◌⊎◌, List, Option, None, Some, Result, Ok, Err, codes, slice_get}
 use Rattle.elf_addresses.specs.SymbolClaims.{symbol_count, symbol_items}
 use Rattle.elf_addresses.specs.Symtab.{IsSymtab, IsSymtabRefused, IsSymtabSection}
-use Rattle.elf_addresses.specs.declared.claim.Claim.{Claim}
 use Rattle.elf_base.specs.FileHeader.{file_class}
 use Rattle.elf_base.specs.Text.{bytes_up_to_zero_of}
 use Rattle.elfsize.specs.Parts.{AreRuns}
