@@ -76,6 +76,8 @@ FILES = {
     NOT_UTF8: STRTAB, "strtab.elf": STRTAB, "empty.elf": b"", "zeros.elf": bytes(16), "three.elf": STRTAB[:3],
     "link.elf": debug_link(), "hash.elf": hash_file(), "far.elf": larger(FAR, 2), "long.elf": larger(52, MANY),
     "linked.so": LINKED, "needs.so": NEEDS, "stripped.so": data("elfsym/data/stripped.so"), "places.so": PLACES,
+    # The same file with a symbol table of 239 bytes.
+    "parts.so": PLACES[:1648] + bytes([239]) + PLACES[1649:],
     # The versions with a record of their definitions that leads out of its segment.
     "cut.so": with_number(LINKED, 0x238 + 16, 1, 0xFF),
     **{f"damaged-{place}.so": with_number(NEEDS, place, 1, byte) for place, byte, _ in NEEDS_REFUSALS},
@@ -236,10 +238,11 @@ LOAD.fails({
     "zeros that cannot be written": ("shut.elf", "shut.elf: Load segment has zeros but is not readable and writable")})
 LOAD.add("a refused file between others", "counter zeros.elf library.so", 1, PLANS, f"elfload: zeros.elf: {NO_MAGIC}\n")
 
-SIZE_USAGE = "elfsize [--segments] <binary_path>.."
+SIZE_USAGE = "elfsize [--segments | --symbols] <binary_path>.."
 SIZE_HELP = f"""usage: {SIZE_USAGE}
 Prints how many bytes of each file belong to which part, the largest first.
 --segments  as if the file had no sections
+--symbols   bytes in sections by symbol; the line of a section is for the bytes in no symbol
 """
 # places.so without its section headers, by what `readelf -lW` shows of its segments.
 PLACES_SEGMENTS = """places.so
@@ -251,14 +254,39 @@ PLACES_SEGMENTS = """places.so
 16 0.88% segment 1
 1808 100.00% sum
 """
+# The same with the bytes of sections by symbol, by what `readelf -SW` and `readelf -sW` show: `alias` has the range of `last`.
+PLACES_SYMBOLS = """places.so
+704 38.93% section headers
+240 13.27% section 8 .symtab
+224 12.38% program headers
+176 9.73% section 6 .dynamic
+144 7.96% section 2 .dynsym
+84 4.64% section 10 .shstrtab
+64 3.53% ELF header
+56 3.09% section 1 .gnu.hash
+54 2.98% section 9 .strtab
+30 1.65% section 3 .dynstr
+8 0.44% section 7 .data
+8 0.44% symbol 9 value
+6 0.33% between parts
+4 0.22% symbol 8 outer
+2 0.11% symbol 5 last
+2 0.11% symbol 6 inner
+1 0.05% segment 0
+1 0.05% section 4 .text
+1808 100.00% sum
+"""
 SIZE = Program("elfsize", SIZE_USAGE, [], ["places.so"], PLACES_SIZES, PLACES)
-SIZE.misused({"segments of no file": "--segments"})
+SIZE.misused({"segments of no file": "--segments", "symbols of no file": "--symbols"})
 SIZE.prints({
     "help": ("--help", SIZE_HELP), "two files": ("places.so counter", SIZES), "segments": ("--segments places.so", PLACES_SEGMENTS),
+    "symbols": ("--symbols places.so", PLACES_SYMBOLS),
+    "symbols of a file without them": ("--symbols counter", SIZES[len(PLACES_SIZES) :]),
     "segments of class 32": (
         "--segments strtab.elf", "strtab.elf\n92 63.88% after all parts\n52 36.11% ELF header\n144 100.00% sum\n"),
     "a file of class 32": (
         "strtab.elf", "strtab.elf\n80 55.55% section headers\n52 36.11% ELF header\n12 8.33% section 1 .strtab\n144 100.00% sum\n")})
+SIZE.fails({"symbols that are no whole number": ("--symbols parts.so", "parts.so: Data is not a whole number of records")})
 SIZE.add("a refused file between others", "places.so zeros.elf counter", 1, SIZES, f"elfsize: zeros.elf: {NO_MAGIC}\n")
 
 PROGRAMS = [INFO, SYM, ADDR, BIND, LOAD, SIZE]
