@@ -14,14 +14,14 @@ use Rattle.elf_linking.specs.declared.scope.Bound.{Bound}
 use Rattle.elf_linking.specs.declared.view.tags.TheConstants.{DT_BIND_NOW, DT_FLAGS, DT_FLAGS_1}
 use Rattle.elf_loading.specs.Formulas.{formula_of, width_of}
 use Rattle.elf_loading.specs.Values.{bytes_of, value_of}
+use Rattle.elf_loading.specs.declared.error.LoadError.{LoadError}
+use Rattle.elf_loading.specs.declared.error.LoadError.TheVariants.{Link, WordType}
 use Rattle.elf_loading.specs.declared.formulas.Formula.{Formula}
 use Rattle.elf_loading.specs.declared.formulas.Formula.TheVariants as formulas
 use Rattle.elf_loading.specs.declared.in_order.Relocation.{Relocation}
 use Rattle.elf_loading.specs.declared.value.Terms.{Terms}
 use Rattle.elf_loading.specs.declared.words.Binding.{Binding}
 use Rattle.elf_loading.specs.declared.words.Binding.TheVariants.{Lazy, Now}
-use Rattle.elf_loading.specs.declared.words.ImageError.{ImageError}
-use Rattle.elf_loading.specs.declared.words.ImageError.TheVariants.{Link, WordType}
 use Rattle.elf_loading.specs.declared.words.Relocated.{Relocated}
 use Rattle.elf_loading.specs.declared.words.Word.{Word}
 use Rattle.elf_records.specs.declared.dynamic.Dynamic.{Dynamic}
@@ -114,12 +114,12 @@ value_word fields terms bound formula = let value = value_of fields terms bound 
     record { address = terms.address; width = bytes_of terms.width value; value = value }
 
 -- a result after one that may be an error of elf_linking
-abbrev pub and_link : {A B : Type 0} → Result A LinkError → (A → Result B ImageError) → Result B ImageError
+abbrev pub and_link : {A B : Type 0} → Result A LinkError → (A → Result B LoadError) → Result B LoadError
 and_link (Ok value) next = next value
 and_link (Err error) next = Err (Link error)
 
 -- the word of a relocation of the object at index `of`, by its formula and the symbol that it gets
-abbrev pub formula_word : {E : Type 0} → {r : _} → (E → SymbolFields) → ElfFile → DynamicObject E r → ℕ → Bool → Reference → Result (Option (Bound E)) LinkError → Option Formula → Result Word ImageError
+abbrev pub formula_word : {E : Type 0} → {r : _} → (E → SymbolFields) → ElfFile → DynamicObject E r → ℕ → Bool → Reference → Result (Option (Bound E)) LinkError → Option Formula → Result Word LoadError
 formula_word fields file own of in_place reference bound None = Err WordType
 formula_word fields file own of in_place reference bound (Some formula) =
     and_link (addend_of file in_place formula reference) (λ addend. and_link bound (λ symbol.
@@ -132,7 +132,7 @@ formula_word fields file own of in_place reference bound (Some formula) =
     }) symbol formula)))
 
 -- the word of a relocation of the object at index `of`, by the symbol that it gets
-abbrev pub word_of : {E : Type 0} → {r : _} → (E → SymbolFields) → ElfFile → DynamicObject E r → ℕ → Bool → Relocation → Result (Option (Bound E)) LinkError → Result Word ImageError
+abbrev pub word_of : {E : Type 0} → {r : _} → (E → SymbolFields) → ElfFile → DynamicObject E r → ℕ → Bool → Relocation → Result (Option (Bound E)) LinkError → Result Word LoadError
 word_of fields file own of lazy relocation bound = let machine = file_machine file in
     formula_word fields file own of (in_place_when machine lazy relocation) relocation.reference bound
     (formula_when machine lazy relocation)

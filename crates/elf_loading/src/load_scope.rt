@@ -1,0 +1,57 @@
+//! What relocations write to the memory of the objects of a scope.
+
+ghost use Rattle.std.specs.Prelude.{◌≡◌, ◌*◌, ◌<◌, MatchResult, IfOk, Ok, Err, length, slice_get};
+ghost use Rattle.elf_linking.specs.Scope.{scope_objects};
+ghost use Rattle.elf_loading.specs.ImageWords.{IsImageCheck};
+ghost use Rattle.elf_loading.specs.WordsLeft.{AreWordsOf, words_left, words_of};
+
+use crate::LoadError;
+use crate::image_words::check_image;
+use crate::words::{Binding, Words};
+use elf_linking::LinkError;
+use elf_linking::scope::Scope;
+use elf_linking::view::LinkedSymbol;
+
+/// What relocations write to the memory of the objects of a scope: the program, then its libraries
+/// in the order in which they are loaded.
+pub trait LoadScope<'s, 'a, E: LinkedSymbol> {
+    /// The words that the relocations of the object at index `of` write.
+    fn words(&self, of: usize, when: Binding) -> Result<Words<'s, 'a, E>, LinkError>;
+
+    /// Checks that the words of the object at index `of` can be written.
+    fn check_image(&self, of: usize, marks: &mut [u8]) -> Result<(), LoadError>;
+}
+
+impl<'s, 'a, E: LinkedSymbol> LoadScope<'s, 'a, E> for Scope<'s, 'a, E> {
+    /// The words that the relocations of the object at index `of` write.
+    ///
+    /// Errors: `ObjectIndex` if there is no object at `of`; those of `DynamicView::relr`; those of
+    /// `DynamicView::relocations`.
+    fn words(&self, of: usize, when: Binding) -> Result<Words<'s, 'a, E>, LinkError>
+        ensures exact { let answer = words_of (slice_get (scope_objects self.now).now of) in
+            MatchResult result (λ words. answer ≡ Ok (words_left words))
+            (λ error. answer ≡ Err error) }
+        ensures begun { IfOk result (AreWordsOf (scope_objects self.now) of when) }
+    {
+        Words::new(*self, of, when)
+    }
+
+    /// Checks that the words of the object at index `of` can be written before the program runs:
+    /// that its tables can be read, that each word is in the memory of one load segment, which is
+    /// writable, in no table, and not in another word. Jump slots get their symbols then.
+    ///
+    /// `marks` has at least a bit for each byte from the least address of a load segment to the
+    /// greatest; the span of a plan has as many or more. What it holds is overwritten.
+    ///
+    /// Errors: `Link` with `ObjectIndex` if there is no object at `of`; `Dynamic` to `Machine`, the
+    /// first of `LoadError` that applies; `Link` with those of `words`; `FewMarks`; then of the first
+    /// word that has one, `WordType` or `Link`, and `WordAddress` to `WordInTable`. The time is that
+    /// of `Scope::bind` for each relocation, and linear in the bytes of the words; each word is looked
+    /// for in the load segments.
+    fn check_image(&self, of: usize, marks: &mut [u8]) -> Result<(), LoadError>
+        ensures exact { IsImageCheck E.SIZE E.fields (scope_objects self.now).now of
+            (8 * length marks.old) result }
+    {
+        check_image(*self, of, marks)
+    }
+}
