@@ -1,6 +1,6 @@
 -- The bytes that relocations leave in memory (the processor supplements of the System V ABI; which words have no number,
 -- as glibc 2.36 writes them).
-use Rattle.std.specs.Prelude.{◌≡◌, ℕ, ◌+◌, ◌-◌, ◌*◌, ◌/◌, ◌%◌, ◌^◌, ◌<◌, ◌==◌, ◌&&◌, ◌||◌, not, nat_le, nat_lt, is_none, slice_get, slice_index, Bool, true, false, List, [], ◌∷◌, length, Option, None, Some, option_map, unwrap_or, Result, Ok, Err, IfOk, if◌then◌else◌}
+use Rattle.std.specs.Prelude.{◌≡◌, ℕ, ◌+◌, ◌-◌, ◌*◌, ◌/◌, ◌%◌, ◌^◌, ◌<◌, ◌==◌, ◌&&◌, ◌||◌, not, min, nat_le, nat_lt, is_none, slice_get, slice_index, Bool, true, false, List, [], ◌∷◌, length, Option, None, Some, option_map, unwrap_or, Result, Ok, Err, IfOk, if◌then◌else◌}
 use Rattle.std.specs.Borrow.{Bor}
 use Rattle.elf_base.specs.FileHeader.{file_order}
 use Rattle.elf_base.specs.Refusal.{and_then, unless}
@@ -204,3 +204,18 @@ abbrev pub IsRelocationAt : {E : Type 0} → {r : _} → (E → SymbolFields) �
 IsRelocationAt fields sources None when before after result = (result ≡ Err (error.Link ObjectIndex)) × (after ≡ before)
 IsRelocationAt fields sources (Some own) when before after result = IsRelocation fields sources own
     (binds_lazily (view_entries (object_view own)) when) before after result
+
+abbrev pub order_of : {E : Type 0} → {r : _} → Option (DynamicObject E r) → Order
+order_of None = Little
+order_of (Some own) = file_order (object_file own).header
+
+abbrev pub IsRelocationIn : {E : Type 0} → {r : _} → (E → SymbolFields) → List (DynamicObject E r) → ℕ → Binding → ℕ → List Place → List (Bor (List ℕ)) → List ℕ → List ℕ → Result ℕ LoadError → Type 0
+IsRelocationIn fields objects of when page places images before after result = let own = slice_get objects of in
+    IsRelocationAt fields (record {
+      page = page;
+      objects = objects;
+      of = of;
+      order = order_of own;
+      places = places;
+      images = images;
+    }) own when before after result

@@ -3,10 +3,12 @@
 ghost use Rattle.std.specs.Prelude.{◌≡◌, ◌*◌, ◌<◌, MatchResult, IfOk, Ok, Err, length, slice_get};
 ghost use Rattle.elf_linking.specs.Scope.{scope_objects};
 ghost use Rattle.elf_loading.specs.ImageWords.{IsImageCheck};
+ghost use Rattle.elf_loading.specs.Relocate.{IsRelocationIn};
 ghost use Rattle.elf_loading.specs.WordsLeft.{AreWordsOf, words_left, words_of};
 
 use crate::LoadError;
 use crate::image_words::check_image;
+use crate::relocate::{Place, relocate};
 use crate::words::{Binding, Words};
 use elf_linking::LinkError;
 use elf_linking::scope::Scope;
@@ -20,6 +22,18 @@ pub trait LoadScope<'s, 'a, E: LinkedSymbol> {
 
     /// Checks that the words of the object at index `of` can be written.
     fn check_image(&self, of: usize, marks: &mut [u8]) -> Result<(), LoadError>;
+
+    /// Writes the words of the object at index `of` to its image.
+    fn relocate(
+        &self,
+        of: usize,
+        when: Binding,
+        page: u64,
+        places: &[Place],
+        others: &[&[u8]],
+        image: &mut [u8],
+    ) -> Result<u64, LoadError>
+        requires { 0 < page };
 }
 
 impl<'s, 'a, E: LinkedSymbol> LoadScope<'s, 'a, E> for Scope<'s, 'a, E> {
@@ -53,5 +67,35 @@ impl<'s, 'a, E: LinkedSymbol> LoadScope<'s, 'a, E> for Scope<'s, 'a, E> {
             (8 * length marks.old) result }
     {
         check_image(*self, of, marks)
+    }
+
+    /// Writes the words of the object at index `of` to its image, and returns how many have no
+    /// number: what a function returns, which the caller must call, and descriptors of thread-local
+    /// storage. Their bytes stay as they are.
+    ///
+    /// `image` holds the bytes of the span as `LoadPlan::fill` writes them, with pages of `page` bytes.
+    /// `places` and `others` have an element for each object of the scope, `others` the images of the
+    /// objects whose bytes are copied (R_X86_64_COPY); these must be relocated before. The images of
+    /// other objects, and that at `of`, may be empty.
+    ///
+    /// Errors: `Link` with `ObjectIndex` if there is no object at `of`; `ImageSize` if `image` is not
+    /// of the size of the span, or there are not as many places or images as objects; `Link` with
+    /// those of `words`; then of the first word that has one, `WordType` or `Link`, `Unresolved`,
+    /// `WordAddress` and `CopySource`. The words before it are written.
+    fn relocate(
+        &self,
+        of: usize,
+        when: Binding,
+        page: u64,
+        places: &[Place],
+        others: &[&[u8]],
+        image: &mut [u8],
+    ) -> Result<u64, LoadError>
+        requires { 0 < page }
+        ensures exact { let objects = (scope_objects self.now).now in
+            IsRelocationIn E.fields objects of when page places.now others.now image.old image.new
+            result }
+    {
+        relocate(*self, of, when, page, places, others, image)
     }
 }

@@ -90,7 +90,7 @@ pub(crate) fn flag_in(flags: Option<u64>, flag: u64) -> bool
 }
 
 // Whether jump slots of a file get their symbols when they are called first.
-fn binds_lazily(view: &DynamicView<'_>, when: Binding) -> bool
+pub(crate) fn binds_lazily(view: &DynamicView<'_>, when: Binding) -> bool
     ensures { result ≡ binds_lazily (view_entries view.now) when }
 {
     match when {
