@@ -18,3 +18,5 @@ pub mod Relro
 pub mod Numbers
 pub mod Reasons
 pub mod InOrders
+pub mod NumberBytes
+pub mod Written

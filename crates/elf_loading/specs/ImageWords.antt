@@ -123,7 +123,7 @@ pub record AreMarksOf (start : ℕ) (words : List Word) (marks : List ℕ) : Typ
 -- a result of elf_linking, with its error in `Link`
 abbrev pub as_load_error : {A : Type 0} → Result A LinkError → Result A LoadError
 as_load_error (Ok value) = Ok value
-as_load_error (Err error) = Err (error.Link error)
+as_load_error (Err reason) = Err (error.Link reason)
 
 -- the relocations of an object whose tables can be used, where `bits` marks are enough; or the first reason why not
 abbrev pub checked_relocations : {E : Type 0} → {r : _} → ℕ → DynamicObject E r → ℕ → Result (List Relocation) LoadError

@@ -92,9 +92,8 @@ impl<'s, 'a, E: LinkedSymbol> LoadScope<'s, 'a, E> for Scope<'s, 'a, E> {
         image: &mut [u8],
     ) -> Result<u64, LoadError>
         requires { 0 < page }
-        ensures exact { let objects = (scope_objects self.now).now in
-            IsRelocationIn E.fields objects of when page places.now others.now image.old image.new
-            result }
+        ensures exact { IsRelocationIn E.fields (scope_objects self.now) of when page places.entry
+            others.entry image.old image.new result }
     {
         relocate(*self, of, when, page, places, others, image)
     }

@@ -8,6 +8,7 @@ mod messages;
 mod plans;
 mod refusals;
 mod relocated_files;
+mod relocated_images;
 mod rows;
 mod want;
 mod words;
