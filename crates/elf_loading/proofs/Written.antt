@@ -35,7 +35,7 @@ count_more : {A : Type 0} (p : A → Bool) (items : List A) (item : A) (lacks : 
     → count ≡ min (count_by p items) (2 ^ 64 - 1) → min (count + cond lacks 1 0) (2 ^ 64 - 1) ≡ min (count_by p (items ++ item ∷ [])) (2 ^ 64 - 1)
 count_more p items item lacks count is counted =
     let sum : count_by p (items ++ item ∷ []) ≡ count_by p items + (0 + cond (p item) 1 0) = sum_by-append (λ x. cond (p x) 1 0) items (item ∷ []) in
-    let one : cond (p item) 1 0 ≡ cond lacks 1 0 = ap (λ b. cond b 1 0) is in
+    let one : ◌≡◌ {A = ℕ} (cond (p item) 1 0) (cond lacks 1 0) = ap (λ b. cond b 1 0) is in
     rw (sum, one) (omega (arith, counted))
 
 -- a word that is written lacks a number as the call says
@@ -91,6 +91,12 @@ module _ {E : Type 0} {r : _} (sources : Sources E r) (word : Word) (start i old
       by_second false c is = refl
 
 module _ {E : Type 0} {r : _} (fields : E → SymbolFields) (sources : Sources E r) (own : DynamicObject E r) (lazy : Bool) (relocations : List Relocation) (before : List ℕ) where
+  abbrev worded : Relocated E → Type 0
+  worded item = HasWord fields sources.objects.now (object_file own) own sources.of lazy item
+
+  abbrev writable : Relocated E → Type 0
+  writable item = IsOk (write_item fields sources own lazy (length before) item)
+
   -- the words of the items are written, and `left` are the relocations after them
   pub record SoFar (left : List Relocation) (after : List ℕ) (count : ℕ) : Type 0 where
     pub items : List (Relocated E)
@@ -102,8 +108,8 @@ module _ {E : Type 0} {r : _} (fields : E → SymbolFields) (sources : Sources E
     items = [];
     split = sym is;
     written = record {
-      have_words = All-nil _;
-      can_be = All-nil _;
+      have_words = All-nil worded;
+      can_be = All-nil writable;
       counted = omega arith;
       same_size = refl;
       bytes = λ i below. no_byte sources (start_at sources sources.of + i) (slice_index before i);
@@ -124,8 +130,8 @@ module _ {E : Type 0} {r : _} (fields : E → SymbolFields) (sources : Sources E
           split = so_far.split ∙ ap (λ rest. map relocation_of so_far.items ++ rest) first
               ∙ sym (append_assoc (map relocation_of so_far.items) (item.relocation ∷ []) later) ∙ ap (λ some. some ++ later) (sym (map-append relocation_of so_far.items (item ∷ [])));
           written = record {
-            have_words = All-append _ so_far.items (item ∷ []) written.have_words (All-cons _ item [] is (All-nil _));
-            can_be = All-append _ so_far.items (item ∷ []) written.can_be (All-cons _ item [] (is_ok _ lacks same) (All-nil _));
+            have_words = All-append worded so_far.items (item ∷ []) written.have_words (All-cons worded item [] is (All-nil worded));
+            can_be = All-append writable so_far.items (item ∷ []) written.can_be (All-cons writable item [] (is_ok _ lacks same) (All-nil writable));
             counted = count_more (λ one. lacks_number one.word) so_far.items item lacks count word_lacks written.counted;
             same_size = len ∙ written.same_size;
             bytes = λ i below. bytes i ∙ ap (word_byte sources (start_at sources sources.of + i) item.word) (written.bytes i below)

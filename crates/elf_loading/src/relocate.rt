@@ -362,7 +362,8 @@ impl<'b, 's, 'a, E: LinkedSymbol> Sources<'b, 's, 'a, E> {
     ) -> Result<u64, LoadError>
         requires page { 0 < self.now.page }
         requires words { AreWordsFor self.now.objects.now own.now self.now.of lazy words }
-        ensures { IsWriting E.fields self.now own.now lazy (words_left words) image.old image.new result }
+        ensures { IsWriting E.fields self.now own.now lazy (words_left words.entry) image.old
+            image.new result }
     {
         let start = self.start_at(self.of);
         let mut count = 0u64;
@@ -416,7 +417,7 @@ pub(crate) fn relocate<E: LinkedSymbol>(
     image: &mut [u8],
 ) -> Result<u64, LoadError>
     requires { 0 < page }
-    ensures { IsRelocationIn E.fields (scope_objects scope) of when page places.entry others.entry
+    ensures { IsRelocationIn E.fields (scope_objects scope.entry) of when page places.entry others.entry
         image.old image.new result }
 {
     let objects = scope.objects();

@@ -1,4 +1,4 @@
-use Rattle.std.proofs.Common.{arith}
+use Rattle.std.proofs.Common.{◌+◌, arith}
 use Rattle.elf_loading.proofs.Rounded.{down_le}
 use Rattle.elf_loading.proofs.relocate.end_up.Goals as goal
 
