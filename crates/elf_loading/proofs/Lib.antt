@@ -20,3 +20,4 @@ pub mod Reasons
 pub mod InOrders
 pub mod NumberBytes
 pub mod Written
+pub mod OneWords

@@ -1,23 +1,30 @@
 -- The words that are written so far.
 use Rattle.std.proofs.Common.{◌≡◌, ℕ, ◌+◌, ◌-◌, ◌^◌, ◌<◌, ◌++◌, ◌&&◌, nat_le, nat_lt, inl, inr, Bool, true, false, List, [], ◌∷◌, length, map, slice_index, Result, Ok, Err, if◌then◌else◌, cond, refl, sym, ap, ◌∙◌, subst, arith, append_assoc, append-nil}
-use Rattle.std.specs.Prelude.{All, IsOk, min}
+use Rattle.std.specs.Borrow.{Bor}
+use Rattle.std.specs.Prelude.{All, IsOk, MatchResult, None, Option, Some, min, slice_get}
 use Rattle.std.specs.List.{count_by}
 use Rattle.std.proofs.lemmas.Bool.{cases_lt, le-leb, le-ltb, lt-leb, lt-ltb}
 use Rattle.std.proofs.lemmas.List.{map-append}
 use Rattle.std.proofs.lemmas.List.Elements.{All-append, All-cons, All-nil}
 use Rattle.std.proofs.lemmas.List.Sums.{sum_by-append}
 use Rattle.elf_base.specs.Refusal.{and_then, unless}
-use Rattle.elf_linking.specs.DynamicObject.{object_file}
+use Rattle.elf_base.specs.FileHeader.{file_order}
+use Rattle.elf_base.specs.declared.bytes.Order.{Order}
+use Rattle.elf_linking.specs.DynamicObject.{object_file, object_view}
+use Rattle.elf_linking.specs.DynamicView.{view_entries}
 use Rattle.elf_linking.specs.declared.object.DynamicObject.{DynamicObject}
-use Rattle.elf_loading.specs.Relocate.{AreWritten, IsWriting, all, has_no_number, is_copy_outside, is_outside, is_unresolved, lacks_number, relocated_byte, some, start_at, value_byte, word_byte, write_item}
-use Rattle.elf_loading.specs.Words.{HasWord}
-use Rattle.elf_loading.specs.WordsLeft.{relocation_of}
+use Rattle.elf_loading.specs.Relocate.{AreWordsFor, AreWritten, IsRelocation, IsRelocationAt, IsRelocationIn, IsWriting, all, has_no_number, is_copy_outside, is_outside, is_unresolved, is_wrong_size, lacks_number, relocated_byte, sized_relocations, some, start_at, value_byte, word_byte, write_item}
+use Rattle.elf_loading.specs.Words.{HasWord, binds_lazily}
+use Rattle.elf_loading.specs.WordsLeft.{IsSame, relocation_of, words_file, words_index, words_lazy, words_objects, words_of, words_own}
 use Rattle.elf_loading.specs.declared.error.LoadError.{LoadError}
 use Rattle.elf_loading.specs.declared.error.LoadError.TheVariants as error
 use Rattle.elf_loading.specs.declared.in_order.Relocation.{Relocation}
 use Rattle.elf_loading.specs.declared.relocate.Sources.{Sources}
 use Rattle.elf_loading.specs.declared.words.Relocated.{Relocated}
+use Rattle.elf_loading.specs.declared.words.Binding.{Binding}
 use Rattle.elf_loading.specs.declared.words.Word.{Word}
+use Rattle.elf_loading.specs.declared.words.Words.{Words}
+use Rattle.elf_loading.specs.declared.relocate.Place.{Place}
 use Rattle.xmas_elf.specs.Symbol.{SymbolFields}
 
 -- one word more
@@ -31,11 +38,15 @@ no_byte : {E : Type 0} {r : _} (sources : Sources E r) (address old : ℕ) → o
 unfolding relocated_byte
 no_byte sources address old = refl
 
+as_if : (b : Bool) → ◌≡◌ {A = ℕ} (cond b 1 0) (if b then 1 else 0)
+as_if true = refl
+as_if false = refl
+
 count_more : {A : Type 0} (p : A → Bool) (items : List A) (item : A) (lacks : Bool) (count : ℕ) → p item ≡ lacks
-    → count ≡ min (count_by p items) (2 ^ 64 - 1) → min (count + cond lacks 1 0) (2 ^ 64 - 1) ≡ min (count_by p (items ++ item ∷ [])) (2 ^ 64 - 1)
+    → count ≡ min (count_by p items) (2 ^ 64 - 1) → min (count + (if lacks then 1 else 0)) (2 ^ 64 - 1) ≡ min (count_by p (items ++ item ∷ [])) (2 ^ 64 - 1)
 count_more p items item lacks count is counted =
     let sum : count_by p (items ++ item ∷ []) ≡ count_by p items + (0 + cond (p item) 1 0) = sum_by-append (λ x. cond (p x) 1 0) items (item ∷ []) in
-    let one : ◌≡◌ {A = ℕ} (cond (p item) 1 0) (cond lacks 1 0) = ap (λ b. cond b 1 0) is in
+    let one : ◌≡◌ {A = ℕ} (cond (p item) 1 0) (if lacks then 1 else 0) = ap (λ b. cond b 1 0) is ∙ as_if lacks in
     rw (sum, one) (omega (arith, counted))
 
 -- a word that is written lacks a number as the call says
@@ -90,6 +101,28 @@ module _ {E : Type 0} {r : _} (sources : Sources E r) (word : Word) (start i old
       by_second true c is = rw is refl
       by_second false c is = refl
 
+-- The iterator's object stays the same.
+
+module _ {E : Type 0} {r : _} (objects : List (DynamicObject E r)) (own : DynamicObject E r) (of : ℕ) (lazy : Bool) where
+  pub still_words : (words later : Words E r) → IsSame words later → AreWordsFor objects own of lazy words → AreWordsFor objects own of lazy later
+  still_words words later same are = record {
+    objects_are = ap (λ lent. lent.now) same.0 ∙ are.objects_are;
+    own_is = same.2 ∙ are.own_is;
+    file_is = same.1 ∙ are.file_is;
+    index_is = same.3 ∙ are.index_is;
+    lazy_is = same.4 ∙ are.lazy_is;
+  }
+
+  pub has_word : (fields : E → SymbolFields) (words : Words E r) (item : Relocated E) → AreWordsFor objects own of lazy words
+      → HasWord fields (words_objects words).now (words_file words) (words_own words) (words_index words) (words_lazy words) item
+      → HasWord fields objects (object_file own) own of lazy item
+  has_word fields words item are is =
+      let one = subst (λ some. HasWord fields some (words_file words) (words_own words) (words_index words) (words_lazy words) item) are.objects_are is in
+      let two = subst (λ file. HasWord fields objects file (words_own words) (words_index words) (words_lazy words) item) are.file_is one in
+      let three = subst (λ object. HasWord fields objects (object_file own) object (words_index words) (words_lazy words) item) are.own_is two in
+      let four = subst (λ index. HasWord fields objects (object_file own) own index (words_lazy words) item) are.index_is three in
+      subst (λ later. HasWord fields objects (object_file own) own of later item) are.lazy_is four
+
 module _ {E : Type 0} {r : _} (fields : E → SymbolFields) (sources : Sources E r) (own : DynamicObject E r) (lazy : Bool) (relocations : List Relocation) (before : List ℕ) where
   abbrev worded : Relocated E → Type 0
   worded item = HasWord fields sources.objects.now (object_file own) own sources.of lazy item
@@ -120,7 +153,7 @@ module _ {E : Type 0} {r : _} (fields : E → SymbolFields) (sources : Sources E
     -- after one more
     pub more_written : (after : List ℕ) (lacks : Bool) → length after ≡ length now → Ok lacks ≡ write_item fields sources own lazy (length now) item
         → ((i : ℕ) → slice_index after i ≡ word_byte sources (start_at sources sources.of + i) item.word (slice_index now i))
-        → SoFar later after (min (count + cond lacks 1 0) (2 ^ 64 - 1))
+        → SoFar later after (min (count + (if lacks then 1 else 0)) (2 ^ 64 - 1))
     more_written after lacks len can bytes =
         let written = so_far.written in
         let same : write_item fields sources own lazy (length before) item ≡ Ok lacks = ap (λ n. write_item fields sources own lazy n item) (sym written.same_size) ∙ sym can in
@@ -152,3 +185,25 @@ module _ {E : Type 0} {r : _} (fields : E → SymbolFields) (sources : Sources E
   pub all_written : (left : List Relocation) (after : List ℕ) (count : ℕ) → left ≡ [] → SoFar left after count → IsWriting fields sources own lazy relocations before after (Ok count)
   all_written left after count end so_far =
       all so_far.items count (so_far.split ∙ ap (λ rest. map relocation_of so_far.items ++ rest) end ∙ append-nil _) so_far.written refl
+
+-- The call.
+
+module _ {E : Type 0} {r : _} (fields : E → SymbolFields) (sources : Sources E r) (own : DynamicObject E r) (lazy : Bool) (before after : List ℕ) where
+  pub is_written : (result : Result ℕ LoadError) (relocations : List Relocation) → is_wrong_size sources own (length before) ≡ false
+      → words_of (Some own) ≡ Ok relocations → IsWriting fields sources own lazy relocations before after result
+      → IsRelocation fields sources own lazy before after result
+  is_written result relocations right are writing =
+      let sized : sized_relocations sources own (length before) ≡ Ok relocations = rw (right, are) refl in
+      subst (λ said. MatchResult said (λ all_of. IsWriting fields sources own lazy all_of before after result) (λ reason. (result ≡ Err reason) × (after ≡ before))) (sym sized) writing
+
+module _ {E : Type 0} {r : _} (fields : E → SymbolFields) (objects : Bor (List (DynamicObject E r))) (of : ℕ) (when : Binding) (page : ℕ) (places : Bor (List Place)) (images : Bor (List (Bor (List ℕ)))) (before after : List ℕ) (own : DynamicObject E r) where
+  abbrev of_order : Order → Sources E r
+  of_order order = record { objects = objects; page = page; of = of; order = order; places = places; images = images }
+
+  pub is_relocated : (result : Result ℕ LoadError) (sources : Sources E r) → slice_get objects.now of ≡ Some own
+      → sources ≡ of_order (file_order (object_file own).header)
+      → IsRelocation fields sources own (binds_lazily (view_entries (object_view own)) when) before after result
+      → IsRelocationIn fields objects of when page places images before after result
+  is_relocated result sources there same relocation =
+      subst (λ found. IsRelocationAt fields of_order found when before after result) (sym there)
+      (subst (λ from. IsRelocation fields from own (binds_lazily (view_entries (object_view own)) when) before after result) same relocation)

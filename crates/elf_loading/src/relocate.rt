@@ -1,19 +1,21 @@
 //! The bytes that relocations write to the image of an object.
 
 ghost use Rattle.std.specs.Prelude.{◌≡◌, ◌<◌, ◌≤◌, ◌+◌, ◌-◌, ◌==◌, ◌&&◌, ◌||◌, ◌*◌, ◌/◌, ◌%◌, ◌^◌, length, not, nat_le, nat_lt};
-ghost use Rattle.std.specs.Prelude.{false, if◌then◌else◌, slice_index, true, Err, IfErr, IfOk, MatchOption};
+ghost use Rattle.std.specs.Prelude.{false, if◌then◌else◌, slice_index, true, Err, IfErr, IfOk, MatchOption, Some, min};
 ghost use Rattle.std.specs.Prelude.{Ok, slice_get, ℕ};
 ghost use Rattle.elf_base.specs.Table.{table_items};
-ghost use Rattle.elf_linking.specs.DynamicObject.{object_records};
+ghost use Rattle.elf_linking.specs.DynamicObject.{object_records, object_view};
+ghost use Rattle.elf_linking.specs.DynamicView.{view_entries};
 ghost use Rattle.elf_linking.specs.Scope.{scope_objects};
 ghost use Rattle.elf_loading.specs.Pages.{up};
-ghost use Rattle.elf_loading.specs.Relocate.{AreWordsFor, IsRelocationIn, IsWriting, byte_of_number};
+ghost use Rattle.elf_loading.specs.Relocate.{AreWordsFor, IsRelocation, IsRelocationIn, IsWriting, byte_of_number, is_wrong_size};
 ghost use Rattle.elf_loading.specs.Relocate.{has_no_number, image_at, is_copy_outside};
 ghost use Rattle.elf_loading.specs.Relocate.{is_outside, is_unresolved, is_weak};
 ghost use Rattle.elf_loading.specs.Relocate.{origin_sum, place_at, start_at, value_byte};
 ghost use Rattle.elf_loading.specs.Relocate.{value_number, word_byte, write_item, write_word};
 ghost use Rattle.elf_loading.specs.Segments.{loads_of};
-ghost use Rattle.elf_loading.specs.Spans.{first_start, last_end, span_of};
+ghost use Rattle.elf_loading.specs.Spans.{first_start, last_end};
+ghost use Rattle.elf_loading.specs.Words.{binds_lazily};
 ghost use Rattle.elf_loading.specs.WordsLeft.{words_left};
 ghost use Rattle.elf_loading.specs.declared.error.LoadError.TheVariants.{CopySource};
 ghost use Rattle.xmas_elf.specs.ProgramTable.{program_table_file};
@@ -168,6 +170,17 @@ fn has_no_number(value: &Value) -> bool
         }
         Value::Descriptor { .. } => true,
         _ => false,
+    }
+}
+
+// A number of words, with one more that may lack a number.
+fn counted(count: u64, lacks: bool) -> u64
+    ensures { result ≡ min (count + (if lacks then 1 else 0)) (2 ^ 64 - 1) }
+{
+    if lacks {
+        count.saturating_add(1)
+    } else {
+        count
     }
 }
 
@@ -369,7 +382,7 @@ impl<'b, 's, 'a, E: LinkedSymbol> Sources<'b, 's, 'a, E> {
         let mut count = 0u64;
         for item in words {
             match self.write_item(own, lazy, start, image, &item) {
-                Ok(lacks) => count = count.saturating_add(u64::from(lacks)),
+                Ok(lacks) => count = counted(count, lacks),
                 Err(error) => return Err(error),
             }
         }
@@ -378,17 +391,39 @@ impl<'b, 's, 'a, E: LinkedSymbol> Sources<'b, 's, 'a, E> {
 
     // Whether an image of this size is not that of an object, or there are not as many places or
     // images as objects.
-    fn is_wrong_size(&self, table: ProgramTable<'_, '_>, len: usize) -> bool
+    fn is_wrong_size(&self, own: &DynamicObject<'a, E>, len: usize) -> bool
         requires { 0 < self.now.page }
-        ensures { let span = span_of self.now.page (loads_of (program_table_file table.entry)) in
-            result ≡ (not (len == span.end - span.start)
-            || (not (length self.now.places.now == length self.now.objects.now)
-            || not (length self.now.images.now == length self.now.objects.now))) }
+        ensures { result ≡ is_wrong_size self.now own.now len }
     {
+        let file = own.file();
+        let table = file.program_table();
         let start = u128::from(first_start(self.page, table));
         let size = last_end(self.page, table).saturating_sub(start);
         let count = self.objects.len();
         len as u128 != size || self.places.len() != count || self.images.len() != count
+    }
+
+    // Writes the words of the own object to its image.
+    fn relocate(
+        &self,
+        scope: Scope<'s, 'a, E>,
+        own: &DynamicObject<'a, E>,
+        when: Binding,
+        image: &mut [u8],
+    ) -> Result<u64, LoadError>
+        requires page { 0 < self.now.page }
+        requires scope { scope_objects scope ≡ self.now.objects }
+        requires own { slice_get self.now.objects.now self.now.of ≡ Some own.now }
+        ensures { IsRelocation E.fields self.now own.now
+            (binds_lazily (view_entries (object_view own.now)) when) image.old image.new result }
+    {
+        if self.is_wrong_size(own, image.len()) {
+            return Err(LoadError::ImageSize);
+        }
+        match Words::new(scope, self.of, when) {
+            Ok(words) => self.write_words(own, binds_lazily(&own.view(), when), words, image),
+            Err(error) => Err(LoadError::Link(error)),
+        }
     }
 }
 
@@ -424,22 +459,13 @@ pub(crate) fn relocate<E: LinkedSymbol>(
     let Some(own) = objects.get(of) else {
         return Err(LoadError::Link(LinkError::ObjectIndex));
     };
-    let file = own.file();
     let sources = Sources {
         objects,
         page,
         of,
-        order: file.byte_order(),
+        order: own.file().byte_order(),
         places,
         images: others,
     };
-    if sources.is_wrong_size(file.program_table(), image.len()) {
-        return Err(LoadError::ImageSize);
-    }
-    let words = match Words::new(scope, of, when) {
-        Ok(words) => words,
-        Err(error) => return Err(LoadError::Link(error)),
-    };
-    let lazy = binds_lazily(&own.view(), when);
-    sources.write_words(own, lazy, words, image)
+    sources.relocate(scope, own, when, image)
 }
