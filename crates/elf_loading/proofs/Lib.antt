@@ -18,3 +18,8 @@ pub mod Relro
 pub mod Numbers
 pub mod Reasons
 pub mod InOrders
+pub mod ImageTables
+pub mod ImageLoads
+pub mod Marks
+pub mod ImageChecks
+pub mod ImagePasses
