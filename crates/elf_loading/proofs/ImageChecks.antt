@@ -30,16 +30,17 @@ ok_last (Ok x) = refl
 ok_last (Err e) = refl
 
 module _ (loads : List ProgramHeader64) (text : Bool) (tables : List Extent) where
+  then_by : (r : Result (List Word) LoadError) (words : List (Result Word LoadError)) (word : Result Word LoadError)
+      → ((after : List Word) → check_words loads text tables after (words ++ (word ∷ [])) ≡ and_then (check_words loads text tables after words) (λ last. check_word loads text tables last word))
+      → and_then r (λ after. check_words loads text tables after (words ++ (word ∷ []))) ≡ and_then (and_then r (λ after. check_words loads text tables after words)) (λ after. check_word loads text tables after word)
+  then_by (Ok after) words word more = more after
+  then_by (Err error) words word more = refl
+
   checked_after : (before : List Word) (words : List (Result Word LoadError)) (word : Result Word LoadError)
       → check_words loads text tables before (words ++ (word ∷ [])) ≡ and_then (check_words loads text tables before words) (λ after. check_word loads text tables after word)
   unfolding check_words
   checked_after before [] word = ok_last (check_word loads text tables before word)
-  checked_after before (first ∷ words) word = by (check_word loads text tables before first)
-    where
-      by : (r : Result (List Word) LoadError) → and_then r (λ after. check_words loads text tables after (words ++ (word ∷ [])))
-          ≡ and_then (and_then r (λ after. check_words loads text tables after words)) (λ after. check_word loads text tables after word)
-      by (Ok after) = checked_after after words word
-      by (Err error) = refl
+  checked_after before (first ∷ words) word = then_by (check_word loads text tables before first) words word (λ after. checked_after after words word)
 
   checked_none : check_words loads text tables [] [] ≡ Ok []
   unfolding check_words

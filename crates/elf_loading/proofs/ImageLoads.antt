@@ -1,6 +1,7 @@
 -- The load that has a word, and the memory of all loads, load by load.
 use Rattle.std.proofs.Common.{◌≡◌, ℕ, zero, suc, ◌+◌, ◌≤◌, Bool, true, false, List, [], ◌∷◌, Option, Some, None, if◌then◌else◌, min, max, refl, sym, ap, ◌∙◌, subst, arith}
 use Rattle.std.proofs.lemmas.Bool.{and_parts, leb-true}
+use Rattle.std.proofs.lemmas.Option.{same_Some}
 use Rattle.std.specs.Prelude.{nat_le}
 use Rattle.std.specs.List.{find}
 use Rattle.elf_loading.specs.ImageWords.{highest, holds_word, lowest, marks_count, marks_start}
@@ -49,22 +50,25 @@ pub record IsWithin (word : Word) (low high : ℕ) (load : ProgramHeader64) : Ty
   pub begins : load.virtual_addr ≤ word.address
   pub ends : word.address + word.width ≤ load.virtual_addr + load.mem_size
 
+module _ (word : Word) (from to : ℕ) (first : ProgramHeader64) (loads : List ProgramHeader64) (load : ProgramHeader64) where
+  within_by : (b : Bool) → holds_word word first ≡ b → (find (holds_word word) loads ≡ Some load → IsWithin word (lowest (min from first.virtual_addr) loads) (highest (max to (first.virtual_addr + first.mem_size)) loads) load)
+      → (if b then Some first else find (holds_word word) loads) ≡ Some load → IsWithin word (lowest from (first ∷ loads)) (highest to (first ∷ loads)) load
+  within_by false held later found = later found
+  within_by true held later found =
+      let both = and_parts (nat_le first.virtual_addr word.address) (nat_le (word.address + word.width) (first.virtual_addr + first.mem_size)) held in
+      let begins : first.virtual_addr ≤ word.address = leb-true _ _ both.0 in
+      let ends : word.address + word.width ≤ first.virtual_addr + first.mem_size = leb-true _ _ both.1 in
+      let low : lowest (min from first.virtual_addr) loads ≤ min from first.virtual_addr = lowest_below (min from first.virtual_addr) loads in
+      let high : max to (first.virtual_addr + first.mem_size) ≤ highest (max to (first.virtual_addr + first.mem_size)) loads = highest_above (max to (first.virtual_addr + first.mem_size)) loads in
+      let same : first ≡ load = same_Some first load found in
+      subst (λ one. IsWithin word (lowest from (first ∷ loads)) (highest to (first ∷ loads)) one) same (record {
+        above = omega (arith, low, begins);
+        below = omega (arith, high, ends);
+        begins = begins;
+        ends = ends;
+      })
+
 pub held_within : (word : Word) (from to : ℕ) (loads : List ProgramHeader64) (load : ProgramHeader64) → find (holds_word word) loads ≡ Some load → IsWithin word (lowest from loads) (highest to loads) load
 held_within word from to [] load is = absurd (cc)
-held_within word from to (first ∷ loads) load is = by_test (holds_word word first) refl is
-  where
-    by_test : (b : Bool) → holds_word word first ≡ b → (if b then Some first else find (holds_word word) loads) ≡ Some load → IsWithin word (lowest from (first ∷ loads)) (highest to (first ∷ loads)) load
-    by_test false held found = held_within word (min from first.virtual_addr) (max to (first.virtual_addr + first.mem_size)) loads load found
-    by_test true held found =
-        let both = and_parts (nat_le first.virtual_addr word.address) (nat_le (word.address + word.width) (first.virtual_addr + first.mem_size)) held in
-        let begins : first.virtual_addr ≤ word.address = leb-true _ _ both.0 in
-        let ends : word.address + word.width ≤ first.virtual_addr + first.mem_size = leb-true _ _ both.1 in
-        let low : lowest (min from first.virtual_addr) loads ≤ min from first.virtual_addr = lowest_below (min from first.virtual_addr) loads in
-        let high : max to (first.virtual_addr + first.mem_size) ≤ highest (max to (first.virtual_addr + first.mem_size)) loads = highest_above (max to (first.virtual_addr + first.mem_size)) loads in
-        let same : first ≡ load = cc in
-        subst (λ one. IsWithin word (lowest from (first ∷ loads)) (highest to (first ∷ loads)) one) same (record {
-          above = omega (arith, low, begins);
-          below = omega (arith, high, ends);
-          begins = begins;
-          ends = ends;
-        })
+held_within word from to (first ∷ loads) load is =
+    within_by word from to first loads load (holds_word word first) refl (held_within word (min from first.virtual_addr) (max to (first.virtual_addr + first.mem_size)) loads load) is

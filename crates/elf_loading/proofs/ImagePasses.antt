@@ -102,17 +102,19 @@ module _ (loads : List ProgramHeader64) (text : Bool) (tables : List Extent) whe
     passed = (one, others.passed);
   }
 
+  passing_by : (before after : List Word) (word : Word) (results : List (Result Word LoadError)) (r : Result (List Word) LoadError) → check_word loads text tables before (Ok word) ≡ r
+      → ((next : List Word) → check_words loads text tables next results ≡ Ok after → ArePassing next results)
+      → and_then r (λ next. check_words loads text tables next results) ≡ Ok after → ArePassing before (Ok word ∷ results)
+  passing_by before after word results (Err error) one others more = absurd (cc)
+  passing_by before after word results (Ok next) one others more =
+      let (passed, same) = word_passes before next word (word.width == 0) refl one in
+      one_passing before word results passed (subst (λ list. ArePassing list results) (sym same) (others next more))
+
   pub all_passing : (before after : List Word) (results : List (Result Word LoadError)) → check_words loads text tables before results ≡ Ok after → ArePassing before results
   unfolding check_words
   all_passing before after [] is = record { words = []; words_are = refl; passed = tt }
   all_passing before after (Err error ∷ results) is = absurd (cc)
-  all_passing before after (Ok word ∷ results) is = by (check_word loads text tables before (Ok word)) refl is
-    where
-      by : (r : Result (List Word) LoadError) → check_word loads text tables before (Ok word) ≡ r → and_then r (λ next. check_words loads text tables next results) ≡ Ok after → ArePassing before (Ok word ∷ results)
-      by (Err error) one more = absurd (cc)
-      by (Ok next) one more =
-          let (passed, same) = word_passes before next word (word.width == 0) refl one in
-          one_passing before word results passed (all_passing (after_word before word) after results (rw same more))
+  all_passing before after (Ok word ∷ results) is = passing_by before after word results (check_word loads text tables before (Ok word)) refl (λ next. all_passing next after results) is
 
   each_passed : (before words : List Word) (k : ℕ) (word : Word) → ArePassed before words → slice_get words k ≡ Some word → 0 < word.width → IsWritableWord loads text tables word
   each_passed before [] k word passed at some = absurd (cc)

@@ -21,5 +21,6 @@ pub mod InOrders
 pub mod ImageTables
 pub mod ImageLoads
 pub mod Marks
+pub mod ImageWord
 pub mod ImageChecks
 pub mod ImagePasses

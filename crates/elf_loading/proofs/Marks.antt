@@ -5,7 +5,8 @@ use Rattle.std.proofs.lemmas.List.{get_or-set_other, get_or-set_same}
 use Rattle.std.proofs.lemmas.List.Folds.{Any-from_list_any, list_any-from_Any}
 use Rattle.std.proofs.lemmas.Nat.Bits.{bit_at-zero, bit_at_set_other, bit_at_set_same}
 use Rattle.std.proofs.Math.ListN.{set}
-use Rattle.std.specs.Int.{Width, w8, bit_at, bit_or}
+use Rattle.std.specs.Int.{Width, w8, bit_at}
+use Rattle.std.specs.Prelude.{bit_or}
 use Rattle.std.specs.List.{Any, list_any}
 use Rattle.elf_loading.specs.ImageWords.{AreMarksOf, covers, is_marked, overlaps, some_marked}
 use Rattle.elf_loading.specs.declared.words.Word.{Word}
