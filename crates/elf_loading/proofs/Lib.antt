@@ -21,3 +21,9 @@ pub mod InOrders
 pub mod NumberBytes
 pub mod Written
 pub mod OneWords
+pub mod ImageTables
+pub mod ImageLoads
+pub mod Marks
+pub mod ImageWord
+pub mod ImageChecks
+pub mod ImagePasses

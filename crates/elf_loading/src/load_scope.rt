@@ -1,8 +1,9 @@
 //! What relocations write to the memory of the objects of a scope.
 
-ghost use Rattle.std.specs.Prelude.{◌≡◌, ◌*◌, ◌<◌, MatchResult, IfOk, Ok, Err, length, slice_get};
+ghost use Rattle.std.specs.Prelude.{◌≡◌, ◌*◌, ◌<◌, MatchResult, IfOk, IsSomeAnd, Ok, Err, length};
+ghost use Rattle.std.specs.Prelude.{slice_get};
 ghost use Rattle.elf_linking.specs.Scope.{scope_objects};
-ghost use Rattle.elf_loading.specs.ImageWords.{IsImageCheck};
+ghost use Rattle.elf_loading.specs.ImageWords.{AreWritten, IsImageCheck};
 ghost use Rattle.elf_loading.specs.Relocate.{IsRelocationIn};
 ghost use Rattle.elf_loading.specs.WordsLeft.{AreWordsOf, words_left, words_of};
 
@@ -67,9 +68,12 @@ impl<'s, 'a, E: LinkedSymbol> LoadScope for Scope<'s, 'a, E> {
     /// word that has one, `WordType` or `Link`, and `WordAddress` to `WordInTable`. The time is that
     /// of `Scope::bind` for each relocation, and linear in the bytes of the words; each word is looked
     /// for in the load segments.
+    #[tactic(auto, using(crate::proofs::ImagePasses::image_passes))]
     fn check_image(&self, of: usize, marks: &mut [u8]) -> Result<(), LoadError>
         ensures exact { IsImageCheck E.SIZE E.fields (scope_objects self.now).now of
             (8 * length marks.old) result }
+        ensures passes { IfOk result (λ done. let objects = (scope_objects self.now).now in
+            IsSomeAnd (slice_get objects of) (AreWritten E.SIZE E.fields objects of)) }
     {
         check_image(*self, of, marks)
     }

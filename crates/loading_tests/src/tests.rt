@@ -3,6 +3,7 @@
 
 mod bytes;
 mod formulas;
+mod images;
 mod in_order;
 mod messages;
 mod plans;
