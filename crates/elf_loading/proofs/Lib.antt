@@ -20,6 +20,7 @@ pub mod Reasons
 pub mod InOrders
 pub mod NumberBytes
 pub mod Written
+pub mod Checked
 pub mod OneWords
 pub mod ImageTables
 pub mod ImageLoads

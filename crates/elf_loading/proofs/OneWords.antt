@@ -3,7 +3,6 @@ use Rattle.std.proofs.Common.{◌≡◌, ℕ, ◌+◌, ◌<◌, ◌≤◌, ◌++
 use Rattle.std.specs.Prelude.{IfOk, MatchResult}
 use Rattle.std.specs.Borrow.{Bor}
 use Rattle.std.specs.List.{count_by, find}
-use Rattle.std.proofs.lemmas.List.Sums.{sum_by-append}
 use Rattle.elf_base.specs.FileHeader.{file_order}
 use Rattle.elf_base.specs.declared.bytes.Order.{Order}
 use Rattle.elf_linking.specs.DynamicObject.{object_file, object_view}
@@ -13,11 +12,12 @@ use Rattle.elf_linking.specs.declared.object.DynamicObject.{DynamicObject}
 use Rattle.elf_loading.specs.ImageWords.{as_load_error}
 use Rattle.elf_loading.specs.OneWord.{IsByOneWordAt, IsByOneWordEach, byte_by, is_of_word, is_over, plan_byte}
 use Rattle.elf_loading.specs.Plan.{IsImageBy, plan_loads}
-use Rattle.elf_loading.specs.Relocate.{AreWritten, IsRelocation, IsRelocationAt, IsWriting, all, is_wrong_size, relocated_byte, sized_relocations, some, start_at, word_byte}
+use Rattle.elf_loading.specs.Relocate.{AreItemsWritten, IsRelocation, IsRelocationAt, IsWriting, all, is_wrong_size, relocated_byte, sized_relocations, some, start_at, word_byte}
 use Rattle.elf_loading.specs.Segments.{loads_of}
 use Rattle.elf_loading.specs.Spans.{first_start, span_of}
 use Rattle.elf_loading.specs.Words.{binds_lazily}
 use Rattle.elf_loading.specs.WordsLeft.{relocation_of, words_of}
+use Rattle.elf_loading.proofs.Checked.{checked_once, count_first}
 use Rattle.elf_loading.specs.declared.error.LoadError.{LoadError}
 use Rattle.elf_loading.specs.declared.error.LoadError.TheVariants as error
 use Rattle.elf_loading.specs.declared.in_order.Relocation.{Relocation}
@@ -28,11 +28,6 @@ use Rattle.elf_loading.specs.declared.words.Binding.{Binding}
 use Rattle.elf_loading.specs.declared.words.Relocated.{Relocated}
 use Rattle.elf_loading.specs.declared.words.Word.{Word}
 use Rattle.xmas_elf.specs.Symbol.{SymbolFields}
-
-pub count_first : {A : Type 0} (p : A → Bool) (x : A) (xs : List A) → count_by p (x ∷ xs) ≡ cond (p x) 1 0 + count_by p xs
-count_first p x xs =
-    let sum : count_by p (x ∷ xs) ≡ (0 + cond (p x) 1 0) + count_by p xs = sum_by-append (λ y. cond (p y) 1 0) (x ∷ []) xs in
-    omega (arith, sum)
 
 module _ {E : Type 0} {r : _} (sources : Sources E r) (address : ℕ) where
   missed : (word : Result Word LoadError) (old : ℕ) → is_of_word address word ≡ false → word_byte sources address word old ≡ old
@@ -79,12 +74,12 @@ are_words true said relocations is = absurd (cc)
 are_words false (Ok all_of) relocations is = cc
 are_words false (Err e) relocations is = absurd (cc)
 
-module _ {E : Type 0} {r : _} (fields : E → SymbolFields) (sources : Sources E r) (own : DynamicObject E r) (lazy : Bool) (before after : List ℕ) (there : slice_get sources.objects.now sources.of ≡ Some own) where
+module _ {E : Type 0} {r : _} (size : ℕ) (fields : E → SymbolFields) (sources : Sources E r) (own : DynamicObject E r) (lazy : Bool) (before after : List ℕ) (there : slice_get sources.objects.now sources.of ≡ Some own) where
   starts : start_at sources sources.of ≡ first_start sources.page (loads_of (object_file own))
   starts = rw there refl
 
   once_written : (items : List (Relocated E)) (count : ℕ) → words_of (Some own) ≡ Ok (map relocation_of items)
-      → AreWritten fields sources own lazy before after items count → IsByOneWordEach fields sources own lazy before after
+      → AreItemsWritten fields sources own lazy before after items count → IsByOneWordEach size fields sources own lazy before after
   once_written items count are written =
       let start = start_at sources sources.of in
       let each : (i : ℕ) → i < length before → count_by (is_over (start + i)) items ≤ 1
@@ -97,31 +92,32 @@ module _ {E : Type 0} {r : _} (fields : E → SymbolFields) (sources : Sources E
         of_plan = λ by plan image file_is page_is i below once.
             each i below once ∙ ap (byte_by sources (start + i) (find (is_over (start + i)) items))
             (image.bytes i below ∙ ap (λ s. plan_byte plan by (s + i)) (rw (file_is, page_is) (sym starts)));
+        once = λ law address. checked_once fields sources.objects.now own sources.of size lazy address items are written.have_words law;
       }
 
   once_by : (result : Result ℕ LoadError) (count : ℕ) (relocations : List Relocation) → result ≡ Ok count → words_of (Some own) ≡ Ok relocations
-      → IsWriting fields sources own lazy relocations before after result → IsByOneWordEach fields sources own lazy before after
+      → IsWriting fields sources own lazy relocations before after result → IsByOneWordEach size fields sources own lazy before after
   once_by result count relocations ok are (all items number is written done) = once_written items number (are ∙ ap (λ rs. Ok rs) is) written
   once_by result count relocations ok are (some items number item rest reason is written has can_not stopped) = absurd (cc)
 
   pub once_of : (result : Result ℕ LoadError) → IsRelocation fields sources own lazy before after result
-      → IfOk result (λ count. IsByOneWordEach fields sources own lazy before after)
+      → IfOk result (λ count. IsByOneWordEach size fields sources own lazy before after)
   once_of (Err reason) relocation = tt
   once_of (Ok count) relocation = by_sizes (sized_relocations sources own (length before)) refl relocation
     where
       by_sizes : (sized : Result (List Relocation) LoadError) → sized_relocations sources own (length before) ≡ sized
           → MatchResult sized (λ relocations. IsWriting fields sources own lazy relocations before after (Ok count)) (λ reason. (Ok count ≡ Err reason) × (after ≡ before))
-          → IsByOneWordEach fields sources own lazy before after
+          → IsByOneWordEach size fields sources own lazy before after
       by_sizes (Ok relocations) is writing =
           once_by (Ok count) count relocations refl (are_words (is_wrong_size sources own (length before)) (words_of (Some own)) relocations is) writing
       by_sizes (Err reason) is (refused, same) = absurd (cc)
 
-pub once_at : {E : Type 0} {r : _} (fields : E → SymbolFields) (sources : Order → Sources E r) (there : Option (DynamicObject E r)) (when : Binding) (before after : List ℕ) (result : Result ℕ LoadError)
+pub once_at : {E : Type 0} {r : _} (size : ℕ) (fields : E → SymbolFields) (sources : Order → Sources E r) (there : Option (DynamicObject E r)) (when : Binding) (before after : List ℕ) (result : Result ℕ LoadError)
     → ((order : Order) → slice_get (sources order).objects.now (sources order).of ≡ there)
     → IsRelocationAt fields sources there when before after result
-    → IfOk result (λ count. IsByOneWordAt fields sources there when before after)
-once_at fields sources None when before after (Ok count) there (refused, same) = absurd (cc)
-once_at fields sources None when before after (Err reason) there relocation = tt
-once_at fields sources (Some own) when before after result there relocation =
+    → IfOk result (λ count. IsByOneWordAt size fields sources there when before after)
+once_at size fields sources None when before after (Ok count) there (refused, same) = absurd (cc)
+once_at size fields sources None when before after (Err reason) there relocation = tt
+once_at size fields sources (Some own) when before after result there relocation =
     let order = file_order (object_file own).header in
-    once_of fields (sources order) own (binds_lazily (view_entries (object_view own)) when) before after (there order) result relocation
+    once_of size fields (sources order) own (binds_lazily (view_entries (object_view own)) when) before after (there order) result relocation

@@ -13,7 +13,7 @@ use Rattle.elf_base.specs.declared.bytes.Order.{Order}
 use Rattle.elf_linking.specs.DynamicObject.{object_file, object_view}
 use Rattle.elf_linking.specs.DynamicView.{view_entries}
 use Rattle.elf_linking.specs.declared.object.DynamicObject.{DynamicObject}
-use Rattle.elf_loading.specs.Relocate.{AreWordsFor, AreWritten, IsRelocation, IsRelocationAt, IsRelocationIn, IsWriting, all, has_no_number, is_copy_outside, is_outside, is_unresolved, is_wrong_size, lacks_number, relocated_byte, sized_relocations, some, start_at, value_byte, word_byte, write_item}
+use Rattle.elf_loading.specs.Relocate.{AreWordsFor, AreItemsWritten, IsRelocation, IsRelocationAt, IsRelocationIn, IsWriting, all, has_no_number, is_copy_outside, is_outside, is_unresolved, is_wrong_size, lacks_number, relocated_byte, sized_relocations, some, start_at, value_byte, word_byte, write_item}
 use Rattle.elf_loading.specs.Words.{HasWord, binds_lazily}
 use Rattle.elf_loading.specs.WordsLeft.{IsSame, relocation_of, words_file, words_index, words_lazy, words_objects, words_of, words_own}
 use Rattle.elf_loading.specs.declared.error.LoadError.{LoadError}
@@ -134,7 +134,7 @@ module _ {E : Type 0} {r : _} (fields : E → SymbolFields) (sources : Sources E
   pub record SoFar (left : List Relocation) (after : List ℕ) (count : ℕ) : Type 0 where
     pub items : List (Relocated E)
     pub split : relocations ≡ map relocation_of items ++ left
-    pub written : AreWritten fields sources own lazy before after items count
+    pub written : AreItemsWritten fields sources own lazy before after items count
 
   pub none_written : (left : List Relocation) → left ≡ relocations → SoFar left before 0
   none_written left is = record {
@@ -178,7 +178,7 @@ module _ {E : Type 0} {r : _} (fields : E → SymbolFields) (sources : Sources E
     one_refused after reason can same =
         let written = so_far.written in
         some so_far.items count item later reason (so_far.split ∙ ap (λ rest. map relocation_of so_far.items ++ rest) first)
-        (subst (λ image. AreWritten fields sources own lazy before image so_far.items count) (sym same) written) is
+        (subst (λ image. AreItemsWritten fields sources own lazy before image so_far.items count) (sym same) written) is
         (ap (λ n. write_item fields sources own lazy n item) (sym written.same_size) ∙ sym can) refl
 
   -- at the end

@@ -9,7 +9,7 @@ use Rattle.elf_linking.specs.DynamicObject.{object_file, object_view}
 use Rattle.elf_linking.specs.DynamicView.{view_entries}
 use Rattle.elf_linking.specs.declared.object.DynamicObject.{DynamicObject}
 use Rattle.elf_loading.specs.Bytes.{byte_number, byte_of}
-use Rattle.elf_loading.specs.ImageWords.{covers}
+use Rattle.elf_loading.specs.ImageWords.{AreWritten, covers}
 use Rattle.elf_loading.specs.Plan.{IsImageBy, plan_loads}
 use Rattle.elf_loading.specs.Relocate.{start_at, word_byte}
 use Rattle.elf_loading.specs.Words.{HasWord, binds_lazily}
@@ -44,8 +44,9 @@ plan_byte plan by address =
     byte_number plan.file.input.now (byte_of plan.page by (length plan.file.input.now) address (plan_loads plan))
 
 -- the items are all relocations of an object with the words that they write; where at most one word has the byte at an
--- address, its byte is that of this word, otherwise the one before, which is that of the plan of the file
-pub record IsByOneWordEach {E : Type 0} {r : _} (fields : E → SymbolFields) (sources : Sources E r) (own : DynamicObject E r) (lazy : Bool) (before after : List ℕ) : Type 0 where
+-- address, its byte is that of this word, otherwise the one before, which is that of the plan of the file. No more than one
+-- word has it if the object passes the check of its image, whose symbols have `size` bytes each
+pub record IsByOneWordEach {E : Type 0} {r : _} (size : ℕ) (fields : E → SymbolFields) (sources : Sources E r) (own : DynamicObject E r) (lazy : Bool) (before after : List ℕ) : Type 0 where
   pub items : List (Relocated E)
   pub are : words_of (Some own) ≡ Ok (map relocation_of items)
   pub have_words : All (HasWord fields sources.objects.now (object_file own) own sources.of lazy) items
@@ -57,16 +58,18 @@ pub record IsByOneWordEach {E : Type 0} {r : _} (fields : E → SymbolFields) (s
       → count_by (is_over (start_at sources sources.of + i)) items ≤ 1
       → slice_index after i ≡ byte_by sources (start_at sources sources.of + i)
       (find (is_over (start_at sources sources.of + i)) items) (plan_byte plan by (start_at sources sources.of + i))
+  pub once : AreWritten size fields sources.objects.now sources.of own
+      → (address : ℕ) → count_by (is_over address) items ≤ 1
 
 -- the same for the object at an index of a scope, if there is one
-abbrev pub IsByOneWordAt : {E : Type 0} → {r : _} → (E → SymbolFields) → (Order → Sources E r) → Option (DynamicObject E r) → Binding → List ℕ → List ℕ → Type 0
-IsByOneWordAt fields sources None when before after = ⊥
-IsByOneWordAt fields sources (Some own) when before after =
-    IsByOneWordEach fields (sources (file_order (object_file own).header)) own (binds_lazily (view_entries (object_view own)) when)
-    before after
+abbrev pub IsByOneWordAt : {E : Type 0} → {r : _} → ℕ → (E → SymbolFields) → (Order → Sources E r) → Option (DynamicObject E r) → Binding → List ℕ → List ℕ → Type 0
+IsByOneWordAt size fields sources None when before after = ⊥
+IsByOneWordAt size fields sources (Some own) when before after =
+    IsByOneWordEach size fields (sources (file_order (object_file own).header)) own
+    (binds_lazily (view_entries (object_view own)) when) before after
 
-abbrev pub IsByOneWordIn : {E : Type 0} → {r : _} → (E → SymbolFields) → Bor (List (DynamicObject E r)) → ℕ → Binding → ℕ → Bor (List Place) → Bor (List (Bor (List ℕ))) → List ℕ → List ℕ → Type 0
-IsByOneWordIn fields objects of when page places images before after = IsByOneWordAt fields (λ order. record {
+abbrev pub IsByOneWordIn : {E : Type 0} → {r : _} → ℕ → (E → SymbolFields) → Bor (List (DynamicObject E r)) → ℕ → Binding → ℕ → Bor (List Place) → Bor (List (Bor (List ℕ))) → List ℕ → List ℕ → Type 0
+IsByOneWordIn size fields objects of when page places images before after = IsByOneWordAt size fields (λ order. record {
   objects = objects;
   page = page;
   of = of;

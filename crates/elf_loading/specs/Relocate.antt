@@ -173,7 +173,7 @@ lacks_number (Ok word) = has_no_number word.value
 lacks_number (Err error) = false
 
 -- the words of these items are written to the image of an object, in order, and `count` of them have no number
-pub record AreWritten {E : Type 0} {r : _} (fields : E → SymbolFields) (sources : Sources E r) (own : DynamicObject E r) (lazy : Bool) (before after : List ℕ) (items : List (Relocated E)) (count : ℕ) : Type 0 where
+pub record AreItemsWritten {E : Type 0} {r : _} (fields : E → SymbolFields) (sources : Sources E r) (own : DynamicObject E r) (lazy : Bool) (before after : List ℕ) (items : List (Relocated E)) (count : ℕ) : Type 0 where
   pub have_words : All (HasWord fields sources.objects.now (object_file own) own sources.of lazy) items
   pub can_be : All (λ item. IsOk (write_item fields sources own lazy (length before) item)) items
   pub counted : count ≡ min (count_by (λ item. lacks_number item.word) items) (2 ^ 64 - 1)
@@ -185,11 +185,11 @@ pub record AreWritten {E : Type 0} {r : _} (fields : E → SymbolFields) (source
 -- or it writes those before the first one that can't be written, and returns why not
 pub data IsWriting {E : Type 0} {r : _} (fields : E → SymbolFields) (sources : Sources E r) (own : DynamicObject E r) (lazy : Bool) (relocations : List Relocation) (before after : List ℕ) (result : Result ℕ LoadError) : Type 0 where
   all : (items : List (Relocated E)) (count : ℕ) → relocations ≡ map relocation_of items
-      → AreWritten fields sources own lazy before after items count → result ≡ Ok count
+      → AreItemsWritten fields sources own lazy before after items count → result ≡ Ok count
       → IsWriting fields sources own lazy relocations before after result
   some : (items : List (Relocated E)) (count : ℕ) (item : Relocated E) (rest : List Relocation) (error : LoadError)
       → relocations ≡ map relocation_of items ++ (item.relocation ∷ rest)
-      → AreWritten fields sources own lazy before after items count
+      → AreItemsWritten fields sources own lazy before after items count
       → HasWord fields sources.objects.now (object_file own) own sources.of lazy item
       → write_item fields sources own lazy (length before) item ≡ Err error → result ≡ Err error
       → IsWriting fields sources own lazy relocations before after result

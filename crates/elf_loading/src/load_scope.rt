@@ -4,6 +4,7 @@ ghost use Rattle.std.specs.Prelude.{◌≡◌, ◌*◌, ◌<◌, MatchResult, If
 ghost use Rattle.std.specs.Prelude.{slice_get};
 ghost use Rattle.elf_linking.specs.Scope.{scope_objects};
 ghost use Rattle.elf_loading.specs.ImageWords.{AreWritten, IsImageCheck};
+ghost use Rattle.elf_loading.specs.OneWord.{IsByOneWordIn};
 ghost use Rattle.elf_loading.specs.Relocate.{IsRelocationIn};
 ghost use Rattle.elf_loading.specs.WordsLeft.{AreWordsOf, words_left, words_of};
 
@@ -103,6 +104,8 @@ impl<'s, 'a, E: LinkedSymbol> LoadScope for Scope<'s, 'a, E> {
         requires { 0 < page }
         ensures exact { IsRelocationIn E.fields (scope_objects self.now) of when page places.entry
             others.entry image.old image.new result }
+        ensures once { IfOk result (λ count. IsByOneWordIn E.SIZE E.fields (scope_objects self.now)
+            of when page places.entry others.entry image.old image.new) }
     {
         relocate(*self, of, when, page, places, others, image)
     }

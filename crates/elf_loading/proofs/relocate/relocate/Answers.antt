@@ -1,10 +1,13 @@
-use Rattle.std.proofs.Common.{rules, ◌≡◌, Some, slice_get, sym, ap, ◌∙◌, subst}
+use Rattle.std.proofs.Common.{rules, ◌≡◌, Some, slice_get, refl, sym, ap, ◌∙◌}
+use Rattle.elf_linking.proofs.Scopes.{item_is}
 use Rattle.elf_linking.specs.Scope.{scope_objects}
 use Rattle.elf_loading.proofs.Written.{is_relocated}
 use Rattle.elf_loading.proofs.relocate.relocate.Goals as goal
 
 pub returns : goal.returns
 returns g c =
-    let there : slice_get (scope_objects c.args.scope).now c.args.of ≡ Some c.in-Some.own.now = search rules in
-    is_relocated g.E.Entry.fields (scope_objects c.args.scope) c.args.of c.args.when c.args.page c.args.places c.args.others c.args.image.now c.relocate.new.image c.in-Some.own.now c.relocate.result _
+    let own = c.in-Some.own in
+    let lookup : slice_get c.objects-objects.result.now c.args.of ≡ Some own.now = first_of (search rules, item_is c.objects-objects.result.now c.args.of (Some own) own c.in-Some.ensures.lookup refl) in
+    let there : slice_get (scope_objects c.args.scope).now c.args.of ≡ Some own.now = ap (λ lent. slice_get lent.now c.args.of) (sym c.objects-objects.ensures) ∙ lookup in
+    is_relocated g.E.Entry.fields (scope_objects c.args.scope) c.args.of c.args.when c.args.page c.args.places c.args.others c.args.image.now c.relocate.new.image own.now c.relocate.result _
     there (search rules) c.relocate.ensures
