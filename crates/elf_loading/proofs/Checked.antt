@@ -43,32 +43,31 @@ module _ (address : ℕ) where
   none_of : (words : List Word) → ((j : ℕ) (other : Word) → slice_get words j ≡ Some other → covers address other ≡ true → ⊥)
       → count_by (covers address) words ≡ 0
   none_of [] never = refl
-  none_of (word ∷ words) never = by_first (covers address word) refl
+  none_of (word ∷ words) never = by_first (covers address word) refl (none_of words (λ j other is hit. never (suc j) other is hit))
     where
-      by_first : (b : Bool) → covers address word ≡ b → count_by (covers address) (word ∷ words) ≡ 0
-      by_first true hit = absurd (never zero word refl hit)
-      by_first false miss =
+      by_first : (b : Bool) → covers address word ≡ b → count_by (covers address) words ≡ 0 → count_by (covers address) (word ∷ words) ≡ 0
+      by_first true hit more = absurd (never zero word refl hit)
+      by_first false miss more =
           let count = count_first (covers address) word words in
           let none : ◌≡◌ {A = ℕ} (cond (covers address word) 1 0) 0 = rw miss refl in
-          let more = none_of words (λ j other is hit. never (suc j) other is hit) in
           omega (arith, count, none, more)
 
   one_of : (words : List Word) → ((i j : ℕ) (one other : Word) → i < j → slice_get words i ≡ Some one → slice_get words j ≡ Some other
       → covers address one ≡ true → covers address other ≡ true → ⊥) → count_by (covers address) words ≤ 1
-  one_of [] apart = omega arith
+  one_of [] apart = let none : count_by (covers address) [] ≡ 0 = refl in omega (arith, none)
   one_of (word ∷ words) apart = by_first (covers address word) refl
+      (one_of words (λ i j one other less is also. apart (suc i) (suc j) one other (omega (arith, less)) is also))
     where
-      by_first : (b : Bool) → covers address word ≡ b → count_by (covers address) (word ∷ words) ≤ 1
-      by_first true hit =
+      by_first : (b : Bool) → covers address word ≡ b → count_by (covers address) words ≤ 1 → count_by (covers address) (word ∷ words) ≤ 1
+      by_first true hit least =
           let count = count_first (covers address) word words in
           let one : ◌≡◌ {A = ℕ} (cond (covers address word) 1 0) 1 = rw hit refl in
           let more = none_of words (λ j other is also. apart zero (suc j) word other (omega arith) refl is hit also) in
           omega (arith, count, one, more)
-      by_first false miss =
+      by_first false miss least =
           let count = count_first (covers address) word words in
           let none : ◌≡◌ {A = ℕ} (cond (covers address word) 1 0) 0 = rw miss refl in
-          let more = one_of words (λ i j one other less is also. apart (suc i) (suc j) one other (omega (arith, less)) is also) in
-          omega (arith, count, none, more)
+          omega (arith, count, none, least)
 
   known_count : {E : Type 0} (items : List (Relocated E)) (words : List Word) → words_in items ≡ map (λ word. Ok word) words
       → count_by (is_over address) items ≡ count_by (covers address) words
@@ -101,7 +100,7 @@ module _ {E : Type 0} {r : _} (fields : E → SymbolFields) (objects : List (Dyn
       IsBoundIf (symbol_in formula) fields objects of relocation.reference bound
       × (word ≡ formula_word fields (object_file own) own of (relocation.in_place || later) relocation.reference bound formula)
 
-  word_once : (later : Bool) (relocation : Relocation) (one other : Result (Option (Bound E)) LinkError) (word word' : Result Word LoadError)
+  pub word_once : (later : Bool) (relocation : Relocation) (one other : Result (Option (Bound E)) LinkError) (word word' : Result Word LoadError)
       → HasParts later relocation one word → HasParts later relocation other word' → word ≡ word'
   word_once later relocation one other word word' (is, word_is) (also, word_also) =
       let machine = file_machine (object_file own) in
@@ -200,7 +199,7 @@ module _ {E : Type 0} {r : _} (fields : E → SymbolFields) (objects : List (Dyn
     count_le : (lazy : Bool) (items checked : List (Relocated E)) (words : List Word) → map relocation_of items ≡ map relocation_of checked
         → words_in checked ≡ map (λ word. Ok word) words → All (HasWord fields objects (object_file own) own of lazy) items
         → All (HasWord fields objects (object_file own) own of false) checked → count_by (is_over address) items ≤ count_by (is_over address) checked
-    count_le lazy [] checked words same known has also = omega arith
+    count_le lazy [] checked words same known has also = let none : count_by (is_over {E = E} address) [] ≡ 0 = refl in omega (arith, none)
     count_le lazy (item ∷ items) [] words same known has also = absurd (cc)
     count_le lazy (item ∷ items) (one ∷ checked) [] same known has also = absurd (cc)
     count_le lazy (item ∷ items) (one ∷ checked) (word ∷ words) same known has also =

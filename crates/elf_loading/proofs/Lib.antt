@@ -22,6 +22,7 @@ pub mod NumberBytes
 pub mod Written
 pub mod Checked
 pub mod OneWords
+pub mod ErrorsLeft
 pub mod ImageTables
 pub mod ImageLoads
 pub mod Marks

@@ -37,35 +37,38 @@ module _ {E : Type 0} {r : _} (sources : Sources E r) (address : ℕ) where
   none_over : (items : List (Relocated E)) (old : ℕ) → count_by (is_over address) items ≡ 0 → relocated_byte sources address items old ≡ old
   unfolding relocated_byte
   none_over [] old none = refl
-  none_over (item ∷ items) old none = by_first (is_over address item) refl
+  none_over (item ∷ items) old none = by_first (is_over address item) refl (λ before. none_over items before)
     where
-      by_first : (b : Bool) → is_over address item ≡ b → relocated_byte sources address items (word_byte sources address item.word old) ≡ old
-      by_first true hit =
+      by_first : (b : Bool) → is_over address item ≡ b → ((before : ℕ) → count_by (is_over address) items ≡ 0 → relocated_byte sources address items before ≡ before)
+          → relocated_byte sources address items (word_byte sources address item.word old) ≡ old
+      by_first true hit others =
           let count = count_first (is_over address) item items in
           let one : ◌≡◌ {A = ℕ} (cond (is_over address item) 1 0) 1 = rw hit refl in
           absurd (omega (arith, none, count, one))
-      by_first false miss =
+      by_first false miss others =
           let count = count_first (is_over address) item items in
           let zero : ◌≡◌ {A = ℕ} (cond (is_over address item) 1 0) 0 = rw miss refl in
-          ap (relocated_byte sources address items) (missed item.word old miss) ∙ none_over items old (omega (arith, none, count, zero))
+          ap (relocated_byte sources address items) (missed item.word old miss) ∙ others old (omega (arith, none, count, zero))
 
   -- where at most one word has the byte, it is the byte of this word
   pub relocated_once : (items : List (Relocated E)) (old : ℕ) → count_by (is_over address) items ≤ 1
       → relocated_byte sources address items old ≡ byte_by sources address (find (is_over address) items) old
   unfolding relocated_byte
   relocated_once [] old once = refl
-  relocated_once (item ∷ items) old once = by_first (is_over address item) refl
+  relocated_once (item ∷ items) old once = by_first (is_over address item) refl (λ before. relocated_once items before)
     where
-      by_first : (b : Bool) → is_over address item ≡ b → relocated_byte sources address items (word_byte sources address item.word old)
+      by_first : (b : Bool) → is_over address item ≡ b
+          → ((before : ℕ) → count_by (is_over address) items ≤ 1 → relocated_byte sources address items before ≡ byte_by sources address (find (is_over address) items) before)
+          → relocated_byte sources address items (word_byte sources address item.word old)
           ≡ byte_by sources address (if b then Some item else find (is_over address) items) old
-      by_first true hit =
+      by_first true hit others =
           let count = count_first (is_over address) item items in
           let one : ◌≡◌ {A = ℕ} (cond (is_over address item) 1 0) 1 = rw hit refl in
           none_over items (word_byte sources address item.word old) (omega (arith, once, count, one))
-      by_first false miss =
+      by_first false miss others =
           let count = count_first (is_over address) item items in
           let zero : ◌≡◌ {A = ℕ} (cond (is_over address item) 1 0) 0 = rw miss refl in
-          ap (relocated_byte sources address items) (missed item.word old miss) ∙ relocated_once items old (omega (arith, once, count, zero))
+          ap (relocated_byte sources address items) (missed item.word old miss) ∙ others old (omega (arith, once, count, zero))
 
 -- the relocations are those of the object
 are_words : (wrong : Bool) (said : Result (List Relocation) LinkError) (relocations : List Relocation)
@@ -89,9 +92,10 @@ module _ {E : Type 0} {r : _} (size : ℕ) (fields : E → SymbolFields) (source
         are = are;
         have_words = written.have_words;
         bytes = each;
-        of_plan = λ by plan image file_is page_is i below once.
-            each i below once ∙ ap (byte_by sources (start + i) (find (is_over (start + i)) items))
-            (image.bytes i below ∙ ap (λ s. plan_byte plan by (s + i)) (rw (file_is, page_is) (sym starts)));
+        of_plan = λ by plan image file_is page_is i below single.
+            let begins : first_start plan.page (plan_loads plan) ≡ start = rw (file_is, page_is) (sym starts) in
+            each i below single ∙ ap (byte_by sources (start + i) (find (is_over (start + i)) items))
+            (image.bytes i below ∙ ap (λ s. plan_byte plan by (s + i)) begins);
         once = λ law address. checked_once fields sources.objects.now own sources.of size lazy address items are written.have_words law;
       }
 

@@ -1,12 +1,13 @@
 -- Where words have no byte in common, each byte of a relocated image is that of the one word over its address, otherwise
 -- the one of the plan (this project's own).
-use Rattle.std.specs.Prelude.{◌≡◌, ℕ, ◌+◌, ◌<◌, ◌≤◌, slice_get, slice_index, Bool, false, List, All, map, length, Option, None, Some, Result, Ok, Err}
+use Rattle.std.specs.Prelude.{◌≡◌, ℕ, ◌+◌, ◌<◌, ◌≤◌, ◌⊎◌, slice_get, slice_index, Bool, false, List, All, map, length, Option, None, Some, Result, Ok, Err}
 use Rattle.std.specs.Borrow.{Bor}
 use Rattle.std.specs.List.{count_by, find}
 use Rattle.elf_base.specs.FileHeader.{file_order}
 use Rattle.elf_base.specs.declared.bytes.Order.{Order}
 use Rattle.elf_linking.specs.DynamicObject.{object_file, object_view}
 use Rattle.elf_linking.specs.DynamicView.{view_entries}
+use Rattle.elf_linking.specs.declared.error.LinkError.TheVariants.{ObjectIndex}
 use Rattle.elf_linking.specs.declared.object.DynamicObject.{DynamicObject}
 use Rattle.elf_loading.specs.Bytes.{byte_number, byte_of}
 use Rattle.elf_loading.specs.ImageWords.{AreWritten, covers}
@@ -15,6 +16,7 @@ use Rattle.elf_loading.specs.Relocate.{start_at, word_byte}
 use Rattle.elf_loading.specs.Words.{HasWord, binds_lazily}
 use Rattle.elf_loading.specs.WordsLeft.{relocation_of, words_of}
 use Rattle.elf_loading.specs.declared.error.LoadError.{LoadError}
+use Rattle.elf_loading.specs.declared.error.LoadError.TheVariants as error
 use Rattle.elf_loading.specs.declared.mapping.Loader.{Loader}
 use Rattle.elf_loading.specs.declared.plan.LoadPlan.{LoadPlan}
 use Rattle.elf_loading.specs.declared.relocate.Place.{Place}
@@ -77,3 +79,14 @@ IsByOneWordIn size fields objects of when page places images before after = IsBy
   places = places;
   images = images;
 }) (slice_get objects.now of) when before after
+
+-- an error that is left for an object that passes the check of its image: sizes, a missing symbol, and missing bytes
+abbrev pub IsErrorLeft : LoadError → Type 0
+IsErrorLeft reason = (reason ≡ error.ImageSize) ⊎ ((reason ≡ error.Unresolved) ⊎ (reason ≡ error.CopySource))
+
+-- an error is one of these if the object at an index passes this check and its file has a plan, and no slots get their
+-- symbols later; without an object it says so
+abbrev pub HasErrorLeft : {E : Type 0} → {r : _} → ℕ → (E → SymbolFields) → List (DynamicObject E r) → ℕ → Option (DynamicObject E r) → Binding → ℕ → LoadError → Type 0
+HasErrorLeft size fields objects of None when page reason = reason ≡ error.Link ObjectIndex
+HasErrorLeft size fields objects of (Some own) when page reason = AreWritten size fields objects of own → (plan : LoadPlan)
+    → plan.file ≡ object_file own → plan.page ≡ page → binds_lazily (view_entries (object_view own)) when ≡ false → IsErrorLeft reason

@@ -1,10 +1,10 @@
 //! What relocations write to the memory of the objects of a scope.
 
-ghost use Rattle.std.specs.Prelude.{◌≡◌, ◌*◌, ◌<◌, MatchResult, IfOk, IsSomeAnd, Ok, Err, length};
+ghost use Rattle.std.specs.Prelude.{◌≡◌, ◌*◌, ◌<◌, MatchResult, IfErr, IfOk, IsSomeAnd, Ok, Err, length};
 ghost use Rattle.std.specs.Prelude.{slice_get};
 ghost use Rattle.elf_linking.specs.Scope.{scope_objects};
 ghost use Rattle.elf_loading.specs.ImageWords.{AreWritten, IsImageCheck};
-ghost use Rattle.elf_loading.specs.OneWord.{IsByOneWordIn};
+ghost use Rattle.elf_loading.specs.OneWord.{HasErrorLeft, IsByOneWordIn};
 ghost use Rattle.elf_loading.specs.Relocate.{IsRelocationIn};
 ghost use Rattle.elf_loading.specs.WordsLeft.{AreWordsOf, words_left, words_of};
 
@@ -88,6 +88,10 @@ impl<'s, 'a, E: LinkedSymbol> LoadScope for Scope<'s, 'a, E> {
     /// objects whose bytes are copied (R_X86_64_COPY); these must be relocated before. The images of
     /// other objects, and that at `of`, may be empty.
     ///
+    /// If `check_image` returned `Ok` for the object, the byte at each address is that of the one word
+    /// over it, otherwise the one before: that of the plan of the file, with pages of `page` bytes. If
+    /// jump slots get their symbols now, the only errors are `ImageSize`, `Unresolved` and `CopySource`.
+    ///
     /// Errors: `Link` with `ObjectIndex` if there is no object at `of`; `ImageSize` if `image` is not
     /// of the size of the span, or there are not as many places or images as objects; `Link` with
     /// those of `words`; then of the first word that has one, `WordType` or `Link`, `Unresolved`,
@@ -106,6 +110,8 @@ impl<'s, 'a, E: LinkedSymbol> LoadScope for Scope<'s, 'a, E> {
             others.entry image.old image.new result }
         ensures once { IfOk result (λ count. IsByOneWordIn E.SIZE E.fields (scope_objects self.now)
             of when page places.entry others.entry image.old image.new) }
+        ensures errors { IfErr result (λ error. let objects = (scope_objects self.now).now in
+            HasErrorLeft E.SIZE E.fields objects of (slice_get objects of) when page error) }
     {
         relocate(*self, of, when, page, places, others, image)
     }
