@@ -92,7 +92,7 @@ module _ {E : Type 0} {r : _} (fields : E → SymbolFields) (loads : List Progra
     have_more : All (HasWord fields (words_objects all).now (words_file all) (words_own all) (words_index all) (words_lazy all)) (so_far.items ++ (item ∷ []))
     have_more =
         let (one, two, three, four, five) = so_far.same in
-        All-push _ so_far.items item so_far.have_words (has_word_same fields item _ _ _ _ _ _ _ _ _ _ (ap (λ o. o.now) one) two three four five has)
+        All-push (HasWord fields (words_objects all).now (words_file all) (words_own all) (words_index all) (words_lazy all)) so_far.items item so_far.have_words (has_word_same fields item _ _ _ _ _ _ _ _ _ _ (ap (λ o. o.now) one) two three four five has)
 
     checked_more : check_words loads text tables [] (words_in (so_far.items ++ (item ∷ []))) ≡ check_word loads text tables so_far.before item.word
     checked_more = ap (check_words loads text tables []) (map-append (λ one. one.word) so_far.items (item ∷ []))

@@ -1,19 +1,21 @@
 -- What holds of an object whose words can be written.
 use Rattle.std.proofs.Common.{◌≡◌, ℕ, zero, suc, get_or, ◌+◌, ◌<◌, ◌≤◌, ◌==◌, ◌&&◌, ◌||◌, not, nat_lt, nat_le, Bool, true, false, List, [], ◌∷◌, ◌++◌, length, map, Option, Some, None, is_none, Result, Ok, Err, if◌then◌else◌, inl, inr, min, max, refl, sym, ap, ◌∙◌, subst, arith, append-nil}
 use Rattle.std.proofs.lemmas.Bool.{and_parts, eqb-true, leb-true, lt-ltb, ne_eqb, not-false, or_parts}
-use Rattle.std.proofs.lemmas.List.Folds.{find_at, position_or_len}
+use Rattle.std.proofs.lemmas.List.Folds.{find_at}
 use Rattle.std.proofs.lemmas.Option.{get_or_from_slice_get, slice_get_read, slice_get_within}
 use Rattle.std.specs.Prelude.{All, IfOk, IsSomeAnd, bit_and, slice_get, ⊤}
-use Rattle.std.specs.List.{Contains, find, list_any}
+use Rattle.std.specs.List.{Contains, find, list_any, position_or_len}
 use Rattle.elf_base.specs.Refusal.{and_then, unless}
 use Rattle.elf_linking.specs.DynamicObject.{object_file, object_view}
 use Rattle.elf_linking.specs.DynamicView.{view_entries}
 use Rattle.elf_linking.specs.declared.object.DynamicObject.{DynamicObject}
-use Rattle.elf_loading.specs.ImageTables.{asks_for_text, has_flag, tables_of}
-use Rattle.elf_loading.specs.ImageWords.{AreWritten, IsCheckAt, IsImageCheck, IsIn, IsOwnCheck, IsWritableWord, as_load_error, by_words, check_word, check_words, checked_relocations, holds_word, is_shut, overlaps, refused, touches, word_rows, words_in}
+use Rattle.elf_loading.specs.ImageTables.{asks_for_text, check_tables, has_flag, tables_of}
+use Rattle.elf_loading.specs.ImageWords.{AreWritten, IsCheckAt, IsImageCheck, IsIn, IsOwnCheck, IsWritableWord, as_load_error, by_words, marks_count, check_word, check_words, checked_relocations, holds_word, is_shut, overlaps, refused, touches, word_rows, words_in}
 use Rattle.elf_loading.specs.Segments.{loads_of}
 use Rattle.elf_loading.specs.WordsLeft.{relocation_of, words_of}
+use Rattle.elf_linking.specs.declared.error.LinkError.{LinkError}
 use Rattle.elf_loading.specs.declared.error.LoadError.{LoadError}
+use Rattle.elf_loading.specs.declared.error.LoadError.TheVariants.{FewMarks}
 use Rattle.elf_loading.specs.declared.image_tables.Extent.{Extent}
 use Rattle.elf_loading.specs.declared.in_order.Relocation.{Relocation}
 use Rattle.elf_loading.specs.declared.words.Relocated.{Relocated}
@@ -155,22 +157,23 @@ then_ok : {A B : Type 0} (r : Result A LoadError) (next : A → Result B LoadErr
 then_ok (Ok x) next value is = (x, refl, is)
 then_ok (Err error) next value is = absurd (cc)
 
-link_ok : {A : Type 0} (r : _) (value : A) → as_load_error r ≡ Ok value → r ≡ Ok value
+link_ok : {A : Type 0} (r : Result A LinkError) (value : A) → as_load_error r ≡ Ok value → r ≡ Ok value
 link_ok (Ok x) value is = let same : x ≡ value = cc in ap (λ v. Ok v) same
 link_ok (Err error) value is = absurd (cc)
 
 relocations_are : {E : Type 0} {r : _} (size : ℕ) (own : DynamicObject E r) (bits : ℕ) (relocations : List Relocation) → checked_relocations size own bits ≡ Ok relocations → words_of (Some own) ≡ Ok relocations
 relocations_are size own bits relocations is =
-    let (done, tables, more) = then_ok _ _ relocations is in
-    let (all, found, enough) = then_ok _ _ relocations more in
-    let (none, same) = unless_ok _ all relocations enough in
-    link_ok _ relocations (found ∙ ap (λ v. Ok v) same)
+    let few : List (Bool × LoadError) = (nat_lt bits (marks_count (loads_of (object_file own))), FewMarks) ∷ [] in
+    let (done, tables, more) = then_ok {A = Unit {0}} (check_tables size own) (λ done. and_then (as_load_error (words_of (Some own))) (λ all. unless few all)) relocations is in
+    let (all, found, enough) = then_ok (as_load_error (words_of (Some own))) (λ all. unless few all) relocations more in
+    let (none, same) = unless_ok few all relocations enough in
+    link_ok (words_of (Some own)) relocations (found ∙ ap (λ v. Ok v) same)
 
 module _ {E : Type 0} {r : _} (size : ℕ) (fields : E → SymbolFields) (objects : List (DynamicObject E r)) (of bits : ℕ) where
   own_passes : (own : DynamicObject E r) (result : Result (Unit {0}) LoadError) → result ≡ Ok tt → IsOwnCheck size fields objects of own bits result → AreWritten size fields objects of own
   own_passes own result ok (refused error why is) = absurd (cc)
   own_passes own result ok (by_words relocations items checked first is) =
-      let (after, passes, done) = then_ok _ _ tt (sym is ∙ ok) in
+      let (after, passes, done) = then_ok (check_words (loads_of (object_file own)) (asks_for_text (view_entries (object_view own))) (tables_of size own) [] (words_in items)) (λ words. Ok (tt {0})) tt (sym is ∙ ok) in
       let passing = all_passing (loads_of (object_file own)) (asks_for_text (view_entries (object_view own))) (tables_of size own) [] after (words_in items) passes in
       let none : first.rest ≡ [] = subst (λ one. IfOk one (λ d. first.rest ≡ [])) ok first.all in record {
         items = items;

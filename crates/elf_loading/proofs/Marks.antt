@@ -110,7 +110,7 @@ next_as_before start count now old is = is ∙ ap (λ b. b || old) (and_right (n
 
 -- The marks of words.
 
-zero_byte : (count i : ℕ) → get_or (replicate count 0) i 0 ≡ 0
+zero_byte : (count i : ℕ) → ◌≡◌ {A = ℕ} (get_or (replicate count 0) i 0) 0
 zero_byte zero i = refl
 zero_byte (suc count) zero = refl
 zero_byte (suc count) (suc i) = zero_byte count i

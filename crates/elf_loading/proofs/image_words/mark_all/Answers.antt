@@ -11,7 +11,7 @@ loop-place-preserved c =
     let so_far = c.loop-place.invariant in
     let place = c.loop-place.place in
     let next = next_as_before c.args.start place _ _ (so_far.set (c.args.start + place)) in record {
-      len = c.mark.ensures.len ∙ so_far.len;
-      was = ap (λ b. b || c.mark.result) so_far.was ∙ ap (λ b. _ || b) (c.mark.ensures.was ∙ next) ∙ sym (some_more c.args.marks.now c.args.start place);
-      set = λ i. many_more c.args.start place i _ _ _ (c.mark.ensures.set i) (so_far.set i);
+      len = c.mark-was.ensures.len ∙ so_far.len;
+      was = ap (λ b. b || c.mark-was.result) so_far.was ∙ ap (λ b. _ || b) (c.mark-was.ensures.was ∙ next) ∙ sym (some_more c.args.marks.now c.args.start place);
+      set = λ i. many_more c.args.start place i _ _ _ (c.mark-was.ensures.set i) (so_far.set i);
     }
