@@ -20,6 +20,7 @@ use Rattle.elf_loading.specs.declared.image_tables.Extent.{Extent}
 use Rattle.elf_loading.specs.declared.in_order.Relocation.{Relocation}
 use Rattle.elf_loading.specs.declared.words.Relocated.{Relocated}
 use Rattle.elf_loading.specs.declared.words.Word.{Word}
+use Rattle.elf_loading.proofs.ImageChecks.{relocations_are, then_ok}
 use Rattle.elf_loading.proofs.ImageLoads.{held_within}
 use Rattle.elf_loading.proofs.LoadChecks.{unless_ok}
 use Rattle.xmas_elf.specs.Symbol.{SymbolFields}
@@ -150,24 +151,6 @@ module _ (loads : List ProgramHeader64) (text : Bool) (tables : List Extent) whe
       apart_before (after_word before first) words 0 j first other address others (first_kept before first (first.width == 0) (ne_eqb first.width 0 (λ none. absurd (omega (arith, none, in_first.0, in_first.1))))) later in_first in_other
   all_apart before (first ∷ words) (suc i) (suc j) one other address (here, others) order at later in_one in_other =
       all_apart (after_word before first) words i j one other address others (omega (arith, order)) at later in_one in_other
-
--- The relocations of an object whose tables can be used.
-
-then_ok : {A B : Type 0} (r : Result A LoadError) (next : A → Result B LoadError) (value : B) → and_then r next ≡ Ok value → (x : A) × (r ≡ Ok x) × (next x ≡ Ok value)
-then_ok (Ok x) next value is = (x, refl, is)
-then_ok (Err error) next value is = absurd (cc)
-
-link_ok : {A : Type 0} (r : Result A LinkError) (value : A) → as_load_error r ≡ Ok value → r ≡ Ok value
-link_ok (Ok x) value is = let same : x ≡ value = cc in ap (λ v. Ok v) same
-link_ok (Err error) value is = absurd (cc)
-
-relocations_are : {E : Type 0} {r : _} (size : ℕ) (own : DynamicObject E r) (bits : ℕ) (relocations : List Relocation) → checked_relocations size own bits ≡ Ok relocations → words_of (Some own) ≡ Ok relocations
-relocations_are size own bits relocations is =
-    let few : List (Bool × LoadError) = (nat_lt bits (marks_count (loads_of (object_file own))), FewMarks) ∷ [] in
-    let (done, tables, more) = then_ok {A = Unit {0}} (check_tables size own) (λ done. and_then (as_load_error (words_of (Some own))) (λ all. unless few all)) relocations is in
-    let (all, found, enough) = then_ok (as_load_error (words_of (Some own))) (λ all. unless few all) relocations more in
-    let (none, same) = unless_ok few all relocations enough in
-    link_ok (words_of (Some own)) relocations (found ∙ ap (λ v. Ok v) same)
 
 module _ {E : Type 0} {r : _} (size : ℕ) (fields : E → SymbolFields) (objects : List (DynamicObject E r)) (of bits : ℕ) where
   own_passes : (own : DynamicObject E r) (result : Result (Unit {0}) LoadError) → result ≡ Ok tt → IsOwnCheck size fields objects of own bits result → AreWritten size fields objects of own
