@@ -1,5 +1,5 @@
 -- The check of the words of an object, word by word.
-use Rattle.std.proofs.Common.{◌≡◌, ℕ, ◌*◌, ◌≤◌, nat_lt, Bool, false, List, [], ◌∷◌, ◌++◌, length, map, Option, Some, None, Result, Ok, Err, refl, sym, ap, ◌∙◌, subst, append_assoc, arith}
+use Rattle.std.proofs.Common.{◌≡◌, ℕ, ◌*◌, ◌≤◌, nat_lt, Bool, List, [], ◌∷◌, ◌++◌, map, Some, None, Result, Ok, Err, refl, sym, ap, ◌∙◌, subst, append_assoc, arith}
 use Rattle.std.proofs.lemmas.Bool.{ltb-false}
 use Rattle.std.proofs.lemmas.List.{map-append}
 use Rattle.std.proofs.lemmas.List.Elements.{All-nil, All-push, All-weaker}
@@ -13,7 +13,7 @@ use Rattle.elf_linking.specs.declared.error.LinkError.{LinkError}
 use Rattle.elf_linking.specs.declared.error.LinkError.TheVariants.{ObjectIndex}
 use Rattle.elf_linking.specs.declared.object.DynamicObject.{DynamicObject}
 use Rattle.elf_loading.specs.ImageTables.{asks_for_text, check_tables, tables_of}
-use Rattle.elf_loading.specs.ImageWords.{AreFirstItems, AreMarksOf, AreWordsFrom, HasRoom, IsBegun, IsImageCheck, IsCheckAt, as_load_error, by_words, marks_count, check_word, check_words, checked_relocations, refused, words_in}
+use Rattle.elf_loading.specs.ImageWords.{AreMarksOf, AreWordsFrom, HasRoom, IsBegun, IsImageCheck, IsCheckAt, as_load_error, by_words, marks_count, check_word, check_words, checked_relocations, refused, words_in}
 use Rattle.elf_loading.specs.Segments.{loads_of}
 use Rattle.elf_loading.specs.Words.{HasWord}
 use Rattle.elf_loading.specs.WordsLeft.{IsSame, relocation_of, words_file, words_index, words_lazy, words_left, words_objects, words_of, words_own}

@@ -1,24 +1,20 @@
 -- What holds of an object whose words can be written.
-use Rattle.std.proofs.Common.{◌≡◌, ℕ, zero, suc, get_or, ◌+◌, ◌<◌, ◌≤◌, ◌==◌, ◌&&◌, ◌||◌, not, nat_lt, nat_le, Bool, true, false, List, [], ◌∷◌, ◌++◌, length, map, Option, Some, None, is_none, Result, Ok, Err, if◌then◌else◌, inl, inr, min, max, refl, sym, ap, ◌∙◌, subst, arith, append-nil}
-use Rattle.std.proofs.lemmas.Bool.{and_parts, eqb-true, leb-true, lt-ltb, ne_eqb, not-false, or_parts}
+use Rattle.std.proofs.Common.{◌≡◌, ℕ, zero, suc, ◌+◌, ◌<◌, ◌==◌, ◌&&◌, not, nat_lt, Bool, true, false, List, [], ◌∷◌, ◌++◌, length, map, Option, Some, None, is_none, Result, Ok, Err, if◌then◌else◌, min, max, refl, sym, ap, ◌∙◌, subst, arith, append-nil}
+use Rattle.std.proofs.lemmas.Bool.{eqb-true, lt-ltb, ne_eqb, not-false, or_parts}
 use Rattle.std.proofs.lemmas.List.Folds.{find_at}
 use Rattle.std.proofs.lemmas.Option.{get_or_from_slice_get, slice_get_read, slice_get_within}
-use Rattle.std.specs.Prelude.{All, IfOk, IsSomeAnd, bit_and, slice_get, ⊤}
+use Rattle.std.specs.Prelude.{IfOk, IsSomeAnd, bit_and, slice_get, ⊤}
 use Rattle.std.specs.List.{Contains, find, list_any, position_or_len}
 use Rattle.elf_base.specs.Refusal.{and_then, unless}
 use Rattle.elf_linking.specs.DynamicObject.{object_file, object_view}
 use Rattle.elf_linking.specs.DynamicView.{view_entries}
 use Rattle.elf_linking.specs.declared.object.DynamicObject.{DynamicObject}
-use Rattle.elf_loading.specs.ImageTables.{asks_for_text, check_tables, has_flag, tables_of}
-use Rattle.elf_loading.specs.ImageWords.{AreWritten, IsCheckAt, IsImageCheck, IsIn, IsOwnCheck, IsWritableWord, as_load_error, by_words, marks_count, check_word, check_words, checked_relocations, holds_word, is_shut, overlaps, refused, touches, word_rows, words_in}
+use Rattle.elf_loading.specs.ImageTables.{asks_for_text, has_flag, tables_of}
+use Rattle.elf_loading.specs.ImageWords.{AreWritten, IsCheckAt, IsImageCheck, IsIn, IsOwnCheck, IsWritableWord, by_words, check_word, check_words, holds_word, is_shut, overlaps, refused, touches, word_rows, words_in}
 use Rattle.elf_loading.specs.Segments.{loads_of}
-use Rattle.elf_loading.specs.WordsLeft.{relocation_of, words_of}
-use Rattle.elf_linking.specs.declared.error.LinkError.{LinkError}
+use Rattle.elf_loading.specs.WordsLeft.{relocation_of}
 use Rattle.elf_loading.specs.declared.error.LoadError.{LoadError}
-use Rattle.elf_loading.specs.declared.error.LoadError.TheVariants.{FewMarks}
 use Rattle.elf_loading.specs.declared.image_tables.Extent.{Extent}
-use Rattle.elf_loading.specs.declared.in_order.Relocation.{Relocation}
-use Rattle.elf_loading.specs.declared.words.Relocated.{Relocated}
 use Rattle.elf_loading.specs.declared.words.Word.{Word}
 use Rattle.elf_loading.proofs.ImageChecks.{relocations_are, then_ok}
 use Rattle.elf_loading.proofs.ImageLoads.{held_within}

@@ -183,8 +183,8 @@ const TABLES_64: &[Row] = &[
     (&[(SLOTS_KIND - 8, TAG, 0x70)], Err(LoadError::SlotKind)),
     // 1 kind of 24 bytes, and no whole number of 16 bytes
     (&[(SLOTS_KIND, WIDE, 17)], Err(LoadError::NotMultiple)),
-    // a hash table to the end of the file, and 4 bytes more
-    (&[(BUCKETS, NARROW, 0x120)], Ok(())),
+    // a hash table to the end of the file, with the words in it, and 4 bytes more
+    (&[(BUCKETS, NARROW, 0x120)], Err(LoadError::WordInTable)),
     (&[(BUCKETS, NARROW, 0x121)], Err(LoadError::Unreadable)),
     (&[(0, header_64::MACHINE, 3)], Err(LoadError::Machine)),
     (&[(0, header_64::MACHINE, 40)], Err(LoadError::Machine)),
