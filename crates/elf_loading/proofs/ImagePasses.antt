@@ -76,17 +76,21 @@ module _ (loads : List ProgramHeader64) (text : Bool) (tables : List Extent) whe
 
   word_passes : (before after : List Word) (word : Word) (b : Bool) → word.width == 0 ≡ b → (if b then Ok before else unless (word_rows loads text tables before word) (word ∷ before)) ≡ Ok after → IsPassed before word × ((if b then before else word ∷ before) ≡ after)
   word_passes before after word true empty is =
-      let none : word.width ≡ 0 = eqb-true word.width 0 empty in
-      (record {
-        writable = λ some. absurd (omega (arith, none, some));
-        apart = λ k one address at (from, to) other. absurd (omega (arith, none, from, to));
-      }, cc)
+      let none : word.width ≡ 0 = eqb-true word.width 0 empty in (
+        record {
+          writable = λ some. absurd (omega (arith, none, some));
+          apart = λ k one address at (from, to) other. absurd (omega (arith, none, from, to));
+        },
+        cc,
+      )
   word_passes before after word false empty is =
-      let (none, same) = unless_ok (word_rows loads text tables before word) (word ∷ before) after is in
-      (record {
-        writable = λ some. writable_by word (find (holds_word word) loads) refl none.0 none.1.0 none.1.1.1.0;
-        apart = λ k one address at in_word in_one. true_false (sym (meet_at word.address word.width one.address one.width address in_word in_one) ∙ none_at (overlaps word) before k one none.1.1.0 at);
-      }, same)
+      let (none, same) = unless_ok (word_rows loads text tables before word) (word ∷ before) after is in (
+        record {
+          writable = λ some. writable_by word (find (holds_word word) loads) refl none.0 none.1.0 none.1.1.1.0;
+          apart = λ k one address at in_word in_one. true_false (sym (meet_at word.address word.width one.address one.width address in_word in_one) ∙ none_at (overlaps word) before k one none.1.1.0 at);
+        },
+        same,
+      )
 
   -- words that pass are all known, and each has passed
   pub record ArePassing (before : List Word) (results : List (Result Word LoadError)) : Type 0 where

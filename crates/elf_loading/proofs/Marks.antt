@@ -152,7 +152,7 @@ module _ (start : ℕ) (word : Word) (before : List Word) (old : List ℕ) (afte
         let here : word.address + k ≡ max word.address other.address = omega arith in
         let same : start + (word.address - start + k) ≡ max word.address other.address = omega (arith, after) in
         let covered : list_any (covers (start + (word.address - start + k))) before ≡ true =
-            list_any-from_Any (covers (start + (word.address - start + k))) before (j, other, within, at, covers_from (start + (word.address - start + k)) other (omega (arith, same)) (omega (arith, same, less))) in
+        list_any-from_Any (covers (start + (word.address - start + k))) before (j, other, within, at, covers_from (start + (word.address - start + k)) other (omega (arith, same)) (omega (arith, same, less))) in
         let below : k < word.width = omega (arith, here, less) in
         some_at old (word.address - start) word.width k below (marks.each (word.address - start + k) (omega (arith, below, fits)) ∙ covered)
 

@@ -38,7 +38,7 @@ table_by entries start size = record { start = number_with start entries; size =
 -- which are addresses
 abbrev pub hash_size : ElfFile → AnyTable → ℕ → ℕ
 hash_size file (Sysv table) count = 8 + 4 * (gabi.bucket_count_of table + gabi.chain_count_of table)
-hash_size file (Gnu table) count = 16 + (if file_class file.header == 1 then 4 else 8) * gnu.bloom_count_of table
+hash_size file (Gnu table) count = 16 + address_size file * gnu.bloom_count_of table
     + 4 * (gnu.bucket_count_of table + (count - gnu.first_symbol_of table))
 
 -- the entry with the address of the hash table

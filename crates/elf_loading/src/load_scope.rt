@@ -58,7 +58,8 @@ impl<'s, 'a, E: LinkedSymbol> LoadScope for Scope<'s, 'a, E> {
 
     /// Checks that the words of the object at index `of` can be written before the program runs:
     /// that its tables can be read, that each word is in the memory of one load segment, which is
-    /// writable, in no table, and not in another word. Jump slots get their symbols then.
+    /// writable unless the file asks for writes elsewhere (DT_TEXTREL, DF_TEXTREL), and that no byte
+    /// of it is in a table or in another word. Jump slots get their symbols then.
     ///
     /// `marks` has at least a bit for each byte from the least address of a load segment to the
     /// greatest; the span of a plan has as many or more. What it holds is overwritten.

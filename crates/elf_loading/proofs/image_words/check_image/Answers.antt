@@ -19,6 +19,8 @@ pub check_words-requires-clause-clear : goal.check_words-requires-clause-clear
 check_words-requires-clause-clear g c = c.clear.ensures.marks _
 
 pub returns : goal.returns
-returns g c = record { exact =
-    image_checked g.E.Record.SIZE g.E.Entry.fields (scope_objects c.args.scope) c.args.of (8 * length c.args.marks.now) c.in-Some.own.now (search rules) _ _ _ _ _ _ c.in-Ok.ensures
-    (ap loads_of (c.program_table.ensures.file ∙ c.file-file.ensures)) (c.asks_for_text.ensures ∙ ap (λ view. asks_for_text (view_entries view)) c.view.ensures) c.tables_of-tables.ensures c.check_words.ensures }
+returns g c = record {
+  exact =
+      image_checked g.E.Record.SIZE g.E.Entry.fields (scope_objects c.args.scope) c.args.of (8 * length c.args.marks.now) c.in-Some.own.now (search rules) _ _ _ _ _ _ c.in-Ok.ensures
+      (ap loads_of (c.program_table.ensures.file ∙ c.file-file.ensures)) (c.asks_for_text.ensures ∙ ap (λ view. asks_for_text (view_entries view)) c.view.ensures) c.tables_of-tables.ensures c.check_words.ensures;
+}

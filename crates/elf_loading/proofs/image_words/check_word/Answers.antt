@@ -39,7 +39,8 @@ returns-clause-exact c = λ before marks.
     let found = sym c.holder_of.ensures ∙ c.in-Some.is in
     let within = word_room _ _ _ word c.in-Some.load c.requires found in
     let taken = taken_is room.start word before c.args.marks.now within.0 marks within.1 in (
-    word ∷ before,
-    passed (loads_of (program_table_file room.table)) room.text room.tables before word (ne_eqb word.width 0 c.if-word-eq0.false) c.in-Some.load found
-    (sym c.is_shut.ensures ∙ c.if-is_shut.false) (sym taken ∙ sym c.mark_all.ensures.was ∙ c.if-mark_all.false) (sym c.is_in_table.ensures ∙ c.if-is_in_table.false),
-    marks_with room.start word before c.args.marks.now within.0 marks c.mark_all.new.marks c.mark_all.ensures.len c.mark_all.ensures.set)
+      word ∷ before,
+      passed (loads_of (program_table_file room.table)) room.text room.tables before word (ne_eqb word.width 0 c.if-word-eq0.false) c.in-Some.load found
+          (sym c.is_shut.ensures ∙ c.if-is_shut.false) (sym taken ∙ sym c.mark_all.ensures.was ∙ c.if-mark_all.false) (sym c.is_in_table.ensures ∙ c.if-is_in_table.false),
+      marks_with room.start word before c.args.marks.now within.0 marks c.mark_all.new.marks c.mark_all.ensures.len c.mark_all.ensures.set,
+    )
