@@ -64,11 +64,14 @@ impl<'s, 'a, E: LinkedSymbol> LoadScope for Scope<'s, 'a, E> {
     /// `marks` has at least a bit for each byte from the least address of a load segment to the
     /// greatest; the span of a plan has as many or more. What it holds is overwritten.
     ///
-    /// Errors: `Link` with `ObjectIndex` if there is no object at `of`; `Dynamic` to `Machine`, the
-    /// first of `LoadError` that applies; `Link` with those of `words`; `FewMarks`; then of the first
-    /// word that has one, `WordType` or `Link`, and `WordAddress` to `WordInTable`. The time is that
-    /// of `Scope::bind` for each relocation, and linear in the bytes of the words; each word is looked
-    /// for in the load segments.
+    /// Errors, the first of these: `Link` with `ObjectIndex` if there is no object at `of`; `Dynamic`;
+    /// `NoEntry`; of DT_RELA, DT_REL and DT_RELR each `RelocationSize`, `NotMultiple` and `Unreadable`;
+    /// of DT_JMPREL `SlotKind` and the latter two; `Unreadable` of other tables; `Machine`; `Link` with
+    /// those of `words`; `FewMarks`; of each word `WordType` or `Link`, `WordAddress`, `ReadOnly`,
+    /// `WordsOverlap` and `WordInTable`.
+    ///
+    /// The time is that of `Scope::bind` for each relocation, and linear in the bytes of the words; each
+    /// word is looked for in the load segments.
     #[tactic(auto, using(crate::proofs::ImagePasses::image_passes))]
     fn check_image(&self, of: usize, marks: &mut [u8]) -> Result<(), LoadError>
         ensures exact { IsImageCheck E.SIZE E.fields (scope_objects self.now).now of
