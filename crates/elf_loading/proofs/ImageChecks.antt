@@ -1,27 +1,30 @@
 -- The check of the words of an object, word by word.
-use Rattle.std.proofs.Common.{◌≡◌, ℕ, Bool, false, List, [], ◌∷◌, ◌++◌, length, map, Option, Some, None, Result, Ok, Err, refl, sym, ap, ◌∙◌, subst, append_assoc}
+use Rattle.std.proofs.Common.{◌≡◌, ℕ, ◌*◌, ◌≤◌, nat_lt, Bool, List, [], ◌∷◌, ◌++◌, map, Some, None, Result, Ok, Err, refl, sym, ap, ◌∙◌, subst, append_assoc, arith}
+use Rattle.std.proofs.lemmas.Bool.{ltb-false}
 use Rattle.std.proofs.lemmas.List.{map-append}
 use Rattle.std.proofs.lemmas.List.Elements.{All-nil, All-push, All-weaker}
 use Rattle.std.proofs.lemmas.Option.{same_Some}
 use Rattle.std.specs.Borrow.{Bor}
 use Rattle.std.specs.Prelude.{All, slice_get}
-use Rattle.elf_base.specs.Refusal.{and_then}
+use Rattle.elf_base.specs.Refusal.{and_then, unless}
 use Rattle.elf_linking.specs.DynamicObject.{object_file, object_view}
 use Rattle.elf_linking.specs.DynamicView.{view_entries}
+use Rattle.elf_linking.specs.declared.error.LinkError.{LinkError}
 use Rattle.elf_linking.specs.declared.error.LinkError.TheVariants.{ObjectIndex}
 use Rattle.elf_linking.specs.declared.object.DynamicObject.{DynamicObject}
-use Rattle.elf_loading.specs.ImageTables.{asks_for_text, tables_of}
-use Rattle.elf_loading.specs.ImageWords.{AreFirstItems, AreMarksOf, AreWordsFrom, IsBegun, IsImageCheck, IsCheckAt, by_words, check_word, check_words, checked_relocations, refused, words_in}
+use Rattle.elf_loading.specs.ImageTables.{asks_for_text, check_tables, tables_of}
+use Rattle.elf_loading.specs.ImageWords.{AreMarksOf, AreWordsFrom, HasRoom, IsBegun, IsImageCheck, IsCheckAt, as_load_error, by_words, marks_count, check_word, check_words, checked_relocations, refused, words_in}
 use Rattle.elf_loading.specs.Segments.{loads_of}
 use Rattle.elf_loading.specs.Words.{HasWord}
-use Rattle.elf_loading.specs.WordsLeft.{IsSame, relocation_of, words_file, words_index, words_lazy, words_left, words_objects, words_own}
+use Rattle.elf_loading.specs.WordsLeft.{IsSame, relocation_of, words_file, words_index, words_lazy, words_left, words_objects, words_of, words_own}
 use Rattle.elf_loading.specs.declared.error.LoadError.{LoadError}
-use Rattle.elf_loading.specs.declared.error.LoadError.TheVariants.{Link}
+use Rattle.elf_loading.specs.declared.error.LoadError.TheVariants.{FewMarks, Link}
 use Rattle.elf_loading.specs.declared.image_tables.Extent.{Extent}
 use Rattle.elf_loading.specs.declared.in_order.Relocation.{Relocation}
 use Rattle.elf_loading.specs.declared.words.Relocated.{Relocated}
 use Rattle.elf_loading.specs.declared.words.Word.{Word}
 use Rattle.elf_loading.specs.declared.words.Words.{Words}
+use Rattle.elf_loading.proofs.LoadChecks.{unless_ok}
 use Rattle.xmas_elf.specs.Symbol.{SymbolFields}
 use Rattle.xmas_elf.specs.Types.{ElfFile, ProgramHeader64}
 
@@ -92,7 +95,7 @@ module _ {E : Type 0} {r : _} (fields : E → SymbolFields) (loads : List Progra
     have_more : All (HasWord fields (words_objects all).now (words_file all) (words_own all) (words_index all) (words_lazy all)) (so_far.items ++ (item ∷ []))
     have_more =
         let (one, two, three, four, five) = so_far.same in
-        All-push _ so_far.items item so_far.have_words (has_word_same fields item _ _ _ _ _ _ _ _ _ _ (ap (λ o. o.now) one) two three four five has)
+        All-push (HasWord fields (words_objects all).now (words_file all) (words_own all) (words_index all) (words_lazy all)) so_far.items item so_far.have_words (has_word_same fields item _ _ _ _ _ _ _ _ _ _ (ap (λ o. o.now) one) two three four five has)
 
     checked_more : check_words loads text tables [] (words_in (so_far.items ++ (item ∷ []))) ≡ check_word loads text tables so_far.before item.word
     checked_more = ap (check_words loads text tables []) (map-append (λ one. one.word) so_far.items (item ∷ []))
@@ -131,6 +134,38 @@ module _ {E : Type 0} {r : _} (fields : E → SymbolFields) (loads : List Progra
     all = is;
     checked = ap (λ result. and_then result (λ words. Ok tt)) (sym so_far.checked);
   }
+
+-- The relocations of an object whose tables can be used.
+
+pub then_ok : {A B : Type 0} (r : Result A LoadError) (next : A → Result B LoadError) (value : B) → and_then r next ≡ Ok value → (x : A) × (r ≡ Ok x) × (next x ≡ Ok value)
+then_ok (Ok x) next value is = (x, refl, is)
+then_ok (Err error) next value is = absurd (cc)
+
+link_ok : {A : Type 0} (r : Result A LinkError) (value : A) → as_load_error r ≡ Ok value → r ≡ Ok value
+link_ok (Ok x) value is = let same : x ≡ value = cc in ap (λ v. Ok v) same
+link_ok (Err error) value is = absurd (cc)
+
+pub relocations_are : {E : Type 0} {r : _} (size : ℕ) (own : DynamicObject E r) (bits : ℕ) (relocations : List Relocation) → checked_relocations size own bits ≡ Ok relocations → words_of (Some own) ≡ Ok relocations
+relocations_are size own bits relocations is =
+    let few : List (Bool × LoadError) = (nat_lt bits (marks_count (loads_of (object_file own))), FewMarks) ∷ [] in
+    let (done, tables, more) = then_ok {A = Unit {0}} (check_tables size own) (λ done. and_then (as_load_error (words_of (Some own))) (λ all. unless few all)) relocations is in
+    let (all, found, enough) = then_ok (as_load_error (words_of (Some own))) (λ all. unless few all) relocations more in
+    let (none, same) = unless_ok few all relocations enough in
+    link_ok (words_of (Some own)) relocations (found ∙ ap (λ v. Ok v) same)
+
+-- there are enough marks
+enough_marks : {E : Type 0} {r : _} (size : ℕ) (own : DynamicObject E r) (bits : ℕ) (relocations : List Relocation) → checked_relocations size own bits ≡ Ok relocations → marks_count (loads_of (object_file own)) ≤ bits
+enough_marks size own bits relocations is =
+    let few : List (Bool × LoadError) = (nat_lt bits (marks_count (loads_of (object_file own))), FewMarks) ∷ [] in
+    let (done, tables, more) = then_ok {A = Unit {0}} (check_tables size own) (λ done. and_then (as_load_error (words_of (Some own))) (λ all. unless few all)) relocations is in
+    let (all, found, enough) = then_ok (as_load_error (words_of (Some own))) (λ all. unless few all) relocations more in
+    let (none, same) = unless_ok few all relocations enough in
+    ltb-false bits (marks_count (loads_of (object_file own))) none.0
+
+pub image_room : {E : Type 0} {r : _} (size : ℕ) (objects : Bor (List (DynamicObject E r))) (of : ℕ) (own : DynamicObject E r) (bits len : ℕ) (words : Words E r) (start : ℕ) (file : ElfFile) → IsBegun size objects of own bits words start → file ≡ object_file own → bits ≡ 8 * len → HasRoom (loads_of file) start len
+image_room size objects of own bits len words start file begun same many =
+    let enough : marks_count (loads_of (object_file own)) ≤ bits = enough_marks size own bits (words_left words) begun.relocations_are in
+    subst (λ one. HasRoom (loads_of one) start len) (sym same) (record { begins = begun.start_is; fits = omega (arith, enough, many) })
 
 -- The check of an object.
 

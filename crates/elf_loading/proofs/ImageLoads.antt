@@ -1,10 +1,10 @@
 -- The load that has a word, and the memory of all loads, load by load.
-use Rattle.std.proofs.Common.{◌≡◌, ℕ, zero, suc, ◌+◌, ◌≤◌, Bool, true, false, List, [], ◌∷◌, Option, Some, None, if◌then◌else◌, min, max, refl, sym, ap, ◌∙◌, subst, arith}
+use Rattle.std.proofs.Common.{◌≡◌, ℕ, ◌+◌, ◌≤◌, Bool, true, false, List, [], ◌∷◌, Some, None, if◌then◌else◌, min, max, refl, sym, ap, ◌∙◌, subst, arith}
 use Rattle.std.proofs.lemmas.Bool.{and_parts, leb-true}
 use Rattle.std.proofs.lemmas.Option.{same_Some}
 use Rattle.std.specs.Prelude.{nat_le}
 use Rattle.std.specs.List.{find}
-use Rattle.elf_loading.specs.ImageWords.{highest, holds_word, lowest, marks_count, marks_start}
+use Rattle.elf_loading.specs.ImageWords.{highest, holds_word, lowest, marks_start}
 use Rattle.elf_loading.specs.declared.words.Word.{Word}
 use Rattle.xmas_elf.specs.Types.{ProgramHeader64}
 

@@ -1,23 +1,22 @@
 -- What holds of an object whose words can be written.
-use Rattle.std.proofs.Common.{◌≡◌, ℕ, zero, suc, get_or, ◌+◌, ◌<◌, ◌≤◌, ◌==◌, ◌&&◌, ◌||◌, not, nat_lt, nat_le, Bool, true, false, List, [], ◌∷◌, ◌++◌, length, map, Option, Some, None, is_none, Result, Ok, Err, if◌then◌else◌, inl, inr, min, max, refl, sym, ap, ◌∙◌, subst, arith, append-nil}
-use Rattle.std.proofs.lemmas.Bool.{and_parts, eqb-true, leb-true, lt-ltb, ne_eqb, not-false, or_parts}
-use Rattle.std.proofs.lemmas.List.Folds.{find_at, position_or_len}
+use Rattle.std.proofs.Common.{◌≡◌, ℕ, zero, suc, ◌+◌, ◌<◌, ◌==◌, ◌&&◌, not, nat_lt, Bool, true, false, List, [], ◌∷◌, ◌++◌, length, map, Option, Some, None, is_none, Result, Ok, Err, if◌then◌else◌, min, max, refl, sym, ap, ◌∙◌, subst, arith, append-nil}
+use Rattle.std.proofs.lemmas.Bool.{eqb-true, lt-ltb, ne_eqb, not-false, or_parts}
+use Rattle.std.proofs.lemmas.List.Folds.{find_at}
 use Rattle.std.proofs.lemmas.Option.{get_or_from_slice_get, slice_get_read, slice_get_within}
-use Rattle.std.specs.Prelude.{All, IfOk, IsSomeAnd, bit_and, slice_get, ⊤}
-use Rattle.std.specs.List.{Contains, find, list_any}
+use Rattle.std.specs.Prelude.{IfOk, IsSomeAnd, bit_and, slice_get, ⊤}
+use Rattle.std.specs.List.{Contains, find, list_any, position_or_len}
 use Rattle.elf_base.specs.Refusal.{and_then, unless}
 use Rattle.elf_linking.specs.DynamicObject.{object_file, object_view}
 use Rattle.elf_linking.specs.DynamicView.{view_entries}
 use Rattle.elf_linking.specs.declared.object.DynamicObject.{DynamicObject}
 use Rattle.elf_loading.specs.ImageTables.{asks_for_text, has_flag, tables_of}
-use Rattle.elf_loading.specs.ImageWords.{AreWritten, IsCheckAt, IsImageCheck, IsIn, IsOwnCheck, IsWritableWord, as_load_error, by_words, check_word, check_words, checked_relocations, holds_word, is_shut, overlaps, refused, touches, word_rows, words_in}
+use Rattle.elf_loading.specs.ImageWords.{AreWritten, IsCheckAt, IsImageCheck, IsIn, IsOwnCheck, IsWritableWord, by_words, check_word, check_words, holds_word, is_shut, overlaps, refused, touches, word_rows, words_in}
 use Rattle.elf_loading.specs.Segments.{loads_of}
-use Rattle.elf_loading.specs.WordsLeft.{relocation_of, words_of}
+use Rattle.elf_loading.specs.WordsLeft.{relocation_of}
 use Rattle.elf_loading.specs.declared.error.LoadError.{LoadError}
 use Rattle.elf_loading.specs.declared.image_tables.Extent.{Extent}
-use Rattle.elf_loading.specs.declared.in_order.Relocation.{Relocation}
-use Rattle.elf_loading.specs.declared.words.Relocated.{Relocated}
 use Rattle.elf_loading.specs.declared.words.Word.{Word}
+use Rattle.elf_loading.proofs.ImageChecks.{relocations_are, then_ok}
 use Rattle.elf_loading.proofs.ImageLoads.{held_within}
 use Rattle.elf_loading.proofs.LoadChecks.{unless_ok}
 use Rattle.xmas_elf.specs.Symbol.{SymbolFields}
@@ -77,17 +76,21 @@ module _ (loads : List ProgramHeader64) (text : Bool) (tables : List Extent) whe
 
   word_passes : (before after : List Word) (word : Word) (b : Bool) → word.width == 0 ≡ b → (if b then Ok before else unless (word_rows loads text tables before word) (word ∷ before)) ≡ Ok after → IsPassed before word × ((if b then before else word ∷ before) ≡ after)
   word_passes before after word true empty is =
-      let none : word.width ≡ 0 = eqb-true word.width 0 empty in
-      (record {
-        writable = λ some. absurd (omega (arith, none, some));
-        apart = λ k one address at (from, to) other. absurd (omega (arith, none, from, to));
-      }, cc)
+      let none : word.width ≡ 0 = eqb-true word.width 0 empty in (
+        record {
+          writable = λ some. absurd (omega (arith, none, some));
+          apart = λ k one address at (from, to) other. absurd (omega (arith, none, from, to));
+        },
+        cc,
+      )
   word_passes before after word false empty is =
-      let (none, same) = unless_ok (word_rows loads text tables before word) (word ∷ before) after is in
-      (record {
-        writable = λ some. writable_by word (find (holds_word word) loads) refl none.0 none.1.0 none.1.1.1.0;
-        apart = λ k one address at in_word in_one. true_false (sym (meet_at word.address word.width one.address one.width address in_word in_one) ∙ none_at (overlaps word) before k one none.1.1.0 at);
-      }, same)
+      let (none, same) = unless_ok (word_rows loads text tables before word) (word ∷ before) after is in (
+        record {
+          writable = λ some. writable_by word (find (holds_word word) loads) refl none.0 none.1.0 none.1.1.1.0;
+          apart = λ k one address at in_word in_one. true_false (sym (meet_at word.address word.width one.address one.width address in_word in_one) ∙ none_at (overlaps word) before k one none.1.1.0 at);
+        },
+        same,
+      )
 
   -- words that pass are all known, and each has passed
   pub record ArePassing (before : List Word) (results : List (Result Word LoadError)) : Type 0 where
@@ -149,28 +152,11 @@ module _ (loads : List ProgramHeader64) (text : Bool) (tables : List Extent) whe
   all_apart before (first ∷ words) (suc i) (suc j) one other address (here, others) order at later in_one in_other =
       all_apart (after_word before first) words i j one other address others (omega (arith, order)) at later in_one in_other
 
--- The relocations of an object whose tables can be used.
-
-then_ok : {A B : Type 0} (r : Result A LoadError) (next : A → Result B LoadError) (value : B) → and_then r next ≡ Ok value → (x : A) × (r ≡ Ok x) × (next x ≡ Ok value)
-then_ok (Ok x) next value is = (x, refl, is)
-then_ok (Err error) next value is = absurd (cc)
-
-link_ok : {A : Type 0} (r : _) (value : A) → as_load_error r ≡ Ok value → r ≡ Ok value
-link_ok (Ok x) value is = let same : x ≡ value = cc in ap (λ v. Ok v) same
-link_ok (Err error) value is = absurd (cc)
-
-relocations_are : {E : Type 0} {r : _} (size : ℕ) (own : DynamicObject E r) (bits : ℕ) (relocations : List Relocation) → checked_relocations size own bits ≡ Ok relocations → words_of (Some own) ≡ Ok relocations
-relocations_are size own bits relocations is =
-    let (done, tables, more) = then_ok _ _ relocations is in
-    let (all, found, enough) = then_ok _ _ relocations more in
-    let (none, same) = unless_ok _ all relocations enough in
-    link_ok _ relocations (found ∙ ap (λ v. Ok v) same)
-
 module _ {E : Type 0} {r : _} (size : ℕ) (fields : E → SymbolFields) (objects : List (DynamicObject E r)) (of bits : ℕ) where
   own_passes : (own : DynamicObject E r) (result : Result (Unit {0}) LoadError) → result ≡ Ok tt → IsOwnCheck size fields objects of own bits result → AreWritten size fields objects of own
   own_passes own result ok (refused error why is) = absurd (cc)
   own_passes own result ok (by_words relocations items checked first is) =
-      let (after, passes, done) = then_ok _ _ tt (sym is ∙ ok) in
+      let (after, passes, done) = then_ok (check_words (loads_of (object_file own)) (asks_for_text (view_entries (object_view own))) (tables_of size own) [] (words_in items)) (λ words. Ok (tt {0})) tt (sym is ∙ ok) in
       let passing = all_passing (loads_of (object_file own)) (asks_for_text (view_entries (object_view own))) (tables_of size own) [] after (words_in items) passes in
       let none : first.rest ≡ [] = subst (λ one. IfOk one (λ d. first.rest ≡ [])) ok first.all in record {
         items = items;

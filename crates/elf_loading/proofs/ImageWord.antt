@@ -2,7 +2,7 @@
 use Rattle.std.proofs.Common.{◌≡◌, ℕ, ◌+◌, ◌-◌, ◌*◌, ◌≤◌, ◌==◌, ◌&&◌, not, Bool, true, false, List, ◌∷◌, Some, None, Ok, Err, refl, arith}
 use Rattle.std.specs.List.{find, list_any}
 use Rattle.elf_loading.specs.ImageTables.{has_flag}
-use Rattle.elf_loading.specs.ImageWords.{HasRoom, check_word, highest, holds_word, marks_count, marks_start, overlaps, touches}
+use Rattle.elf_loading.specs.ImageWords.{HasRoom, check_word, highest, holds_word, marks_start, overlaps, touches}
 use Rattle.elf_loading.specs.declared.error.LoadError.TheVariants.{ReadOnly, WordAddress, WordInTable, WordsOverlap}
 use Rattle.elf_loading.specs.declared.image_tables.Extent.{Extent}
 use Rattle.elf_loading.specs.declared.words.Word.{Word}

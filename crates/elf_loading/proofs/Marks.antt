@@ -1,13 +1,13 @@
 -- Marks: which words they are of, mark by mark.
-use Rattle.std.proofs.Common.{◌≡◌, ◌⊎◌, ℕ, zero, suc, get_or, ◌+◌, ◌-◌, ◌*◌, ◌/◌, ◌%◌, ◌^◌, ◌<◌, ◌≤◌, ◌==◌, ◌&&◌, ◌||◌, nat_lt, nat_le, Bool, true, false, List, [], ◌∷◌, length, replicate, slice_index, inl, inr, min, max, refl, sym, ap, ◌∙◌, subst, arith}
-use Rattle.std.proofs.lemmas.Bool.{and_from, and_left, and_parts, and_right, cases_eq, cases_lt, eq-eqb, eqb-true, le-leb, le-ltb, leb-true, lt-leb, lt-ltb, ltb-true, ne_eqb, or_cases, or_left, or_right}
+use Rattle.std.proofs.Common.{◌≡◌, ℕ, zero, suc, get_or, ◌+◌, ◌-◌, ◌*◌, ◌/◌, ◌%◌, ◌^◌, ◌<◌, ◌≤◌, ◌==◌, ◌&&◌, ◌||◌, nat_lt, nat_le, Bool, true, false, List, [], ◌∷◌, length, replicate, slice_index, inl, inr, min, max, refl, sym, ap, ◌∙◌, subst, arith}
+use Rattle.std.proofs.lemmas.Bool.{and_from, and_parts, and_right, cases_eq, eq-eqb, eqb-true, le-leb, le-ltb, leb-true, lt-ltb, ltb-true, ne_eqb, or_cases, or_left, or_right}
 use Rattle.std.proofs.lemmas.List.{get_or-set_other, get_or-set_same}
 use Rattle.std.proofs.lemmas.List.Folds.{Any-from_list_any, list_any-from_Any}
 use Rattle.std.proofs.lemmas.Nat.Bits.{bit_at-zero, bit_at_set_other, bit_at_set_same}
 use Rattle.std.proofs.Math.ListN.{set}
-use Rattle.std.specs.Int.{Width, w8, bit_at}
+use Rattle.std.specs.Int.{w8, bit_at}
 use Rattle.std.specs.Prelude.{bit_or}
-use Rattle.std.specs.List.{Any, list_any}
+use Rattle.std.specs.List.{list_any}
 use Rattle.elf_loading.specs.ImageWords.{AreMarksOf, covers, is_marked, overlaps, some_marked}
 use Rattle.elf_loading.specs.declared.words.Word.{Word}
 
@@ -110,7 +110,7 @@ next_as_before start count now old is = is ∙ ap (λ b. b || old) (and_right (n
 
 -- The marks of words.
 
-zero_byte : (count i : ℕ) → get_or (replicate count 0) i 0 ≡ 0
+zero_byte : (count i : ℕ) → ◌≡◌ {A = ℕ} (get_or (replicate count 0) i 0) 0
 zero_byte zero i = refl
 zero_byte (suc count) zero = refl
 zero_byte (suc count) (suc i) = zero_byte count i
@@ -152,7 +152,7 @@ module _ (start : ℕ) (word : Word) (before : List Word) (old : List ℕ) (afte
         let here : word.address + k ≡ max word.address other.address = omega arith in
         let same : start + (word.address - start + k) ≡ max word.address other.address = omega (arith, after) in
         let covered : list_any (covers (start + (word.address - start + k))) before ≡ true =
-            list_any-from_Any (covers (start + (word.address - start + k))) before (j, other, within, at, covers_from (start + (word.address - start + k)) other (omega (arith, same)) (omega (arith, same, less))) in
+        list_any-from_Any (covers (start + (word.address - start + k))) before (j, other, within, at, covers_from (start + (word.address - start + k)) other (omega (arith, same)) (omega (arith, same, less))) in
         let below : k < word.width = omega (arith, here, less) in
         some_at old (word.address - start) word.width k below (marks.each (word.address - start + k) (omega (arith, below, fits)) ∙ covered)
 

@@ -15,7 +15,7 @@ use Rattle.elf_linking.specs.declared.any_table.AnyTable.TheVariants.{Gnu, Sysv}
 use Rattle.elf_linking.specs.declared.object.DynamicObject.{DynamicObject}
 use Rattle.elf_linking.specs.declared.view.tags.TheConstants.{DT_FLAGS, DT_GNU_HASH, DT_HASH, DT_JMPREL, DT_PLTREL, DT_PLTRELSZ, DT_REL, DT_RELA, DT_RELAENT, DT_RELASZ, DT_RELENT, DT_RELR, DT_RELRENT, DT_RELRSZ, DT_RELSZ, DT_STRSZ, DT_STRTAB, DT_SYMTAB, DT_TEXTREL, DT_VERSYM}
 use Rattle.elf_loading.specs.InOrder.{is_kind, record_size}
-use Rattle.elf_loading.specs.Words.{flag_in}
+use Rattle.elf_loading.specs.Words.{address_size, flag_in}
 use Rattle.elf_loading.specs.declared.error.LoadError.{LoadError}
 use Rattle.elf_loading.specs.declared.error.LoadError.TheVariants as error
 use Rattle.elf_loading.specs.declared.image_tables.Extent.{Extent}
@@ -38,7 +38,7 @@ table_by entries start size = record { start = number_with start entries; size =
 -- which are addresses
 abbrev pub hash_size : ElfFile → AnyTable → ℕ → ℕ
 hash_size file (Sysv table) count = 8 + 4 * (gabi.bucket_count_of table + gabi.chain_count_of table)
-hash_size file (Gnu table) count = 16 + (if file_class file.header == 1 then 4 else 8) * gnu.bloom_count_of table
+hash_size file (Gnu table) count = 16 + address_size file * gnu.bloom_count_of table
     + 4 * (gnu.bucket_count_of table + (count - gnu.first_symbol_of table))
 
 -- the entry with the address of the hash table
@@ -135,10 +135,6 @@ is_dynamic_lost file (Some program) = let dynamic = program_fields program in
 abbrev pub is_other_machine : ElfFile → Bool
 is_other_machine file = let class = file_class file.header in let machine = file_machine file in
     not (if class == 1 then machine == 3 else (class == 2 && (machine == 62 || machine == 183)))
-
--- the size of an address in bytes, by the class
-abbrev pub address_size : ElfFile → ℕ
-address_size file = if file_class file.header == 1 then 4 else 8
 
 -- all relocations can be read: those of DT_RELA, DT_REL, DT_RELR and DT_JMPREL; or the first reason why not
 unfoldable pub check_all_relocations : ElfFile → List (Dynamic ℕ) → Result (Unit {0}) LoadError

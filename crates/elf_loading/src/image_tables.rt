@@ -4,7 +4,7 @@ ghost use Rattle.std.specs.Prelude.{◌≡◌, ◌<◌, ◌≤◌, ◌*◌, ◌^
 ghost use Rattle.std.specs.List.{list_any};
 ghost use Rattle.elf_base.specs.Refusal.{unless};
 ghost use Rattle.elf_linking.specs.DynamicView.{view_entries};
-ghost use Rattle.elf_loading.specs.ImageTables.{address_size, asks_for_text, check_all_relocations};
+ghost use Rattle.elf_loading.specs.ImageTables.{asks_for_text, check_all_relocations};
 ghost use Rattle.elf_loading.specs.ImageTables.{check_tables, has_flag, hash_size, hash_tag};
 ghost use Rattle.elf_loading.specs.ImageTables.{holds_dynamic, is_dynamic_lost, is_no_multiple};
 ghost use Rattle.elf_loading.specs.ImageTables.{is_other_machine, is_readable, is_unreadable};
@@ -15,7 +15,7 @@ ghost use Rattle.xmas_elf.specs.ProgramHeader.{program_fields};
 use crate::LoadError;
 use crate::in_order::{is_kind, record_size};
 use crate::segments::fields;
-use crate::words::flag_in;
+use crate::words::{address_size, flag_in};
 use elf_linking::references::types::{EM_386, EM_AARCH64, EM_X86_64};
 use elf_linking::view::{
     DT_FLAGS, DT_GNU_HASH, DT_HASH, DT_JMPREL, DT_PLTREL, DT_PLTRELSZ, DT_REL, DT_RELA, DT_RELAENT,
@@ -176,19 +176,6 @@ fn is_other_machine(file: &ElfFile<'_>) -> bool
         1 => machine != EM_386,
         2 => machine != EM_X86_64 && machine != EM_AARCH64,
         _ => true,
-    }
-}
-
-// The size of an address in bytes.
-fn address_size(file: &ElfFile<'_>) -> u64
-    ensures exact { result ≡ address_size file.now }
-    ensures above { 0 < result }
-    ensures most { result ≤ 8 }
-{
-    if file.header.pt1.class.raw() == 1 {
-        4
-    } else {
-        8
     }
 }
 

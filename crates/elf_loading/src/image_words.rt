@@ -1,10 +1,10 @@
 //! Whether the words of an object can be written.
 
 ghost use Rattle.std.specs.Prelude.{◌≡◌, ◌<◌, ◌≤◌, ◌+◌, ◌*◌, ◌==◌, ◌&&◌, ◌||◌, [], ℕ, Err, List};
-ghost use Rattle.std.specs.Prelude.{MatchResult, Ok, Some, length, nat_le, nat_lt, slice_get};
+ghost use Rattle.std.specs.Prelude.{MatchResult, Ok, Some, length, nat_le, nat_lt, not, slice_get};
 ghost use Rattle.std.specs.List.{find, list_any};
 ghost use Rattle.elf_linking.specs.Scope.{scope_objects};
-ghost use Rattle.elf_loading.specs.ImageTables.{tables_of};
+ghost use Rattle.elf_loading.specs.ImageTables.{has_flag, tables_of};
 ghost use Rattle.elf_loading.specs.ImageWords.{AreMarksOf, AreWordsFrom, HasRoom, IsBegun};
 ghost use Rattle.elf_loading.specs.ImageWords.{IsImageCheck, check_word, checked_relocations};
 ghost use Rattle.elf_loading.specs.ImageWords.{holds_word, is_marked, marks_count, marks_start, meet};
@@ -127,6 +127,13 @@ fn mark_all(marks: &mut [u8], start: u64, count: u64) -> bool
     was
 }
 
+// Whether a load is not writable, and the file doesn't ask for writes to such a load.
+fn is_shut(room: &Room<'_, '_>, load: &ProgramHeader64) -> bool
+    ensures { result ≡ (not room.now.text && not (has_flag 2 load.now)) }
+{
+    !room.text && !is_writable(load)
+}
+
 // Whether a word can be written after those that have marks; the word gets marks.
 fn check_word(room: &Room<'_, '_>, word: &Word, marks: &mut [u8]) -> Result<(), LoadError>
     requires { HasRoom (loads_of (program_table_file room.now.table)) room.now.start
@@ -144,7 +151,7 @@ fn check_word(room: &Room<'_, '_>, word: &Word, marks: &mut [u8]) -> Result<(), 
     let Some(load) = holder_of(word, room.table) else {
         return Err(LoadError::WordAddress);
     };
-    if !room.text && !is_writable(&load) {
+    if is_shut(room, &load) {
         return Err(LoadError::ReadOnly);
     }
     if mark_all(marks, word.address - room.start, word.width) {
@@ -229,7 +236,10 @@ pub(crate) fn check_image<E: LinkedSymbol>(
         return Err(LoadError::Link(LinkError::ObjectIndex));
     };
     let tables = tables_of(own);
-    let (words, start) = begin(scope, of, own, &tables, 8 * marks.len() as u128)?;
+    let (words, start) = match begin(scope, of, own, &tables, 8 * marks.len() as u128) {
+        Ok(begun) => begun,
+        Err(error) => return Err(error),
+    };
     clear(marks);
     let file = own.file();
     let room = Room {

@@ -59,16 +59,20 @@ impl<'s, 'a, E: LinkedSymbol> LoadScope for Scope<'s, 'a, E> {
 
     /// Checks that the words of the object at index `of` can be written before the program runs:
     /// that its tables can be read, that each word is in the memory of one load segment, which is
-    /// writable, in no table, and not in another word. Jump slots get their symbols then.
+    /// writable unless the file asks for writes elsewhere (DT_TEXTREL, DF_TEXTREL), and that no byte
+    /// of it is in a table or in another word. Jump slots get their symbols then.
     ///
     /// `marks` has at least a bit for each byte from the least address of a load segment to the
     /// greatest; the span of a plan has as many or more. What it holds is overwritten.
     ///
-    /// Errors: `Link` with `ObjectIndex` if there is no object at `of`; `Dynamic` to `Machine`, the
-    /// first of `LoadError` that applies; `Link` with those of `words`; `FewMarks`; then of the first
-    /// word that has one, `WordType` or `Link`, and `WordAddress` to `WordInTable`. The time is that
-    /// of `Scope::bind` for each relocation, and linear in the bytes of the words; each word is looked
-    /// for in the load segments.
+    /// Errors, the first of these: `Link` with `ObjectIndex` if there is no object at `of`; `Dynamic`;
+    /// `NoEntry`; of DT_RELA, DT_REL and DT_RELR each `RelocationSize`, `NotMultiple` and `Unreadable`;
+    /// of DT_JMPREL `SlotKind` and the latter two; `Unreadable` of other tables; `Machine`; `Link` with
+    /// those of `words`; `FewMarks`; of each word `WordType` or `Link`, `WordAddress`, `ReadOnly`,
+    /// `WordsOverlap` and `WordInTable`.
+    ///
+    /// The time is that of `Scope::bind` for each relocation, and linear in the bytes of the words; each
+    /// word is looked for in the load segments.
     #[tactic(auto, using(crate::proofs::ImagePasses::image_passes))]
     fn check_image(&self, of: usize, marks: &mut [u8]) -> Result<(), LoadError>
         ensures exact { IsImageCheck E.SIZE E.fields (scope_objects self.now).now of

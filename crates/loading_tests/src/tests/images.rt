@@ -27,30 +27,26 @@ const LOAD: usize = 64;
 
 const DYNAMIC: usize = 120;
 
-// A number of a dynamic entry, by its index: those of the base file, then those of `entries_64`.
-const fn number(index: usize) -> usize {
-    0x308 + 16 * index
-}
+// The numbers of the dynamic entries of `ENTRIES_64`, which are after four of the base file.
+const RELA: usize = 0x348;
 
-const RELA: usize = number(4);
+const RELA_SIZE: usize = 0x358;
 
-const RELA_SIZE: usize = number(5);
+const RELA_EACH: usize = 0x368;
 
-const RELA_EACH: usize = number(6);
+const SLOTS: usize = 0x378;
 
-const SLOTS: usize = number(7);
+const SLOTS_SIZE: usize = 0x388;
 
-const SLOTS_SIZE: usize = number(8);
+const SLOTS_KIND: usize = 0x398;
 
-const SLOTS_KIND: usize = number(9);
+const PACKED: usize = 0x3a8;
 
-const PACKED: usize = number(10);
+const PACKED_SIZE: usize = 0x3b8;
 
-const PACKED_SIZE: usize = number(11);
+const PACKED_EACH: usize = 0x3c8;
 
-const PACKED_EACH: usize = number(12);
-
-const OTHER: usize = number(13);
+const OTHER: usize = 0x3d8;
 
 // Tables of two relocations, of one slot, and of one packed relocation.
 const ENTRIES_64: &[(u64, u64)] = &[
@@ -151,7 +147,11 @@ const TABLES_64: &[Row] = &[
         &[(DYNAMIC, program_64::VIRTUAL_ADDR, 0x1310)],
         Err(LoadError::Dynamic),
     ),
-    (&[(DYNAMIC, program_64::MEM_SIZE, 0x380)], Ok(())),
+    // a dynamic segment to the end of the file has the words in it
+    (
+        &[(DYNAMIC, program_64::MEM_SIZE, 0x380)],
+        Err(LoadError::WordInTable),
+    ),
     (
         &[(DYNAMIC, program_64::MEM_SIZE, 0x381)],
         Err(LoadError::Dynamic),
@@ -183,8 +183,8 @@ const TABLES_64: &[Row] = &[
     (&[(SLOTS_KIND - 8, TAG, 0x70)], Err(LoadError::SlotKind)),
     // 1 kind of 24 bytes, and no whole number of 16 bytes
     (&[(SLOTS_KIND, WIDE, 17)], Err(LoadError::NotMultiple)),
-    // a hash table to the end of the file, and 4 bytes more
-    (&[(BUCKETS, NARROW, 0x120)], Ok(())),
+    // a hash table to the end of the file, with the words in it, and 4 bytes more
+    (&[(BUCKETS, NARROW, 0x120)], Err(LoadError::WordInTable)),
     (&[(BUCKETS, NARROW, 0x121)], Err(LoadError::Unreadable)),
     (&[(0, header_64::MACHINE, 3)], Err(LoadError::Machine)),
     (&[(0, header_64::MACHINE, 40)], Err(LoadError::Machine)),
@@ -204,10 +204,7 @@ const WORDS_64: &[Row] = &[
     (&[(FIRST, WIDE, u64::MAX)], Err(LoadError::WordAddress)),
     (&[(LOAD, program_64::FLAGS, 4)], Err(LoadError::ReadOnly)),
     (
-        &[
-            (LOAD, program_64::FLAGS, 4),
-            (OTHER - 8, TAG, 22),
-        ],
+        &[(LOAD, program_64::FLAGS, 4), (OTHER - 8, TAG, 22)],
         Ok(()),
     ),
     (
@@ -242,11 +239,7 @@ const WORDS_64: &[Row] = &[
     // copies of 8 and of 9 bytes; a descriptor of 16
     (&[(FIRST, KIND, 5), (FIRST, SYMBOL, 1)], Ok(())),
     (
-        &[
-            (FIRST, KIND, 5),
-            (FIRST, SYMBOL, 1),
-            (SYMBOL_SIZE, WIDE, 9),
-        ],
+        &[(FIRST, KIND, 5), (FIRST, SYMBOL, 1), (SYMBOL_SIZE, WIDE, 9)],
         Err(LoadError::WordsOverlap),
     ),
     (
@@ -273,18 +266,12 @@ const WORDS_64: &[Row] = &[
     (&[(FIRST, WIDE, 0x12a8)], Ok(())),
     (&[(FIRST, WIDE, 0x12a7)], Err(LoadError::WordInTable)),
     // a table without bytes has none in common with a word around it
-    (
-        &[(PACKED, WIDE, 0x1604), (PACKED_SIZE, WIDE, 0)],
-        Ok(()),
-    ),
+    (&[(PACKED, WIDE, 0x1604), (PACKED_SIZE, WIDE, 0)], Ok(())),
 ];
 
 const TWO_64: &[Row] = &[
     (
-        &[
-            (LOAD, program_64::FLAGS, 2),
-            (RELA_EACH, WIDE, 16),
-        ],
+        &[(LOAD, program_64::FLAGS, 2), (RELA_EACH, WIDE, 16)],
         Err(LoadError::Dynamic),
     ),
     (
@@ -308,10 +295,7 @@ const TWO_64: &[Row] = &[
         Err(LoadError::SlotKind),
     ),
     (
-        &[
-            (BUCKETS, NARROW, 0x121),
-            (0, header_64::MACHINE, 40),
-        ],
+        &[(BUCKETS, NARROW, 0x121), (0, header_64::MACHINE, 40)],
         Err(LoadError::Unreadable),
     ),
     (
@@ -327,10 +311,7 @@ const TWO_64: &[Row] = &[
         Err(LoadError::WordAddress),
     ),
     (
-        &[
-            (LOAD, program_64::FLAGS, 4),
-            (SECOND, WIDE, 0x1600),
-        ],
+        &[(LOAD, program_64::FLAGS, 4), (SECOND, WIDE, 0x1600)],
         Err(LoadError::ReadOnly),
     ),
     // the second word has a byte of the first and one of the dynamic segment
@@ -391,9 +372,18 @@ const ENTRIES_32: &[(u64, u64)] = &[
     (37, 4),
 ];
 
-const fn number_32(index: usize) -> usize {
-    0x304 + 8 * index
-}
+// The numbers of these entries.
+const REL: usize = 0x324;
+
+const REL_SIZE: usize = 0x32c;
+
+const REL_EACH: usize = 0x334;
+
+const KIND_32: usize = 0x34c;
+
+const PACKED_SIZE_32: usize = 0x35c;
+
+const PACKED_EACH_32: usize = 0x364;
 
 // A file for 386 whose words are at 0x1600, 0x1604, 0x1608 and 0x160c, of 4 bytes each.
 fn file_32() -> [u8; SIZE] {
@@ -418,20 +408,17 @@ fn file_32() -> [u8; SIZE] {
 
 const ALL_32: &[Row] = &[
     (&[], Ok(())),
+    (&[(REL_EACH, NARROW, 12)], Err(LoadError::RelocationSize)),
     (
-        &[(number_32(6), NARROW, 12)],
+        &[(PACKED_EACH_32, NARROW, 8)],
         Err(LoadError::RelocationSize),
     ),
-    (
-        &[(number_32(12), NARROW, 8)],
-        Err(LoadError::RelocationSize),
-    ),
-    (&[(number_32(5), NARROW, 15)], Err(LoadError::NotMultiple)),
-    (&[(number_32(11), NARROW, 3)], Err(LoadError::NotMultiple)),
+    (&[(REL_SIZE, NARROW, 15)], Err(LoadError::NotMultiple)),
+    (&[(PACKED_SIZE_32, NARROW, 3)], Err(LoadError::NotMultiple)),
     // slots of 12 bytes
-    (&[(number_32(9), NARROW, 7)], Err(LoadError::NotMultiple)),
-    (&[(number_32(9), NARROW, 8)], Err(LoadError::SlotKind)),
-    (&[(number_32(4), NARROW, 0x9000)], Err(LoadError::Unreadable)),
+    (&[(KIND_32, NARROW, 7)], Err(LoadError::NotMultiple)),
+    (&[(KIND_32, NARROW, 8)], Err(LoadError::SlotKind)),
+    (&[(REL, NARROW, 0x9000)], Err(LoadError::Unreadable)),
     (&[(0, header_32::MACHINE, 62)], Err(LoadError::Machine)),
     (&[(TABLE + 4, NARROW, 9)], Err(LoadError::WordType)),
     (&[(TABLE, NARROW, 0x167c)], Ok(())),
@@ -442,8 +429,14 @@ const ALL_32: &[Row] = &[
     ),
     (&[(TABLE, NARROW, 0x1601)], Err(LoadError::WordsOverlap)),
     (&[(TABLE, NARROW, 0x15fc)], Ok(())),
-    (&[(TABLE + 16, NARROW, 0x1607)], Err(LoadError::WordsOverlap)),
-    (&[(TABLE + 32, NARROW, 0x1607)], Err(LoadError::WordsOverlap)),
+    (
+        &[(TABLE + 16, NARROW, 0x1607)],
+        Err(LoadError::WordsOverlap),
+    ),
+    (
+        &[(TABLE + 32, NARROW, 0x1606)],
+        Err(LoadError::WordsOverlap),
+    ),
     (&[(TABLE, NARROW, 0x1268)], Ok(())),
     (&[(TABLE, NARROW, 0x1263)], Err(LoadError::WordInTable)),
     (&[(TABLE, NARROW, 0x1180)], Ok(())),
