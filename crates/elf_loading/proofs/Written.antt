@@ -1,6 +1,8 @@
 -- The words that are written so far.
 use Rattle.std.proofs.Common.{◌≡◌, ℕ, ◌+◌, ◌-◌, ◌^◌, ◌<◌, ◌++◌, ◌&&◌, nat_le, nat_lt, inl, inr, Bool, true, false, List, [], ◌∷◌, length, map, slice_index, Result, Ok, Err, if◌then◌else◌, cond, refl, sym, ap, ◌∙◌, subst, arith, append_assoc, append-nil}
+use Rattle.std.proofs.lemmas.Option.{slice_get-get_or}
 use Rattle.std.specs.Borrow.{Bor}
+use Rattle.std.specs.Slice.{IsItemAt}
 use Rattle.std.specs.Prelude.{All, IsOk, MatchResult, None, Option, Some, min, slice_get}
 use Rattle.std.specs.List.{count_by}
 use Rattle.std.proofs.lemmas.Bool.{cases_lt, le-leb, le-ltb, lt-leb, lt-ltb}
@@ -188,6 +190,10 @@ module _ {E : Type 0} {r : _} (fields : E → SymbolFields) (sources : Sources E
 
 -- The call.
 
+-- the item of a slice that was lent
+pub item_is : {X : Type 0} (xs : List X) (i : ℕ) (lent : Option (Bor X)) (x : Bor X) → IsItemAt xs i lent → lent ≡ Some x → slice_get xs i ≡ Some x.now
+item_is xs i lent x item is = let at = subst (IsItemAt xs i) is item in slice_get-get_or xs i x.now at.3.0 ∙ ap (λ y. Some y) (sym at.1)
+
 module _ {E : Type 0} {r : _} (fields : E → SymbolFields) (sources : Sources E r) (own : DynamicObject E r) (lazy : Bool) (before after : List ℕ) where
   pub is_written : (result : Result ℕ LoadError) (relocations : List Relocation) → is_wrong_size sources own (length before) ≡ false
       → words_of (Some own) ≡ Ok relocations → IsWriting fields sources own lazy relocations before after result
@@ -200,10 +206,17 @@ module _ {E : Type 0} {r : _} (fields : E → SymbolFields) (objects : Bor (List
   abbrev of_order : Order → Sources E r
   of_order order = record { objects = objects; page = page; of = of; order = order; places = places; images = images }
 
-  pub is_relocated : (result : Result ℕ LoadError) (sources : Sources E r) → slice_get objects.now of ≡ Some own
-      → sources ≡ of_order (file_order (object_file own).header)
-      → IsRelocation fields sources own (binds_lazily (view_entries (object_view own)) when) before after result
+  pub is_relocated : (result : Result ℕ LoadError) (lent : Bor (List (DynamicObject E r))) (order : Order) → lent ≡ objects → slice_get lent.now of ≡ Some own
+      → order ≡ file_order (object_file own).header
+      → IsRelocation fields (record { objects = lent; page = page; of = of; order = order; places = places; images = images }) own
+      (binds_lazily (view_entries (object_view own)) when) before after result
       → IsRelocationIn fields objects of when page places images before after result
-  is_relocated result sources there same relocation =
-      subst (λ found. IsRelocationAt fields of_order found when before after result) (sym there)
-      (subst (λ from. IsRelocation fields from own (binds_lazily (view_entries (object_view own)) when) before after result) same relocation)
+  is_relocated result lent order same there order_is relocation =
+      let lazy = binds_lazily (view_entries (object_view own)) when in
+      let found : slice_get objects.now of ≡ Some own = ap (λ (all_of : Bor (List (DynamicObject E r))). slice_get all_of.now of) (sym same) ∙ there in
+      let own_order = file_order (object_file own).header in
+      let one : IsRelocation fields (record { objects = objects; page = page; of = of; order = order; places = places; images = images }) own lazy before after result =
+          subst (λ all_of. IsRelocation fields (record { objects = all_of; page = page; of = of; order = order; places = places; images = images }) own lazy before after result) same relocation in
+      let other : IsRelocation fields (of_order own_order) own lazy before after result =
+          subst (λ some_order. IsRelocation fields (of_order some_order) own lazy before after result) order_is one in
+      subst (λ here. IsRelocationAt fields of_order here when before after result) (sym found) other
