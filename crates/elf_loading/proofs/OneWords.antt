@@ -1,7 +1,6 @@
 -- The byte at an address that one word has.
-use Rattle.std.proofs.Common.{◌≡◌, ℕ, ◌+◌, ◌<◌, ◌≤◌, ◌++◌, Bool, true, false, List, [], ◌∷◌, length, map, slice_index, slice_get, Option, None, Some, Result, Ok, Err, if◌then◌else◌, cond, refl, sym, ap, ◌∙◌, subst, arith}
+use Rattle.std.proofs.Common.{◌≡◌, ℕ, ◌+◌, ◌<◌, ◌≤◌, Bool, true, false, List, [], ◌∷◌, length, map, slice_index, slice_get, Option, None, Some, Result, Ok, Err, if◌then◌else◌, cond, refl, sym, ap, ◌∙◌, arith}
 use Rattle.std.specs.Prelude.{IfOk, MatchResult}
-use Rattle.std.specs.Borrow.{Bor}
 use Rattle.std.specs.List.{count_by, find}
 use Rattle.elf_base.specs.FileHeader.{file_order}
 use Rattle.elf_base.specs.declared.bytes.Order.{Order}
@@ -11,18 +10,16 @@ use Rattle.elf_linking.specs.declared.error.LinkError.{LinkError}
 use Rattle.elf_linking.specs.declared.object.DynamicObject.{DynamicObject}
 use Rattle.elf_loading.specs.ImageWords.{as_load_error}
 use Rattle.elf_loading.specs.OneWord.{IsByOneWordAt, IsByOneWordEach, byte_by, is_of_word, is_over, plan_byte}
-use Rattle.elf_loading.specs.Plan.{IsImageBy, plan_loads}
+use Rattle.elf_loading.specs.Plan.{plan_loads}
 use Rattle.elf_loading.specs.Relocate.{AreItemsWritten, IsRelocation, IsRelocationAt, IsWriting, all, is_wrong_size, relocated_byte, sized_relocations, some, start_at, word_byte}
 use Rattle.elf_loading.specs.Segments.{loads_of}
-use Rattle.elf_loading.specs.Spans.{first_start, span_of}
+use Rattle.elf_loading.specs.Spans.{first_start}
 use Rattle.elf_loading.specs.Words.{binds_lazily}
 use Rattle.elf_loading.specs.WordsLeft.{relocation_of, words_of}
 use Rattle.elf_loading.proofs.Checked.{checked_once, count_first}
 use Rattle.elf_loading.specs.declared.error.LoadError.{LoadError}
 use Rattle.elf_loading.specs.declared.error.LoadError.TheVariants as error
 use Rattle.elf_loading.specs.declared.in_order.Relocation.{Relocation}
-use Rattle.elf_loading.specs.declared.mapping.Loader.{Loader}
-use Rattle.elf_loading.specs.declared.plan.LoadPlan.{LoadPlan}
 use Rattle.elf_loading.specs.declared.relocate.Sources.{Sources}
 use Rattle.elf_loading.specs.declared.words.Binding.{Binding}
 use Rattle.elf_loading.specs.declared.words.Relocated.{Relocated}

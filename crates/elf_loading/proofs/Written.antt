@@ -1,9 +1,9 @@
 -- The words that are written so far.
-use Rattle.std.proofs.Common.{◌≡◌, ℕ, ◌+◌, ◌-◌, ◌^◌, ◌<◌, ◌++◌, ◌&&◌, nat_le, nat_lt, inl, inr, Bool, true, false, List, [], ◌∷◌, length, map, slice_index, Result, Ok, Err, if◌then◌else◌, cond, refl, sym, ap, ◌∙◌, subst, arith, append_assoc, append-nil}
+use Rattle.std.proofs.Common.{◌≡◌, ℕ, ◌+◌, ◌-◌, ◌^◌, ◌++◌, ◌&&◌, nat_le, nat_lt, inl, inr, Bool, true, false, List, [], ◌∷◌, length, map, slice_index, Result, Ok, Err, if◌then◌else◌, cond, refl, sym, ap, ◌∙◌, subst, arith, append_assoc, append-nil}
 use Rattle.std.proofs.lemmas.Option.{slice_get-get_or}
 use Rattle.std.specs.Borrow.{Bor}
 use Rattle.std.specs.Slice.{IsItemAt}
-use Rattle.std.specs.Prelude.{All, IsOk, MatchResult, None, Option, Some, min, slice_get}
+use Rattle.std.specs.Prelude.{IsOk, MatchResult, Option, Some, min, slice_get}
 use Rattle.std.specs.List.{count_by}
 use Rattle.std.proofs.lemmas.Bool.{cases_lt, le-leb, le-ltb, lt-leb, lt-ltb}
 use Rattle.std.proofs.lemmas.List.{map-append}
@@ -216,7 +216,7 @@ module _ {E : Type 0} {r : _} (fields : E → SymbolFields) (objects : Bor (List
       let found : slice_get objects.now of ≡ Some own = ap (λ (all_of : Bor (List (DynamicObject E r))). slice_get all_of.now of) (sym same) ∙ there in
       let own_order = file_order (object_file own).header in
       let one : IsRelocation fields (record { objects = objects; page = page; of = of; order = order; places = places; images = images }) own lazy before after result =
-          subst (λ all_of. IsRelocation fields (record { objects = all_of; page = page; of = of; order = order; places = places; images = images }) own lazy before after result) same relocation in
+      subst (λ all_of. IsRelocation fields (record { objects = all_of; page = page; of = of; order = order; places = places; images = images }) own lazy before after result) same relocation in
       let other : IsRelocation fields (of_order own_order) own lazy before after result =
-          subst (λ some_order. IsRelocation fields (of_order some_order) own lazy before after result) order_is one in
+      subst (λ some_order. IsRelocation fields (of_order some_order) own lazy before after result) order_is one in
       subst (λ here. IsRelocationAt fields of_order here when before after result) (sym found) other

@@ -28,7 +28,7 @@ use Rattle.elf_loading.specs.declared.relocate.Sources.{Sources}
 use Rattle.elf_loading.specs.declared.value.Origin.{Origin}
 use Rattle.elf_loading.specs.declared.value.Origin.TheVariants.{Base, Call, Zero}
 use Rattle.elf_loading.specs.declared.value.Value.{Value}
-use Rattle.elf_loading.specs.declared.value.Value.TheVariants.{Copy, Descriptor, Distance, Module, Sum, Thread, ThreadNegated, Unchanged}
+use Rattle.elf_loading.specs.declared.value.Value.TheVariants.{Copy, Descriptor, Distance, Module, Sum, Thread, ThreadNegated}
 use Rattle.elf_loading.specs.declared.words.Binding.{Binding}
 use Rattle.elf_loading.specs.declared.words.Relocated.{Relocated}
 use Rattle.elf_loading.specs.declared.words.Word.{Word}

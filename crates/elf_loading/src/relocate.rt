@@ -1,16 +1,17 @@
 //! The bytes that relocations write to the image of an object.
 
-ghost use Rattle.std.specs.Prelude.{◌≡◌, ◌<◌, ◌≤◌, ◌+◌, ◌-◌, ◌==◌, ◌&&◌, ◌||◌, ◌*◌, ◌/◌, ◌%◌, ◌^◌, length, not, nat_le, nat_lt};
-ghost use Rattle.std.specs.Prelude.{false, if◌then◌else◌, slice_index, true, Err, IfErr, IfOk, MatchOption, Some, min};
-ghost use Rattle.std.specs.Prelude.{Ok, slice_get, ℕ};
+ghost use Rattle.std.specs.Prelude.{◌≡◌, ◌<◌, ◌≤◌, ◌+◌, ◌-◌, ◌&&◌, ◌*◌, ◌/◌, ◌%◌, ◌^◌, length};
+ghost use Rattle.std.specs.Prelude.{false, if◌then◌else◌, min, nat_le, nat_lt, slice_get};
+ghost use Rattle.std.specs.Prelude.{slice_index, true, Err, IfErr, IfOk, MatchOption, Ok, Some, ℕ};
 ghost use Rattle.elf_base.specs.Table.{table_items};
 ghost use Rattle.elf_linking.specs.DynamicObject.{object_records, object_view};
 ghost use Rattle.elf_linking.specs.DynamicView.{view_entries};
 ghost use Rattle.elf_linking.specs.Scope.{scope_objects};
 ghost use Rattle.elf_loading.specs.Pages.{up};
-ghost use Rattle.elf_loading.specs.Relocate.{AreWordsFor, IsRelocation, IsRelocationIn, IsWriting, byte_of_number, is_wrong_size};
-ghost use Rattle.elf_loading.specs.Relocate.{has_no_number, image_at, is_copy_outside};
-ghost use Rattle.elf_loading.specs.Relocate.{is_outside, is_unresolved, is_weak};
+ghost use Rattle.elf_loading.specs.Relocate.{AreWordsFor, IsRelocation, IsRelocationIn, IsWriting};
+ghost use Rattle.elf_loading.specs.Relocate.{byte_of_number, has_no_number, image_at};
+ghost use Rattle.elf_loading.specs.Relocate.{is_copy_outside, is_outside, is_unresolved, is_weak};
+ghost use Rattle.elf_loading.specs.Relocate.{is_wrong_size};
 ghost use Rattle.elf_loading.specs.Relocate.{origin_sum, place_at, start_at, value_byte};
 ghost use Rattle.elf_loading.specs.Relocate.{value_number, word_byte, write_item, write_word};
 ghost use Rattle.elf_loading.specs.Segments.{loads_of};

@@ -1,8 +1,7 @@
-use Rattle.std.proofs.Common.{rules, ◌≡◌, Some, Ok, slice_get, sym, ap, ◌∙◌, subst}
+use Rattle.std.proofs.Common.{rules, ◌≡◌, Some, Ok, slice_get, sym, ap, ◌∙◌}
 use Rattle.elf_linking.specs.DynamicObject.{object_view}
 use Rattle.elf_linking.specs.DynamicView.{view_entries}
 use Rattle.elf_linking.specs.Scope.{scope_objects}
-use Rattle.elf_loading.specs.Relocate.{is_wrong_size}
 use Rattle.elf_loading.specs.Words.{binds_lazily}
 use Rattle.elf_loading.specs.WordsLeft.{words_left, words_of}
 use Rattle.elf_loading.proofs.Written.{is_written}

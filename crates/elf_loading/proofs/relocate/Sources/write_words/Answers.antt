@@ -1,6 +1,5 @@
-use Rattle.std.proofs.Common.{rules, ◌≡◌, ◌+◌, ◌-◌, ◌^◌, ℕ, cond, slice_index, sym, ap, ◌∙◌, subst, arith}
-use Rattle.std.specs.Prelude.{min}
-use Rattle.elf_loading.specs.Relocate.{AreWordsFor, start_at, word_byte}
+use Rattle.std.proofs.Common.{rules, ◌≡◌, ◌+◌, slice_index, sym, ap, ◌∙◌, subst}
+use Rattle.elf_loading.specs.Relocate.{AreWordsFor, word_byte}
 use Rattle.elf_loading.specs.WordsLeft.{words_left}
 use Rattle.elf_loading.proofs.Written.{SoFar, all_written, has_word, more_written, none_written, one_refused, still_words}
 use Rattle.elf_loading.proofs.relocate.Sources.write_words.Goals as goal
