@@ -1,11 +1,12 @@
 -- The check of the words of an object, word by word.
-use Rattle.std.proofs.Common.{◌≡◌, ℕ, ◌*◌, ◌≤◌, nat_lt, Bool, List, [], ◌∷◌, ◌++◌, map, Some, None, Result, Ok, Err, refl, sym, ap, ◌∙◌, subst, append_assoc, arith}
+use Rattle.std.proofs.Common.{◌≡◌, ℕ, ◌*◌, ◌≤◌, nat_lt, Bool, List, [], ◌∷◌, ◌++◌, map, Option, Some, None, Result, Ok, Err, refl, sym, ap, ◌∙◌, subst, append_assoc, arith}
 use Rattle.std.proofs.lemmas.Bool.{ltb-false}
 use Rattle.std.proofs.lemmas.List.{map-append}
 use Rattle.std.proofs.lemmas.List.Elements.{All-nil, All-push, All-weaker}
-use Rattle.std.proofs.lemmas.Option.{same_Some}
+use Rattle.std.proofs.lemmas.Option.{same_Some, slice_get-get_or}
 use Rattle.std.specs.Borrow.{Bor}
 use Rattle.std.specs.Prelude.{All, slice_get}
+use Rattle.std.specs.Slice.{IsItemAt}
 use Rattle.elf_base.specs.Refusal.{and_then, unless}
 use Rattle.elf_linking.specs.DynamicObject.{object_file, object_view}
 use Rattle.elf_linking.specs.DynamicView.{view_entries}
@@ -168,6 +169,10 @@ image_room size objects of own bits len words start file begun same many =
     subst (λ one. HasRoom (loads_of one) start len) (sym same) (record { begins = begun.start_is; fits = omega (arith, enough, many) })
 
 -- The check of an object.
+
+-- the item of a slice that was lent
+pub lent_item : {X : Type 0} (xs : List X) (i : ℕ) (lent : Option (Bor X)) (x : Bor X) → IsItemAt xs i lent → lent ≡ Some x → slice_get xs i ≡ Some x.now
+lent_item xs i lent x item is = let at = subst (IsItemAt xs i) is item in slice_get-get_or xs i x.now at.3.0 ∙ ap (λ y. Some y) (sym at.1)
 
 module _ {E : Type 0} {r : _} (size : ℕ) (fields : E → SymbolFields) (objects : Bor (List (DynamicObject E r))) (of bits : ℕ) where
   pub no_image : slice_get objects.now of ≡ None → IsImageCheck size fields objects.now of bits (Err (Link ObjectIndex))

@@ -191,6 +191,25 @@ const TABLES_64: &[Row] = &[
 ];
 
 const WORDS_64: &[Row] = &[
+    // the types of AArch64, and one of x86-64 among them
+    (
+        &[
+            (0, header_64::MACHINE, 183),
+            (FIRST, KIND, 1027),
+            (SECOND, KIND, 257),
+            (SLOT, KIND, 1026),
+        ],
+        Ok(()),
+    ),
+    (
+        &[
+            (0, header_64::MACHINE, 183),
+            (FIRST, KIND, 8),
+            (SECOND, KIND, 257),
+            (SLOT, KIND, 1026),
+        ],
+        Err(LoadError::WordType),
+    ),
     (&[(FIRST, KIND, 9)], Err(LoadError::WordType)),
     (
         &[(SECOND, SYMBOL, 6)],
