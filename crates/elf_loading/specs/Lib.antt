@@ -17,3 +17,7 @@ pub mod InOrder
 pub mod Values
 pub mod Words
 pub mod WordsLeft
+pub mod ImageTables
+pub mod ImageWords
+pub mod Relocate
+pub mod OneWord
