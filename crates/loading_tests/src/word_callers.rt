@@ -7,7 +7,7 @@ ghost use Rattle.elf_linking.specs.Scope.{scope_objects};
 ghost use Rattle.elf_loading.specs.ImageTables.{asks_for_text};
 ghost use Rattle.elf_loading.specs.ImageWords.{AreWritten};
 ghost use Rattle.elf_loading.specs.Plan.{IsImageBy};
-ghost use Rattle.elf_loading.specs.Relocate.{IsByOneWordIn};
+ghost use Rattle.elf_loading.specs.OneWord.{IsByOneWordIn};
 ghost use Rattle.elf_loading.specs.Words.{flag_in};
 ghost use Rattle.elf_loading.specs.declared.mapping.Loader.TheVariants.{Glibc};
 ghost use Rattle.elf_loading.specs.declared.words.Binding.TheVariants.{Now};
@@ -48,6 +48,13 @@ pub fn writes_no_read_only_memory<E: LinkedSymbol>(
     scope.check_image(of, marks).is_ok()
 }
 
+// Fills an image with the bytes that glibc maps.
+fn fill(plan: &LoadPlan<'_>, image: &mut [u8]) -> Result<(), LoadError>
+    ensures { IfOk result (λ done. IsImageBy Glibc plan.now image.new) }
+{
+    plan.fill(Loader::Glibc, image)
+}
+
 /// Fills an image with the bytes of the object at index `of`, whose plan is `plan`, and writes the
 /// words of its relocations. The result is the number of words without a number.
 pub fn load_image<E: LinkedSymbol>(
@@ -64,6 +71,6 @@ pub fn load_image<E: LinkedSymbol>(
         × IsByOneWordIn E.SIZE E.fields (scope_objects scope.now) of Now page places.entry
         others.entry mapped image.new) }
 {
-    plan.fill(Loader::Glibc, image)?;
+    fill(plan, image)?;
     scope.relocate(of, Binding::Now, page, places, others, image)
 }
