@@ -1,13 +1,16 @@
 -- What holds of a file that is not refused.
-use Rattle.std.proofs.Common.{◌≡◌, ℕ, ◌+◌, ◌-◌, ◌^◌, ◌==◌, ◌<◌, ◌≤◌, ◌||◌, not, nat_lt, nat_le, slice_index, if◌then◌else◌, Bool, true, false, List, [], ◌∷◌, length, Option, Some, None, ok_or, Result, Ok, Err, refl, ap, subst, arith}
+use Rattle.std.proofs.Common.{◌≡◌, ℕ, ◌+◌, ◌-◌, ◌^◌, ◌==◌, ◌<◌, ◌≤◌, ◌||◌, ◌*◌, not, min, nat_lt, nat_le, slice_index, if◌then◌else◌, Bool, true, false, List, [], ◌∷◌, length, Option, Some, None, ok_or, Result, Ok, Err, refl, ap, subst, arith}
+use Rattle.std.proofs.Math.Nat.{min-le_right}
 use Rattle.std.proofs.lemmas.Bool.{and_parts, eqb-true, eq-eqb, leb-true, ltb-false, or_parts}
 use Rattle.std.specs.List.{list_all}
+use Rattle.elf_base.specs.FileHeader.{file_class, header_fields}
 use Rattle.elf_base.specs.Refusal.{and_then, unless}
 use Rattle.elf_base.specs.Text.{BytesRefused}
 use Rattle.elf_base.specs.declared.error.ElfError.{ElfError}
 use Rattle.elf_base.specs.declared.error.ElfError.TheVariants.{TextStart, TextEnd}
 use Rattle.xmas_elf.specs.Types.{ElfFile, ProgramHeader64}
 use Rattle.elf_loading.specs.FileCheck.{NoneApplies, check_file, covered_to, header_rows, is_no_path, is_uncovered, segment_rows}
+use Rattle.elf_loading.specs.HeaderAt.{AreWhole, header_size}
 use Rattle.elf_loading.specs.LoadCheck.{check_loads, fits_below, holds_address, lies_in, load_end}
 use Rattle.elf_loading.specs.Pages.{down}
 use Rattle.elf_loading.specs.Segments.{interpreter_of, loads_of, relro_of}
@@ -140,3 +143,17 @@ module _ (file : ElfFile) (page limit end : ℕ) where
       let checked : is_uncovered page (loads_of file) (Some relro) ≡ false = subst (λ o. is_uncovered page (loads_of file) o ≡ false) there pass.rest.1.1.0 in
       let least : down page (relro.virtual_addr + relro.mem_size) ≤ covered_to page (down page relro.virtual_addr) (loads_of file) = ltb-false _ _ checked in
       covered page (down page relro.virtual_addr) address (loads_of file) from (omega arith)
+
+-- the program headers of a file that passes the rows of the header are in it whole
+pub whole_by : (file : ElfFile) (page : ℕ) → unless (header_rows file page) (tt {0}) ≡ Ok (tt {0}) → AreWhole file
+whole_by file page is =
+    let (none, same) = unless_ok (header_rows file page) (tt {0}) (tt {0}) is in
+    let sized = none.1.0 in let some = none.1.1.0 in let within = none.1.1.1.0 in record {
+      sized = eqb-true _ _ (un_not _ sized);
+      few = few_by (header_fields file.header.pt2).ph_count (file_class file.header == 1) (or_parts _ _ some).1;
+      within = ltb-false _ _ within;
+    }
+  where
+    few_by : (count : ℕ) (narrow : Bool) → nat_lt (min page 65536) (count * header_size narrow) ≡ false → count < 0xffff
+    few_by count true is = let most = ltb-false _ _ is in omega (arith, most, min-le_right page 65536)
+    few_by count false is = let most = ltb-false _ _ is in omega (arith, most, min-le_right page 65536)

@@ -1,5 +1,5 @@
 -- A pass over the loads, load by load.
-use Rattle.std.proofs.Common.{◌≡◌, ℕ, ◌||◌, Bool, true, false, List, [], ◌∷◌, Option, Some, None, is_none, Ok, Err, if◌then◌else◌, refl, sym, ap, ◌∙◌}
+use Rattle.std.proofs.Common.{◌≡◌, ℕ, ◌||◌, Bool, true, false, List, [], ◌∷◌, Option, Some, None, is_none, Ok, Err, if◌then◌else◌, refl, sym, ap, subst, ◌∙◌}
 use Rattle.std.specs.List.{filter, last_or, list_any}
 use Rattle.xmas_elf.specs.Types.{ProgramHeader64}
 use Rattle.elf_loading.specs.FileCheck.{covered_to, holder_in, holds_offset, is_no_template, is_uncovered}
@@ -92,6 +92,9 @@ none_passed page limit len wanted loads pass items is left = (
     held_is = or_false pass.is_held ∙ ap (λ list. pass.is_held || list_any (holds_some wanted.tls) list) (sym is) ∙ left.held_left;
   },
 )
+
+pub passed_in : (page : ℕ) (wanted : Wanted) (loads others : List ProgramHeader64) (pass : Pass) → loads ≡ others → IsPassOf page wanted loads pass → IsPassOf page wanted others pass
+passed_in page wanted loads others pass is passed = subst (λ list. IsPassOf page wanted list pass) is passed
 
 -- the checks of the other segments, by what is found
 pub uncovered_is : (page covered : ℕ) (loads : List ProgramHeader64) (relro : Option ProgramHeader64) → covered ≡ covered_to page (first_of page relro) loads → is_past_covered page covered relro ≡ is_uncovered page loads relro

@@ -1,16 +1,22 @@
 -- The segments other than loads that a loader asks for (gABI, "Program Header", p_type).
-use Rattle.std.specs.Prelude.{◌≡◌, ℕ, ◌&&◌, is_none, Option, Some, if◌then◌else◌}
+use Rattle.std.specs.Prelude.{◌≡◌, ℕ, ◌&&◌, is_none, List, Option, Some, None, if◌then◌else◌}
+use Rattle.std.specs.List.{filter, find, last_or}
+use Rattle.xmas_elf.specs.ProgramHeader.{program_list}
 use Rattle.xmas_elf.specs.Types.{ElfFile, ProgramHeader64}
-use Rattle.elf_loading.specs.Segments.{interpreter_of, is_of_type, phdr_of, relro_of, stack_of, tls_of}
+use Rattle.elf_loading.specs.Segments.{is_of_type, segments_in}
 use Rattle.elf_loading.specs.declared.segments.Others.{Others}
 
+-- these are the segments of a list that a loader asks for
+pub record AreOthersIn (segments : List ProgramHeader64) (others : Others) : Type 0 where
+  pub phdr_is : others.phdr ≡ last_or None (filter (is_of_type 6 0) segments)
+  pub relro_is : others.relro ≡ last_or None (filter (is_of_type 0x6474e552 0) segments)
+  pub stack_is : others.stack ≡ last_or None (filter (is_of_type 0x6474e551 0) segments)
+  pub tls_is : others.tls ≡ last_or None (filter (is_of_type 7 1) segments)
+  pub interpreter_is : others.interpreter ≡ find (is_of_type 3 0) segments
+
 -- these are the segments of a file that a loader asks for
-pub record AreOthersOf (file : ElfFile) (others : Others) : Type 0 where
-  pub phdr_is : others.phdr ≡ phdr_of file
-  pub relro_is : others.relro ≡ relro_of file
-  pub stack_is : others.stack ≡ stack_of file
-  pub tls_is : others.tls ≡ tls_of file
-  pub interpreter_is : others.interpreter ≡ interpreter_of file
+abbrev pub AreOthersOf : ElfFile → Others → Type 0
+AreOthersOf file others = AreOthersIn (segments_in (program_list file)) others
 
 -- the last segment of a type with at least `size` bytes in memory, after one more
 abbrev pub last_with : ℕ → ℕ → Option ProgramHeader64 → ProgramHeader64 → Option ProgramHeader64

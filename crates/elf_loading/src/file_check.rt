@@ -9,20 +9,21 @@ ghost use Rattle.elf_loading.specs.FileCheck.{is_no_path, kind_of, segment_rows,
 ghost use Rattle.elf_loading.specs.LoadPass.{IsPassOf, is_past_covered, is_wrong_template};
 ghost use Rattle.elf_loading.specs.LoadPass.{wanted_of};
 ghost use Rattle.elf_loading.specs.Others.{AreOthersOf};
-ghost use Rattle.elf_loading.specs.Segments.{interpreter_of, loads_of};
+ghost use Rattle.elf_loading.specs.Programs.{segments_left};
+ghost use Rattle.elf_loading.specs.Segments.{interpreter_of, loads_of, segments_in};
 ghost use Rattle.elf_loading.specs.Spans.{first_start};
-ghost use Rattle.xmas_elf.specs.ProgramHeader.{program_header_size};
-ghost use Rattle.xmas_elf.specs.ProgramTable.{program_table_file};
+ghost use Rattle.xmas_elf.specs.ProgramHeader.{program_header_size, program_list};
 
 use crate::LoadError;
 use crate::load_pass::{Pass, Wanted, pass_loads};
 use crate::pages::end_down;
-use crate::segments::Others;
+use crate::programs::Programs;
+use crate::segments::{Others, others_of};
 use crate::span::Span;
 use xmas_elf::ElfFile;
-use xmas_elf::bytes::Record;
+use xmas_elf::bytes::{Order, Record};
 use xmas_elf::header::Header;
-use xmas_elf::program::{ProgramHeader32, ProgramHeader64, ProgramTable};
+use xmas_elf::program::{ProgramHeader32, ProgramHeader64};
 
 // The type of a file, as a number.
 #[inline(always)]
@@ -182,32 +183,73 @@ fn check_segments(
     Ok(())
 }
 
-// The pages from the first load of a file to the last, or the first reason why the file can't be
-// loaded.
-#[tactic(auto, unfolding(crate::specs::FileCheck::check_file))]
-pub(crate) fn check_file(
+// What a check finds of a file that can be loaded.
+#[derive(Clone, Copy, Debug)]
+pub(crate) struct Checked<'a> {
+    pub(crate) programs: Programs<'a>,
+    pub(crate) others: Others,
+    // The pages from the first load to the last.
+    pub(crate) span: Span,
+}
+
+// What is found by these program headers, or the first reason why the file can't be loaded.
+#[tactic(auto, unfolding(crate::specs::FileCheck::check_file), using(crate::proofs::LoadPasses::passed_in, crate::proofs::Others::others_in))]
+#[inline(always)]
+fn check_programs<'a>(
     page: u64,
     limit: u64,
-    file: &ElfFile<'_>,
-    table: ProgramTable<'_, '_>,
-    others: &Others,
-) -> Result<Span, LoadError>
+    file: &ElfFile<'a>,
+    programs: Programs<'a>,
+) -> Result<Checked<'a>, LoadError>
     requires page { 0 < page }
-    requires table { program_table_file table ≡ file.now }
-    requires found { AreOthersOf file.now others.now }
-    ensures checked { MatchResult result (λ span. check_file file.now page limit ≡ Ok span.end)
+    requires header { unless (header_rows file.now page) tt ≡ Ok tt }
+    requires programs { segments_left programs ≡ segments_in (program_list file.now) }
+    ensures checked { MatchResult result
+        (λ found. check_file file.now page limit ≡ Ok found.span.end)
         (λ error. check_file file.now page limit ≡ Err error) }
-    ensures start { IfOk result (λ span. span.start ≡ first_start page (loads_of file.now)) }
+    ensures start { IfOk result (λ found. found.span.start ≡ first_start page (loads_of file.now)) }
+    ensures others { IfOk result (λ found. AreOthersOf file.now found.others) }
+    ensures programs { IfOk result (λ found.
+        segments_left found.programs ≡ segments_in (program_list file.now)) }
 {
-    check_header(page, file)?;
-    let wanted = Wanted::of(page, file, others);
-    let pass = pass_loads(page, limit, &wanted, file.input.len() as u64, table)?;
+    let others = others_of(programs);
+    let wanted = Wanted::of(page, file, &others);
+    let pass = pass_loads(page, limit, &wanted, file.input.len() as u64, programs)?;
     let Some(end) = pass.end else {
         return Err(LoadError::NoLoad);
     };
-    check_segments(page, file, others, &pass)?;
-    Ok(Span {
-        start: pass.start,
-        end,
+    check_segments(page, file, &others, &pass)?;
+    Ok(Checked {
+        programs,
+        others,
+        span: Span {
+            start: pass.start,
+            end,
+        },
     })
+}
+
+// What is found of a file, or the first reason why it can't be loaded.
+#[tactic(auto, unfolding(crate::specs::FileCheck::check_file), using(crate::proofs::FileChecks::whole_by))]
+pub(crate) fn check_file<'a>(
+    page: u64,
+    limit: u64,
+    file: &ElfFile<'a>,
+) -> Result<Checked<'a>, LoadError>
+    requires { 0 < page }
+    ensures checked { MatchResult result
+        (λ found. check_file file.now page limit ≡ Ok found.span.end)
+        (λ error. check_file file.now page limit ≡ Err error) }
+    ensures start { IfOk result (λ found. found.span.start ≡ first_start page (loads_of file.now)) }
+    ensures others { IfOk result (λ found. AreOthersOf file.now found.others) }
+    ensures programs { IfOk result (λ found.
+        segments_left found.programs ≡ segments_in (program_list file.now)) }
+{
+    check_header(page, file)?;
+    let programs = Programs::of(file);
+    // The usual class and byte order have code of their own, which does not ask for them.
+    match (programs.is_narrow, programs.order) {
+        (false, Order::Little) => check_programs(page, limit, file, programs.wide_little()),
+        _ => check_programs(page, limit, file, programs),
+    }
 }

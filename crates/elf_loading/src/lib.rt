@@ -17,6 +17,7 @@ mod mapping;
 mod mappings;
 mod pages;
 mod plan;
+mod programs;
 mod segments;
 mod span;
 mod value;

@@ -5,15 +5,15 @@ ghost use Rattle.elf_loading.specs.FileCheck.{holds_offset, holds_template};
 ghost use Rattle.elf_loading.specs.LoadCheck.{check_loads, load_end};
 ghost use Rattle.elf_loading.specs.LoadPass.{IsPassOf, covered_with, first_of, holds_some};
 ghost use Rattle.elf_loading.specs.LoadPass.{pass_with, wanted_of};
-ghost use Rattle.elf_loading.specs.Segments.{loads_of};
-ghost use Rattle.xmas_elf.specs.ProgramTable.{program_table_file};
+ghost use Rattle.elf_loading.specs.Programs.{loads_left};
 
 use crate::LoadError;
 use crate::load_check::check_load;
 use crate::pages::down;
+use crate::programs::Programs;
 use crate::segments::{Others, loads_of};
 use xmas_elf::ElfFile;
-use xmas_elf::program::{ProgramHeader64, ProgramTable};
+use xmas_elf::program::ProgramHeader64;
 
 // What the checks of the other segments ask of the loads.
 #[derive(Clone, Copy, Debug)]
@@ -140,14 +140,13 @@ pub(crate) fn pass_loads(
     limit: u64,
     wanted: &Wanted,
     len: u64,
-    table: ProgramTable<'_, '_>,
+    programs: Programs<'_>,
 ) -> Result<Pass, LoadError>
     requires { 0 < page }
-    ensures checked { let loads = loads_of (program_table_file table.entry) in MatchResult result
+    ensures checked { let loads = loads_left programs in MatchResult result
         (λ pass. check_loads page limit len None loads ≡ Ok pass.end)
         (λ error. check_loads page limit len None loads ≡ Err error) }
-    ensures found { IfOk result
-        (IsPassOf page wanted.now (loads_of (program_table_file table.entry))) }
+    ensures found { IfOk result (IsPassOf page wanted.now (loads_left programs)) }
 {
     let mut pass = Pass {
         start: 0,
@@ -156,7 +155,7 @@ pub(crate) fn pass_loads(
         covered: wanted.first,
         is_held: false,
     };
-    for load in loads_of(table) {
+    for load in loads_of(programs) {
         match check_load(page, limit, len, pass.end, &load) {
             Ok(end) => pass.keep(page, end, wanted, &load),
             Err(error) => return Err(error),

@@ -3,13 +3,16 @@
 ghost use Rattle.std.specs.Prelude.{◌<◌, ◌≡◌, true};
 ghost use Rattle.elf_loading.specs.FileCheck.{check_file};
 ghost use Rattle.elf_loading.specs.Others.{AreOthersOf};
-ghost use Rattle.elf_loading.specs.Segments.{loads_of};
+ghost use Rattle.elf_loading.specs.Programs.{segments_left};
+ghost use Rattle.elf_loading.specs.Segments.{loads_of, segments_in};
 ghost use Rattle.elf_loading.specs.Spans.{ends_at, first_start};
+ghost use Rattle.xmas_elf.specs.ProgramHeader.{program_list};
 
 use crate::LoadError;
 use crate::file_check::check_file;
 use crate::pages::{down, end_down};
-use crate::segments::{Others, others_of};
+use crate::programs::Programs;
+use crate::segments::{Loads, Others, loads_of};
 use crate::span::Span;
 use xmas_elf::ElfFile;
 use xmas_elf::bytes::bytes_up_to_zero;
@@ -27,11 +30,13 @@ pub struct LoadPlan<'a> {
     pub(crate) limit: u64,
     pub(crate) start: u64,
     pub(crate) end: u64,
+    pub(crate) programs: Programs<'a>,
     pub(crate) others: Others,
     ghost paged: { 0 < page },
     ghost checked: { ends_at (check_file file page limit) end ≡ true },
     ghost begins: { first_start page (loads_of file) ≡ start },
     ghost found: { AreOthersOf file others },
+    ghost read: { segments_left programs ≡ segments_in (program_list file) },
 }
 
 /// The template of thread-local storage (gABI, "Thread-Local Storage").
@@ -54,6 +59,7 @@ impl<'a> LoadPlan<'a> {
     ghost use Rattle.elf_base.specs.FileHeader.{header_fields};
     ghost use Rattle.elf_base.specs.Text.{EndsInZero};
     ghost use Rattle.elf_base.specs.Lent.{LiesAt};
+    ghost use Rattle.elf_loading.specs.Loads.{loads_rest};
     ghost use Rattle.elf_loading.specs.Plan.{IsPlanOf, plan_loads, plan_relro};
     ghost use Rattle.elf_loading.specs.Segments.{interpreter_of, relro_of, stack_of, tls_of};
     ghost use Rattle.elf_loading.specs.Spans.{HasUncovered, IsCovered, relro_span, span_of};
@@ -73,9 +79,7 @@ impl<'a> LoadPlan<'a> {
         ensures relro { IfErr result (λ error. error ≡ Relro → MatchOption (relro_of file.now) ⊥
             (λ relro. HasUncovered page (loads_of file.now) (relro_span page relro))) }
     {
-        let table = file.program_table();
-        let others = others_of(table);
-        let span = check_file(page, limit, file, table, &others)?;
+        let found = check_file(page, limit, file)?;
         Ok(LoadPlan {
             file: ElfFile {
                 input: file.input,
@@ -83,9 +87,10 @@ impl<'a> LoadPlan<'a> {
             },
             page,
             limit,
-            start: span.start,
-            end: span.end,
-            others,
+            start: found.span.start,
+            end: found.span.end,
+            programs: found.programs,
+            others: found.others,
         })
     }
 
@@ -106,6 +111,14 @@ impl<'a> LoadPlan<'a> {
         ensures { result ≡ (header_fields self.now.file.header.pt2).entry_point }
     {
         self.file.header.pt2.entry_point()
+    }
+
+    // The load segments, in the order of the program headers.
+    #[inline(always)]
+    pub(crate) fn loads(&self) -> Loads<'a>
+        ensures { loads_rest result ≡ plan_loads self.now }
+    {
+        loads_of(self.programs)
     }
 
     // The last PT_GNU_RELRO.
