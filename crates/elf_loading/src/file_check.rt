@@ -202,7 +202,7 @@ fn check_programs<'a>(
     programs: Programs<'a>,
 ) -> Result<Checked<'a>, LoadError>
     requires page { 0 < page }
-    requires header { unless (header_rows file.now page) tt ≡ Ok tt }
+    requires header { unless (header_rows file.now page) (tt {0}) ≡ Ok (tt {0}) }
     requires programs { segments_left programs ≡ segments_in (program_list file.now) }
     ensures checked { MatchResult result
         (λ found. check_file file.now page limit ≡ Ok found.span.end)

@@ -143,10 +143,10 @@ pub(crate) fn pass_loads(
     programs: Programs<'_>,
 ) -> Result<Pass, LoadError>
     requires { 0 < page }
-    ensures checked { let loads = loads_left programs in MatchResult result
+    ensures checked { let loads = loads_left programs.entry in MatchResult result
         (λ pass. check_loads page limit len None loads ≡ Ok pass.end)
         (λ error. check_loads page limit len None loads ≡ Err error) }
-    ensures found { IfOk result (IsPassOf page wanted.now (loads_left programs)) }
+    ensures found { IfOk result (IsPassOf page wanted.now (loads_left programs.entry)) }
 {
     let mut pass = Pass {
         start: 0,

@@ -103,7 +103,7 @@ impl<'a> Programs<'a> {
     ghost use Rattle.elf_loading.specs.Segments.{segments_in};
 
     // All program headers of a file.
-    #[tactic(auto, using(crate::proofs::HeadersAt::all_within, crate::proofs::HeadersAt::all_segments))]
+    #[tactic(auto, using(crate::proofs::HeadersAt::all_within))]
     #[inline(always)]
     pub(crate) fn of(file: &ElfFile<'a>) -> Programs<'a>
         requires { AreWhole file.now }

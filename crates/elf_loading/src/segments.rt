@@ -66,7 +66,7 @@ impl Others {
 #[tactic(auto, using(crate::proofs::Others::all_left, crate::proofs::Others::rest_left, crate::proofs::Others::none_left, crate::proofs::HeadersAt::none_are))]
 #[inline(always)]
 pub(crate) fn others_of(programs: Programs<'_>) -> Others
-    ensures { AreOthersIn (segments_left programs) result }
+    ensures { AreOthersIn (segments_left programs.entry) result }
 {
     let mut others = Others {
         phdr: None,
@@ -92,7 +92,7 @@ pub(crate) struct Loads<'a> {
 // All loads among the program headers that are left.
 #[inline(always)]
 pub(crate) fn loads_of(programs: Programs<'_>) -> Loads<'_>
-    ensures { loads_rest result ≡ loads_left programs }
+    ensures { loads_rest result ≡ loads_left programs.entry }
 {
     Loads { programs }
 }
