@@ -1,8 +1,10 @@
 -- The segments other than loads, segment by segment.
-use Rattle.std.proofs.Common.{◌≡◌, ℕ, Bool, true, false, List, [], ◌∷◌, Option, Some, None, if◌then◌else◌, refl, sym, ap, subst, ◌∙◌}
+use Rattle.std.proofs.Common.{◌≡◌, ℕ, ◌==◌, ◌&&◌, ◌||◌, nat_le, Bool, true, false, List, [], ◌∷◌, Option, Some, None, if◌then◌else◌, refl, sym, ap, subst, ◌∙◌}
+use Rattle.std.proofs.lemmas.Bool.{or_parts}
 use Rattle.std.specs.List.{filter, find, last_or}
+use Rattle.elf_records.specs.ProgramNumbers.{ph_type_number}
 use Rattle.xmas_elf.specs.Types.{ProgramHeader64}
-use Rattle.elf_loading.specs.Others.{AreOthersIn, first_with, last_with, others_with}
+use Rattle.elf_loading.specs.Others.{AreOthersIn, first_with, is_kept, last_with, others_with}
 use Rattle.elf_loading.specs.Segments.{is_of_type}
 use Rattle.elf_loading.specs.declared.segments.Others.{Others}
 
@@ -61,6 +63,29 @@ left_with all before items others segment is left = record {
 pub rest_left : (all : List ProgramHeader64) (before after : Others) (items others : List ProgramHeader64) (segment : ProgramHeader64) → items ≡ segment ∷ others → after ≡ others_with before segment → AreLeft all before items → AreLeft all after others
 rest_left all before after items others segment is kept left =
     rw kept (left_with all before items others segment is left)
+
+skip_last : (kind size : ℕ) (before : Option ProgramHeader64) (items others : List ProgramHeader64) (segment : ProgramHeader64) → items ≡ segment ∷ others → (ph_type_number segment.type_ == kind) ≡ false → last_from kind size before others ≡ last_from kind size before items
+skip_last kind size before items others segment is other =
+    sym (ap (last_from kind size before) is ∙ last_by kind size before segment others false (ap (λ b. b && nat_le size segment.mem_size) other))
+
+skip_first : (kind : ℕ) (before : Option ProgramHeader64) (items others : List ProgramHeader64) (segment : ProgramHeader64) → items ≡ segment ∷ others → (ph_type_number segment.type_ == kind) ≡ false → first_from kind before others ≡ first_from kind before items
+skip_first kind (Some found) items others segment is other = refl
+skip_first kind None items others segment is other =
+    sym (ap (first_from kind None) is ∙ first_by kind segment others false (ap (λ b. b && nat_le 0 segment.mem_size) other))
+
+pub rest_same : (all : List ProgramHeader64) (before : Others) (items others : List ProgramHeader64) (segment : ProgramHeader64) → items ≡ segment ∷ others → is_kept (ph_type_number segment.type_) ≡ false → AreLeft all before items → AreLeft all before others
+rest_same all before items others segment is none left =
+    let kind = ph_type_number segment.type_ in
+    let four = or_parts (kind == 6 || kind == 3 || kind == 7 || kind == 0x6474e552) (kind == 0x6474e551) none in
+    let three = or_parts (kind == 6 || kind == 3 || kind == 7) (kind == 0x6474e552) four.0 in
+    let two = or_parts (kind == 6 || kind == 3) (kind == 7) three.0 in
+    let one = or_parts (kind == 6) (kind == 3) two.0 in record {
+      phdr_left = skip_last 6 0 before.phdr items others segment is one.0 ∙ left.phdr_left;
+      relro_left = skip_last 0x6474e552 0 before.relro items others segment is three.1 ∙ left.relro_left;
+      stack_left = skip_last 0x6474e551 0 before.stack items others segment is four.1 ∙ left.stack_left;
+      tls_left = skip_last 7 1 before.tls items others segment is two.1 ∙ left.tls_left;
+      interpreter_left = skip_first 3 before.interpreter items others segment is one.1 ∙ left.interpreter_left;
+    }
 
 pub none_left : (all : List ProgramHeader64) (found : Others) (items : List ProgramHeader64) → items ≡ [] → AreLeft all found items → AreOthersIn all found
 none_left all found items is left = record {

@@ -1,5 +1,5 @@
 -- The segments other than loads that a loader asks for (gABI, "Program Header", p_type).
-use Rattle.std.specs.Prelude.{◌≡◌, ℕ, ◌&&◌, is_none, List, Option, Some, None, if◌then◌else◌}
+use Rattle.std.specs.Prelude.{◌≡◌, ℕ, ◌==◌, ◌&&◌, ◌||◌, Bool, is_none, List, Option, Some, None, if◌then◌else◌}
 use Rattle.std.specs.List.{filter, find, last_or}
 use Rattle.xmas_elf.specs.ProgramHeader.{program_list}
 use Rattle.xmas_elf.specs.Types.{ElfFile, ProgramHeader64}
@@ -17,6 +17,10 @@ pub record AreOthersIn (segments : List ProgramHeader64) (others : Others) : Typ
 -- these are the segments of a file that a loader asks for
 abbrev pub AreOthersOf : ElfFile → Others → Type 0
 AreOthersOf file others = AreOthersIn (segments_in (program_list file)) others
+
+-- a loader asks for segments of this type, other than loads
+abbrev pub is_kept : ℕ → Bool
+is_kept kind = kind == 6 || kind == 3 || kind == 7 || kind == 0x6474e552 || kind == 0x6474e551
 
 -- the last segment of a type with at least `size` bytes in memory, after one more
 abbrev pub last_with : ℕ → ℕ → Option ProgramHeader64 → ProgramHeader64 → Option ProgramHeader64

@@ -1,10 +1,10 @@
 //! The segments that a loader asks for, by their type (gABI, "Program Header", p_type).
 
-ghost use Rattle.std.specs.Prelude.{◌≡◌, ◌<◌};
+ghost use Rattle.std.specs.Prelude.{◌≡◌};
 ghost use Rattle.std.specs.Iterator.{YieldsFirst, item_count};
 ghost use Rattle.elf_loading.specs.Loads.{loads_rest};
-ghost use Rattle.elf_loading.specs.Others.{AreOthersIn, others_with};
-ghost use Rattle.elf_loading.specs.Programs.{loads_left, next_segment, segments_left};
+ghost use Rattle.elf_loading.specs.Others.{AreOthersIn, is_kept, others_with};
+ghost use Rattle.elf_loading.specs.Programs.{loads_left, segments_left};
 
 use crate::programs::Programs;
 use xmas_elf::program::{ProgramHeader64, TYPE_GNU_RELRO};
@@ -35,26 +35,35 @@ pub(crate) struct Others {
     pub(crate) interpreter: Option<ProgramHeader64>,
 }
 
+// Whether a loader asks for segments of this type, other than loads.
+#[inline(always)]
+fn is_kept(kind: u32) -> bool
+    ensures { result ≡ is_kept kind }
+{
+    match kind {
+        PT_PHDR | PT_INTERP | PT_TLS | TYPE_GNU_RELRO | PT_GNU_STACK => true,
+        _ => false,
+    }
+}
+
 impl Others {
-    // Keeps what a loader asks for of the next segment.
+    // Keeps a segment that a loader asks for.
     #[inline(always)]
-    fn keep(&mut self, programs: &Programs<'_>)
-        requires { 0 < programs.now.left }
-        ensures { self.new ≡ others_with self.old (next_segment programs.now) }
+    fn keep(&mut self, segment: &ProgramHeader64)
+        ensures { self.new ≡ others_with self.old segment.now }
     {
-        match programs.kind() {
-            PT_PHDR => self.phdr = Some(programs.segment()),
-            TYPE_GNU_RELRO => self.relro = Some(programs.segment()),
-            PT_GNU_STACK => self.stack = Some(programs.segment()),
+        match segment.type_.raw() {
+            PT_PHDR => self.phdr = Some(*segment),
+            TYPE_GNU_RELRO => self.relro = Some(*segment),
+            PT_GNU_STACK => self.stack = Some(*segment),
             PT_TLS => {
-                let segment = programs.segment();
                 if segment.mem_size > 0 {
-                    self.tls = Some(segment);
+                    self.tls = Some(*segment);
                 }
             }
             PT_INTERP => {
                 if self.interpreter.is_none() {
-                    self.interpreter = Some(programs.segment());
+                    self.interpreter = Some(*segment);
                 }
             }
             _ => {}
@@ -63,7 +72,7 @@ impl Others {
 }
 
 // The segments other than loads, in one pass over the program headers.
-#[tactic(auto, using(crate::proofs::Others::all_left, crate::proofs::Others::rest_left, crate::proofs::Others::none_left, crate::proofs::HeadersAt::none_are))]
+#[tactic(auto, using(crate::proofs::Others::all_left, crate::proofs::Others::rest_left, crate::proofs::Others::rest_same, crate::proofs::Others::none_left, crate::proofs::HeadersAt::none_are))]
 #[inline(always)]
 pub(crate) fn others_of(programs: Programs<'_>) -> Others
     ensures { AreOthersIn (segments_left programs.entry) result }
@@ -77,7 +86,9 @@ pub(crate) fn others_of(programs: Programs<'_>) -> Others
     };
     let mut left = programs;
     while left.left > 0 {
-        others.keep(&left);
+        if is_kept(left.kind()) {
+            others.keep(&left.segment());
+        }
         left = left.rest();
     }
     others
