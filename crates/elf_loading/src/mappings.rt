@@ -9,6 +9,7 @@ use crate::load_check::load_end;
 use crate::mapping::{Loader, Mapping, Parts};
 use crate::plan::LoadPlan;
 use crate::segments::Loads;
+use xmas_elf::program::Flags;
 
 /// An iterator over the mappings of a file, in the order of their addresses.
 #[derive(Debug, Drop)]
@@ -32,7 +33,7 @@ impl<'a> LoadPlan<'a> {
     ghost use Rattle.elf_loading.specs.Spans.{span_of};
 
     /// What a loader maps before relocation, in the order of addresses.
-    #[tactic(auto, using(crate::proofs::FileChecks::passes_fit, crate::proofs::FileChecks::passes_follow))]
+    #[tactic(auto, using(crate::proofs::FileChecks::passes_fit, crate::proofs::FileChecks::passes_follow, crate::proofs::PartsLeft::nothing_left))]
     pub fn mappings(&self, by: Loader) -> Mappings<'a>
         ensures all { mappings_left result
             ≡ mappings_of self.now.page by None (plan_loads self.now) }
@@ -47,9 +48,12 @@ impl<'a> LoadPlan<'a> {
             by,
             before: None,
             parts: Parts {
-                gap: None,
-                pages: None,
-                zeros: None,
+                at: 0,
+                start: 0,
+                middle: 0,
+                end: 0,
+                flags: Flags(0),
+                offset: 0,
             },
         }
     }
