@@ -1,5 +1,5 @@
 -- The program headers of a file by their offsets are those of its list.
-use Rattle.std.proofs.Common.{◌≡◌, ◌≢◌, ℕ, zero, suc, ◌+◌, ◌-◌, ◌*◌, ◌<◌, ◌≤◌, ◌==◌, ◌||◌, not, Bool, true, false, List, [], ◌∷◌, length, Result, Ok, Err, if◌then◌else◌, refl, sym, ap, subst, ◌∙◌, arith}
+use Rattle.std.proofs.Common.{◌≡◌, ℕ, zero, suc, ◌+◌, ◌-◌, ◌*◌, ◌<◌, ◌≤◌, ◌==◌, ◌||◌, not, Bool, true, false, List, [], ◌∷◌, length, Result, Ok, Err, if◌then◌else◌, refl, sym, ap, ◌∙◌, arith}
 use Rattle.std.proofs.lemmas.Bool.Decides.{nat_tests}
 use Rattle.elf_base.specs.FileHeader.{file_class, file_order, header_fields}
 use Rattle.elf_base.specs.Number.{number}
@@ -7,7 +7,7 @@ use Rattle.elf_base.specs.declared.bytes.Order.{Order}
 use Rattle.elf_base.specs.declared.error.ElfError.{ElfError}
 use Rattle.elf_records.specs.ProgramNumbers.{ph_type_number}
 use Rattle.xmas_elf.specs.HeaderTable.{before, entry_place, headers_from, is_known_class}
-use Rattle.xmas_elf.specs.ProgramHeader.{HasProgram, program_at_place, program_fields, program_header_size, program_list, program_of}
+use Rattle.xmas_elf.specs.ProgramHeader.{HasProgram, program_at_place, program_fields, program_list, program_of}
 use Rattle.xmas_elf.specs.SectionHeader.{program_count_of}
 use Rattle.xmas_elf.specs.Types.{ElfFile, ProgramHeader}
 use Rattle.xmas_elf.proofs.ProgramLists.{programs}

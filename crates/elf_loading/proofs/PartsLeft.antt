@@ -1,14 +1,12 @@
 -- The mappings of one load, before those of others.
-use Rattle.std.proofs.Common.{◌≡◌, ℕ, ◌+◌, ◌<◌, ◌≤◌, ◌==◌, not, min, nat_lt, Bool, true, false, List, [], ◌∷◌, ◌++◌, Option, Some, None, if◌then◌else◌, refl, sym, ap, subst, ◌∙◌, arith}
+use Rattle.std.proofs.Common.{◌≡◌, ℕ, ◌+◌, ◌<◌, ◌≤◌, ◌==◌, not, min, nat_lt, Bool, true, false, List, [], ◌∷◌, ◌++◌, Option, Some, None, if◌then◌else◌, refl, sym, ap, ◌∙◌, arith}
 use Rattle.std.proofs.Math.Nat.{min-eq_left, min-eq_right}
 use Rattle.std.proofs.lemmas.Bool.{le-ltb, lt-ltb, ltb-false, ltb-true}
 use Rattle.std.specs.List.{cons_option}
-use Rattle.elf_records.specs.declared.program.Flags.{Flags}
 use Rattle.xmas_elf.specs.Types.{ProgramHeader64}
 use Rattle.elf_loading.specs.LoadCheck.{file_end, load_end, load_start}
-use Rattle.elf_loading.specs.MappingParts.{first_mapped, pages_from, parts_before, parts_of, parts_rest, zeros_from}
+use Rattle.elf_loading.specs.MappingParts.{pages_from, parts_before, parts_of, parts_rest, zeros_from}
 use Rattle.elf_loading.specs.Mappings.{file_mapping, gap_mapping, mapped_end, mapping_if, mappings_of, zero_mapping}
-use Rattle.elf_loading.specs.Pages.{down}
 use Rattle.elf_loading.specs.declared.mapping.Contents.TheVariants.{File, Zero, NoAccess}
 use Rattle.elf_loading.specs.declared.mapping.Loader.{Loader}
 use Rattle.elf_loading.specs.declared.mapping.Loader.TheVariants.{Kernel, Glibc}
