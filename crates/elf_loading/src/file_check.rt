@@ -21,7 +21,7 @@ use crate::programs::Programs;
 use crate::segments::{Others, others_of};
 use crate::span::Span;
 use xmas_elf::ElfFile;
-use xmas_elf::bytes::{Order, Record};
+use xmas_elf::bytes::Record;
 use xmas_elf::header::Header;
 use xmas_elf::program::{ProgramHeader32, ProgramHeader64};
 
@@ -246,10 +246,5 @@ pub(crate) fn check_file<'a>(
         segments_left found.programs ≡ segments_in (program_list file.now)) }
 {
     check_header(page, file)?;
-    let programs = Programs::of(file);
-    // The usual class and byte order have code of their own, which does not ask for them.
-    match (programs.is_narrow, programs.order) {
-        (false, Order::Little) => check_programs(page, limit, file, programs.wide_little()),
-        _ => check_programs(page, limit, file, programs),
-    }
+    check_programs(page, limit, file, Programs::of(file))
 }

@@ -95,8 +95,7 @@ fn count_of(file: &ElfFile<'_>) -> u16
 }
 
 impl<'a> Programs<'a> {
-    ghost use Rattle.std.specs.Prelude.{◌∷◌, false};
-    ghost use Rattle.elf_base.specs.declared.bytes.Order.TheVariants.{Little};
+    ghost use Rattle.std.specs.Prelude.{◌∷◌};
     ghost use Rattle.elf_records.specs.ProgramNumbers.{ph_type_number};
     ghost use Rattle.xmas_elf.specs.ProgramHeader.{program_list};
     ghost use Rattle.elf_loading.specs.Programs.{next_segment, segments_left};
@@ -152,23 +151,6 @@ impl<'a> Programs<'a> {
             left: self.left - 1,
             is_narrow: self.is_narrow,
             order: self.order,
-        }
-    }
-
-    // The same, where the class is 64 and the byte order is that of small ends first: both are
-    // constants in the code of a caller.
-    #[inline(always)]
-    pub(crate) fn wide_little(&self) -> Programs<'a>
-        requires wide { self.now.is_narrow ≡ false }
-        requires little { self.now.order ≡ Little }
-        ensures { segments_left result ≡ segments_left self.now }
-    {
-        Programs {
-            input: self.input,
-            place: self.place,
-            left: self.left,
-            is_narrow: false,
-            order: Order::Little,
         }
     }
 }
