@@ -1,24 +1,25 @@
 //! Whether a file can be loaded.
 
-ghost use Rattle.std.specs.Prelude.{◌≡◌, ◌≤◌, ◌<◌, ◌+◌, ◌-◌, ◌==◌, nat_lt, length};
-ghost use Rattle.std.specs.Prelude.{Err, IfOk, MatchResult, None, Ok};
-ghost use Rattle.elf_base.specs.FileHeader.{file_class, header_fields};
+ghost use Rattle.std.specs.Prelude.{◌≡◌, ◌≤◌, ◌<◌, ◌+◌, nat_lt, length};
+ghost use Rattle.std.specs.Prelude.{Err, IfOk, MatchResult, Ok};
+ghost use Rattle.elf_base.specs.FileHeader.{file_class};
 ghost use Rattle.elf_base.specs.Refusal.{unless};
-ghost use Rattle.elf_loading.specs.FileCheck.{check_file, header_rows, holder_in, is_misplaced};
-ghost use Rattle.elf_loading.specs.FileCheck.{is_no_path, kind_of, segment_rows, table_size};
-ghost use Rattle.elf_loading.specs.LoadPass.{IsPassOf, is_past_covered, is_wrong_template};
-ghost use Rattle.elf_loading.specs.LoadPass.{wanted_of};
+ghost use Rattle.elf_loading.specs.FileCheck.{check_file, header_rows, kind_of, segment_rows};
+ghost use Rattle.elf_loading.specs.FileCheck.{table_size};
+ghost use Rattle.elf_loading.specs.LoadPass.{IsPassOf, is_elsewhere, is_past_covered};
+ghost use Rattle.elf_loading.specs.LoadPass.{is_wrong_path, is_wrong_template, wanted_of};
 ghost use Rattle.elf_loading.specs.Others.{AreOthersOf};
 ghost use Rattle.elf_loading.specs.Programs.{segments_left};
-ghost use Rattle.elf_loading.specs.Segments.{interpreter_of, loads_of, segments_in};
+ghost use Rattle.elf_loading.specs.Segments.{loads_of, segments_in};
 ghost use Rattle.elf_loading.specs.Spans.{first_start};
 ghost use Rattle.xmas_elf.specs.ProgramHeader.{program_header_size, program_list};
 
 use crate::LoadError;
 use crate::load_pass::{Pass, Wanted, pass_loads};
 use crate::pages::end_down;
+use crate::plan::Tls;
 use crate::programs::Programs;
-use crate::segments::{Others, others_of};
+use crate::segments::{Extent, Others, others_of};
 use crate::span::Span;
 use xmas_elf::ElfFile;
 use xmas_elf::bytes::Record;
@@ -85,63 +86,49 @@ fn check_header(page: u64, file: &ElfFile<'_>) -> Result<(), LoadError>
     Ok(())
 }
 
-// Whether a load puts the byte at an offset, which it has, at an address.
+// Whether the loads put the program header table elsewhere than PT_PHDR says, where `is_placed` says
+// whether they put it there.
 #[inline(always)]
-fn is_put_at(offset: u64, address: u64, load: &ProgramHeader64) -> bool
-    ensures { result ≡ (load.now.virtual_addr + (offset - load.now.offset) == address) }
+fn is_misplaced(file: &ElfFile<'_>, others: &Others, is_placed: bool) -> bool
+    ensures { result ≡ is_elsewhere file.now others.now is_placed }
 {
-    let start = load.virtual_addr;
-    start <= address && address - start == offset.saturating_sub(load.offset)
-}
-
-// Whether the loads put the program header table elsewhere than PT_PHDR says.
-fn is_misplaced(file: &ElfFile<'_>, others: &Others, holder: Option<ProgramHeader64>) -> bool
-    requires interpreter { others.now.interpreter ≡ interpreter_of file.now }
-    requires holder { holder ≡ holder_in (header_fields file.now.header.pt2).ph_offset None
-        (loads_of file.now) }
-    ensures { result ≡ is_misplaced file.now others.now.phdr }
-{
-    let Some(phdr) = others.phdr else {
-        return kind_of(&file.header) == 3 && others.interpreter.is_some();
-    };
-    let offset = file.header.pt2.ph_offset();
-    match holder {
-        Some(load) => !is_put_at(offset, phdr.virtual_addr, &load),
-        None => true,
+    if others.phdr.is_some() {
+        return !is_placed;
     }
+    kind_of(&file.header) == 3 && others.interpreter.is_some()
 }
 
 // Whether the path of the interpreter is not one.
-fn is_no_path(input: &[u8], interpreter: Option<ProgramHeader64>) -> bool
-    ensures { result ≡ is_no_path input.now interpreter }
+fn is_no_path(input: &[u8], interpreter: Option<Extent>) -> bool
+    ensures { result ≡ is_wrong_path input.now interpreter }
 {
-    let Some(segment) = interpreter else {
+    let Some(path) = interpreter else {
         return false;
     };
-    let size = segment.file_size;
-    if size < 2 || size > 4096 || is_past_end(input, segment.offset, size) {
+    let size = path.size;
+    if size < 2 || size > 4096 || is_past_end(input, path.start, size) {
         return true;
     }
-    input[(segment.offset + size - 1) as usize] != 0
+    input[(path.start + size - 1) as usize] != 0
 }
 
 // Whether what is read-only after relocation extends past the first page from its start on that is in
 // no load.
 #[inline(always)]
-fn is_uncovered(page: u64, relro: Option<ProgramHeader64>, covered: u64) -> bool
+fn is_uncovered(page: u64, relro: Option<Extent>, covered: u64) -> bool
     requires { 0 < page }
     ensures { result ≡ is_past_covered page covered relro }
 {
     let Some(relro) = relro else {
         return false;
     };
-    u128::from(covered) < end_down(page, relro.virtual_addr, relro.mem_size)
+    u128::from(covered) < end_down(page, relro.start, relro.size)
 }
 
 // Whether the template of thread-local storage can't be used, where `is_held` says whether its bytes
 // are in the memory of one load.
 #[inline(always)]
-fn is_no_template(tls: Option<ProgramHeader64>, is_held: bool) -> bool
+fn is_no_template(tls: Option<Tls>, is_held: bool) -> bool
     ensures { result ≡ is_wrong_template is_held tls }
 {
     let Some(tls) = tls else {
@@ -154,7 +141,7 @@ fn is_no_template(tls: Option<ProgramHeader64>, is_held: bool) -> bool
 }
 
 // Whether the segments other than loads can be used.
-#[tactic(auto, using(crate::proofs::LoadPasses::uncovered_is, crate::proofs::LoadPasses::template_is))]
+#[tactic(auto, using(crate::proofs::LoadPasses::elsewhere_is, crate::proofs::LoadPasses::path_is, crate::proofs::LoadPasses::uncovered_is, crate::proofs::LoadPasses::template_is))]
 #[inline(always)]
 fn check_segments(
     page: u64,
@@ -168,7 +155,7 @@ fn check_segments(
         pass.now }
     ensures { result ≡ unless (segment_rows file.now page) tt }
 {
-    if is_misplaced(file, others, pass.holder) {
+    if is_misplaced(file, others, pass.is_placed) {
         return Err(LoadError::Headers);
     }
     if is_no_path(file.input, others.interpreter) {

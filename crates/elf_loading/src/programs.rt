@@ -65,12 +65,13 @@ fn segment_at(input: &[u8], place: usize, is_narrow: bool, order: Order) -> Prog
     requires { place + header_size is_narrow ≤ length input.now }
     ensures { result ≡ segment_at is_narrow order input.now place }
 {
-    // The byte order is chosen once for all fields.
-    match (is_narrow, order) {
-        (true, Order::Little) => narrow_at(input, place, Order::Little),
-        (true, Order::Big) => narrow_at(input, place, Order::Big),
-        (false, Order::Little) => wide_at(input, place, Order::Little),
-        (false, Order::Big) => wide_at(input, place, Order::Big),
+    // The byte order is chosen once for all fields, and first: where a type was read before, the
+    // compiler knows it.
+    match (order, is_narrow) {
+        (Order::Little, true) => narrow_at(input, place, Order::Little),
+        (Order::Big, true) => narrow_at(input, place, Order::Big),
+        (Order::Little, false) => wide_at(input, place, Order::Little),
+        (Order::Big, false) => wide_at(input, place, Order::Big),
     }
 }
 

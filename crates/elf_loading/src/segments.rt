@@ -3,11 +3,13 @@
 ghost use Rattle.std.specs.Prelude.{◌≡◌};
 ghost use Rattle.std.specs.Iterator.{YieldsFirst, item_count};
 ghost use Rattle.elf_loading.specs.Loads.{loads_rest};
-ghost use Rattle.elf_loading.specs.Others.{AreOthersIn, is_kept, others_with};
+ghost use Rattle.elf_loading.specs.Others.{AreOthersIn, data_of, is_kept, memory_of, others_with};
+ghost use Rattle.elf_loading.specs.Others.{template_of};
 ghost use Rattle.elf_loading.specs.Programs.{loads_left, segments_left};
 
+use crate::plan::Tls;
 use crate::programs::Programs;
-use xmas_elf::program::{ProgramHeader64, TYPE_GNU_RELRO};
+use xmas_elf::program::{Flags, ProgramHeader64, TYPE_GNU_RELRO};
 
 const PT_LOAD: u32 = 1;
 
@@ -20,19 +22,61 @@ const PT_TLS: u32 = 7;
 // The permissions of the stack (GNU).
 const PT_GNU_STACK: u32 = 0x6474_e551;
 
-// The segments other than loads that a loader asks for.
+// Where the bytes of a segment are, in memory or in the file.
+#[derive(Clone, Copy, Debug)]
+pub(crate) struct Extent {
+    pub(crate) start: u64,
+    pub(crate) size: u64,
+}
+
+// What a loader asks of the segments other than loads.
 #[derive(Clone, Copy, Debug)]
 pub(crate) struct Others {
-    // The last PT_PHDR.
-    pub(crate) phdr: Option<ProgramHeader64>,
-    // The last PT_GNU_RELRO.
-    pub(crate) relro: Option<ProgramHeader64>,
-    // The last PT_GNU_STACK.
-    pub(crate) stack: Option<ProgramHeader64>,
+    // The address of the last PT_PHDR.
+    pub(crate) phdr: Option<u64>,
+    // The memory of the last PT_GNU_RELRO.
+    pub(crate) relro: Option<Extent>,
+    // The flags of the last PT_GNU_STACK.
+    pub(crate) stack: Option<Flags>,
     // The last PT_TLS that is not empty.
-    pub(crate) tls: Option<ProgramHeader64>,
-    // The first PT_INTERP.
-    pub(crate) interpreter: Option<ProgramHeader64>,
+    pub(crate) tls: Option<Tls>,
+    // The bytes in the file of the first PT_INTERP.
+    pub(crate) interpreter: Option<Extent>,
+}
+
+// The memory of a segment.
+#[inline(always)]
+fn memory_of(segment: &ProgramHeader64) -> Extent
+    ensures { result ≡ memory_of segment.now }
+{
+    Extent {
+        start: segment.virtual_addr,
+        size: segment.mem_size,
+    }
+}
+
+// The bytes that a segment has in the file.
+#[inline(always)]
+fn data_of(segment: &ProgramHeader64) -> Extent
+    ensures { result ≡ data_of segment.now }
+{
+    Extent {
+        start: segment.offset,
+        size: segment.file_size,
+    }
+}
+
+// The template that a segment describes.
+#[inline(always)]
+fn template_of(segment: &ProgramHeader64) -> Tls
+    ensures { result ≡ template_of segment.now }
+{
+    Tls {
+        address: segment.virtual_addr,
+        file_size: segment.file_size,
+        mem_size: segment.mem_size,
+        align: segment.align,
+    }
 }
 
 // Whether a loader asks for segments of this type, other than loads.
@@ -53,17 +97,17 @@ impl Others {
         ensures { self.new ≡ others_with self.old segment.now }
     {
         match segment.type_.raw() {
-            PT_PHDR => self.phdr = Some(*segment),
-            TYPE_GNU_RELRO => self.relro = Some(*segment),
-            PT_GNU_STACK => self.stack = Some(*segment),
+            PT_PHDR => self.phdr = Some(segment.virtual_addr),
+            TYPE_GNU_RELRO => self.relro = Some(memory_of(segment)),
+            PT_GNU_STACK => self.stack = Some(segment.flags),
             PT_TLS => {
                 if segment.mem_size > 0 {
-                    self.tls = Some(*segment);
+                    self.tls = Some(template_of(segment));
                 }
             }
             PT_INTERP => {
                 if self.interpreter.is_none() {
-                    self.interpreter = Some(*segment);
+                    self.interpreter = Some(data_of(segment));
                 }
             }
             _ => {}
@@ -72,7 +116,7 @@ impl Others {
 }
 
 // The segments other than loads, in one pass over the program headers.
-#[tactic(auto, using(crate::proofs::Others::all_left, crate::proofs::Others::rest_left, crate::proofs::Others::rest_same, crate::proofs::Others::none_left, crate::proofs::HeadersAt::none_are))]
+#[tactic(auto, using(crate::proofs::Others::all_left, crate::proofs::Others::rest_left, crate::proofs::Others::rest_same))]
 #[inline(always)]
 pub(crate) fn others_of(programs: Programs<'_>) -> Others
     ensures { AreOthersIn (segments_left programs.entry) result }
@@ -117,10 +161,11 @@ impl Loads<'_> {
     {
         while self.programs.left > 0 {
             let programs = self.programs;
-            self.programs = programs.rest();
             if programs.kind() == PT_LOAD {
+                self.programs = programs.rest();
                 return Some(programs.segment());
             }
+            self.programs = programs.rest();
         }
         None
     }
