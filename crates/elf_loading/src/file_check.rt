@@ -247,7 +247,7 @@ pub(crate) fn check_file<'a>(
 {
     check_header(page, file)?;
     let programs = Programs::of(file);
-    // The usual class and byte order have code of their own, which does not ask for them.
+    // In the usual class and byte order both are constants, where the compiler copies the body.
     match (programs.is_narrow, programs.order) {
         (false, Order::Little) => check_programs(page, limit, file, programs.wide_little()),
         _ => check_programs(page, limit, file, programs),
