@@ -1,5 +1,6 @@
 pub mod Rounded
 pub mod Fits
+pub mod HeadersAt
 pub mod Lists
 pub mod Others
 pub mod LoadChecks

@@ -1,6 +1,8 @@
 pub mod Message
 pub mod Pages
 pub mod Segments
+pub mod HeaderAt
+pub mod Programs
 pub mod LoadCheck
 pub mod FileCheck
 pub mod Loads

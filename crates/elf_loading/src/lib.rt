@@ -20,6 +20,7 @@ mod mapping;
 mod mappings;
 mod pages;
 mod plan;
+mod programs;
 mod relocate;
 mod segments;
 mod span;
