@@ -1,5 +1,5 @@
 -- Symbols counted by their section.
-use Rattle.std.proofs.Common.{◌≡◌, ℕ, ◌+◌, ◌<◌, ◌≤◌, ◌==◌, ◌&&◌, nat_lt, Bool, true, false, not, List, length, get_or, set, replicate, Option, None, Some, slice_get, if◌then◌else◌, inl, inr, refl, ap, sym, subst, ◌∙◌, arith}
+use Rattle.std.proofs.Common.{◌≡◌, ℕ, ◌+◌, ◌<◌, ◌≤◌, ◌==◌, ◌%◌, ◌&&◌, nat_lt, Bool, true, false, not, List, length, get_or, set, replicate, Option, None, Some, slice_get, if◌then◌else◌, inl, inr, refl, ap, sym, subst, ◌∙◌, arith}
 use Rattle.std.specs.Option.{option_and_then}
 use Rattle.std.proofs.lemmas.Bool.{cases_eq, cases_lt, eq-eqb, false_from_ne_true, ltb-true, lt-ltb, ne_eqb}
 use Rattle.std.proofs.lemmas.List.{get_or-replicate, get_or-set_other, get_or-set_same, length-replicate, length-set}
@@ -40,10 +40,10 @@ counted_here true false sized is same = and_false is
     and_false false = refl
 
 module _ {E : Type 0} {r : _} (fields : E → SymbolFields) (symbols : AddressSymbols E r) where
-  claims_in : ℕ → ℕ → Option Claim
+  abbrev claims_in : ℕ → ℕ → Option Claim
   claims_in section = claim_of_symbols fields symbols (Some section)
 
-  section_of : ℕ → E → ℕ
+  abbrev section_of : ℕ → E → ℕ
   section_of index symbol = section_index (table_items symbols.indices) (fields symbol) index
 
   is_counted : (section index : ℕ) (symbol : E) → is_kind false (claim_if fields symbols (Some section) index symbol) ≡ has_claim fields symbols None index symbol && ((section_index (table_items symbols.indices) (fields symbol) index == section) && not ((fields symbol).size == 0))

@@ -3,7 +3,7 @@
 ghost use Rattle.std.specs.Prelude.{◌≡◌, ◌≤◌, ◌<◌, ◌+◌, ◌^◌, ◌↔◌, ℕ, false, true, IsTrue, Option, length, replicate, slice_index};
 ghost use Rattle.elf_addresses.specs.Held.{InOrder};
 ghost use Rattle.elf_addresses.specs.Index.{in_order_at, listed};
-ghost use Rattle.elf_addresses.specs.SectionCounts.{AreCounts, counted, sized_section};
+ghost use Rattle.elf_addresses.specs.SectionCounts.{AreCounts, counted, section_if, sized_section};
 ghost use Rattle.elf_addresses.specs.SymbolClaims.{claim_of_symbols, symbol_count};
 
 use crate::claims::Claims;
