@@ -231,10 +231,35 @@ PLACES_SEGMENTS = b"""places.so
 16 0.88% segment 1
 1808 100.00% sum
 """
-SIZE_USAGE = "elfsize [--segments] <binary_path>.."
+# The same with the bytes of sections by symbol, by what `readelf -SW` and `readelf -sW` show: `alias` has the range of `last`.
+PLACES_SYMBOLS = b"""places.so
+704 38.93% section headers
+240 13.27% section 8 .symtab
+224 12.38% program headers
+176 9.73% section 6 .dynamic
+144 7.96% section 2 .dynsym
+84 4.64% section 10 .shstrtab
+64 3.53% ELF header
+56 3.09% section 1 .gnu.hash
+54 2.98% section 9 .strtab
+30 1.65% section 3 .dynstr
+8 0.44% section 7 .data
+8 0.44% symbol 9 value
+6 0.33% between parts
+4 0.22% symbol 8 outer
+2 0.11% symbol 5 last
+2 0.11% symbol 6 inner
+1 0.05% segment 0
+1 0.05% section 4 .text
+1808 100.00% sum
+"""
+# The same file with a symbol table of 239 bytes.
+PARTS_OF_SYMBOLS = PLACES[:1648] + bytes([239]) + PLACES[1649:]
+SIZE_USAGE = "elfsize [--segments | --symbols] <binary_path>.."
 SIZE_HELP = (
     f"usage: {SIZE_USAGE}\nPrints how many bytes of each file belong to which part, the largest first.\n"
-    "--segments  as if the file had no sections\n")
+    "--segments  as if the file had no sections\n"
+    "--symbols   bytes in sections by symbol; the line of a section is for the bytes in no symbol\n")
 SIZE_ENDS = ends_of(
     "elfsize", SIZE_USAGE, [], ["places.so"], PLACES_SIZES,
     help=(["--help"], 0, SIZE_HELP.encode(), b""),
@@ -242,6 +267,10 @@ SIZE_ENDS = ends_of(
     segments=(["--segments", "places.so"], 0, PLACES_SEGMENTS, b""),
     segments_of_class_32=(["--segments", "strtab.elf"], 0, b"strtab.elf\n92 63.88% after all parts\n52 36.11% ELF header\n144 100.00% sum\n", b""),
     segments_of_no_file=(["--segments"], 1, f"usage: {SIZE_USAGE}\n".encode(), b""),
+    symbols=(["--symbols", "places.so"], 0, PLACES_SYMBOLS, b""),
+    symbols_of_a_file_without=(["--symbols", "counter"], 0, SIZES[len(PLACES_SIZES):], b""),
+    symbols_of_no_file=(["--symbols"], 1, f"usage: {SIZE_USAGE}\n".encode(), b""),
+    symbols_that_are_no_whole_number=failing("elfsize", ["--symbols", "parts.so"], "parts.so: Data is not a whole number of records"),
     a_refused_file_between_others=(["places.so", "zeros.elf", "counter"], 1, SIZES, b"elfsize: zeros.elf: Did not find ELF magic number\n"),
     a_file_of_class_32=(
         ["strtab.elf"], 0,
@@ -343,7 +372,7 @@ def unlike(program, built: pathlib.Path) -> int:
     files = {NOT_UTF8: STRTAB, b"cut.so": CUT_VERSIONS,
         b"strtab.elf": STRTAB, b"empty.elf": b"", b"zeros.elf": bytes(16), b"three.elf": STRTAB[:3], b"link.elf": debug_link(),
         b"hash.elf": hash_file(), b"far.elf": larger(FAR, 2), b"long.elf": larger(52, MANY), b"linked.so": LINKED, b"needs.so": NEEDS,
-        b"places.so": PLACES,
+        b"places.so": PLACES, b"parts.so": PARTS_OF_SYMBOLS,
         b"stripped.so": (CRATES / "elfsym" / "data" / "stripped.so").read_bytes(),
         **{name.encode(): (BOUND / name).read_bytes() for name in WIDE_BOUND + NARROW_BOUND},
         b"counter": COUNTER, b"library.so": LIBRARY, **{name.encode(): held for name, held in CHANGED_PROGRAMS.items()},
