@@ -50,7 +50,8 @@ impl<'s, 'a, 'w, E: Entry + Record> SectionCounts<'s, 'a, 'w, E> {
     /// The number of symbols of a section that name addresses and have a size; 0 for a section without
     /// a count.
     pub fn count(&self, section: u32) -> usize
-        ensures { section < length self.now.counts.now → result
+        ensures small { result < 2 ^ 32 }
+        ensures value { section < length self.now.counts.now → result
             ≡ length (listed (claim_of_symbols E.fields self.now.symbols.now (Some section)) false
             (symbol_count self.now.symbols.now)) }
     {
@@ -62,11 +63,15 @@ impl<'s, 'a, 'w, E: Entry + Record> SectionCounts<'s, 'a, 'w, E> {
 
     // Whether words are the indices of all those symbols of a section, in order.
     pub(crate) fn are_all(&self, section: u32, words: &[u32]) -> bool
-        ensures { IsTrue result
-            → InOrder (claim_of_symbols E.fields self.now.symbols.now (Some section)) false
-            (symbol_count self.now.symbols.now) words.now }
+        ensures few { IsTrue result → length words.now < 2 ^ 32 }
+        ensures exact { IsTrue result ↔ ((section < length self.now.counts.now)
+            × InOrder (claim_of_symbols E.fields self.now.symbols.now (Some section)) false
+            (symbol_count self.now.symbols.now) words.now) }
     {
-        if section as usize >= self.counts.len() || words.len() != self.count(section) {
+        if section as usize >= self.counts.len() {
+            return false;
+        }
+        if words.len() != self.count(section) {
             return false;
         }
         let claims = SymbolClaims {

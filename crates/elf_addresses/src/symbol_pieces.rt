@@ -1,6 +1,6 @@
 //! The pieces of a section: the longest runs of addresses in one symbol.
 
-ghost use Rattle.std.specs.Prelude.{◌≡◌, ◌≤◌, ◌<◌, ◌^◌, false, length, max};
+ghost use Rattle.std.specs.Prelude.{◌≡◌, ◌≤◌, ◌<◌, ◌^◌, ◌↔◌, false, length, max};
 ghost use Rattle.elf_addresses.specs.Held.{InBlocks, InOrder};
 ghost use Rattle.elf_addresses.specs.SymbolClaims.{claim_of_symbols, range_of_symbols};
 ghost use Rattle.elf_addresses.specs.SymbolClaims.{symbol_count};
@@ -45,7 +45,7 @@ pub struct SymbolPieces<'s, 'a, 'w, E: Entry + Record> {
 }
 
 impl<'s, 'a, 'w, E: Entry + Record> SymbolPieces<'s, 'a, 'w, E> {
-    ghost use Rattle.std.specs.Prelude.{Err, IfOk, IfSome, IsOk, None, Some};
+    ghost use Rattle.std.specs.Prelude.{Err, IfOk, IfSome, IsOk, IsSome, None, Some};
     ghost use Rattle.elf_addresses.specs.Owner.{ClaimBegins};
     ghost use Rattle.elf_addresses.specs.Runs.{IsNext};
     ghost use Rattle.elf_addresses.specs.Index.{word_count};
@@ -108,12 +108,16 @@ impl<'s, 'a, 'w, E: Entry + Record> SymbolPieces<'s, 'a, 'w, E> {
         sized: &'w [u32],
         lasting: &'w mut [u32],
     ) -> Option<SymbolPieces<'s, 'a, 'w, E>>
+        ensures exact { IsSome result ↔ ((length lasting.old ≡ length sized.now)
+            × (section < length counts.now.counts.now)
+            × InOrder (claim_of_symbols E.fields counts.now.symbols.now (Some section)) false
+            (symbol_count counts.now.symbols.now) sized.now) }
         ensures claims { IfSome result (λ pieces. piece_claims E.fields pieces
             ≡ claim_of_symbols E.fields counts.now.symbols.now (Some section)) }
         ensures first { IfSome result (λ pieces. symbol_place pieces ≡ begin) }
         ensures last { IfSome result (λ pieces. symbol_limit pieces ≡ max begin end) }
     {
-        if sized.len() > u32::MAX as usize || lasting.len() != sized.len() {
+        if lasting.len() != sized.len() {
             return None;
         }
         if !counts.are_all(section, sized) {

@@ -106,7 +106,7 @@ fn count_of<E: Entry + Record>(counts: &SectionCounts<'_, '_, '_, E>, section: u
 }
 
 // The indices of all symbols with a size by section, those of a section in order. It moves each end
-// behind the symbols of its section.
+// past the symbols of its section.
 fn listed_by_section<E: Entry + Record>(
     alloc: Global,
     symbols: &AddressSymbols<'_, E>,
@@ -122,7 +122,7 @@ fn listed_by_section<E: Entry + Record>(
     Ok(list)
 }
 
-// Puts a symbol behind those of its section.
+// Puts a symbol after those of its section.
 fn put<E: Entry + Record>(
     symbols: &AddressSymbols<'_, E>,
     index: u32,
