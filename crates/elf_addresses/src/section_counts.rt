@@ -64,9 +64,14 @@ impl<'s, 'a, 'w, E: Entry + Record> SectionCounts<'s, 'a, 'w, E> {
     // Whether words are the indices of all those symbols of a section, in order.
     pub(crate) fn are_all(&self, section: u32, words: &[u32]) -> bool
         ensures few { IsTrue result → length words.now < 2 ^ 32 }
-        ensures exact { IsTrue result ↔ ((section < length self.now.counts.now)
-            × InOrder (claim_of_symbols E.fields self.now.symbols.now (Some section)) false
-            (symbol_count self.now.symbols.now) words.now) }
+        ensures within { IsTrue result → section < length self.now.counts.now }
+        ensures ordered { IsTrue result
+            → InOrder (claim_of_symbols E.fields self.now.symbols.now (Some section)) false
+            (symbol_count self.now.symbols.now) words.now }
+        ensures all { section < length self.now.counts.now
+            → InOrder (claim_of_symbols E.fields self.now.symbols.now (Some section)) false
+            (symbol_count self.now.symbols.now) words.now
+            → IsTrue result }
     {
         if section as usize >= self.counts.len() {
             return false;
