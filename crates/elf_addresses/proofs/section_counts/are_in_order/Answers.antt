@@ -1,4 +1,4 @@
-use Rattle.std.proofs.Common.{◌≡◌, ◌<◌, ◌+◌, ℕ, true, false, length, refl, arith, below_more}
+use Rattle.std.proofs.Common.{◌≡◌, true, false, refl, arith, below_more}
 use Rattle.std.proofs.lemmas.Grind.{common_steps}
 use Rattle.std.proofs.lemmas.Bool.{both_ways, false≢true}
 use Rattle.elf_addresses.specs.Index.{in_order_at}
