@@ -25,6 +25,7 @@ const ET_REL: u16 = 1;
 // The symbols of a table by section: how many each section has, and where those of a section end in
 // a list of all, in which they are in order. If the list is another one, the runs are the same, and
 // take longer.
+#[derive(Drop)]
 pub(crate) struct Grouped<'g, 'a, E: Entry + Record> {
     symbols: &'g AddressSymbols<'a, E>,
     counts: &'g SectionCounts<'g, 'a, 'g, E>,
@@ -98,7 +99,9 @@ fn ends_of<E: Entry + Record>(
 }
 
 // The number of symbols of a section.
-fn count_of<E: Entry + Record>(counts: &SectionCounts<'_, '_, '_, E>, section: usize) -> usize {
+fn count_of<E: Entry + Record>(counts: &SectionCounts<'_, '_, '_, E>, section: usize) -> usize
+    ensures { result < 2 ^ 32 }
+{
     match u32::try_from(section) {
         Ok(section) => counts.count(section),
         Err(_) => 0,
