@@ -18,7 +18,7 @@ import subprocess
 import sys
 import tempfile
 
-from program_ends import BOUND, COUNTER, COUNTER_PLAN, CRATES, LINKED, PLACES_SIZES, PLACES_SYMBOLS, REPORT, STRTAB, SYMBOLS, builds_of
+from program_ends import BOUND, COUNTER, COUNTER_PLAN, CRATES, LINKED, PLACES_SIZES, REPORT, STRTAB, SYMBOLS, builds_of
 
 SAMPLE = CRATES / "elfanswers" / "data"
 FIRST = (BOUND / "libfirst.so").read_bytes()
@@ -30,7 +30,7 @@ FIRST_LINES = "".join(f"a.elf {line}\n" for line in (
 
 @dataclasses.dataclass(frozen=True)
 class Program:
-    """A program: its words after the path of the file, the files, the output that is wanted of the first, and its options."""
+    """A program: its words behind the path of the file, the files, and the output that is wanted of the first."""
 
     name: str
     words: list
@@ -38,7 +38,6 @@ class Program:
     first: bytes
     # So many bytes a read and a write takes where it takes few.
     few: tuple
-    options: tuple = ()
 
     def texts(self) -> list:
         """What it says where it can't read its arguments, can't read the file, lacks memory, and can't write."""
@@ -56,7 +55,6 @@ PROGRAMS = [
     Program("elfaddr", ["206", "20a", "20f"], {"symbols": PLACES, "three bytes": PLACES[:3]}, b"outer+0x0\nouter+0x4\n?\n", (20, 4)),
     Program("elfbind", [], {"a library": FIRST, "three bytes": FIRST[:3]}, FIRST_LINES.encode(), (40, 4)),
     Program("elfsize", [], {"symbols": PLACES, "three bytes": PLACES[:3]}, PLACES_SIZES.replace(b"places.so", b"a.elf"), (60, 16)),
-    Program("elfsize", [], {"symbols by section": PLACES, "three bytes": PLACES[:3]}, PLACES_SYMBOLS.replace(b"places.so", b"a.elf"), (60, 16), ("--symbols",)),
     Program("elfload", [], {"a program": COUNTER, "three bytes": COUNTER[:3]}, COUNTER_PLAN.replace(b"counter", b"a.elf"), (60, 16)),
 ]
 
@@ -107,11 +105,10 @@ ssize_t write(int file, const void *from, size_t size) {
 }
 """
 
-def run(built, program, room, **failing):
+def run(program, words, room, **failing):
     """How the run ends whose call of this kind and number fails: status, output and error text."""
-    words = [*program.options, "a.elf", *program.words]
     failed = {name: str(number) for name, number in failing.items()}
-    ran = subprocess.run([built, *words], cwd=room, capture_output=True, timeout=60, env={"LD_PRELOAD": f"{room}/failing.so", **failed})
+    ran = subprocess.run([program, "a.elf", *words], cwd=room, capture_output=True, timeout=60, env={"LD_PRELOAD": f"{room}/failing.so", **failed})
     return ran.returncode, ran.stdout, ran.stderr
 
 
@@ -135,11 +132,11 @@ def is_well(kind, end, whole, texts, before):
 
 def unlike(built, program, room, name) -> int:
     """Prints how many calls were failed, and returns how many runs didn't end as they must."""
-    texts = program.texts()
-    whole, count = run(built, program, room), 0
+    texts, words = program.texts(), program.words
+    whole, count = run(built, words, room), 0
     for kind, is_few in WAYS:
         few = dict(zip(("FEW_READ", "FEW_WRITE"), program.few)) if is_few else {}
-        runs = (run(built, program, room, **{kind: number}, **few) for number in range(1, MOST))
+        runs = (run(built, words, room, **{kind: number}, **few) for number in range(1, MOST))
         ends = list(itertools.takewhile(lambda end: end != whole, runs))
         before = lambda at: at * program.few[1] if is_few else None
         wrong = [end for at, end in enumerate(ends) if not is_well(kind, end, whole, texts, before(at))]
@@ -157,7 +154,7 @@ def unlike(built, program, room, name) -> int:
 
 
 def main() -> int:
-    builds = builds_of(sorted({it.name for it in PROGRAMS}))
+    builds = builds_of([it.name for it in PROGRAMS])
     count = 0
     with tempfile.TemporaryDirectory() as room:
         os.environ.pop("LD_PRELOAD", None)
@@ -168,7 +165,7 @@ def main() -> int:
                 pathlib.Path(room, "a.elf").write_bytes(held)
                 for built in builds[program.name]:
                     count += unlike(built, program, room, name)
-                    count += at == 0 and run(built, program, room) != (0, program.first, b"")
+                    count += at == 0 and run(built, program.words, room) != (0, program.first, b"")
     return 1 if count else 0
 
 
