@@ -17,7 +17,7 @@ import sys
 import tempfile
 
 import program_ends
-from program_ends import ASKED, COUNTER, COUNTER_PLAN, LINKED, PLACES, PLACES_SIZES, REPORT, STRTAB, SYMBOLS, builds_of, data
+from program_ends import ASKED, COUNTER, COUNTER_PLAN, LINKED, PLACES, PLACES_SIZES, PLACES_SYMBOLS, REPORT, STRTAB, SYMBOLS, builds_of, data
 
 FIRST = data("elfbind/data/libfirst.so")
 # What this library alone is bound to, as `readelf -rsW` says of it before its section headers are cut off.
@@ -26,9 +26,9 @@ FIRST_LINES = "".join(f"a.elf {line}\n" for line in (
     "own@V1 -> a.elf 0x4e3", "own@V1 -> a.elf 0x4e3", "choose@V1 -> a.elf 0x4f5"))
 
 
-class Program(collections.namedtuple("Program", "name words files first few")):
-    """A program: its words behind the path of the file, the files, the output that is wanted of the first, and how many bytes a
-    read and a write takes where it takes few."""
+class Program(collections.namedtuple("Program", "name words files first few options", defaults=[()])):
+    """A program: its words behind the path of the file, the files, the output that is wanted of the first, how many bytes a
+    read and a write takes where it takes few, and its options."""
 
     def texts(self) -> list:
         """What it says where it can't read its arguments, can't read the file, lacks memory, and can't write."""
@@ -36,6 +36,7 @@ class Program(collections.namedtuple("Program", "name words files first few")):
         return [f"{self.name}: {it}\n".encode() for it in ends]
 
 
+SYMBOLS_SIZES = PLACES_SYMBOLS.replace("places.so", "a.elf").encode()
 FILES = {"a string table": STRTAB, "links": data("elfanswers/data/notes-64.elf"),
     "a hash table": data("elfanswers/data/dynamic-64.elf"), "three bytes": STRTAB[:3]}
 PROGRAMS = [
@@ -44,6 +45,7 @@ PROGRAMS = [
     Program("elfaddr", ["206", "20a", "20f"], {"symbols": PLACES, "three bytes": PLACES[:3]}, b"outer+0x0\nouter+0x4\n?\n", (20, 4)),
     Program("elfbind", [], {"a library": FIRST, "three bytes": FIRST[:3]}, FIRST_LINES.encode(), (40, 4)),
     Program("elfsize", [], {"symbols": PLACES, "three bytes": PLACES[:3]}, PLACES_SIZES.replace(b"places.so", b"a.elf"), (60, 16)),
+    Program("elfsize", [], {"symbols of sections": PLACES, "three bytes": PLACES[:3]}, SYMBOLS_SIZES, (60, 16), ("--symbols",)),
     Program("elfload", [], {"a program": COUNTER, "three bytes": COUNTER[:3]}, COUNTER_PLAN.replace(b"counter", b"a.elf"), (60, 16)),
 ]
 
@@ -95,10 +97,11 @@ ssize_t write(int file, const void *from, size_t size) {
 """
 
 
-def run(program, words, room, **failing):
+def run(built, program, room, **failing):
     """How the run ends whose call of this kind and number fails: status, output and error text."""
+    words = [*program.options, "a.elf", *program.words]
     failed = {name: str(number) for name, number in failing.items()}
-    return tuple(program_ends.run(program, ["a.elf", *words], room, env={"LD_PRELOAD": f"{room}/failing.so", **failed}))
+    return tuple(program_ends.run(built, words, room, env={"LD_PRELOAD": f"{room}/failing.so", **failed}))
 
 
 def is_well(kind, end, whole, texts, before):
@@ -121,11 +124,11 @@ def is_well(kind, end, whole, texts, before):
 
 def unlike(built, program, room, name) -> int:
     """Prints how many calls were failed, and returns how many runs didn't end as they must."""
-    texts, words = program.texts(), program.words
-    whole, count = run(built, words, room), 0
+    texts = program.texts()
+    whole, count = run(built, program, room), 0
     for kind, is_few in WAYS:
         few = dict(zip(("FEW_READ", "FEW_WRITE"), program.few)) if is_few else {}
-        runs = (run(built, words, room, **{kind: number}, **few) for number in range(1, MOST))
+        runs = (run(built, program, room, **{kind: number}, **few) for number in range(1, MOST))
         ends = list(itertools.takewhile(lambda end: end != whole, runs))
         before = lambda at: at * program.few[1] if is_few else None
         wrong = [end for at, end in enumerate(ends) if not is_well(kind, end, whole, texts, before(at))]
@@ -142,7 +145,7 @@ def unlike(built, program, room, name) -> int:
 
 
 def main() -> int:
-    builds, count = builds_of([it.name for it in PROGRAMS]), 0
+    builds, count = builds_of(sorted({it.name for it in PROGRAMS})), 0
     with tempfile.TemporaryDirectory() as room:
         os.environ.pop("LD_PRELOAD", None)
         # The library whose calls fail.
@@ -152,7 +155,7 @@ def main() -> int:
                 pathlib.Path(room, "a.elf").write_bytes(held)
                 for built in builds[program.name]:
                     count += unlike(built, program, room, name)
-                    count += at == 0 and run(built, program.words, room) != (0, program.first, b"")
+                    count += at == 0 and run(built, program, room) != (0, program.first, b"")
     return 1 if count else 0
 
 

@@ -12,6 +12,7 @@ mod pieces;
 mod ranges;
 mod reached;
 mod rows;
+mod section_counts;
 mod symbol_pieces;
 mod symtab;
 mod want;

@@ -15,3 +15,4 @@ pub mod NextClaim
 pub mod Behind
 pub mod HeldWords
 pub mod SizedRuns
+pub mod SectionCountings

@@ -16,4 +16,5 @@ pub mod Held
 pub mod Runs
 pub mod Pieces
 pub mod SymbolPieces
+pub mod SectionCounts
 pub mod Symtab

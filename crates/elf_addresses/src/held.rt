@@ -1,11 +1,11 @@
 //! Words that an iterator holds, with an index that is built in them.
 
-ghost use Rattle.std.specs.Prelude.{◌≤◌, ◌<◌, ◌^◌, length};
-ghost use Rattle.elf_addresses.specs.Held.{IsHeld};
+ghost use Rattle.std.specs.Prelude.{◌≡◌, ◌≤◌, ◌<◌, ◌^◌, length};
+ghost use Rattle.elf_addresses.specs.Held.{InBlocks, IsHeld};
 ghost use Rattle.elf_addresses.specs.Index.{IsBuilt, word_count};
 
 use crate::claims::Claims;
-use crate::index::{build_index, parts};
+use crate::index::{build_index, fill_lasting, parts};
 
 // The parts of an index in words.
 #[derive(Clone, Copy, Debug)]
@@ -42,4 +42,18 @@ pub(crate) fn words_of<'w, C: Claims>(claims: &C, words: &'w [u32]) -> IndexWord
         lasting,
         starts,
     }
+}
+
+// For each of these words, the one of its block whose range ends last, in words of the same number.
+pub(crate) fn lasting_of<'w, C: Claims>(
+    claims: &C,
+    words: &[u32],
+    lasting: &'w mut [u32],
+) -> &'w [u32]
+    requires few { length words.now < 2 ^ 32 }
+    requires room { length lasting.old ≡ length words.now }
+    ensures { InBlocks (C.range_of claims.now) words.now result.now }
+{
+    fill_lasting(claims, words, &mut *lasting);
+    lasting
 }

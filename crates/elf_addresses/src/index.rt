@@ -16,6 +16,8 @@ pub(crate) use crate::index::ask::{count_begun, reach};
 pub(crate) use crate::index::build::parts;
 pub use crate::index::build::{build_index, index_words};
 use crate::index::lasting::are_lasting;
+pub(crate) use crate::index::lasting::fill_lasting;
+pub(crate) use crate::index::order::is_in_order_at;
 use crate::index::order::is_worst_first;
 
 /// An index of the claims of a table, for questions that read few of them.

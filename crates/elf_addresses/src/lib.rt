@@ -7,7 +7,8 @@
 //! `ClaimIndex` are the same for ranges of another kind, which implement `Claims`.
 //!
 //! `owner_of` returns the part of a file that a byte belongs to, and `Pieces` all runs of bytes that
-//! belong to one part. `SymbolPieces` returns the runs of addresses that belong to one symbol.
+//! belong to one part. `SymbolPieces` returns the runs of addresses that belong to one symbol, and
+//! `SectionCounts` helps where many sections are asked for.
 #![tactic(auto)]
 
 mod claim;
@@ -21,6 +22,7 @@ mod index;
 mod next;
 mod owner;
 mod pieces;
+mod section_counts;
 mod sections;
 mod symbol_index;
 mod symbol_pieces;
@@ -35,6 +37,7 @@ pub use crate::find::{At, open_below, symbol_at};
 pub use crate::index::{ClaimIndex, build_index, index_words};
 pub use crate::owner::{Owner, owner_of};
 pub use crate::pieces::{Piece, Pieces};
+pub use crate::section_counts::SectionCounts;
 pub use crate::sections::section_at;
 pub use crate::symbol_index::SymbolIndex;
 pub use crate::symbol_pieces::{SymbolPiece, SymbolPieces};

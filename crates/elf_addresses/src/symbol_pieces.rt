@@ -1,15 +1,16 @@
 //! The pieces of a section: the longest runs of addresses in one symbol.
 
-ghost use Rattle.std.specs.Prelude.{◌≡◌, ◌≤◌, ◌<◌, ◌^◌, false, length, max};
+ghost use Rattle.std.specs.Prelude.{◌≡◌, ◌≤◌, ◌<◌, ◌^◌, ◌↔◌, false, length, max};
 ghost use Rattle.elf_addresses.specs.Held.{InBlocks, InOrder};
 ghost use Rattle.elf_addresses.specs.SymbolClaims.{claim_of_symbols, range_of_symbols};
 ghost use Rattle.elf_addresses.specs.SymbolClaims.{symbol_count};
 
 use crate::claim::Claim;
 use crate::error::IndexError;
-use crate::held::words_of;
+use crate::held::{lasting_of, words_of};
 use crate::index::{build_index, reach};
 use crate::next::{limit_of, next_claim};
+use crate::section_counts::SectionCounts;
 use crate::symbols::{AddressSymbols, SymbolClaims};
 use xmas_elf::bytes::Record;
 use xmas_elf::symbol_table::Entry;
@@ -44,7 +45,7 @@ pub struct SymbolPieces<'s, 'a, 'w, E: Entry + Record> {
 }
 
 impl<'s, 'a, 'w, E: Entry + Record> SymbolPieces<'s, 'a, 'w, E> {
-    ghost use Rattle.std.specs.Prelude.{Err, IfOk, IsOk, None, Some};
+    ghost use Rattle.std.specs.Prelude.{Err, IfOk, IfSome, IsOk, IsSome, None, Some};
     ghost use Rattle.elf_addresses.specs.Owner.{ClaimBegins};
     ghost use Rattle.elf_addresses.specs.Runs.{IsNext};
     ghost use Rattle.elf_addresses.specs.Index.{word_count};
@@ -88,6 +89,49 @@ impl<'s, 'a, 'w, E: Entry + Record> SymbolPieces<'s, 'a, 'w, E> {
             claims,
             sized: parts.sized,
             lasting: parts.lasting,
+            place: begin,
+            end: begin.max(end),
+        })
+    }
+
+    /// The same pieces of a section, by the indices of its symbols that name addresses and have a size,
+    /// in order: as `SymbolIndex` has them, the symbol that is further in is later. It reads these
+    /// symbols alone, so it is for files with many sections.
+    ///
+    /// It returns `None` if the words are not these indices, if there are not as many words in
+    /// `lasting`, in which it builds the index, or if the section has no count.
+    pub fn in_order(
+        counts: &SectionCounts<'s, 'a, '_, E>,
+        section: u32,
+        begin: u64,
+        end: u64,
+        sized: &'w [u32],
+        lasting: &'w mut [u32],
+    ) -> Option<SymbolPieces<'s, 'a, 'w, E>>
+        ensures exact { IsSome result ↔ ((length lasting.old ≡ length sized.now)
+            × (section < length counts.now.counts.now)
+            × InOrder (claim_of_symbols E.fields counts.now.symbols.now (Some section)) false
+            (symbol_count counts.now.symbols.now) sized.now) }
+        ensures claims { IfSome result (λ pieces. piece_claims E.fields pieces
+            ≡ claim_of_symbols E.fields counts.now.symbols.now (Some section)) }
+        ensures first { IfSome result (λ pieces. symbol_place pieces ≡ begin) }
+        ensures last { IfSome result (λ pieces. symbol_limit pieces ≡ max begin end) }
+    {
+        if lasting.len() != sized.len() {
+            return None;
+        }
+        if !counts.are_all(section, sized) {
+            return None;
+        }
+        let claims = SymbolClaims {
+            symbols: counts.symbols,
+            within: Some(section),
+        };
+        let lasting = lasting_of(&claims, sized, lasting);
+        Some(SymbolPieces {
+            claims,
+            sized,
+            lasting,
             place: begin,
             end: begin.max(end),
         })

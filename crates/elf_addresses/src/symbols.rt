@@ -57,7 +57,7 @@ impl<E: Entry + Record> AddressSymbols<'_, E> {
     // Whether a symbol names addresses: those of a section, if one is given.
     #[tactic(auto, unfolding(crate::specs::SymbolClaims::has_claim))]
     #[inline(always)]
-    fn is_candidate(&self, symbol: &E, index: usize, within: Option<u32>) -> bool
+    pub(crate) fn is_candidate(&self, symbol: &E, index: usize, within: Option<u32>) -> bool
         ensures { result ≡ has_claim E.fields self.now within index symbol.now }
     {
         if !has_address(symbol.info() % 16) {

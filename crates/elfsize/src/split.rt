@@ -12,7 +12,9 @@ ghost use Rattle.elfsize.specs.Totals.{all_bytes};
 
 use crate::parts::{numbered, run_of};
 use crate::totals::{Run, push_size};
-use elf_addresses::{AddressSymbols, Owner, Piece, Pieces, SymbolIndex, SymbolPiece, SymbolPieces};
+use elf_addresses::{
+    AddressSymbols, Owner, Piece, Pieces, SectionCounts, SymbolIndex, SymbolPiece, SymbolPieces,
+};
 use std::alloc::{AllocError, Global};
 use xmas_elf::ElfFile;
 use xmas_elf::bytes::Record;
@@ -20,9 +22,22 @@ use xmas_elf::symbol_table::Entry;
 
 const ET_REL: u16 = 1;
 
+// The symbols of a table by section: how many each section has, and where those of a section end in
+// a list of all, in which they are in order. If the list is another one, the runs are the same, and
+// take longer.
+#[derive(Drop)]
+pub(crate) struct Grouped<'g, 'a, E: Entry + Record> {
+    symbols: &'g AddressSymbols<'a, E>,
+    counts: &'g SectionCounts<'g, 'a, 'g, E>,
+    list: &'g [u32],
+    ends: &'g [u32],
+    ghost same: { counts.now.symbols.now ≡ symbols.now },
+    ghost few: { symbol_count symbols.now < 2 ^ 32 },
+}
+
 /// The runs of a file with the bytes of sections by symbol, in the order of their offsets.
 ///
-/// For each piece of a section it passes over all symbols, and sorts those of the section.
+/// It sorts the symbols once. For each piece of a section it passes over those of the section.
 pub fn split_runs<E: Entry + Record>(
     alloc: Global,
     file: &ElfFile<'_>,
@@ -34,11 +49,111 @@ pub fn split_runs<E: Entry + Record>(
     ensures numbers { IfOk result (λ runs. All (λ run. run.part < 2 ^ 40) runs.items) }
     ensures sum { IfOk result (λ runs. all_bytes runs.items ≡ byte_count file.now) }
 {
+    let mut counted = vec![in alloc; 0u32; file.section_table().len()]?;
+    let counts = match SectionCounts::new(symbols, &mut counted) {
+        Ok(counts) => counts,
+        Err(_) => unreachable!(),
+    };
+    let mut ends = ends_of(alloc, &counts, file.section_table().len())?;
+    let list = listed_by_section(alloc, symbols, &mut ends)?;
+    let groups = Grouped {
+        symbols,
+        counts: &counts,
+        list: &list,
+        ends: &ends,
+    };
+    split_by(alloc, file, &groups)
+}
+
+// The runs of a file by the symbols of its sections.
+fn split_by<E: Entry + Record>(
+    alloc: Global,
+    file: &ElfFile<'_>,
+    groups: &Grouped<'_, '_, E>,
+) -> Result<Vec<Run>, AllocError>
+    ensures runs { IfOk result (λ runs. AreSplit (section_claims E.fields groups.now.symbols.now)
+        file.now runs.items) }
+    ensures numbers { IfOk result (λ runs. All (λ run. run.part < 2 ^ 40) runs.items) }
+    ensures sum { IfOk result (λ runs. all_bytes runs.items ≡ byte_count file.now) }
+{
     let mut words = vec![in alloc; 0u32; Pieces::words(file)]?;
     match Pieces::new(file, &mut words) {
-        Ok(pieces) => split_pieces(alloc, file, symbols, pieces),
+        Ok(pieces) => split_pieces(alloc, file, groups, pieces),
         Err(_) => unreachable!(),
     }
+}
+
+// For each section the number of symbols in those before it, by their counts.
+fn ends_of<E: Entry + Record>(
+    alloc: Global,
+    counts: &SectionCounts<'_, '_, '_, E>,
+    sections: usize,
+) -> Result<Vec<u32>, AllocError> {
+    let mut ends = Vec::new(alloc);
+    let mut end = 0u32;
+    for section in 0..sections {
+        ends.push(end)?;
+        end = end.wrapping_add(count_of(counts, section) as u32);
+    }
+    Ok(ends)
+}
+
+// The number of symbols of a section.
+fn count_of<E: Entry + Record>(counts: &SectionCounts<'_, '_, '_, E>, section: usize) -> usize
+    ensures { result < 2 ^ 32 }
+{
+    match u32::try_from(section) {
+        Ok(section) => counts.count(section),
+        Err(_) => 0,
+    }
+}
+
+// The indices of all symbols with a size by section, those of a section in order. It moves each end
+// past the symbols of its section.
+fn listed_by_section<E: Entry + Record>(
+    alloc: Global,
+    symbols: &AddressSymbols<'_, E>,
+    ends: &mut [u32],
+) -> Result<Vec<u32>, AllocError> {
+    let mut words = vec![in alloc; 0u32; SymbolIndex::words(symbols, None)]?;
+    let _built = SymbolIndex::build(symbols, None, &mut words);
+    let sized = SymbolIndex::lend(symbols, None, &words).sized;
+    let mut list = vec![in alloc; 0u32; sized.len()]?;
+    for index in sized {
+        put(symbols, *index, ends, &mut list);
+    }
+    Ok(list)
+}
+
+// Puts a symbol after those of its section.
+fn put<E: Entry + Record>(
+    symbols: &AddressSymbols<'_, E>,
+    index: u32,
+    ends: &mut [u32],
+    list: &mut [u32],
+) {
+    let Some(symbol) = symbols.table.get(index as usize) else {
+        return;
+    };
+    let section = symbols.section_index(&symbol, index as usize);
+    let Some(end) = ends.get_mut(section as usize) else {
+        return;
+    };
+    let Some(place) = list.get_mut(*end as usize) else {
+        return;
+    };
+    *place = index;
+    *end = end.wrapping_add(1);
+}
+
+// The part of the list for a section.
+fn group_of<'g, E: Entry + Record>(groups: &Grouped<'g, '_, E>, section: u32) -> &'g [u32] {
+    let Some(end) = groups.ends.get(section as usize) else {
+        return &[];
+    };
+    let end = *end as usize;
+    let begin = end.saturating_sub(groups.counts.count(section));
+    groups.list.get(begin..end).unwrap_or(&[])
 }
 
 // The runs of all pieces of a file.
@@ -46,20 +161,19 @@ pub fn split_runs<E: Entry + Record>(
 fn split_pieces<E: Entry + Record>(
     alloc: Global,
     file: &ElfFile<'_>,
-    symbols: &AddressSymbols<'_, E>,
+    groups: &Grouped<'_, '_, E>,
     pieces: Pieces<'_, '_, '_>,
 ) -> Result<Vec<Run>, AllocError>
-    requires few { symbol_count symbols.now < 2 ^ 32 }
     requires file { pieces_file pieces ≡ file.now }
     requires first { pieces_place pieces ≡ 0 }
-    ensures runs { IfOk result (λ runs. AreSplit (section_claims E.fields symbols.now) file.now
+    ensures runs { IfOk result (λ runs. AreSplit (section_claims E.fields groups.now.symbols.now) file.now
         runs.items) }
     ensures numbers { IfOk result (λ runs. All (λ run. run.part < 2 ^ 40) runs.items) }
     ensures sum { IfOk result (λ runs. all_bytes runs.items ≡ byte_count file.now) }
 {
     let mut runs = Vec::new(alloc);
     for piece in pieces {
-        push_piece(alloc, file, symbols, &piece, &mut runs)?;
+        push_piece(alloc, file, groups, &piece, &mut runs)?;
     }
     Ok(runs)
 }
@@ -68,17 +182,16 @@ fn split_pieces<E: Entry + Record>(
 fn push_piece<E: Entry + Record>(
     alloc: Global,
     file: &ElfFile<'_>,
-    symbols: &AddressSymbols<'_, E>,
+    groups: &Grouped<'_, '_, E>,
     piece: &Piece,
     runs: &mut Vec<Run>,
 ) -> Result<(), AllocError>
-    requires few { symbol_count symbols.now < 2 ^ 32 }
     requires some { piece.now.begin < piece.now.end }
-    ensures { OnOk result (AddsPiece (section_claims E.fields symbols.now) file.now piece.now
+    ensures { OnOk result (AddsPiece (section_claims E.fields groups.now.symbols.now) file.now piece.now
         runs.old.items runs.new.items) }
 {
     match owner_section(piece.owner) {
-        Some(index) => push_section(alloc, file, symbols, index, piece, runs),
+        Some(index) => push_section(alloc, file, groups, index, piece, runs),
         None => push_one(run_of(piece), runs),
     }
 }
@@ -95,26 +208,46 @@ fn push_one(run: Run, runs: &mut Vec<Run>) -> Result<(), AllocError>
 fn push_section<E: Entry + Record>(
     alloc: Global,
     file: &ElfFile<'_>,
-    symbols: &AddressSymbols<'_, E>,
+    groups: &Grouped<'_, '_, E>,
     index: usize,
     piece: &Piece,
     runs: &mut Vec<Run>,
 ) -> Result<(), AllocError>
-    requires few { symbol_count symbols.now < 2 ^ 32 }
     requires some { piece.now.begin < piece.now.end }
     requires owner { owner_section piece.now.owner ≡ Some index }
-    ensures { OnOk result (AddsPiece (section_claims E.fields symbols.now) file.now piece.now
+    ensures { OnOk result (AddsPiece (section_claims E.fields groups.now.symbols.now) file.now piece.now
         runs.old.items runs.new.items) }
 {
     let place = section_place(file, index);
     let begin = address_at(place, piece.begin);
     let end = address_at(place, piece.end);
-    push_symbols(alloc, symbols, index, (begin, end), runs)?;
+    push_symbols(alloc, groups, index, (begin, end), runs)?;
     push_size(runs, numbered(0, index), rest_of(piece, begin, end))
 }
 
 // Adds the runs of the addresses of a section from the first of two on up to the second.
 fn push_symbols<E: Entry + Record>(
+    alloc: Global,
+    groups: &Grouped<'_, '_, E>,
+    index: usize,
+    range: (u64, u64),
+    runs: &mut Vec<Run>,
+) -> Result<(), AllocError>
+    ensures { OnOk result (AddsInner (section_claims E.fields groups.now.symbols.now index) index
+        range.0 (max range.0 range.1) runs.old.items runs.new.items) }
+{
+    let section = (index % 0x1_0000_0000) as u32;
+    let group = group_of(groups, section);
+    let mut lasting = vec![in alloc; 0u32; group.len()]?;
+    let (begin, end) = range;
+    match SymbolPieces::in_order(groups.counts, section, begin, end, group, &mut lasting) {
+        Some(pieces) => push_runs(pieces, index, runs),
+        None => push_slowly(alloc, groups.symbols, index, range, runs),
+    }
+}
+
+// The same by a pass over all symbols.
+fn push_slowly<E: Entry + Record>(
     alloc: Global,
     symbols: &AddressSymbols<'_, E>,
     index: usize,

@@ -9,11 +9,11 @@ use std::test::Fail;
 
 const MOST: u64 = 0xffff_ffff_ffff_ffff;
 
-// A range of addresses in one symbol, or in none.
-type Run = (u64, u64, Option<usize>);
+/// A range of addresses in one symbol, or in none.
+pub type Run = (u64, u64, Option<usize>);
 
-// Symbols that nest, that cross, and that have no size, in section 1, and one in section 2.
-const SYMBOLS: &[Row] = &[
+/// Symbols that nest, that cross, and that have no size, in section 1, and one in section 2.
+pub const SYMBOLS: &[Row] = &[
     (F, 0x12, 1, 0x1000, 0x100),
     (F, 0x12, 1, 0x1040, 0x10),
     (F, 0x12, 1, 0x1200, 0x20),
@@ -22,7 +22,8 @@ const SYMBOLS: &[Row] = &[
     (F, 0x12, 2, 0x1000, 0x10),
 ];
 
-const NESTED: &[Run] = &[
+/// The pieces of the first that nest.
+pub const NESTED: &[Run] = &[
     (0xff0, 0x1000, None),
     (0x1000, 0x1040, Some(0)),
     (0x1040, 0x1050, Some(1)),
@@ -30,7 +31,8 @@ const NESTED: &[Run] = &[
     (0x1100, 0x1110, None),
 ];
 
-const CROSSING: &[Run] = &[(0x1208, 0x1210, Some(2)), (0x1210, 0x1228, Some(3))];
+/// Some pieces of those that cross.
+pub const CROSSING: &[Run] = &[(0x1208, 0x1210, Some(2)), (0x1210, 0x1228, Some(3))];
 
 // A symbol that ends past all addresses.
 const LAST: &[Row] = &[(F, 0x12, 1, MOST - 15, 0x100)];
