@@ -92,6 +92,8 @@ def plan_of(text: str) -> Plan:
     """Takes what elfload prints of a file apart."""
     heads, by, lines = {}, {}, None
     for line in text.split("\n")[1:-1]:
+        if line.startswith("words "):
+            break
         if line in ("kernel", "glibc"):
             lines = by.setdefault(line, [])
         elif lines is None:
