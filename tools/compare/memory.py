@@ -1,7 +1,7 @@
 #!/usr/bin/env python3
 """Compare what elfload says of memory with that of programs that Linux and the dynamic linker have loaded.
 
-    tools/compare/memory.py [--elfload PATH] [--now 1] PROGRAM..
+    tools/compare/memory.py [--elfload PATH] [--lazy 1] PROGRAM..
 
 The programs are the dynamically linked ones among the files, and in the folders among them. Each is run in a process that
 ptrace stops before the first constructor (`to_relocated`). Its files are those of the linker's list, in that order, without
@@ -11,13 +11,14 @@ linux-vdso. Two things are compared:
   glibc chooses (`thread_offsets`). A word with a function that the linker calls, and a descriptor, has no number;
 - each byte of memory: that of a word, otherwise that of the file, or zero (`image_of`, which reads the program headers itself).
 
-Jump slots get their symbols when they are called first (elfload --lazy), or with --now 1 before (LD_BIND_NOW).
+Jump slots get their symbols at once (LD_BIND_NOW), or with --lazy 1 when they are called first (elfload --lazy).
 
 Each difference is counted by its cause: `unique`, since glibc merges symbols of type STB_GNU_UNIQUE by name; `linker`, the
 data of the linker itself; `early libc`, what the C library writes before the first constructor; `dynamic`, where the linker adds
-the base to an entry of a dynamic segment, or writes DT_DEBUG; `lazy`, the two words at DT_PLTGOT that are the linker's. Another
-one is a line, and the exit status is then 1. It needs ptrace on x86-64: where that is not allowed or the machine is another, the
-script says so, and passes.
+the base to an entry of a dynamic segment, or writes DT_DEBUG. With --lazy 1 also `lazy`, the two words at DT_PLTGOT that are
+the linker's, and `bound`, slots that have their symbols: those of the linker, and those that the C library has called. Another
+difference is a line, and the exit status is then 1. It needs ptrace on x86-64: where that is not allowed or the machine is
+another, the script says so, and passes.
 """
 import functools
 import os
@@ -226,18 +227,20 @@ def cause_of_byte(file: File, address: int, is_writable: bool, held: bytes, link
 
 
 class Process(NamedTuple):
-    """A process that is stopped where relocation is done."""
+    """A process that is stopped where relocation is done, and the words of its files if all slots get their symbols at once."""
 
     program: str
     process: Stopped
     files: List[File]
     linker: str
     numbers: Numbers
+    at_once: List[List[Word]]
 
 
 def compare_words(of: Process, index: int, words: List[Word], tally: Tally) -> Dict[int, bytes]:
     """Compares the words of a file, and returns the bytes that memory has for each, by its address."""
     file, found = of.files[index], {}
+    at_once = {it.address: it for it in of.at_once[index]} if of.at_once else {}
     for word in words:
         held = of.process.memory(file.base + word.address, word.width)
         wanted = of.numbers.bytes_of(of.process, word)
@@ -247,6 +250,8 @@ def compare_words(of: Process, index: int, words: List[Word], tally: Tally) -> D
             tally["without a number"] += 1
         elif held == wanted:
             tally["equal"] += 1
+        elif word.address in at_once and held == of.numbers.bytes_of(of.process, at_once[word.address]):
+            tally["words bound"] += 1
         elif cause := cause_of_word(of.files, index, word, of.linker):
             tally[f"words {cause}"] += 1
         else:
@@ -302,33 +307,35 @@ def compare_memory(of: Process, text: str, compared: Set[Tuple[str, int]], tally
     tally["files"] += len(of.files)
 
 
-def compare(program: str, is_now: bool, compared: Set[Tuple[str, int]], tally: Tally) -> None:
+def compare(program: str, is_lazy: bool, compared: Set[Tuple[str, int]], tally: Tally) -> None:
     """Compares the memory of a program and its libraries."""
-    process = Stopped(program, **({"LD_BIND_NOW": "1"} if is_now else {}))
+    process = Stopped(program, **({} if is_lazy else {"LD_BIND_NOW": "1"}))
     try:
         linker = to_relocated(process)
         if linker is None:
             tally["not loaded"] += 1
             return
         files = list(files_of(process, program, *linker))
-        said = run([tally.program, *([] if is_now else ["--lazy"]), *(it.path for it in files)])
+        paths = [it.path for it in files]
+        said = run([tally.program, *(["--lazy"] if is_lazy else []), *paths])
         if said.status != 0:
             tally.fault(f"{program}: elfload: status {said.status}: {said.errors.strip()}")
             return
-        compare_memory(Process(program, process, files, linker[0], Numbers(files)), said.output, compared, tally)
+        at_once = words_of(run([tally.program, *paths]).output) if is_lazy else []
+        compare_memory(Process(program, process, files, linker[0], Numbers(files), at_once), said.output, compared, tally)
     finally:
         process.end()
 
 
 def main() -> int:
-    given = parser_of(__doc__, "elfload", files="+", now=0).parse_args()
+    given = parser_of(__doc__, "elfload", files="+", lazy=0).parse_args()
     if not can_trace():
         print("0 programs, 0 differences: no process can be stopped by ptrace here")
         return 0
     tally = Tally(given.elfload, "programs", "not loaded", "files", "words", "equal", "without a number", "bytes")
     compared: Set[Tuple[str, int]] = set()
     for program in programs_in(given.files):
-        compare(program, bool(given.now), compared, tally)
+        compare(program, bool(given.lazy), compared, tally)
     return tally.ended()
 
 

@@ -3,7 +3,8 @@
 
 Over some files and each build of a program, until a run makes no more such calls. With memory refused it
 says that it cannot read its arguments, then that it cannot read the file, then that memory is short; with a
-read failed that it cannot read the file; each with status 1 and without output. With a write failed it
+read failed that it cannot read the file; each with status 1 and without output, but for what elfload has written before it asks
+for more memory. With a write failed it
 ends with 1, and what was written before is the front of the output, whether the next write works again or
 all fail. The last run is as if nothing failed. Reads and writes are failed of a run that makes as few as it
 likes, and of one whose reads and writes take a few bytes each.
@@ -18,7 +19,7 @@ import subprocess
 import sys
 import tempfile
 
-from program_ends import BOUND, COUNTER, COUNTER_PLAN, CRATES, LINKED, PLACES_SIZES, REPORT, STRTAB, SYMBOLS, builds_of
+from program_ends import BOUND, COUNTER, COUNTER_ALONE, COUNTER_PLAN, CRATES, LINKED, PLACES_SIZES, REPORT, STRTAB, SYMBOLS, builds_of
 
 SAMPLE = CRATES / "elfanswers" / "data"
 FIRST = (BOUND / "libfirst.so").read_bytes()
@@ -38,6 +39,8 @@ class Program:
     first: bytes
     # So many bytes a read and a write takes where it takes few.
     few: tuple
+    # What it has written where memory is short.
+    begun: tuple = (b"",)
 
     def texts(self) -> list:
         """What it says where it can't read its arguments, can't read the file, lacks memory, and can't write."""
@@ -48,6 +51,7 @@ class Program:
 FILES = {"a string table": STRTAB, "links": (SAMPLE / "notes-64.elf").read_bytes(),
     "a hash table": (SAMPLE / "dynamic-64.elf").read_bytes(), "three bytes": STRTAB[:3]}
 PLACES = (CRATES / "elfaddr" / "data" / "places.so").read_bytes()
+OWN_PLAN = COUNTER_PLAN.replace(b"counter", b"a.elf")
 ASKED = (CRATES / "elfsym" / "args").read_text().split()[1:]
 PROGRAMS = [
     Program("elfinfo", [], FILES, REPORT, (20, 300)),
@@ -55,7 +59,9 @@ PROGRAMS = [
     Program("elfaddr", ["206", "20a", "20f"], {"symbols": PLACES, "three bytes": PLACES[:3]}, b"outer+0x0\nouter+0x4\n?\n", (20, 4)),
     Program("elfbind", [], {"a library": FIRST, "three bytes": FIRST[:3]}, FIRST_LINES.encode(), (40, 4)),
     Program("elfsize", [], {"symbols": PLACES, "three bytes": PLACES[:3]}, PLACES_SIZES.replace(b"places.so", b"a.elf"), (60, 16)),
-    Program("elfload", [], {"a program": COUNTER, "three bytes": COUNTER[:3]}, COUNTER_PLAN.replace(b"counter", b"a.elf"), (60, 16)),
+    # It writes a plan before it asks for memory for the words; the size of its writes divides that of the plan, 275.
+    Program("elfload", [], {"a program": COUNTER, "three bytes": COUNTER[:3]}, COUNTER_ALONE.replace(b"counter", b"a.elf"),
+        (60, 25), (b"", OWN_PLAN)),
 ]
 
 # More calls of a kind than the program makes.
@@ -112,15 +118,16 @@ def run(program, words, room, **failing):
     return ran.returncode, ran.stdout, ran.stderr
 
 
-def is_well(kind, end, whole, texts, before):
+def is_well(kind, end, whole, texts, before, begun):
     """Whether a run with such a call failed may end so, where the whole one ends with `whole`.
 
-    `before` is how much was written before a write that failed, if each takes so few bytes.
+    `before` is how much was written before a write that failed, if each takes so few bytes, and `begun` what may have been
+    written where memory is short.
     """
     status, output, said = end
     _, read, _, write = texts
     if kind == "FAIL_MEMORY":
-        return status == 1 and output == b"" and said in texts[:3]
+        return status == 1 and output in begun and said in texts[:3]
     if kind == "FAIL_READ":
         return end == (1, b"", read)
     if whole[0] == 0:
@@ -139,7 +146,7 @@ def unlike(built, program, room, name) -> int:
         runs = (run(built, words, room, **{kind: number}, **few) for number in range(1, MOST))
         ends = list(itertools.takewhile(lambda end: end != whole, runs))
         before = lambda at: at * program.few[1] if is_few else None
-        wrong = [end for at, end in enumerate(ends) if not is_well(kind, end, whole, texts, before(at))]
+        wrong = [end for at, end in enumerate(ends) if not is_well(kind, end, whole, texts, before(at), program.begun)]
         is_whole = len(ends) < MOST - 1
         said = [texts.index(it[2]) for it in ends if it not in wrong and kind == "FAIL_MEMORY"]
         # A refused file has no output that could fail.

@@ -168,6 +168,72 @@ LOADED = CRATES / "elfload" / "data"
 COUNTER, LIBRARY = ((LOADED / name).read_bytes() for name in ("counter", "library.so"))
 PLANS = (CRATES / "elfload" / "stdout").read_bytes()
 COUNTER_PLAN = PLANS[: PLANS.index(b"library.so\n")]
+PLANS_ALONE = PLANS[: PLANS.index(b"words ")]
+# The symbol of its slot is in the library.
+COUNTER_WORDS = b"words counter\nword 0x1ff8 8 JUMP_SLOT = 0x0\n"
+COUNTER_ALONE = COUNTER_PLAN + COUNTER_WORDS
+LIBRARY_WORDS = b"words library.so\nword 0x7ee0 8 RELATIVE = base(0) + 0x238\nword 0x7ee8 8 RELATIVE = base(0) + 0x23c\n"
+# The program and its libraries in crates/elfbind/data, by what `readelf -hlW` shows; the words are by `readelf -rDW` and -sDW,
+# and by the symbols in crates/elfbind/stdout. Lazy slots hold the word in the file.
+BOUND_PLANS = b"".join(
+    b"%s\nclass 64\ntype %d\nmachine 62\nentry %s\nspan %s\nrelro none\ntls %s\nstack rw-\ninterpreter %s\nkernel\n%sglibc\n%s" % (*it, it[-1])
+    for it in (
+        (b"caller", 2, b"400406", b"400000-402000", b"none", b"/lib64/ld-linux-x86-64.so.2",
+            b"400000-401000 r-xp 0 file\n401000-402000 rw-p 0 file\n"),
+        (b"libfirst.so", 3, b"0", b"0-2000", b"1528 8 8 4", b"none", b"0-1000 r-xp 0 file\n1000-2000 rw-p 0 file\n"),
+        (b"libsecond.so", 3, b"0", b"0-2000", b"14f8 0 4 4", b"none", b"0-1000 r-xp 0 file\n1000-2000 rw-p 0 file\n")))
+BOUND_WORDS = b"""words caller
+word 0x401608 4 COPY = copy(1, 0x16d4, 4)
+word 0x4015e8 8 JUMP_SLOT = base(1) + 0x4e9
+word 0x4015f0 8 JUMP_SLOT = base(1) + 0x4fb
+word 0x4015f8 8 JUMP_SLOT = base(1) + 0x4ef
+word 0x401600 8 JUMP_SLOT = base(1) + 0x4f5
+words libfirst.so
+word 0x16e8 8 RELATIVE = base(1) + 0x4dd
+word 0x1690 8 DTPMOD64 = module(1)
+word 0x1698 8 DTPOFF64 = 0x4
+word 0x16a0 8 GLOB_DAT = base(0) + 0x401608
+word 0x16e0 8 64 = base(1) + 0x4d7
+word 0x16f0 8 64 = base(0) + 0x400400
+word 0x16c0 8 JUMP_SLOT = base(0) + 0x400400
+word 0x16c8 8 JUMP_SLOT = base(1) + 0x4f5
+words libsecond.so
+word 0x1668 8 GLOB_DAT = base(2) + 0x16d0
+word 0x1670 8 TPOFF64 = thread(1) + 0x0
+word 0x1678 8 GLOB_DAT = 0x0
+word 0x16e0 8 64 = base(0) + 0x4003d0
+word 0x16f0 8 64 = base(0) + 0x40160c
+word 0x16f8 8 64 = base(0) + 0x401604
+word 0x16a0 8 JUMP_SLOT = base(1) + 0x4e9
+word 0x16a8 8 JUMP_SLOT = base(1) + 0x4fb
+word 0x16b0 16 TLSDESC = descriptor(2, 0x0)
+word 0x16c0 16 TLSDESC = descriptor(1, 0x4)
+"""
+LAZY_WORDS = BOUND_WORDS
+for place, now, lazy in (
+        (b"4015e8", b"1) + 0x4e9", b"0) + 0x4003c6"), (b"4015f0", b"1) + 0x4fb", b"0) + 0x4003d6"),
+        (b"4015f8", b"1) + 0x4ef", b"0) + 0x4003e6"), (b"401600", b"1) + 0x4f5", b"0) + 0x4003f6"),
+        (b"16c0", b"0) + 0x400400", b"1) + 0x4b6"), (b"16c8", b"1) + 0x4f5", b"1) + 0x4c6"),
+        (b"16a0", b"1) + 0x4e9", b"2) + 0x456"), (b"16a8", b"1) + 0x4fb", b"2) + 0x466")):
+    LAZY_WORDS = LAZY_WORDS.replace(b"%s 8 JUMP_SLOT = base(%s\n" % (place, now), b"%s 8 JUMP_SLOT = base(%s\n" % (place, lazy))
+# The same of the program of class 32.
+NARROW_PLAN = b"""caller_32
+class 32
+type 2
+machine 3
+entry 80482c6
+span 8048000-804a000
+relro none
+tls none
+stack rw-
+interpreter /lib/ld-linux.so.2
+kernel
+8048000-8049000 r-xp 0 file
+8049000-804a000 rw-p 0 file
+glibc
+8048000-8049000 r-xp 0 file
+8049000-804a000 rw-p 0 file
+"""
 PAGES_PLAN = b"""library.so
 class 64
 type 3
@@ -194,26 +260,45 @@ def with_number(file: bytes, place: int, size: int, number: int) -> bytes:
 CHANGED_PROGRAMS = {
     "arm.elf": with_number(COUNTER, 18, 2, 40), "aarch64.elf": with_number(COUNTER, 18, 2, 183),
     "type.elf": with_number(COUNTER, 16, 2, 1), "interpreter.elf": with_number(COUNTER, 64 + 56 + 32, 8, 5000),
-    "shut.elf": with_number(COUNTER, 64 + 3 * 56 + 4, 4, 4)}
-LOAD_USAGE = "elfload [--page <size>] <binary_path>.."
+    "shut.elf": with_number(COUNTER, 64 + 3 * 56 + 4, 4, 4), "static.elf": with_number(COUNTER, 64 + 4 * 56, 4, 0),
+    "word.elf": with_number(COUNTER, 0x288, 8, 0x200)}
+LOAD_USAGE = "elfload [--lazy] [--page <size>] <binary_path>.."
 LOAD_HELP = (
-    f"usage: {LOAD_USAGE}\nPrints the header of each file, what else a loader asks for, and what Linux (kernel) and glibc map.\n"
+    f"usage: {LOAD_USAGE}\nPrints the header of each file, what else a loader asks for, and what Linux (kernel) and glibc map;\n"
+    "then, if each has a dynamic segment, what relocations write, for a program and its libraries in the order in which they are loaded.\n"
+    "--lazy         jump slots get their symbols when they are called first\n"
     "--page <size>  the size of a page in bytes, a power of two; 4096 without it\n")
 LOAD_ENDS = ends_of(
-    "elfload", LOAD_USAGE, [], ["counter"], COUNTER_PLAN,
+    "elfload", LOAD_USAGE, [], ["counter"], COUNTER_ALONE,
     help=(["--help"], 0, LOAD_HELP.encode(), b""),
     two_files=(["counter", "library.so"], 0, PLANS, b""),
-    a_refused_file_between_others=(["counter", "zeros.elf", "library.so"], 1, PLANS, b"elfload: zeros.elf: Did not find ELF magic number\n"),
-    pages_of_16_kb=(["--page", "16384", "library.so"], 0, PAGES_PLAN, b""),
+    words_of_a_program_and_its_libraries=(WIDE_BOUND, 0, BOUND_PLANS + BOUND_WORDS, b""),
+    words_with_lazy_slots=(["--lazy", *WIDE_BOUND], 0, BOUND_PLANS + LAZY_WORDS, b""),
+    slots_of_files_that_ask_for_their_symbols_at_once=(["--lazy", "--page", "4096", "counter", "library.so"], 0, PLANS, b""),
+    a_refused_file_between_others=(
+        ["counter", "zeros.elf", "library.so"], 1, PLANS_ALONE, b"elfload: zeros.elf: Did not find ELF magic number\n"),
+    a_missing_second_file=failing("elfload", ["counter", "missing.so"], "cannot read missing.so"),
+    a_file_without_a_dynamic_segment=(
+        ["counter", "static.elf"], 0, COUNTER_PLAN + COUNTER_PLAN.replace(b"counter", b"static.elf"), b""),
+    files_of_both_classes=(
+        ["caller", "caller_32"], 1, BOUND_PLANS[: BOUND_PLANS.index(b"libfirst.so")] + NARROW_PLAN,
+        b"elfload: caller_32: Class is neither 1 nor 2\n"),
+    pages_of_16_kb=(["--page", "16384", "library.so"], 0, PAGES_PLAN + LIBRARY_WORDS, b""),
     pages_larger_than_a_file_is_linked_for=failing(
         "elfload", ["--page", "16384", "counter"], "counter: Address and offset of a load segment differ modulo the page size"),
     no_size_of_a_page=(["--page"], 1, f"usage: {LOAD_USAGE}\n".encode(), b""),
     no_file_after_a_size=(["--page", "4096"], 1, f"usage: {LOAD_USAGE}\n".encode(), b""),
+    no_file_after_a_word=(["--lazy"], 1, f"usage: {LOAD_USAGE}\n".encode(), b""),
     a_size_that_is_no_power_of_two=(["--page", "4097", "counter"], 1, f"usage: {LOAD_USAGE}\n".encode(), b""),
     a_size_that_is_zero=(["--page", "0", "counter"], 1, f"usage: {LOAD_USAGE}\n".encode(), b""),
     a_size_that_is_no_number=(["--page", "0x1000", "counter"], 1, f"usage: {LOAD_USAGE}\n".encode(), b""),
     a_machine_without_a_limit=failing("elfload", ["arm.elf"], "arm.elf: Limit of addresses is not known for this machine"),
-    a_file_for_aarch64=(["aarch64.elf"], 0, COUNTER_PLAN.replace(b"counter", b"aarch64.elf").replace(b"machine 62", b"machine 183"), b""),
+    # Its slot has a type that AArch64 does not have.
+    a_file_for_aarch64=(
+        ["aarch64.elf"], 1, COUNTER_PLAN.replace(b"counter", b"aarch64.elf").replace(b"machine 62", b"machine 183"),
+        b"elfload: aarch64.elf: Type of a relocation is not supported\n"),
+    a_word_in_pages_that_cannot_be_written=(
+        ["word.elf"], 1, COUNTER_PLAN.replace(b"counter", b"word.elf"), b"elfload: word.elf: Word is in a load segment that is not writable\n"),
     a_file_that_is_no_program=failing("elfload", ["type.elf"], "type.elf: Type is neither executable nor shared object"),
     a_long_path_of_an_interpreter=failing("elfload", ["interpreter.elf"], "interpreter.elf: Path of the interpreter is not valid"),
     zeros_that_cannot_be_written=failing("elfload", ["shut.elf"], "shut.elf: Load segment has zeros but is not readable and writable"))
