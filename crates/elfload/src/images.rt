@@ -1,5 +1,11 @@
 //! Whether the words of each file can be written to its memory.
 
+ghost use Rattle.std.specs.Prelude.{◌≡◌, ◌<◌, ◌↔◌, IsOk, MatchResult, length};
+ghost use Rattle.elf_linking.specs.DynamicObject.{object_dynamic_symbols};
+ghost use Rattle.elfload.specs.Images.{AreAllChecked, AreChecked, IsChecked, IsGood, IsImageGood};
+ghost use Rattle.elfload.specs.Images.{IsImageRefused, IsRefusedAt};
+ghost use Rattle.program_ends.specs.Stops.{IsStop};
+
 use crate::files::{Input, Refused, refusal_at};
 use crate::plans::limit_of;
 use elf_linking::scope::Scope;
@@ -21,60 +27,89 @@ pub(crate) fn check_images<'s, E: LinkedSymbol>(
 ) -> Result<(), Stop<Refused<'s>>>
     requires paged { 0 < page }
     requires same { length objects.now ≡ length inputs.now }
+    ensures { MatchResult result (λ _. AreAllChecked E.SIZE E.fields objects.now)
+        (IsStop (IsImageRefused E.SIZE E.fields page inputs.now objects.now) ⊥ ⊤) }
 {
     for index in 0..objects.len() {
-        if let Err(error) = check_symbols(&objects[index]) {
-            return Err(refusal_at(inputs, index, LoadError::Link(error)));
-        }
-        match check_words(alloc, page, objects, index) {
+        match check_object(alloc, page, inputs, objects, index) {
             Ok(()) => {}
-            Err(Some(error)) => return Err(refusal_at(inputs, index, error)),
-            Err(None) => return Err(Stop::Memory),
+            Err(stop) => return Err(stop),
         }
     }
     Ok(())
 }
 
+// Checks the symbols and the words of the object at an index.
+fn check_object<'s, E: LinkedSymbol>(
+    alloc: Global,
+    page: u64,
+    inputs: &'s [Input<'_>],
+    objects: &[DynamicObject<'_, E>],
+    index: usize,
+) -> Result<(), Stop<Refused<'s>>>
+    requires paged { 0 < page }
+    requires same { length objects.now ≡ length inputs.now }
+    requires below { index < length objects.now }
+    ensures { MatchResult result (λ _. IsChecked E.SIZE E.fields objects.now index)
+        (IsStop (IsRefusedAt E.SIZE E.fields page inputs.now objects.now index) ⊥ ⊤) }
+{
+    match check_symbols(&objects[index]) {
+        Ok(()) => check_words(alloc, page, inputs, objects, index),
+        Err(error) => Err(refusal_at(inputs, index, LoadError::Link(error))),
+    }
+}
+
 // Checks that look-ups in an object find what they must, and that its versions can be read.
-fn check_symbols<E: LinkedSymbol>(object: &DynamicObject<'_, E>) -> Result<(), LinkError> {
+fn check_symbols<E: LinkedSymbol>(object: &DynamicObject<'_, E>) -> Result<(), LinkError>
+    ensures accepts { IsOk result ↔ IsGood (object_dynamic_symbols E.fields object.now) }
+    ensures exact { AreChecked (object_dynamic_symbols E.fields object.now) result }
+{
     match object.check() {
         Ok(()) => object.check_versions(),
         Err(error) => Err(error),
     }
 }
 
-// Checks that the words of the object at an index can be written; there is no error without memory.
-fn check_words<E: LinkedSymbol>(
+// Checks that the words of the object at an index can be written.
+fn check_words<'s, E: LinkedSymbol>(
     alloc: Global,
     page: u64,
+    inputs: &'s [Input<'_>],
     objects: &[DynamicObject<'_, E>],
-    of: usize,
-) -> Result<(), Option<LoadError>>
+    index: usize,
+) -> Result<(), Stop<Refused<'s>>>
     requires paged { 0 < page }
-    requires below { of < length objects.now }
+    requires same { length objects.now ≡ length inputs.now }
+    requires below { index < length objects.now }
+    ensures { MatchResult result (λ _. IsImageGood E.SIZE E.fields objects.now index)
+        (IsStop (IsRefusedAt E.SIZE E.fields page inputs.now objects.now index) ⊥ ⊤) }
 {
-    let file = objects[of].file();
+    let file = objects[index].file();
     let Some(limit) = limit_of(&file.header) else {
-        return Err(Some(LoadError::Machine));
+        return Err(refusal_at(inputs, index, LoadError::Machine));
     };
     let span = match LoadPlan::check_load(&file, page, limit) {
         Ok(plan) => plan.span(),
-        Err(error) => return Err(Some(error)),
+        Err(error) => return Err(refusal_at(inputs, index, error)),
     };
     let Some(size) = marks_size(span) else {
-        return Err(None);
+        return Err(Stop::Memory);
     };
     let Ok(mut marks) = vec![in alloc; 0u8; size] else {
-        return Err(None);
+        return Err(Stop::Memory);
     };
-    match Scope::new(objects).check_image(of, &mut marks) {
+    match Scope::new(objects).check_image(index, &mut marks) {
         Ok(()) => Ok(()),
-        Err(error) => Err(Some(error)),
+        Err(error) => Err(refusal_at(inputs, index, error)),
     }
 }
 
 // The number of bytes that have a bit for each byte of a span; none for more than 4 GB.
 fn marks_size(span: Span) -> Option<usize> {
     let size = span.end.saturating_sub(span.start) / 8 + 1;
-    if size > MOST_MARKS { None } else { Some(size as usize) }
+    if size > MOST_MARKS {
+        None
+    } else {
+        Some(size as usize)
+    }
 }

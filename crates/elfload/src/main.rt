@@ -8,16 +8,26 @@
 //! is the size of a page, 4096 without it.
 #![tactic(auto)]
 
-ghost use Rattle.std.specs.Prelude.{◌≡◌, ◌<◌, ◌≤◌, IfErr, IfOk, IfSome, Result};
-ghost use Rattle.elfload.specs.Ends.{IsBegun, IsEnd, IsFault, OfFile, fault_of, status_of};
+ghost use Rattle.std.specs.Prelude.{◌≡◌, ◌<◌, ◌≤◌, ◌⊎◌, [], Err, IfErr, IfOk, IfSome, List, MatchResult, Ok};
+ghost use Rattle.std.specs.Prelude.{OnOk, Result, length, tt, ⊤};
+ghost use Rattle.std.specs.Borrow.{Bor};
+ghost use Rattle.std.specs.Io.Buffered.{writer_buffer, writer_inner};
+ghost use Rattle.elf_linking.specs.declared.object.DynamicObject.{DynamicObject};
+ghost use Rattle.elfload.specs.Ends.{AreRefused, IsBegun, IsEnd, IsFault, IsWordsEnd, fault_of};
+ghost use Rattle.elfload.specs.Ends.{status_of, words_fault_of};
+ghost use Rattle.elfload.specs.Files.{AreLoaded, AreObjectsOf, HasStatic, is_first_narrow};
+ghost use Rattle.elfload.specs.Images.{AreImagesGood, AreInputsChecked};
 ghost use Rattle.elfload.specs.Plans.{IsInputLoaded, IsInputPlan, IsInputRefused};
+ghost use Rattle.elfload.specs.Words.{AreWordsWritten, IsTextRefused};
 ghost use Rattle.elfload.specs.declared.Fault.{Fault};
 ghost use Rattle.program_ends.specs.Appended.{AppendsSome};
+ghost use Rattle.program_ends.specs.Stops.{IsStop};
 
 use crate::files::{Input, Refused, all_dynamic, is_first_narrow, read_objects};
 use crate::images::check_images;
 use crate::plans::{Plan, Refusal};
 use crate::words::write_words;
+use elf_base::bytes::Record;
 use elf_linking::DynamicObject;
 use elf_linking::view::LinkedSymbol;
 use elf_loading::Binding;
@@ -63,7 +73,7 @@ enum Fault<'a> {
 
 /// What is asked for.
 #[derive(Clone, Copy, Drop)]
-pub struct Asked {
+pub struct Options {
     /// The size of a page.
     pub page: u64,
     /// When jump slots get their symbols.
@@ -72,21 +82,32 @@ pub struct Asked {
 
 /// Writes the plan of each file to `out` and, if each has a dynamic segment, the words of each, or
 /// the reasons why it can't to `err`, and returns the exit status.
+///
+/// The status is 0 once all is written and flushed, and 1 otherwise. By the contract it is 0 only if
+/// Linux and glibc would load each file, and if, where each has a dynamic segment, the checks of the
+/// symbols and of the images of all files pass. The contracts of `run_plan` and `run_words` say which
+/// fault there can be otherwise. None says what `out` and `err` hold.
 pub fn run<W: Write, E: Write>(
     alloc: Global,
-    asked: Asked,
+    asked: Options,
     inputs: &[Input<'_>],
     out: &mut W,
     err: &mut E,
 ) -> u8
     requires { 0 < asked.page }
     ensures bound { result ≤ 1 }
+    ensures loaded { result ≡ 0 → AreLoaded asked.page inputs.now }
+    ensures checked { result ≡ 0 → HasStatic inputs.now
+        ⊎ AreImagesGood ⟦<DynEntry32 as Record>⟧ ⟦<DynEntry64 as Record>⟧ inputs.now }
 {
     let status = run_plans(alloc, asked.page, inputs, out, err);
-    if status == 0 && all_dynamic(inputs) {
-        return run_words(alloc, asked, inputs, out, err);
+    if status != 0 {
+        return status;
     }
-    status
+    if !all_dynamic(inputs) {
+        return 0;
+    }
+    run_words(alloc, asked, inputs, out, err)
 }
 
 // The plans of all files, and the status: 1 if that of one is.
@@ -99,6 +120,7 @@ fn run_plans<W: Write, E: Write>(
 ) -> u8
     requires { 0 < page }
     ensures bound { result ≤ 1 }
+    ensures loaded { result ≡ 0 → AreLoaded page inputs.now }
 {
     let mut status = 0;
     for input in inputs {
@@ -110,6 +132,12 @@ fn run_plans<W: Write, E: Write>(
 
 /// Writes the plan of a file to `out`, with pages of a size, or the reason why it can't to `err`,
 /// and returns the exit status.
+///
+/// The status is 0 once all is written and flushed, and 1 otherwise. By the contract it is 0 only for
+/// a file that Linux and glibc would load. The contract says which fault there can be otherwise: the
+/// reason why the file has no plan; a write that failed, if it has one; or that memory is short. It
+/// says nothing of what `out` and `err` hold.
+#[tactic(auto, using(crate::proofs::Loaded::ended_loaded))]
 pub fn run_plan<W: Write, E: Write>(
     alloc: Global,
     page: u64,
@@ -120,10 +148,30 @@ pub fn run_plan<W: Write, E: Write>(
 ) -> u8
     requires { 0 < page }
     ensures bound { result ≤ 1 }
+    ensures loaded { result ≡ 0 → IsInputLoaded page input.entry }
+    ensures ends { (end : Result (Unit {0}) Fault)
+        × IsEnd page path.entry input.entry end × (result ≡ status_of end) }
+{
+    match answer(alloc, page, path, input, out) {
+        Ok(()) => 0,
+        Err(fault) => say(&fault, err),
+    }
+}
+
+// Writes the plan of a file.
+fn answer<'a, W: Write>(
+    alloc: Global,
+    page: u64,
+    path: &'a str,
+    input: &[u8],
+    out: &mut W,
+) -> Result<(), Fault<'a>>
+    requires { 0 < page }
+    ensures { IsEnd page path.entry input.entry result }
 {
     match print_plan(alloc, page, path, input, &mut *out) {
-        Ok(_) => 0,
-        Err(fault) => say(&fault, err),
+        Ok(_) => Ok(()),
+        Err(fault) => Err(fault),
     }
 }
 
@@ -136,6 +184,10 @@ fn print_plan<'a, W: Write + Drop>(
     out: W,
 ) -> Result<W, Fault<'a>>
     requires { 0 < page }
+    ensures written { IfOk result (λ back. AppendsSome (IsInputPlan page path.entry input.entry)
+        (W.contents out) (W.contents back)) }
+    ensures fault { IfErr result (IsFault path.entry (IsInputRefused page input.entry)
+        (IsBegun page path.entry input.entry)) }
 {
     let plan = Plan { path, input, page };
     match write_buffered(alloc, &plan, out) {
@@ -157,15 +209,25 @@ fn fault_of(stop: Stop<Refusal>, path: &str) -> Fault<'_>
 
 /// Writes the words of each file to `out`, or the reason why it can't to `err`, and returns the exit
 /// status.
+///
+/// The status is 0 once all is written and flushed, and 1 otherwise. By the contract it is 0 only if
+/// the checks of the symbols and of the images of all files pass. The contract says which fault there
+/// can be otherwise: a file has an error, which file and which error; a write failed, if all checks
+/// pass; or memory is short. It says nothing of what `out` and `err` hold.
 pub fn run_words<W: Write, E: Write>(
     alloc: Global,
-    asked: Asked,
+    asked: Options,
     inputs: &[Input<'_>],
     out: &mut W,
     err: &mut E,
 ) -> u8
     requires { 0 < asked.page }
     ensures bound { result ≤ 1 }
+    ensures checked { result ≡ 0
+        → AreImagesGood ⟦<DynEntry32 as Record>⟧ ⟦<DynEntry64 as Record>⟧ inputs.now }
+    ensures ends { (end : Result (Unit {0}) Fault)
+        × IsWordsEnd ⟦<DynEntry32 as Record>⟧ ⟦<DynEntry64 as Record>⟧ asked inputs.now end
+        × (result ≡ status_of end) }
 {
     match print_words(alloc, asked, inputs, out) {
         Ok(()) => 0,
@@ -176,11 +238,12 @@ pub fn run_words<W: Write, E: Write>(
 // Writes the words of the files, by the class of the first.
 fn print_words<'a, W: Write>(
     alloc: Global,
-    asked: Asked,
+    asked: Options,
     inputs: &'a [Input<'_>],
     out: &mut W,
 ) -> Result<(), Fault<'a>>
     requires { 0 < asked.page }
+    ensures { IsWordsEnd ⟦<DynEntry32 as Record>⟧ ⟦<DynEntry64 as Record>⟧ asked inputs.now result }
 {
     if is_first_narrow(inputs) {
         ended(print::<DynEntry32, _>(alloc, asked, inputs, &mut *out))
@@ -191,7 +254,10 @@ fn print_words<'a, W: Write>(
 }
 
 // What the program says, by how the output ended.
-fn ended<W: Drop>(written: Result<W, Stop<Refused<'_>>>) -> Result<(), Fault<'_>> {
+fn ended<W: Drop>(written: Result<W, Stop<Refused<'_>>>) -> Result<(), Fault<'_>>
+    ensures { MatchResult written.entry (λ _. result ≡ Ok tt)
+        (λ stop. result ≡ Err (words_fault_of stop)) }
+{
     match written {
         Ok(_) => Ok(()),
         Err(stop) => Err(words_fault_of(stop)),
@@ -199,7 +265,9 @@ fn ended<W: Drop>(written: Result<W, Stop<Refused<'_>>>) -> Result<(), Fault<'_>
 }
 
 // What the program says where the words aren't written to their end.
-fn words_fault_of(stop: Stop<Refused<'_>>) -> Fault<'_> {
+fn words_fault_of(stop: Stop<Refused<'_>>) -> Fault<'_>
+    ensures { result ≡ words_fault_of stop.entry }
+{
     match stop {
         Stop::Refused(refused) => Fault::Refused {
             path: refused.path,
@@ -213,11 +281,20 @@ fn words_fault_of(stop: Stop<Refused<'_>>) -> Fault<'_> {
 // Writes the words of files of a class, and gives the writer back.
 fn print<'a, E: LinkedSymbol, W: Write + Drop>(
     alloc: Global,
-    asked: Asked,
+    asked: Options,
     inputs: &'a [Input<'_>],
     out: W,
 ) -> Result<W, Stop<Refused<'a>>>
     requires { 0 < asked.page }
+    ensures checked { OnOk result
+        (AreInputsChecked {E = E} E.Record E.fields E.CLASS E.SIZE inputs.now) }
+    ensures written { IfOk result (λ back. (objects : Bor (List (DynamicObject E E.Record)))
+        × AreObjectsOf E.CLASS E.SIZE inputs.now objects.now
+        × AppendsSome (AreWordsWritten E.fields asked.when inputs.now objects)
+        (W.contents out) (W.contents back)) }
+    ensures stopped { IfErr result
+        (IsStop (AreRefused {E = E} E.Record E.fields E.CLASS E.SIZE asked inputs.now)
+        (AreInputsChecked {E = E} E.Record E.fields E.CLASS E.SIZE inputs.now) ⊤) }
 {
     let objects = match read_objects::<E>(alloc, inputs) {
         Ok(objects) => objects,
@@ -238,6 +315,9 @@ fn print_objects<'a, E: LinkedSymbol, W: Write + Drop>(
     out: W,
 ) -> Result<W, Stop<Refused<'a>>>
     requires same { length objects.now ≡ length inputs.now }
+    ensures { MatchResult result (λ back. AppendsSome
+        (AreWordsWritten E.fields when inputs.now objects) (W.contents out) (W.contents back))
+        (IsStop (IsTextRefused E.fields when inputs.now objects) ⊤ ⊤) }
 {
     let mut buffered = match BufWriter::new(alloc, out) {
         Ok(buffered) => buffered,
@@ -260,6 +340,11 @@ fn write_flushed<'s, E: LinkedSymbol, W: Write + Drop>(
     buffered: &mut BufWriter<W>,
 ) -> Result<(), Stop<Refused<'s>>>
     requires same { length objects.now ≡ length inputs.now }
+    requires empty { writer_buffer buffered.old ≡ [] }
+    ensures { MatchResult result (λ _. AppendsSome
+        (AreWordsWritten E.fields when inputs.now objects)
+        (W.contents (writer_inner buffered.old)) (W.contents (writer_inner buffered.new)))
+        (IsStop (IsTextRefused E.fields when inputs.now objects) ⊤ ⊥) }
 {
     match write_words(when, inputs, objects, buffered) {
         Ok(()) => {}
@@ -317,7 +402,7 @@ fn read_inputs<'a, S: AsStr>(
 }
 
 // What the arguments ask for, and the files, if they are as they should be.
-fn asked<S: AsStr>(arguments: &[S]) -> Option<(Asked, &[S])>
+fn asked<S: AsStr>(arguments: &[S]) -> Option<(Options, &[S])>
     ensures { IfSome result (λ asked. 0 < asked.0.page) }
 {
     let (first, others) = arguments.split_first()?;
@@ -327,7 +412,7 @@ fn asked<S: AsStr>(arguments: &[S]) -> Option<(Asked, &[S])>
         (Binding::Now, arguments)
     };
     let (page, paths) = page_of(rest)?;
-    Some((Asked { page, when }, paths))
+    Some((Options { page, when }, paths))
 }
 
 // The size of a page and the files that the arguments ask for, if they are as they should be.

@@ -1,11 +1,21 @@
 //! The words that relocations write, free of bases.
 
+ghost use Rattle.std.specs.Prelude.{◌≡◌, ◌<◌, IsOk, IsOkAnd, IsSomeAnd, MatchResult, Some, length, slice_get, ⊤};
+ghost use Rattle.elf_linking.specs.References.{file_machine};
+ghost use Rattle.elf_loading.specs.WordsLeft.{words_left};
+ghost use Rattle.elfload.specs.Words.{AreWordsWritten, IsItemsText, IsObjectText, IsTextError};
+ghost use Rattle.elfload.specs.Words.{IsTextRefused, IsWordError, item_text, line_text, name_text};
+ghost use Rattle.elfload.specs.Words.{path_text, prefix_of, start_text, value_text, without};
+ghost use Rattle.elfload.specs.Files.{IsOfInput};
+ghost use Rattle.program_ends.specs.Appended.{AppendsSome};
+ghost use Rattle.program_ends.specs.Stops.{IsStop};
+
 use crate::files::{Input, Refused, refusal, refusal_at};
 use elf_linking::DynamicObject;
 use elf_linking::references::relocation_name;
 use elf_linking::scope::Scope;
 use elf_linking::view::LinkedSymbol;
-use elf_loading::{Binding, LoadError, LoadScope, Origin, Relocated, Value, Word};
+use elf_loading::{Binding, LoadError, LoadScope, Origin, Relocated, Value, Word, Words};
 use program_ends::Stop;
 use std::fmt;
 use std::fmt::Display;
@@ -19,6 +29,10 @@ pub(crate) fn write_words<'s, E: LinkedSymbol, W: Write>(
     out: &mut W,
 ) -> Result<(), Stop<Refused<'s>>>
     requires same { length objects.now ≡ length inputs.now }
+    ensures { MatchResult result
+        (λ _. AppendsSome (AreWordsWritten E.fields when inputs.now objects)
+        (W.contents out.old) (W.contents out.new))
+        (IsStop (IsTextRefused E.fields when inputs.now objects) ⊤ ⊥) }
 {
     for of in 0..objects.len() {
         match write_object(when, inputs, objects, of, out) {
@@ -39,14 +53,36 @@ fn write_object<'s, E: LinkedSymbol, W: Write>(
 ) -> Result<(), Stop<Refused<'s>>>
     requires same { length objects.now ≡ length inputs.now }
     requires below { of < length objects.now }
+    ensures { MatchResult result
+        (λ _. IsSomeAnd (slice_get objects.now of) (λ object.
+        AppendsSome (IsObjectText E.fields when inputs.now objects of object)
+        (W.contents out.old) (W.contents out.new)))
+        (IsStop (λ refused. IsOfInput inputs.now of refused
+        × IsTextError E.fields when objects of refused.error) ⊤ ⊥) }
 {
     let path = inputs[of].path;
-    writeln!(out, "words {}", path)?;
+    write!(out, "{}", Heading(path))?;
     let machine = objects[of].file().header.pt2.machine().raw();
-    let words = match Scope::new(objects).words(of, when) {
-        Ok(words) => words,
-        Err(error) => return Err(refusal_at(inputs, of, LoadError::Link(error))),
-    };
+    match Scope::new(objects).words(of, when) {
+        Ok(words) => write_items(path, machine, of, words, out),
+        Err(error) => Err(refusal_at(inputs, of, LoadError::Link(error))),
+    }
+}
+
+// The lines of the relocations that are left.
+fn write_items<'s, E: LinkedSymbol, W: Write>(
+    path: &'s str,
+    machine: u16,
+    of: usize,
+    words: Words<'_, '_, E>,
+    out: &mut W,
+) -> Result<(), Stop<Refused<'s>>>
+    ensures { MatchResult result
+        (λ _. AppendsSome (IsItemsText E.fields machine of words.entry)
+        (W.contents out.old) (W.contents out.new))
+        (IsStop (λ refused. (refused.path ≡ path.entry)
+        × IsWordError E.fields words.entry refused.error) ⊤ ⊥) }
+{
     for item in words {
         match write_item(path, machine, of, &item, out) {
             Ok(()) => {}
@@ -63,25 +99,41 @@ fn write_item<'s, E: LinkedSymbol, W: Write>(
     of: usize,
     item: &Relocated<E>,
     out: &mut W,
-) -> Result<(), Stop<Refused<'s>>> {
+) -> Result<(), Stop<Refused<'s>>>
+    ensures { MatchResult result
+        (λ _. IsOk item.now.word × AppendsSome (λ text. text ≡ item_text machine of item.now)
+        (W.contents out.old) (W.contents out.new))
+        (IsStop (λ refused. (refused.path ≡ path.entry) × (item.now.word ≡ Err refused.error)) ⊤ ⊥) }
+{
     let word = match item.word {
         Ok(word) => word,
         Err(error) => return Err(refusal(path, error)),
     };
-    if matches!(word.value, Value::Unchanged) {
-        return Ok(());
-    }
     let kind = item.relocation.reference.kind;
-    write!(
-        out,
-        "{}",
-        Line {
-            word,
-            name: Name(machine, kind),
-            of
+    match word.value {
+        Value::Unchanged => Ok(()),
+        _ => {
+            let line = Line {
+                word,
+                name: Name(machine, kind),
+                of,
+            };
+            write!(out, "{}", line)?;
+            Ok(())
         }
-    )?;
-    Ok(())
+    }
+}
+
+// The line before the words of a file.
+#[derive(Clone, Copy)]
+struct Heading<'a>(&'a str);
+
+impl Display for Heading<'_> {
+    ghost output = { λ heading. Some (path_text heading.0.now) };
+
+    fn fmt<W: fmt::Write>(&self, f: &mut fmt::Formatter<W>) -> fmt::Result {
+        writeln!(f, "words {}", self.0)
+    }
 }
 
 // The line of a word.
@@ -93,6 +145,8 @@ struct Line {
 }
 
 impl Display for Line {
+    ghost output = { λ line. Some (line_text line.name.0 line.name.1 line.of line.word) };
+
     fn fmt<W: fmt::Write>(&self, f: &mut fmt::Formatter<W>) -> fmt::Result {
         writeln!(
             f,
@@ -100,45 +154,61 @@ impl Display for Line {
             self.word.address,
             self.word.width,
             self.name,
-            Written(self.word.value, self.of)
+            Written(self.of, self.word.value)
         )
     }
 }
 
-// The name of a relocation type of a machine, without the machine; or its number.
+// The name of a relocation type of a machine, without what all of them begin with; or its number.
 #[derive(Clone, Copy)]
 struct Name(u16, u32);
 
 impl Display for Name {
+    ghost output = { λ name. Some (name_text name.0 name.1) };
+
     fn fmt<W: fmt::Write>(&self, f: &mut fmt::Formatter<W>) -> fmt::Result {
         match relocation_name(self.0, self.1) {
-            Some(name) => write!(f, "{}", without_machine(self.0, name)),
+            Some(name) => write!(f, "{}", without(prefix_of(self.0), name)),
             None => write!(f, "{}", self.1),
         }
     }
 }
 
-// A name of a relocation type without the prefix of its machine.
-fn without_machine(machine: u16, name: &'static str) -> &'static str {
-    let prefix = match machine {
+// What the names of relocation types of a machine begin with.
+fn prefix_of(machine: u16) -> &'static str
+    ensures { result.now ≡ prefix_of machine }
+{
+    match machine {
         3 => "R_386_",
         62 => "R_X86_64_",
         _ => "R_AARCH64_",
-    };
-    name.strip_prefix(prefix).unwrap_or(name)
+    }
+}
+
+// A text without what it begins with.
+fn without(prefix: &'static str, text: &'static str) -> &'static str
+    ensures { result.now ≡ without prefix.now text.now }
+{
+    match text.strip_prefix(prefix) {
+        Some(rest) => rest,
+        None => text,
+    }
 }
 
 // What is written to a word of the object at an index.
 #[derive(Clone, Copy)]
-struct Written(Value, usize);
+struct Written(usize, Value);
 
 impl Display for Written {
+    ghost output = { λ written. Some (value_text written.0 written.1) };
+
     fn fmt<W: fmt::Write>(&self, f: &mut fmt::Formatter<W>) -> fmt::Result {
-        match self.0 {
+        let of = self.0;
+        match self.1 {
             Value::Unchanged => Ok(()),
             Value::Sum { origin, offset } => write!(f, "{}0x{:x}", Start(origin), offset),
             Value::Distance { origin, offset } => {
-                write!(f, "{}0x{:x} - base({})", Start(origin), offset, self.1)
+                write!(f, "{}0x{:x} - base({})", Start(origin), offset, of)
             }
             Value::Module(object) => write!(f, "module({})", object),
             Value::Thread { object, offset } => write!(f, "thread({}) + 0x{:x}", object, offset),
@@ -167,6 +237,8 @@ impl Display for Written {
 struct Start(Origin);
 
 impl Display for Start {
+    ghost output = { λ start. Some (start_text start.0) };
+
     fn fmt<W: fmt::Write>(&self, f: &mut fmt::Formatter<W>) -> fmt::Result {
         match self.0 {
             Origin::Zero => Ok(()),
