@@ -138,7 +138,7 @@ pub data IsOwnCheck {E : Type 0} {r : _} (size : ℕ) (fields : E → SymbolFiel
   by_words : (relocations : List Relocation) (items : List (Relocated E)) → checked_relocations size own bits ≡ Ok relocations
       → AreFirstItems fields objects of own false relocations result items
       → result ≡ and_then (check_words (loads_of (object_file own)) (asks_for_text (view_entries (object_view own)))
-        (tables_of size own) [] (words_in items)) (λ words. Ok tt)
+      (tables_of size own) [] (words_in items)) (λ words. Ok tt)
       → IsOwnCheck size fields objects of own bits result
 
 -- the result of the check of the object at an index

@@ -37,7 +37,7 @@ use Rattle.xmas_elf.specs.Types.{ElfFile}
 
 -- the place of an object; zeros if there is none
 abbrev pub place_at : List Place → ℕ → Place
-place_at places object = unwrap_or (slice_get places object) (record { base = 0; module = 0; thread = 0 })
+place_at places object = unwrap_or (slice_get places object) (record { base = 0; «module» = 0; thread = 0 })
 
 -- an origin plus a number; none for what a function returns
 abbrev pub origin_sum : List Place → Origin → ℕ → Option ℕ
@@ -55,7 +55,7 @@ abbrev pub value_number : List Place → ℕ → Value → Option ℕ
 value_number places own (Sum origin offset) = origin_sum places origin offset
 value_number places own (Distance origin offset) =
     option_map (less (place_at places own).base) (origin_sum places origin offset)
-value_number places own (Module object) = Some (place_at places object).module
+value_number places own (Module object) = Some (place_at places object).«module»
 value_number places own (Thread object offset) = Some ((place_at places object).thread + offset)
 value_number places own (ThreadNegated object offset) = Some (less (place_at places object).thread offset)
 value_number places own _ = None

@@ -211,10 +211,19 @@ impl LoadError {
             LoadError::NoEntry => (320, "No string table or no symbols"),
             LoadError::RelocationSize => (321, "Size of relocations is not that of the class"),
             LoadError::NotMultiple => (322, "Table of relocations is not a whole number of them"),
-            LoadError::Unreadable => (323, "Table of the dynamic segment is in no readable load segment"),
-            LoadError::SlotKind => (324, "Kind of relocations of the procedure linkage table is neither Rel nor Rela"),
+            LoadError::Unreadable => (
+                323,
+                "Table of the dynamic segment is in no readable load segment",
+            ),
+            LoadError::SlotKind => (
+                324,
+                "Kind of relocations of the procedure linkage table is neither Rel nor Rela",
+            ),
             LoadError::Machine => (325, "Machine is not supported"),
-            LoadError::FewMarks => (326, "Marks have fewer bits than the load segments have bytes"),
+            LoadError::FewMarks => (
+                326,
+                "Marks have fewer bits than the load segments have bytes",
+            ),
             LoadError::WordType => (327, "Type of a relocation is not supported"),
             LoadError::WordAddress => (328, "Word is in no load segment"),
             LoadError::ReadOnly => (329, "Word is in a load segment that is not writable"),

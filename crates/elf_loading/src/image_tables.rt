@@ -16,12 +16,12 @@ use crate::LoadError;
 use crate::in_order::{is_kind, record_size};
 use crate::segments::fields;
 use crate::words::flag_in;
+use elf_linking::references::types::{EM_386, EM_AARCH64, EM_X86_64};
 use elf_linking::view::{
     DT_FLAGS, DT_GNU_HASH, DT_HASH, DT_JMPREL, DT_PLTREL, DT_PLTRELSZ, DT_REL, DT_RELA, DT_RELAENT,
     DT_RELASZ, DT_RELENT, DT_RELR, DT_RELRENT, DT_RELRSZ, DT_RELSZ, DT_STRSZ, DT_STRTAB, DT_SYMTAB,
-    DT_TEXTREL, DT_VERSYM, DynamicView, LinkedSymbol, segment_at,
+    DT_TEXTREL, DT_VERSYM, DynamicView, LinkedSymbol, dynamic_segment, segment_at,
 };
-use elf_linking::references::types::{EM_386, EM_AARCH64, EM_X86_64};
 use elf_linking::{AnyTable, DynamicObject};
 use xmas_elf::ElfFile;
 use xmas_elf::program::{FLAG_R, FLAG_W, ProgramHeader, ProgramHeader64, Type};
@@ -185,7 +185,11 @@ fn address_size(file: &ElfFile<'_>) -> u64
     ensures exact { result ≡ address_size file.now }
     ensures above { 0 < result }
 {
-    if file.header.pt1.class.raw() == 1 { 4 } else { 8 }
+    if file.header.pt1.class.raw() == 1 {
+        4
+    } else {
+        8
+    }
 }
 
 // The size of a hash table in bytes, for a file with this many symbols.
@@ -257,7 +261,12 @@ pub(crate) fn tables_of<E: LinkedSymbol>(object: &DynamicObject<'_, E>) -> [Exte
 // Whether all relocations can be read.
 fn check_all_relocations(file: &ElfFile<'_>, view: &DynamicView<'_>) -> Result<(), LoadError> {
     let rela = table_by(view, DT_RELA, DT_RELASZ);
-    check_relocations(file, record_size(file, DT_RELA), view.entry(DT_RELAENT), &rela)?;
+    check_relocations(
+        file,
+        record_size(file, DT_RELA),
+        view.entry(DT_RELAENT),
+        &rela,
+    )?;
     let rel = table_by(view, DT_REL, DT_RELSZ);
     check_relocations(file, record_size(file, DT_REL), view.entry(DT_RELENT), &rel)?;
     let packed = table_by(view, DT_RELR, DT_RELRSZ);

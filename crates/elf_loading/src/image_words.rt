@@ -14,6 +14,7 @@ use xmas_elf::ElfFile;
 use xmas_elf::program::{ProgramHeader64, ProgramTable};
 
 // What the check of a word asks of its object.
+#[derive(Drop)]
 struct Room<'b, 'a> {
     // The program headers.
     table: ProgramTable<'b, 'a>,

@@ -3,7 +3,7 @@
 ghost use Rattle.std.specs.Prelude.{◌≡◌, ◌<◌, ◌≤◌, ◌+◌, ◌*◌, ◌^◌, length};
 
 use crate::LoadError;
-use crate::pages::{down, end_up};
+use crate::pages::down;
 use crate::segments::loads_of;
 use crate::value::{Origin, Value};
 use crate::words::{Binding, Relocated, Word, Words, binds_lazily, needs_symbol};
@@ -26,6 +26,7 @@ pub struct Place {
 }
 
 // Where and what a word takes from.
+#[derive(Drop)]
 struct Sources<'b, 's, 'a, E: elf_base::bytes::Record> {
     scope: Scope<'s, 'a, E>,
     page: u64,
@@ -125,6 +126,20 @@ fn first_start(page: u64, table: ProgramTable<'_, '_>) -> u64
     }
 }
 
+// The first address from `start + size` on at which a page begins.
+fn end_up(page: u64, start: u64, size: u64) -> u128
+    requires { 0 < page }
+    ensures { result ≡ up page (start + size) }
+{
+    let end = u128::from(start) + u128::from(size);
+    let inside = end % u128::from(page);
+    if inside == 0 {
+        end
+    } else {
+        end - inside + u128::from(page)
+    }
+}
+
 // Whether an image is not of the size of the span of a file.
 fn is_no_span(page: u64, table: ProgramTable<'_, '_>, len: usize) -> bool
     requires { 0 < page }
@@ -176,7 +191,13 @@ impl<'b, 's, 'a, E: LinkedSymbol> Sources<'b, 's, 'a, E> {
     }
 
     // Writes a value of `width` bytes to the places from an index on.
-    fn write_value(&self, image: &mut [u8], start: usize, width: usize, value: &Value) -> Result<(), LoadError> {
+    fn write_value(
+        &self,
+        image: &mut [u8],
+        start: usize,
+        width: usize,
+        value: &Value,
+    ) -> Result<(), LoadError> {
         if let Value::Copy {
             object,
             offset,
@@ -212,7 +233,14 @@ impl<'b, 's, 'a, E: LinkedSymbol> Sources<'b, 's, 'a, E> {
     }
 
     // Writes the word of a relocation, and returns whether it has no number.
-    fn write_item(&self, own: &DynamicObject<'a, E>, lazy: bool, start: u64, image: &mut [u8], item: &Relocated<E>) -> Result<bool, LoadError> {
+    fn write_item(
+        &self,
+        own: &DynamicObject<'a, E>,
+        lazy: bool,
+        start: u64,
+        image: &mut [u8],
+        item: &Relocated<E>,
+    ) -> Result<bool, LoadError> {
         let word = item.word?;
         if is_unresolved(own, lazy, item) {
             return Err(LoadError::Unresolved);
@@ -222,7 +250,13 @@ impl<'b, 's, 'a, E: LinkedSymbol> Sources<'b, 's, 'a, E> {
     }
 
     // Writes words, and returns how many have no number.
-    fn write_words(&self, own: &DynamicObject<'a, E>, lazy: bool, words: Words<'s, 'a, E>, image: &mut [u8]) -> Result<u64, LoadError> {
+    fn write_words(
+        &self,
+        own: &DynamicObject<'a, E>,
+        lazy: bool,
+        words: Words<'s, 'a, E>,
+        image: &mut [u8],
+    ) -> Result<u64, LoadError> {
         let start = self.start_at(self.of);
         let mut count = 0u64;
         for item in words {
@@ -234,7 +268,11 @@ impl<'b, 's, 'a, E: LinkedSymbol> Sources<'b, 's, 'a, E> {
 }
 
 // Whether a relocation needs a symbol that no object has, and that is not weak.
-fn is_unresolved<E: LinkedSymbol>(own: &DynamicObject<'_, E>, lazy: bool, item: &Relocated<E>) -> bool
+fn is_unresolved<E: LinkedSymbol>(
+    own: &DynamicObject<'_, E>,
+    lazy: bool,
+    item: &Relocated<E>,
+) -> bool
     ensures { result ≡ is_unresolved E.fields own.now lazy item.now }
 {
     let machine = own.file().header.pt2.machine().raw();
