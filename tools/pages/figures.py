@@ -24,7 +24,7 @@ PAGES = ("README.md", "CONTRIBUTING.md", "CALLING.md", "docs", "bindings", "benc
 # The crate of the program that a comparison runs, by the name of its script.
 PROGRAMS = {"readelf": "elfinfo", "recipes": "elftools", "tools": "elftools", "elfsym": "elfsym", "bindings": "elfbind", "rust": "elfanswers",
     "fuzz": "elfanswers", "sections": "elf_c", "dump": "elf_c", "dlsym": "elf_c", "fuzz_bindings": "elfbind", "addresses": "elfaddr",
-    "sizes": "elfsize", "loads": "elfload"}
+    "sizes": "elfsize", "loads": "elfload", "memory": "elfload"}
 
 
 def of(crate: str, *others: str) -> tuple:

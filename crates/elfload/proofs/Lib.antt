@@ -2,3 +2,7 @@ mod Inputs
 mod MappingLines
 mod Written
 mod Loaded
+pub mod Objects
+pub mod Stops
+pub mod Steps
+pub mod WordLines
