@@ -1,5 +1,5 @@
 -- Each error of this crate is the first with its number, and those of elf_linking have lower ones.
-use Rattle.std.proofs.Common.{◌≡◌, ◌==◌, ◌∙◌, ℕ, List, [], ◌∷◌, Some, absurd, false, true, nat_lt, refl, subst, sym}
+use Rattle.std.proofs.Common.{◌≡◌, ◌==◌, ◌∙◌, ℕ, List, [], ◌∷◌, Some, false, true, nat_lt, refl, subst, sym}
 use Rattle.std.proofs.lemmas.Bool.{false≢true}
 use Rattle.elf_base.specs.Message.{row_of}
 use Rattle.elf_base.specs.declared.error.ElfError.{ElfError}

@@ -162,6 +162,9 @@ impl LoadError {
         ensures only { (error : LoadError) → load_number error ≡ number → 300 < number
             → result ≡ Some error }
     {
+        if number <= 300 {
+            return None;
+        }
         ERRORS
             .iter()
             .find(|error| error.number() == number)

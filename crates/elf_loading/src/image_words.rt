@@ -156,7 +156,7 @@ pub(crate) fn check_image<E: LinkedSymbol>(
     of: usize,
     marks: &mut [u8],
 ) -> Result<(), LoadError>
-    ensures exact { IsImageCheck E.SIZE E.fields (scope_objects scope).now of
+    ensures exact { IsImageCheck E.SIZE E.fields (scope_objects scope.entry).now of
         (8 * length marks.old) result }
 {
     let Some(own) = scope.objects().get(of) else {

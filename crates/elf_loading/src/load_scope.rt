@@ -16,9 +16,12 @@ use elf_linking::view::LinkedSymbol;
 
 /// What relocations write to the memory of the objects of a scope: the program, then its libraries
 /// in the order in which they are loaded.
-pub trait LoadScope<'s, 'a, E: LinkedSymbol> {
+pub trait LoadScope {
+    /// An iterator over the relocations of an object with the words that they write.
+    type Words;
+
     /// The words that the relocations of the object at index `of` write.
-    fn words(&self, of: usize, when: Binding) -> Result<Words<'s, 'a, E>, LinkError>;
+    fn words(&self, of: usize, when: Binding) -> Result<Self::Words, LinkError>;
 
     /// Checks that the words of the object at index `of` can be written.
     fn check_image(&self, of: usize, marks: &mut [u8]) -> Result<(), LoadError>;
@@ -36,7 +39,9 @@ pub trait LoadScope<'s, 'a, E: LinkedSymbol> {
         requires { 0 < page };
 }
 
-impl<'s, 'a, E: LinkedSymbol> LoadScope<'s, 'a, E> for Scope<'s, 'a, E> {
+impl<'s, 'a, E: LinkedSymbol> LoadScope for Scope<'s, 'a, E> {
+    type Words = Words<'s, 'a, E>;
+
     /// The words that the relocations of the object at index `of` write.
     ///
     /// Errors: `ObjectIndex` if there is no object at `of`; those of `DynamicView::relr`; those of

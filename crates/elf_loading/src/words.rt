@@ -258,10 +258,10 @@ fn word_of<E: LinkedSymbol>(
 impl<'s, 'a, E: LinkedSymbol> Words<'s, 'a, E> {
     // The words of the object at index `of` of a scope.
     pub(crate) fn new(scope: Scope<'s, 'a, E>, of: usize, when: Binding) -> Result<Self, LinkError>
-        ensures exact { let answer = words_of (slice_get (scope_objects scope).now of) in
+        ensures exact { let answer = words_of (slice_get (scope_objects scope.entry).now of) in
             MatchResult result (λ words. answer ≡ Ok (words_left words))
             (λ error. answer ≡ Err error) }
-        ensures begun { IfOk result (AreWordsOf (scope_objects scope) of when) }
+        ensures begun { IfOk result (AreWordsOf (scope_objects scope.entry) of when) }
     {
         let Some(own) = scope.objects().get(of) else {
             return Err(LinkError::ObjectIndex);
