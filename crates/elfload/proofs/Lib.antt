@@ -6,3 +6,6 @@ pub mod Objects
 pub mod Stops
 pub mod Steps
 pub mod WordLines
+pub mod ObjectWords
+pub mod Checks
+pub mod WordsEnds

@@ -58,11 +58,11 @@ module _ {E : Type 0} {r : _} (fields : E → SymbolFields) where
       pub same : IsSame words now
       pub written : AppendsSome (IsTextSoFar (words_left now)) old new
 
-    pub lines_begin : (old : Option (List ℕ)) → AreLinesSoFar words old old
-    lines_begin old = record {
+    pub lines_begin : (now : Words E r) (old : Option (List ℕ)) → now ≡ words → AreLinesSoFar now old old
+    lines_begin now old same = subst (λ w. AreLinesSoFar w old old) (sym same) (record {
       same = (refl, refl, refl, refl, refl);
       written = ([], record { items = []; are = refl; have_words = tt; known = tt; text_is = refl }, Appends-nil old);
-    }
+    })
 
     module _ (now next : Words E r) (item : Relocated E) (old before : Option (List ℕ)) (so_far : AreLinesSoFar now old before) (first : words_left now ≡ relocation_of item ∷ words_left next) (is : IsItemOf fields now item) where
       pub lines_more : (after : Option (List ℕ)) → IsSame now next → IsOk item.word → AppendsSome (λ text. text ≡ item_text machine of item) before after → AreLinesSoFar next old after

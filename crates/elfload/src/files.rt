@@ -2,7 +2,6 @@
 
 ghost use Rattle.std.specs.Prelude.{◌≡◌, ◌<◌, IfErr, IfOk, IsFalse, MatchResult, length, ⊤};
 ghost use Rattle.elf_base.specs.FileHeader.{header_of};
-ghost use Rattle.elf_loading.specs.declared.error.LoadError.TheVariants.{Link};
 ghost use Rattle.elfload.specs.Files.{AreObjectsOf, AreStatic, HasStatic, IsInputRefused};
 ghost use Rattle.elfload.specs.Files.{IsObjectOfBytes, IsOfInput, IsRefusedAsObject};
 ghost use Rattle.elfload.specs.Files.{is_first_narrow, is_narrow_header};

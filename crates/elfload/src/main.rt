@@ -214,6 +214,7 @@ fn fault_of(stop: Stop<Refusal>, path: &str) -> Fault<'_>
 /// the checks of the symbols and of the images of all files pass. The contract says which fault there
 /// can be otherwise: a file has an error, which file and which error; a write failed, if all checks
 /// pass; or memory is short. It says nothing of what `out` and `err` hold.
+#[tactic(auto, using(crate::proofs::WordsEnds::ended_good))]
 pub fn run_words<W: Write, E: Write>(
     alloc: Global,
     asked: Options,

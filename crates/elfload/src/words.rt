@@ -1,8 +1,7 @@
 //! The words that relocations write, free of bases.
 
-ghost use Rattle.std.specs.Prelude.{◌≡◌, ◌<◌, IsOk, IsOkAnd, IsSomeAnd, MatchResult, Some, length, slice_get, ⊤};
-ghost use Rattle.elf_linking.specs.References.{file_machine};
-ghost use Rattle.elf_loading.specs.WordsLeft.{words_left};
+ghost use Rattle.std.specs.Prelude.{◌≡◌, ◌<◌, Err, IsOk, IsSomeAnd, MatchResult, Some, length, slice_get};
+ghost use Rattle.std.specs.Prelude.{⊤};
 ghost use Rattle.elfload.specs.Words.{AreWordsWritten, IsItemsText, IsObjectText, IsTextError};
 ghost use Rattle.elfload.specs.Words.{IsTextRefused, IsWordError, item_text, line_text, name_text};
 ghost use Rattle.elfload.specs.Words.{path_text, prefix_of, start_text, value_text, without};
