@@ -44,24 +44,44 @@ PLT_GOT, DEBUG = 3, 21
 WRITABLE = 2
 
 
+class Shape(NamedTuple):
+    """How a class is laid out: the format and the size of an address, the places of e_phoff and e_phnum, and the format of a
+    program header with the indices of its fields in `Segment`."""
+
+    word: str
+    size: int
+    table: int
+    count: int
+    header: str
+    fields: Tuple[int, ...]
+
+
+WIDE = Shape("Q", 8, 32, 56, "<IIQQQQQQ", (0, 1, 2, 3, 5, 6, 7))
+NARROW = Shape("I", 4, 28, 44, "<IIIIIIII", (0, 6, 1, 2, 4, 5, 7))
+
+
 class Segment(NamedTuple):
-    """A program header of class 64."""
+    """A program header."""
 
     kind: int
     flags: int
     offset: int
     address: int
-    physical: int
     file_size: int
     size: int
     align: int
 
 
+def shape_of(path: str) -> Shape:
+    return NARROW if content_of(path)[4] == 1 else WIDE
+
+
 @functools.lru_cache(maxsize=None)
 def segments_of(path: str) -> Tuple[Segment, ...]:
-    content = content_of(path)
-    start, count = struct.unpack_from("<Q", content, 32)[0], struct.unpack_from("<H", content, 56)[0]
-    return tuple(Segment(*struct.unpack_from("<IIQQQQQQ", content, start + 56 * it)) for it in range(count))
+    content, shape = content_of(path), shape_of(path)
+    (start,), (count,) = struct.unpack_from("<" + shape.word, content, shape.table), struct.unpack_from("<H", content, shape.count)
+    rows = (struct.unpack_from(shape.header, content, start + struct.calcsize(shape.header) * it) for it in range(count))
+    return tuple(Segment(*(row[it] for it in shape.fields)) for row in rows)
 
 
 def last_of(path: str, kind: int) -> Optional[Segment]:
@@ -72,7 +92,7 @@ def last_of(path: str, kind: int) -> Optional[Segment]:
 def entries_of(path: str) -> Tuple[Tuple[int, int], ...]:
     """The tags and values of the dynamic segment."""
     segment = last_of(path, DYNAMIC)
-    return tuple(struct.iter_unpack("<QQ", content_of(path)[segment.offset :][: segment.file_size])) if segment else ()
+    return tuple(struct.iter_unpack("<" + 2 * shape_of(path).word, content_of(path)[segment.offset :][: segment.file_size])) if segment else ()
 
 
 class File(NamedTuple):
@@ -187,9 +207,10 @@ def text_at(process: Stopped, address: int) -> str:
 
 def files_of(process: Stopped, program: str, linker: str, base: int) -> Iterator[File]:
     """The files in the linker's list (`struct link_map`)."""
-    (at,) = struct.unpack("<Q", process.memory(base + value_of(linker, "_r_debug") + 8, 8))
+    shape = shape_of(linker)
+    (at,) = struct.unpack("<" + shape.word, process.memory(base + value_of(linker, "_r_debug") + shape.size, shape.size))
     while at:
-        moved, name, _, at = struct.unpack("<4Q", process.memory(at, 32))
+        moved, name, _, at = struct.unpack("<4" + shape.word, process.memory(at, 4 * shape.size))
         path = real(text_at(process, name) or program)
         if os.path.isfile(path):
             yield File(path, moved, path in (program, linker))
@@ -213,13 +234,13 @@ def cause_of_word(files: List[File], of: int, word: Word, linker: str) -> Option
 
 
 def cause_of_byte(file: File, address: int, is_writable: bool, held: bytes, linker: str) -> Optional[str]:
-    """Why a byte that is of no word is another; `held` are the eight bytes of memory in whose middle it may be."""
-    entries, dynamic = dict(entries_of(file.path)), last_of(file.path, DYNAMIC)
+    """Why a byte that is of no word is another; `held` are the bytes of the address in whose middle it may be."""
+    entries, dynamic, size = dict(entries_of(file.path)), last_of(file.path, DYNAMIC), len(held)
     if dynamic and dynamic.address <= address < dynamic.address + dynamic.size:
-        tag, value = entries_of(file.path)[(address - dynamic.address) // 16]
-        return "dynamic" if tag == DEBUG or int.from_bytes(held, "little") == value + file.base else None
+        tag, value = entries_of(file.path)[(address - dynamic.address) // (2 * size)]
+        return "dynamic" if tag == DEBUG or int.from_bytes(held, "little") == (value + file.base) % 256**size else None
     got = entries.get(PLT_GOT)
-    if got is not None and got + 8 <= address < got + 24:
+    if got is not None and got + size <= address < got + 3 * size:
         return "lazy"
     if file.path == linker:
         return "linker"
@@ -269,7 +290,7 @@ def differing(one: bytes, other: bytes) -> Iterator[int]:
 
 def compare_load(of: Process, file: File, load: Segment, words: Dict[int, bytes], compared: Set[Tuple[str, int]], tally: Tally) -> None:
     """Compares the bytes of a load segment; of one without words that can't be written once for all processes."""
-    start, wanted = down(load.address), image_of(file, load)
+    start, wanted, size = down(load.address), image_of(file, load), shape_of(file.path).size
     is_writable = bool(load.flags & WRITABLE)
     inside = {at: held for at, held in words.items() if load.address <= at < load.address + load.size}
     if not inside and not is_writable and (file.path, start) in compared:
@@ -285,8 +306,8 @@ def compare_load(of: Process, file: File, load: Segment, words: Dict[int, bytes]
     for place in differing(memory, bytes(wanted)):
         relro = last_of(file.path, RELRO)
         is_open = is_writable and not (relro and down(relro.address) <= start + place < down(relro.address + relro.size))
-        first = (start + place) // 8 * 8 - start
-        cause = cause_of_byte(file, start + place, is_open, memory[first : first + 8], of.linker)
+        first = (start + place) // size * size - start
+        cause = cause_of_byte(file, start + place, is_open, memory[first : first + size], of.linker)
         if cause:
             tally[f"bytes {cause}"] += 1
         else:

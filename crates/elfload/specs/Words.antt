@@ -1,5 +1,5 @@
 -- What the program writes of words (this project's own): a line for each that is written, free of bases.
-use Rattle.std.specs.Prelude.{◌≡◌, ℕ, ◌++◌, ◌==◌, nat_eq, [], ◌∷◌, List, Option, Some, None, Result, Ok, Err, All, map, codes, decimal, drop, length, slice_get, IsOk, IsSomeAnd, if◌then◌else◌}
+use Rattle.std.specs.Prelude.{◌≡◌, ℕ, ◌++◌, ◌==◌, nat_eq, Bool, true, false, [], ◌∷◌, List, Option, Some, None, Result, Ok, Err, All, map, codes, decimal, drop, length, slice_get, IsOk, IsSomeAnd, if◌then◌else◌}
 use Rattle.std.specs.Borrow.{Bor}
 use Rattle.std.specs.List.{flat_map, starts_with}
 use Rattle.elf_linking.specs.DynamicObject.{object_file}
@@ -73,14 +73,14 @@ line_text machine kind of word =
     codes "word 0x" ++ (hex word.address ++ (codes " " ++ (decimal word.width ++ (codes " " ++ (name_text machine kind
     ++ (codes " = " ++ (value_text of word.value ++ codes "\n")))))))
 
--- a text, or none if nothing is written
-abbrev pub if_changed : Value → List ℕ → List ℕ
-if_changed values.Unchanged text = []
-if_changed _ text = text
+-- nothing is written
+abbrev pub is_unchanged : Value → Bool
+is_unchanged values.Unchanged = true
+is_unchanged _ = false
 
 -- the text of a relocation: none if its word is not known
 abbrev pub result_text : ℕ → ℕ → ℕ → Result Word LoadError → List ℕ
-result_text machine kind of (Ok word) = if_changed word.value (line_text machine kind of word)
+result_text machine kind of (Ok word) = if is_unchanged word.value then [] else line_text machine kind of word
 result_text machine kind of (Err error) = []
 
 abbrev pub item_text : {E : Type 0} → ℕ → ℕ → Relocated E → List ℕ

@@ -3,7 +3,7 @@
 ghost use Rattle.std.specs.Prelude.{◌≡◌, ◌<◌, Err, IsOk, IsSomeAnd, MatchResult, Some, length, slice_get};
 ghost use Rattle.std.specs.Prelude.{⊤};
 ghost use Rattle.elfload.specs.Words.{AreWordsWritten, IsItemsText, IsObjectText, IsTextError};
-ghost use Rattle.elfload.specs.Words.{IsTextRefused, IsWordError, item_text, line_text, name_text};
+ghost use Rattle.elfload.specs.Words.{IsTextRefused, IsWordError, is_unchanged, item_text, line_text, name_text};
 ghost use Rattle.elfload.specs.Words.{path_text, prefix_of, start_text, value_text, without};
 ghost use Rattle.elfload.specs.Files.{IsOfInput};
 ghost use Rattle.program_ends.specs.Appended.{AppendsSome};
@@ -108,19 +108,23 @@ fn write_item<'s, E: LinkedSymbol, W: Write>(
         Ok(word) => word,
         Err(error) => return Err(refusal(path, error)),
     };
-    let kind = item.relocation.reference.kind;
-    match word.value {
-        Value::Unchanged => Ok(()),
-        _ => {
-            let line = Line {
-                word,
-                name: Name(machine, kind),
-                of,
-            };
-            write!(out, "{}", line)?;
-            Ok(())
-        }
+    if is_unchanged(&word.value) {
+        return Ok(());
     }
+    let line = Line {
+        word,
+        name: Name(machine, item.relocation.reference.kind),
+        of,
+    };
+    write!(out, "{}", line)?;
+    Ok(())
+}
+
+// Whether nothing is written.
+fn is_unchanged(value: &Value) -> bool
+    ensures { result ≡ is_unchanged value.now }
+{
+    matches!(value, Value::Unchanged)
 }
 
 // The line before the words of a file.
