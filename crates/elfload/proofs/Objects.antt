@@ -1,8 +1,8 @@
 -- Objects by their indices: those of the inputs in order.
-use Rattle.std.proofs.Common.{◌≡◌, ◌<◌, ◌++◌, ◌∷◌, [], ℕ, List, get_or, length, refl, sym, subst}
-use Rattle.std.specs.Prelude.{Err, IsSomeAnd, MatchResult, Ok, Result, slice_get}
+use Rattle.std.proofs.Common.{◌≡◌, ◌<◌, ◌+◌, ◌++◌, ◌∷◌, [], ℕ, List, Option, Some, None, below_more, get_or, length, refl, sym, subst}
+use Rattle.std.specs.Prelude.{Err, IfSome, IsSomeAnd, MatchResult, Ok, Result, slice_get}
 use Rattle.std.specs.List.{AllZip}
-use Rattle.std.proofs.lemmas.Option.{slice_get_read}
+use Rattle.std.proofs.lemmas.Option.{slice_get_read, slice_get_within}
 use Rattle.elf_base.specs.FileHeader.{header_of}
 use Rattle.elf_linking.specs.DynamicObject.{IsReachedObject, IsReachedRefused}
 use Rattle.elf_linking.specs.declared.error.LinkError.{LinkError}
@@ -25,3 +25,16 @@ zip_one_more R (a ∷ xs) (b ∷ ys) x y all one = (all.0, zip_one_more R xs ys 
 pub object_or_refused : {E : Type 0} {r : _} (class size : ℕ) (bytes : List ℕ) (file : ElfFile) (result : Result (DynamicObject E r) LinkError) → file.input.now ≡ bytes → header_of bytes ≡ Ok file.header → MatchResult result (IsReachedObject class size file) (IsReachedRefused class size file) → MatchResult result (IsObjectOfBytes class size bytes) (IsRefusedAsObject class size bytes)
 object_or_refused class size bytes file (Ok object) input header is = record { file = file; bytes_are = input; header_is = header; object_is = is }
 object_or_refused class size bytes file (Err error) input header is = no_object file error input header is
+
+-- a property of one more item, if a condition holds
+pub one_more_if : {A C : Type 0} (P : A → Type 0) (items : List A) (index : ℕ) (item : A) → index < length items → item ≡ get_or items index item → (C → (i : ℕ) → i < index → IfSome (slice_get items i) P) → (C → P item) → C → (i : ℕ) → i < index + 1 → IfSome (slice_get items i) P
+one_more_if P items index item below is before own condition =
+    below_more (λ i. IfSome (slice_get items i) P) index (before condition) (subst (λ found. IfSome found P) (sym (slice_get_read items (length items) index item refl below is)) (own condition))
+
+-- a property of all items below their number is one of all
+pub all_below : {A : Type 0} (P : A → Type 0) (items : List A) → ((i : ℕ) → i < length items → IfSome (slice_get items i) P) → (i : ℕ) → IfSome (slice_get items i) P
+all_below {A} P items below i = go (slice_get items i) refl
+  where
+    go : (found : Option A) → slice_get items i ≡ found → IfSome found P
+    go None is = tt
+    go (Some item) is = subst (λ found. IfSome found P) is (below i (slice_get_within items i item is))

@@ -125,9 +125,18 @@ fn run_plans<W: Write, E: Write>(
     let mut status = 0;
     for input in inputs {
         let own = run_plan(alloc, page, input.path, &input.bytes, out, err);
-        status = own.max(status);
+        status = worse(own, status);
     }
     status
+}
+
+// The greater of two statuses.
+fn worse(one: u8, other: u8) -> u8
+    ensures one { one ≤ result }
+    ensures other { other ≤ result }
+    ensures bound { one ≤ 1 → other ≤ 1 → result ≤ 1 }
+{
+    one.max(other)
 }
 
 /// Writes the plan of a file to `out`, with pages of a size, or the reason why it can't to `err`,
