@@ -1,11 +1,12 @@
 -- Searches of the segments of a file, segment by segment.
 use Rattle.std.proofs.Common.{◌≡◌, ℕ, Bool, true, false, List, [], ◌∷◌, Some, None, refl, ap, ◌∙◌}
 use Rattle.std.proofs.lemmas.Bool.{and_parts}
-use Rattle.std.specs.List.{find, list_all}
+use Rattle.std.specs.List.{find, list_all, list_any}
 use Rattle.xmas_elf.specs.ProgramHeader.{program_fields}
 use Rattle.xmas_elf.specs.Types.{ProgramHeader, ProgramHeader64}
 use Rattle.elf_loading.specs.LoadCheck.{fits_below, holds_address}
 use Rattle.elf_loading.specs.Segments.{is_load, loads_in}
+use Rattle.elf_loading.specs.Words.{has_zeros}
 
 pub load_kept : (items others : List ProgramHeader) (p : ProgramHeader) → items ≡ p ∷ others → is_load (program_fields p) ≡ true → loads_in items ≡ program_fields p ∷ loads_in others
 load_kept items others p is hit = ap loads_in is ∙ rw hit refl
@@ -36,3 +37,12 @@ held_rest page address items others load is miss = ap (find (holds_address page 
 
 pub held_end : (page address : ℕ) (items : List ProgramHeader64) → items ≡ [] → find (holds_address page address) items ≡ None
 held_end page address items is = ap (find (holds_address page address)) is
+
+pub zeros_first : (address width : ℕ) (items others : List ProgramHeader64) (load : ProgramHeader64) → items ≡ load ∷ others → has_zeros address width load ≡ true → list_any (has_zeros address width) items ≡ true
+zeros_first address width items others load is hit = ap (list_any (has_zeros address width)) is ∙ rw hit refl
+
+pub zeros_rest : (address width : ℕ) (items others : List ProgramHeader64) (load : ProgramHeader64) → items ≡ load ∷ others → has_zeros address width load ≡ false → list_any (has_zeros address width) items ≡ list_any (has_zeros address width) others
+zeros_rest address width items others load is miss = ap (list_any (has_zeros address width)) is ∙ rw miss refl
+
+pub zeros_end : (address width : ℕ) (items : List ProgramHeader64) → items ≡ [] → list_any (has_zeros address width) items ≡ false
+zeros_end address width items is = ap (list_any (has_zeros address width)) is

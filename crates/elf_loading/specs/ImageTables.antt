@@ -13,7 +13,7 @@ use Rattle.elf_linking.specs.declared.any_table.AnyTable.TheVariants.{Gnu, Sysv}
 use Rattle.elf_linking.specs.declared.object.DynamicObject.{DynamicObject}
 use Rattle.elf_linking.specs.declared.view.tags.TheConstants.{DT_FLAGS, DT_GNU_HASH, DT_HASH, DT_JMPREL, DT_PLTREL, DT_PLTRELSZ, DT_REL, DT_RELA, DT_RELAENT, DT_RELASZ, DT_RELENT, DT_RELR, DT_RELRENT, DT_RELRSZ, DT_RELSZ, DT_STRSZ, DT_STRTAB, DT_SYMTAB, DT_TEXTREL, DT_VERSYM}
 use Rattle.elf_loading.specs.InOrder.{is_kind, record_size}
-use Rattle.elf_loading.specs.Words.{flag_in}
+use Rattle.elf_loading.specs.Words.{address_size, flag_in}
 use Rattle.elf_loading.specs.declared.error.LoadError.{LoadError}
 use Rattle.elf_loading.specs.declared.error.LoadError.TheVariants as error
 use Rattle.elf_loading.specs.declared.image_tables.Extent.{Extent}
@@ -129,10 +129,6 @@ is_dynamic_lost file (Some program) = let dynamic = program_fields program in
 abbrev pub is_other_machine : ElfFile → Bool
 is_other_machine file = let class = file_class file.header in let machine = file_machine file in
     not (if class == 1 then machine == 3 else (class == 2 && (machine == 62 || machine == 183)))
-
--- the size of an address in bytes, by the class
-abbrev pub address_size : ElfFile → ℕ
-address_size file = if file_class file.header == 1 then 4 else 8
 
 -- why the tables can't be used, in order: the dynamic segment, missing entries, the tables of relocations, other tables,
 -- and the machine

@@ -4,18 +4,19 @@ ghost use Rattle.std.specs.Prelude.{◌≡◌};
 ghost use Rattle.elf_base.specs.Refusal.{unless};
 ghost use Rattle.elf_linking.specs.DynamicObject.{object_file, object_view};
 ghost use Rattle.elf_linking.specs.DynamicView.{dynamic_segment_of, view_entries};
-ghost use Rattle.elf_loading.specs.ImageTables.{address_size, asks_for_text, has_flag, hash_size};
+ghost use Rattle.elf_loading.specs.ImageTables.{asks_for_text, has_flag, hash_size};
 ghost use Rattle.elf_loading.specs.ImageTables.{hash_tag, holds_dynamic, is_dynamic_lost};
 ghost use Rattle.elf_loading.specs.ImageTables.{is_no_multiple, is_other_machine, is_readable};
 ghost use Rattle.elf_loading.specs.ImageTables.{is_unreadable, relocation_rows, segment_extent};
 ghost use Rattle.elf_loading.specs.ImageTables.{slot_rows, table_by, table_of_size, table_rows};
 ghost use Rattle.elf_loading.specs.ImageTables.{tables_of};
 ghost use Rattle.elf_loading.specs.InOrder.{is_kind, record_size};
+ghost use Rattle.elf_loading.specs.Words.{address_size};
 
 use crate::LoadError;
 use crate::in_order::{is_kind, record_size};
 use crate::segments::fields;
-use crate::words::flag_in;
+use crate::words::{address_size, flag_in};
 use elf_linking::references::types::{EM_386, EM_AARCH64, EM_X86_64};
 use elf_linking::view::{
     DT_FLAGS, DT_GNU_HASH, DT_HASH, DT_JMPREL, DT_PLTREL, DT_PLTRELSZ, DT_REL, DT_RELA, DT_RELAENT,
@@ -177,18 +178,6 @@ fn is_other_machine(file: &ElfFile<'_>) -> bool
         1 => machine != EM_386,
         2 => machine != EM_X86_64 && machine != EM_AARCH64,
         _ => true,
-    }
-}
-
-// The size of an address in bytes.
-fn address_size(file: &ElfFile<'_>) -> u64
-    ensures exact { result ≡ address_size file.now }
-    ensures above { 0 < result }
-{
-    if file.header.pt1.class.raw() == 1 {
-        4
-    } else {
-        8
     }
 }
 

@@ -6,7 +6,10 @@ ghost use Rattle.elf_linking.specs.DynamicObject.{object_view};
 ghost use Rattle.elf_linking.specs.DynamicView.{view_entries};
 ghost use Rattle.elf_linking.specs.References.{file_machine};
 ghost use Rattle.elf_linking.specs.Scope.{scope_objects};
+ghost use Rattle.std.specs.List.{list_any};
+ghost use Rattle.elf_loading.specs.Segments.{loads_of};
 ghost use Rattle.elf_loading.specs.Words.{HasWord, IsBoundIf, addend_of, addend_place};
+ghost use Rattle.elf_loading.specs.Words.{address_size, has_zeros, word_in_memory};
 ghost use Rattle.elf_loading.specs.Words.{binds_lazily, flag_in, formula_when, in_place_when, is_jump_slot};
 ghost use Rattle.elf_loading.specs.Words.{is_lazy, needs_symbol, own_size, takes_addend, takes_symbol};
 ghost use Rattle.elf_loading.specs.Words.{value_word, word_of};
@@ -17,6 +20,7 @@ ghost use Rattle.elf_loading.specs.WordsLeft.{words_of, words_own};
 use crate::LoadError;
 use crate::formulas::{Formula, formula_of, width_of};
 use crate::in_order::{InOrder, Relocation};
+use crate::segments::loads_of;
 use crate::value::{Terms, Value, bytes_of, value_of};
 use elf_base::bytes::Record;
 use elf_linking::references::Reference;
@@ -27,6 +31,7 @@ use elf_linking::scope::{Bound, Scope};
 use elf_linking::view::{DT_BIND_NOW, DT_FLAGS, DT_FLAGS_1, DynamicView, LinkedSymbol, word_at};
 use elf_linking::{DynamicObject, LinkError};
 use xmas_elf::ElfFile;
+use xmas_elf::program::ProgramHeader64;
 
 /// When jump slots get their symbols.
 #[derive(Clone, Copy, Debug, PartialEq, Eq)]
@@ -182,6 +187,51 @@ fn addend_place(formula: Formula, address: u64) -> u64
     }
 }
 
+// The size of an address in bytes.
+pub(crate) fn address_size(file: &ElfFile<'_>) -> u64
+    ensures exact { result ≡ address_size file.now }
+    ensures above { 0 < result }
+{
+    if file.header.pt1.class.raw() == 1 {
+        4
+    } else {
+        8
+    }
+}
+
+// Whether the bytes of a word at an address are zeros after the bytes that a load has in the file.
+fn has_zeros(address: u64, width: u64, load: &ProgramHeader64) -> bool
+    ensures { result ≡ has_zeros address width load.now }
+{
+    let start = u128::from(load.virtual_addr);
+    start + u128::from(load.file_size) <= u128::from(address)
+        && u128::from(address) + u128::from(width) <= start + u128::from(load.mem_size)
+}
+
+// Whether the bytes of a word at an address are zeros after the bytes that one of the loads has.
+#[tactic(auto, using(crate::proofs::Lists::zeros_first, crate::proofs::Lists::zeros_rest, crate::proofs::Lists::zeros_end))]
+fn is_in_zeros(file: &ElfFile<'_>, address: u64, width: u64) -> bool
+    ensures { result ≡ list_any (has_zeros address width) (loads_of file.now) }
+{
+    for load in loads_of(file.program_table()) {
+        if has_zeros(address, width, &load) {
+            return true;
+        }
+    }
+    false
+}
+
+// The word at an address in memory before relocation.
+fn word_in_memory(file: &ElfFile<'_>, address: u64) -> Result<u64, LinkError>
+    ensures { result ≡ word_in_memory file.now address }
+{
+    match word_at(file, address) {
+        Ok(number) => Ok(number),
+        Err(_) if is_in_zeros(file, address, address_size(file)) => Ok(0),
+        Err(error) => Err(error),
+    }
+}
+
 // The addend of a relocation, if the formula has one.
 fn addend_of(
     file: &ElfFile<'_>,
@@ -192,7 +242,7 @@ fn addend_of(
     ensures { result ≡ addend_of file.now in_place formula reference.now }
 {
     if in_place && takes_addend(formula) {
-        word_at(file, addend_place(formula, reference.offset))
+        word_in_memory(file, addend_place(formula, reference.offset))
     } else {
         Ok(reference.addend)
     }
