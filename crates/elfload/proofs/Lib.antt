@@ -9,3 +9,4 @@ pub mod WordLines
 pub mod ObjectWords
 pub mod Checks
 pub mod WordsEnds
+pub mod Prefixes

@@ -1,6 +1,6 @@
 -- Objects by their indices: those of the inputs in order.
 use Rattle.std.proofs.Common.{◌≡◌, ◌<◌, ◌+◌, ◌++◌, ◌∷◌, [], ℕ, List, Option, Some, None, below_more, get_or, length, refl, sym, subst}
-use Rattle.std.specs.Prelude.{Err, IfSome, IsSomeAnd, MatchResult, Ok, Result, slice_get}
+use Rattle.std.specs.Prelude.{Err, IfSome, IsSomeAnd, false, is_some, MatchResult, Ok, Result, slice_get}
 use Rattle.std.specs.List.{AllZip}
 use Rattle.std.proofs.lemmas.Option.{slice_get_read, slice_get_within}
 use Rattle.elf_base.specs.FileHeader.{header_of}
@@ -38,3 +38,7 @@ all_below {A} P items below i = go (slice_get items i) refl
     go : (found : Option A) → slice_get items i ≡ found → IfSome found P
     go None is = tt
     go (Some item) is = subst (λ found. IfSome found P) is (below i (slice_get_within items i item is))
+
+pub none_of : {A : Type 0} (found : Option A) → is_some found ≡ false → found ≡ None
+none_of None lacks = refl
+none_of (Some item) lacks = absurd (cc)

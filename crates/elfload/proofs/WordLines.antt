@@ -1,8 +1,9 @@
 -- The lines of the relocations of an object so far.
-use Rattle.std.proofs.Common.{◌≡◌, ℕ, List, [], ◌∷◌, ◌++◌, map, All, Option, Result, Ok, Err, refl, sym, ap, ◌∙◌, subst, append_assoc, append-nil}
+use Rattle.std.proofs.Common.{◌≡◌, ℕ, List, [], ◌∷◌, ◌++◌, map, Option, Result, Ok, Err, refl, sym, ap, ◌∙◌, subst, append_assoc, append-nil}
 use Rattle.std.specs.Prelude.{IsOk, ⊤}
 use Rattle.std.specs.List.{flat_map}
 use Rattle.std.proofs.KnownBytes.{Appends-nil, Appends-trans}
+use Rattle.std.proofs.lemmas.List.Elements.{All-nil, All-push}
 use Rattle.elf_loading.specs.Words.{HasWord}
 use Rattle.elf_loading.specs.WordsLeft.{IsSame, relocation_of, words_file, words_index, words_lazy, words_left, words_objects, words_own}
 use Rattle.elf_loading.specs.declared.error.LoadError.{LoadError}
@@ -12,10 +13,6 @@ use Rattle.elf_loading.specs.declared.words.Words.{Words}
 use Rattle.elfload.specs.Words.{HasKnownWord, IsItemOf, IsItemsText, IsWordError, item_text}
 use Rattle.program_ends.specs.Appended.{AppendsSome}
 use Rattle.xmas_elf.specs.Symbol.{SymbolFields}
-
-all_more : {A : Type 0} (P : A → Type 0) (xs : List A) (x : A) → All P xs → P x → All P (xs ++ (x ∷ []))
-all_more P [] x all one = (one, tt)
-all_more P (y ∷ ys) x all one = (all.0, all_more P ys x all.1 one)
 
 map_more : {A B : Type 0} (f : A → B) (xs : List A) (x : A) → map f (xs ++ (x ∷ [])) ≡ map f xs ++ (f x ∷ [])
 map_more f [] x = refl
@@ -36,13 +33,8 @@ module _ {E : Type 0} {r : _} (fields : E → SymbolFields) where
       (subst (λ l. HasWord fields (words_objects other).now (words_file other) (words_own other) (words_index other) l item) lazy is))))
 
   pub same_then : (one other next : Words E r) → IsSame one other → IsSame other next → IsSame one next
-  same_then one other next first second = (
-    second.0 ∙ first.0,
-    second.1.0 ∙ first.1.0,
-    second.1.1.0 ∙ first.1.1.0,
-    second.1.1.1.0 ∙ first.1.1.1.0,
-    second.1.1.1.1 ∙ first.1.1.1.1,
-  )
+  same_then one other next (objects, file, own, index, lazy) (objects2, file2, own2, index2, lazy2) =
+      (objects2 ∙ objects, file2 ∙ file, own2 ∙ own, index2 ∙ index, lazy2 ∙ lazy)
 
   module _ (machine of : ℕ) (words : Words E r) where
     -- with these relocations left, the text is that of those before them
@@ -61,7 +53,7 @@ module _ {E : Type 0} {r : _} (fields : E → SymbolFields) where
     pub lines_begin : (now : Words E r) (old : Option (List ℕ)) → now ≡ words → AreLinesSoFar now old old
     lines_begin now old same = subst (λ w. AreLinesSoFar w old old) (sym same) (record {
       same = (refl, refl, refl, refl, refl);
-      written = ([], record { items = []; are = refl; have_words = tt; known = tt; text_is = refl }, Appends-nil old);
+      written = ([], record { items = []; are = refl; have_words = All-nil (IsItemOf fields words); known = All-nil HasKnownWord; text_is = refl }, Appends-nil old);
     })
 
     module _ (now next : Words E r) (item : Relocated E) (old before : Option (List ℕ)) (so_far : AreLinesSoFar now old before) (first : words_left now ≡ relocation_of item ∷ words_left next) (is : IsItemOf fields now item) where
@@ -77,8 +69,8 @@ module _ {E : Type 0} {r : _} (fields : E → SymbolFields) where
                 are = done.are ∙ ap (λ left. map relocation_of done.items ++ left) first
                     ∙ sym (append_assoc (map relocation_of done.items) (relocation_of item ∷ []) (words_left next))
                     ∙ ap (λ front. front ++ words_left next) (sym (map_more relocation_of done.items item));
-                have_words = all_more (IsItemOf fields words) done.items item done.have_words (same_item words now item so_far.same is);
-                known = all_more HasKnownWord done.items item done.known known;
+                have_words = All-push (IsItemOf fields words) done.items item done.have_words (same_item words now item so_far.same is);
+                known = All-push HasKnownWord done.items item done.known known;
                 text_is = ap (λ front. front ++ line) done.text_is ∙ ap (λ last. flat_map (item_text machine of) done.items ++ last) line_is
                     ∙ sym (flat_map_more (item_text machine of) done.items item);
               },

@@ -1,5 +1,5 @@
 -- How the program ends (this project's own).
-use Rattle.std.specs.Prelude.{◌≡◌, ℕ, true, false, List, Result, Ok, Err, tt, ⊤}
+use Rattle.std.specs.Prelude.{◌≡◌, ℕ, true, false, List, Result, Ok, Err, ⊤}
 use Rattle.std.specs.Borrow.{Bor}
 use Rattle.elf_linking.specs.declared.object.DynamicObject.{DynamicObject}
 use Rattle.elf_loading.specs.declared.words.Binding.{Binding}
@@ -69,8 +69,8 @@ pub data AreRefused {E : Type 0} (r : _) (fields : E → SymbolFields) (class si
   by_image : (objects : List (DynamicObject E r)) → AreObjectsOf class size inputs objects
       → IsImageRefused size fields options.page inputs objects refused
       → AreRefused r fields class size options inputs refused
-  by_text : (objects : Bor (List (DynamicObject E r))) → AreObjectsOf class size inputs objects.now
-      → AreAllChecked size fields objects.now → IsTextRefused fields options.when inputs objects refused
+  by_text : (objects : List (DynamicObject E r)) → AreObjectsOf class size inputs objects
+      → AreAllChecked size fields objects → IsTextRefused fields options.when inputs objects refused
       → AreRefused r fields class size options inputs refused
 
 -- how the program ends for the words of files of one class: all pass their checks; or what it says

@@ -1,5 +1,5 @@
 -- Whether the words of files can be written to their memory (this project's own).
-use Rattle.std.specs.Prelude.{◌≡◌, ◌<◌, ℕ, true, false, List, length, None, Some, Result, Ok, Err, slice_get, tt}
+use Rattle.std.specs.Prelude.{◌≡◌, ◌<◌, ℕ, true, false, List, length, None, Some, Result, Ok, Err, slice_get}
 use Rattle.elf_linking.specs.AnyTable.{IsCheckBy, IsGoodBy}
 use Rattle.elf_linking.specs.DynamicObject.{object_dynamic_symbols, object_file}
 use Rattle.elf_linking.specs.Find.{AreReadable, DynamicSymbols}

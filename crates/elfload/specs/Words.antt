@@ -122,9 +122,11 @@ pub record IsWordError {E : Type 0} {r : _} (fields : E → SymbolFields) (words
   pub word_is : item.word ≡ Err error
 
 -- the text of the object at an index: the path of its file, and its words
-pub record IsObjectText {E : Type 0} {r : _} (fields : E → SymbolFields) (when : Binding) (inputs : List Input) (objects : Bor (List (DynamicObject E r))) (of : ℕ) (object : DynamicObject E r) (text : List ℕ) : Type 0 where
+pub record IsObjectText {E : Type 0} {r : _} (fields : E → SymbolFields) (when : Binding) (inputs : List Input) (objects : List (DynamicObject E r)) (of : ℕ) (object : DynamicObject E r) (text : List ℕ) : Type 0 where
+  pub lent : Bor (List (DynamicObject E r))
+  pub lent_is : lent.now ≡ objects
   pub words : Words E r
-  pub words_are : AreWordsOf objects of when words
+  pub words_are : AreWordsOf lent of when words
   pub left : words_of (Some object) ≡ Ok (words_left words)
   pub items : List ℕ
   pub items_are : IsItemsText fields (file_machine (object_file object)) of words items
@@ -137,17 +139,18 @@ pub data AreTexts {A : Type 0} (Is : ℕ → A → List ℕ → Type 0) : List A
       → Is (length items) item own → AreTexts Is (items ++ (item ∷ [])) (text ++ own)
 
 -- the text of all objects, which are those of the inputs
-abbrev pub AreWordsWritten : {E : Type 0} → {r : _} → (E → SymbolFields) → Binding → List Input → Bor (List (DynamicObject E r)) → List ℕ → Type 0
-AreWordsWritten fields when inputs objects = AreTexts (IsObjectText fields when inputs objects) objects.now
+abbrev pub AreWordsWritten : {E : Type 0} → {r : _} → (E → SymbolFields) → Binding → List Input → List (DynamicObject E r) → List ℕ → Type 0
+AreWordsWritten fields when inputs objects = AreTexts (IsObjectText fields when inputs objects) objects
 
 -- why the text ends before the last word: the relocations of the object at an index can't be read, or one of them has a
 -- word that is not known
-pub data IsTextError {E : Type 0} {r : _} (fields : E → SymbolFields) (when : Binding) (objects : Bor (List (DynamicObject E r))) (of : ℕ) : LoadError → Type 0 where
-  by_relocations : (error : LinkError) → words_of (slice_get objects.now of) ≡ Err error → IsTextError fields when objects of (Link error)
-  by_word : (words : Words E r) (error : LoadError) → AreWordsOf objects of when words → IsWordError fields words error
+pub data IsTextError {E : Type 0} {r : _} (fields : E → SymbolFields) (when : Binding) (objects : List (DynamicObject E r)) (of : ℕ) : LoadError → Type 0 where
+  by_relocations : (error : LinkError) → words_of (slice_get objects of) ≡ Err error → IsTextError fields when objects of (Link error)
+  by_word : (lent : Bor (List (DynamicObject E r))) (words : Words E r) (error : LoadError) → lent.now ≡ objects
+      → AreWordsOf lent of when words → IsWordError fields words error
       → IsTextError fields when objects of error
 
-pub record IsTextRefused {E : Type 0} {r : _} (fields : E → SymbolFields) (when : Binding) (inputs : List Input) (objects : Bor (List (DynamicObject E r))) (refused : Refused) : Type 0 where
+pub record IsTextRefused {E : Type 0} {r : _} (fields : E → SymbolFields) (when : Binding) (inputs : List Input) (objects : List (DynamicObject E r)) (refused : Refused) : Type 0 where
   pub of : ℕ
   pub path_is : IsOfInput inputs of refused
   pub error_is : IsTextError fields when objects of refused.error

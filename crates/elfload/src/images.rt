@@ -1,6 +1,6 @@
 //! Whether the words of each file can be written to its memory.
 
-ghost use Rattle.std.specs.Prelude.{◌≡◌, ◌<◌, ◌↔◌, IsOk, MatchResult, length};
+ghost use Rattle.std.specs.Prelude.{◌≡◌, ◌<◌, ◌↔◌, IsOk, MatchResult, length, ⊤};
 ghost use Rattle.elf_linking.specs.DynamicObject.{object_dynamic_symbols};
 ghost use Rattle.elfload.specs.Images.{AreAllChecked, AreChecked, IsChecked, IsGood, IsImageGood};
 ghost use Rattle.elfload.specs.Images.{IsImageRefused, IsRefusedAt};

@@ -9,8 +9,7 @@
 #![tactic(auto)]
 
 ghost use Rattle.std.specs.Prelude.{◌≡◌, ◌<◌, ◌≤◌, ◌⊎◌, [], Err, IfErr, IfOk, IfSome, List, MatchResult, Ok};
-ghost use Rattle.std.specs.Prelude.{OnOk, Result, length, tt, ⊤};
-ghost use Rattle.std.specs.Borrow.{Bor};
+ghost use Rattle.std.specs.Prelude.{OnOk, Result, length, ⊤};
 ghost use Rattle.std.specs.Io.Buffered.{writer_buffer, writer_inner};
 ghost use Rattle.elf_linking.specs.declared.object.DynamicObject.{DynamicObject};
 ghost use Rattle.elfload.specs.Ends.{AreRefused, IsBegun, IsEnd, IsFault, IsWordsEnd, fault_of};
@@ -298,8 +297,8 @@ fn print<'a, E: LinkedSymbol, W: Write + Drop>(
     requires { 0 < asked.page }
     ensures checked { OnOk result
         (AreInputsChecked {E = E} E.Record E.fields E.CLASS E.SIZE inputs.now) }
-    ensures written { IfOk result (λ back. (objects : Bor (List (DynamicObject E E.Record)))
-        × AreObjectsOf E.CLASS E.SIZE inputs.now objects.now
+    ensures written { IfOk result (λ back. (objects : List (DynamicObject E E.Record))
+        × AreObjectsOf E.CLASS E.SIZE inputs.now objects
         × AppendsSome (AreWordsWritten E.fields asked.when inputs.now objects)
         (W.contents out) (W.contents back)) }
     ensures stopped { IfErr result
@@ -326,8 +325,8 @@ fn print_objects<'a, E: LinkedSymbol, W: Write + Drop>(
 ) -> Result<W, Stop<Refused<'a>>>
     requires same { length objects.now ≡ length inputs.now }
     ensures { MatchResult result (λ back. AppendsSome
-        (AreWordsWritten E.fields when inputs.now objects) (W.contents out) (W.contents back))
-        (IsStop (IsTextRefused E.fields when inputs.now objects) ⊤ ⊤) }
+        (AreWordsWritten E.fields when inputs.now objects.now) (W.contents out) (W.contents back))
+        (IsStop (IsTextRefused E.fields when inputs.now objects.now) ⊤ ⊤) }
 {
     let mut buffered = match BufWriter::new(alloc, out) {
         Ok(buffered) => buffered,
@@ -352,9 +351,9 @@ fn write_flushed<'s, E: LinkedSymbol, W: Write + Drop>(
     requires same { length objects.now ≡ length inputs.now }
     requires empty { writer_buffer buffered.old ≡ [] }
     ensures { MatchResult result (λ _. AppendsSome
-        (AreWordsWritten E.fields when inputs.now objects)
+        (AreWordsWritten E.fields when inputs.now objects.now)
         (W.contents (writer_inner buffered.old)) (W.contents (writer_inner buffered.new)))
-        (IsStop (IsTextRefused E.fields when inputs.now objects) ⊤ ⊥) }
+        (IsStop (IsTextRefused E.fields when inputs.now objects.now) ⊤ ⊥) }
 {
     match write_words(when, inputs, objects, buffered) {
         Ok(()) => {}

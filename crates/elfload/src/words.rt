@@ -29,9 +29,9 @@ pub(crate) fn write_words<'s, E: LinkedSymbol, W: Write>(
 ) -> Result<(), Stop<Refused<'s>>>
     requires same { length objects.now ≡ length inputs.now }
     ensures { MatchResult result
-        (λ _. AppendsSome (AreWordsWritten E.fields when inputs.now objects)
+        (λ _. AppendsSome (AreWordsWritten E.fields when inputs.now objects.now)
         (W.contents out.old) (W.contents out.new))
-        (IsStop (IsTextRefused E.fields when inputs.now objects) ⊤ ⊥) }
+        (IsStop (IsTextRefused E.fields when inputs.now objects.now) ⊤ ⊥) }
 {
     for of in 0..objects.len() {
         match write_object(when, inputs, objects, of, out) {
@@ -54,10 +54,10 @@ fn write_object<'s, E: LinkedSymbol, W: Write>(
     requires below { of < length objects.now }
     ensures { MatchResult result
         (λ _. IsSomeAnd (slice_get objects.now of) (λ object.
-        AppendsSome (IsObjectText E.fields when inputs.now objects of object)
+        AppendsSome (IsObjectText E.fields when inputs.now objects.now of object)
         (W.contents out.old) (W.contents out.new)))
         (IsStop (λ refused. IsOfInput inputs.now of refused
-        × IsTextError E.fields when objects of refused.error) ⊤ ⊥) }
+        × IsTextError E.fields when objects.now of refused.error) ⊤ ⊥) }
 {
     let path = inputs[of].path;
     write!(out, "{}", Heading(path))?;
