@@ -1,6 +1,6 @@
 -- Why the program stops, by where it does.
 use Rattle.std.proofs.Common.{◌≡◌, ◌<◌, ℕ, List, get_or, length, take, Result, Ok, Err, refl, sym, subst, ap, ◌∙◌}
-use Rattle.std.specs.Prelude.{IfErr, MatchResult, ⊤}
+use Rattle.std.specs.Prelude.{IfErr, MatchResult, OnOk, ⊤}
 use Rattle.std.proofs.lemmas.Option.{slice_get_read}
 use Rattle.elf_linking.specs.declared.error.LinkError.{LinkError}
 use Rattle.elf_linking.specs.declared.object.DynamicObject.{DynamicObject}
@@ -46,3 +46,8 @@ error_stops inputs index P Written Short error stop why is =
 pub check_stops : {E : Type 0} {r : _} (size : ℕ) (fields : E → SymbolFields) (page : ℕ) (inputs : List Input) (objects : List (DynamicObject E r)) (index : ℕ) (error : LoadError) (stop : Stop reasons.Refused) → IsCheckError size fields page objects index error → IsStop (λ refused. IsOfInput inputs index refused × (refused.error ≡ error)) ⊥ ⊥ stop → IsStop (IsRefusedAt size fields page inputs objects index) ⊥ ⊤ stop
 check_stops size fields page inputs objects index error stop why is =
     stop_so _ _ _ _ _ _ stop (λ refused told. record { path_is = told.0; error_is = subst (IsCheckError size fields page objects index) (sym told.1) why }) (λ never. absurd never) (λ never. absurd never) is
+
+-- what holds whatever the result
+pub always : {A E : Type 0} (result : Result A E) (P : Type 0) → P → OnOk result P
+always (Ok value) P holds = holds
+always (Err error) P holds = tt
