@@ -1,7 +1,7 @@
 #!/usr/bin/env python3
 """Compare the sizes of parts that elfsize prints with the definition, with readelf -S, and with the sizes of the files.
 
-    tools/compare/sizes.py [--elfsize PATH] [--damaged N] [--seed S] [--most N] [FILE..]
+    tools/compare/sizes.py [--elfsize PATH] [--damaged N] [--seed S] [--most N] [--symbols] [FILE..]
 
 Of each ELF file of the files and folders FILE (/usr), the lines are to be the largest first, with shares that are rounded
 down, and to sum to the size of the file exactly. Beside docs/SIZES.md, which is a script here: the same bytes for the same
@@ -12,14 +12,26 @@ file and no other part owns bytes of it. Those with another size are counted by 
     shared      bytes that another part owns: a section in it, a table of headers
     cut         bytes past the end of the file
 
+--symbols compares the lines of `elfsize --symbols`, of the files with a section of type SHT_SYMTAB: with the definition, and
+beside `nm -S`, whose symbols with the same range and section are counted once. The range of one of them has as many bytes as
+the symbol owns. Those with another size are counted by cause:
+
+    no bytes     in no section with bytes in the file
+    other types  thread-local symbols, and those of a type of the processor
+    no name      labels and mapping symbols, which name no addresses
+    shared       bytes that another symbol owns: one in it, or that crosses it; or another section
+    cut          bytes past the end of the section
+
 --damaged N compares N damaged files (tools/compare/damage.py) with the definition, at random from the seed S. --most N stops
 after N files. The last line has the counts, and the exit status is 1 if there is a difference.
 """
 import collections
+import heapq
 import itertools
 import os
 import pathlib
 import re
+import struct
 import sys
 import tempfile
 from typing import Dict, Iterator, List, NamedTuple, Optional, Tuple
@@ -27,9 +39,13 @@ from typing import Dict, Iterator, List, NamedTuple, Optional, Tuple
 import damage
 from comparing import Tally, ended, files_of, parser_of, read_elf, run
 
-LINE = re.compile(r"^(\d+) (\d+\.\d\d)% (section \d+(?= )|segment \d+$|(?:ELF header|(?:program|section) headers|between parts|after all parts|sum)$)")
+LINE = re.compile(r"^(\d+) (\d+\.\d\d)% ((?:section|symbol) \d+(?= )|segment \d+$|(?:ELF header|(?:program|section) headers|between parts|after all parts|sum)$)")
+SIZED = re.compile(r"^([0-9a-f]+) ([0-9a-f]+) \S ", re.M)
 HEADER = re.compile(r"^ *\[ *(\d+)\] .*? ([A-Z0-9_]+|LOOS\S*|<unknown>\S*) +[0-9a-f]{8,16} [0-9a-f]{6,} ([0-9a-f]{6,}) ", re.M)
 MOST_PARTS, NO_BITS, RELRO = 3000, 8, 0x6474E552
+SYMBOL_TABLE, INDICES, OBJECT_FILE, MOST_ADDRESS = 2, 18, 1, 2**64 - 1
+# The letters of mapping symbols, by the machine: Arm, Arm 64-bit, RISC-V and C-SKY.
+MAPPING = {40: b"adt", 183: b"dx", 243: b"d", 252: b"dt"}
 
 
 class Part(NamedTuple):
@@ -38,6 +54,44 @@ class Part(NamedTuple):
     name: str
     begin: int
     end: int
+
+
+class Symbol(NamedTuple):
+    """A symbol with a section and a size."""
+
+    index: int
+    section: int
+    value: int
+    size: int
+    type: int
+    binding: int
+    has_name: bool
+
+    @property
+    def names_addresses(self) -> bool:
+        return self.type in (0, 1, 2, 10) and self.has_name
+
+    def order(self) -> Tuple[int, ...]:
+        """The first of several that cover an address is the least."""
+        kind = {1: 1, 2: 0, 10: 0}.get(self.type, 2)
+        return -self.value, self.size, kind, {1: 0, 10: 0, 2: 1}.get(self.binding, 2), self.index
+
+
+def runs_of(symbols: List[Symbol]) -> List[Part]:
+    """The runs of addresses that belong to one symbol, in order."""
+    waiting = sorted(symbols, key=lambda it: it.value, reverse=True)
+    ends = sorted({edge for it in symbols for edge in (it.value, it.value + it.size)})
+    heap: List[Tuple[Tuple[int, ...], int]] = []
+    found: List[Part] = []
+    for begin, end in zip(ends, ends[1:]):
+        while waiting and waiting[-1].value == begin:
+            symbol = waiting.pop()
+            heapq.heappush(heap, (symbol.order(), symbol.value + symbol.size))
+        while heap and heap[0][1] <= begin:
+            heapq.heappop(heap)
+        if heap:
+            found.append(Part(f"symbol {heap[0][0][-1]}", begin, end))
+    return found
 
 
 class Definition:
@@ -80,18 +134,88 @@ class Definition:
             found.append(self.cut(f"{kind} {index}", offset, 0 if type_ in (0, bare) else length))
         return found
 
-    def owned(self) -> Dict[str, int]:
-        """The number of bytes of each part that owns some."""
+    def pieces(self) -> Iterator[Part]:
+        """Runs of bytes of one owner."""
         tables = [self.cut("ELF header", 0, self.layout.header_size), self.head("ph", "program headers"), self.head("sh", "section headers")]
         within = lambda part: (-part.begin, part.end - part.begin)
         order = [it for it in (*tables, *sorted(self.sections, key=within), *sorted(self.segments, key=within)) if it.begin < it.end]
         last = max((it.begin for it in order if it.name != "ELF header"), default=0)
         ends = sorted({0, len(self.content), *(it.begin for it in order), *(it.end for it in order)})
-        found: Dict[str, int] = collections.Counter()
         for begin, end in zip(ends, ends[1:]):
             free = "between parts" if begin < last else "after all parts"
-            found[next((it.name for it in order if it.begin <= begin < it.end), free)] += end - begin
+            yield Part(next((it.name for it in order if it.begin <= begin < it.end), free), begin, end)
+
+    def owned(self) -> Dict[str, int]:
+        """The number of bytes of each part that owns some."""
+        found: Dict[str, int] = collections.Counter()
+        for name, begin, end in self.pieces():
+            found[name] += end - begin
         return dict(found)
+
+    def owned_by_symbols(self) -> Dict[str, int]:
+        """The same with the bytes of sections by symbol."""
+        by_section: Dict[int, List[Symbol]] = collections.defaultdict(list)
+        for symbol in self.symbols():
+            if symbol.names_addresses:
+                by_section[symbol.section].append(symbol)
+        runs = {f"section {section}": runs_of(all) for section, all in by_section.items()}
+        found: Dict[str, int] = collections.Counter()
+        for name, begin, end in self.pieces():
+            low, high = (self.address(name, offset) for offset in (begin, end)) if name in runs else (0, 0)
+            for owner, first, last in runs.get(name, []):
+                both = min(last, high) - max(first, low)
+                if both > 0:
+                    found[owner] += both
+                    end -= both
+            found[name] += end - begin
+        return {name: size for name, size in found.items() if size}
+
+    def section_field(self, index: int, name: str) -> int:
+        start = self.header("shoff") + index * self.header("shentsize")
+        return self.layout.get(self.content, start, self.layout.section[name])
+
+    def bytes_of(self, index: int) -> bytes:
+        offset, size = self.section_field(index, "offset"), self.section_field(index, "size")
+        return self.content[offset:offset + size]
+
+    def address(self, name: str, offset: int) -> int:
+        """The address of a byte of a section, as its symbols have it."""
+        index = int(name.split(" ")[1])
+        first = 0 if self.header("type") == OBJECT_FILE else self.section_field(index, "address")
+        return min(first + offset - self.section_field(index, "offset"), MOST_ADDRESS)
+
+    def symbols(self) -> Iterator[Symbol]:
+        """The symbols of .symtab that have a section and a size."""
+        types = [self.section_field(index, "type") for index in range(len(self.sections))]
+        if SYMBOL_TABLE not in types:
+            return
+        table = types.index(SYMBOL_TABLE)
+        names = self.bytes_of(self.section_field(table, "link"))
+        linked = (index for index, type_ in enumerate(types) if type_ == INDICES and self.section_field(index, "link") == table)
+        words = next((self.bytes_of(index) for index in linked), b"")
+        mark, wide = self.layout.mark, self.layout.wide
+        for index, fields in enumerate(struct.iter_unpack(mark + ("IBBHQQ" if wide else "IIIBBH"), self.bytes_of(table))):
+            name, info, _, section, value, size = fields if wide else (fields[0], *fields[3:], *fields[1:3])
+            if section == 0xFFFF:
+                section = struct.unpack_from(mark + "I", words, 4 * index)[0] if 4 * index + 4 <= len(words) else 0
+            elif section >= 0xFF00:
+                section = 0
+            if section and size:
+                begin = names[name:name + 3]
+                yield Symbol(index, section, value, size, info % 16, info // 16, self.is_name(begin, info))
+
+    def is_name(self, begin: bytes, info: int) -> bool:
+        """A name that begins so isn't empty, and neither that of a label nor that of a mapping symbol."""
+        if not begin or not begin[0]:
+            return False
+        if info or begin[:1] not in (b".", b"$"):
+            return True
+        machine, second, third = self.header("machine"), begin[1:2], begin[2:3]
+        if begin[:1] == b".":
+            return second != b"L"
+        if machine == 243 and second == b"x":
+            return False
+        return not (second and second in MAPPING.get(machine, b"") and third in (b"", b"\0", b"."))
 
 
 def lines_of(output: str) -> Iterator[Tuple[int, str, str]]:
@@ -103,9 +227,9 @@ def lines_of(output: str) -> Iterator[Tuple[int, str, str]]:
         yield int(matched[1]), matched[2], matched[3]
 
 
-def sizes_of(path: str, program: str, length: int, tally: Tally) -> Optional[Dict[str, int]]:
+def sizes_of(path: str, program: str, length: int, tally: Tally, *options: str) -> Optional[Dict[str, int]]:
     """The sizes that elfsize prints of a file, once their order, their shares and their sum have been compared."""
-    output = tally.output(path, program, path)
+    output = tally.output(path, program, *options, path)
     if not output:
         return None
     try:
@@ -124,12 +248,12 @@ def sizes_of(path: str, program: str, length: int, tally: Tally) -> Optional[Dic
     return {part: size for size, _, part in lines}
 
 
-def beside_definition(path: str, sizes: Dict[str, int], content: bytes, tally: Tally) -> None:
+def beside_definition(path: str, sizes: Dict[str, int], content: bytes, tally: Tally, by_symbols: bool = False) -> None:
     definition = Definition(content)
     if len(definition.sections) + len(definition.segments) > MOST_PARTS:
         tally["files too large for the definition"] += 1
         return
-    wanted = definition.owned()
+    wanted = definition.owned_by_symbols() if by_symbols else definition.owned()
     for part in sorted({*sizes, *wanted}):
         if sizes.get(part) != wanted.get(part):
             tally.differ(path, part, sizes.get(part), f"nothing, the definition {wanted.get(part)}")
@@ -153,6 +277,61 @@ def beside_readelf(path: str, sizes: Dict[str, int], content: bytes, tally: Tall
             tally["cut"] += 1
         else:
             tally.differ(path, f"section {index}", own, size)
+
+
+def beside_nm(path: str, sizes: Dict[str, int], content: bytes, tally: Tally) -> None:
+    """The sizes of symbols beside those of nm, whose aliases are taken out."""
+    definition = Definition(content)
+    told = collections.Counter((int(value, 16), int(size, 16)) for value, size in SIZED.findall(run(["nm", "-S", "--", path]).output))
+    tally["symbols of nm"] += sum(told.values())
+    tally["bytes of nm with aliases"] += sum(size * count for (_, size), count in told.items())
+    aliases: Dict[Tuple[int, int, int], List[Symbol]] = collections.defaultdict(list)
+    for symbol in definition.symbols():
+        if (symbol.value, symbol.size) in told:
+            aliases[symbol.section, symbol.value, symbol.size].append(symbol)
+    tally["distinct ranges"] += len(aliases)
+    for (section, value, size), all in aliases.items():
+        own = sum(sizes.get(f"symbol {it.index}", 0) for it in all)
+        tally["bytes of distinct ranges"] += size
+        tally["bytes of symbols beside nm"] += own
+        cause = "ranges of the same size" if own == size else cause_of(definition, section, value, size, all, aliases)
+        if cause:
+            tally[cause] += 1
+        else:
+            tally.differ(path, f"symbols {[it.index for it in all]}", own, size)
+
+
+def cause_of(definition: Definition, section: int, value: int, size: int, all: List[Symbol], aliases: Dict) -> Optional[str]:
+    """Why the symbols of a range own fewer bytes than it has."""
+    part = definition.sections[section] if section < len(definition.sections) else Part("", 0, 0)
+    if part.begin == part.end:
+        return "no bytes"
+    if not any(it.type in (0, 1, 2, 10) for it in all):
+        return "other types"
+    if not any(it.names_addresses for it in all):
+        return "no name"
+    first = 0 if definition.header("type") == OBJECT_FILE else definition.section_field(section, "address")
+    if value < first or value + size > first + part.end - part.begin:
+        return "cut"
+    crossing = (it for it in definition.symbols() if it.section == section and it.names_addresses)
+    if any(value < it.value + it.size and it.value < value + size and (it.value, it.size) != (value, size) for it in crossing):
+        return "shared"
+    inside = (it for index, it in enumerate(definition.sections) if index != section and it.begin < it.end)
+    return "shared" if any(it.begin < part.end and part.begin < it.end for it in inside) else None
+
+
+def compare_symbols(path: str, program: str, tally: Tally) -> None:
+    content = read_elf(path)
+    sizes = sizes_of(path, program, len(content), tally, "--symbols")
+    if sizes is not None:
+        tally["files"] += 1
+        beside_definition(path, sizes, content, tally, by_symbols=True)
+        beside_nm(path, sizes, content, tally)
+
+
+def has_symbols(path: str) -> bool:
+    content = read_elf(path)
+    return bool(content) and any(Definition(content).symbols())
 
 
 def compare(path: str, program: str, tally: Tally) -> None:
@@ -185,11 +364,13 @@ def main() -> int:
     parser.add_argument("--damaged", type=int, default=0, metavar="N")
     parser.add_argument("--seed", type=int, default=1, metavar="S")
     parser.add_argument("--most", type=int, metavar="N")
+    parser.add_argument("--symbols", action="store_true")
     parser.add_argument("files", nargs="*", metavar="FILE")
     given = parser.parse_args()
     tally = Tally("elfsize")
-    for path in itertools.islice(filter(read_elf, files_of(given.files or ["/usr"])), given.most):
-        compare(path, given.elfsize, tally)
+    is_asked, one = (has_symbols, compare_symbols) if given.symbols else (read_elf, compare)
+    for path in itertools.islice(filter(is_asked, files_of(given.files or ["/usr"])), given.most):
+        one(path, given.elfsize, tally)
     compare_damaged(given.elfsize, given.damaged, given.seed, tally)
     first = ("files", "bytes", "parts as defined", "sections of the same size")
     tally.names = (*first, *(name for name in tally if name not in (*first, "differences")), "differences")

@@ -13,4 +13,5 @@ mod ranges;
 mod reached;
 mod rows;
 mod symbol_pieces;
+mod symtab;
 mod want;

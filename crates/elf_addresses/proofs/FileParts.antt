@@ -73,7 +73,7 @@ segments_few file =
     let readable = length (program_list file) in
     few (is_whole offset count readable) (program_list file) (whole_few offset count readable)
 
-words_few : (claim_of : ℕ → Option Claim) (count : ℕ) → count < 0x100000000 → word_count claim_of count ≤ 0x300000000
+pub words_few : (claim_of : ℕ → Option Claim) (count : ℕ) → count < 0x100000000 → word_count claim_of count ≤ 0x300000000
 words_few claim_of count bound =
     let sized : length (listed claim_of false count) ≤ count = length_listed-le claim_of false count in
     let opens : length (listed claim_of true count) ≤ count = length_listed-le claim_of true count in

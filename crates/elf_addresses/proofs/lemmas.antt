@@ -1,1 +1,2 @@
 pub mod FilePieces
+pub mod LentAnswers

@@ -16,3 +16,4 @@ pub mod Held
 pub mod Runs
 pub mod Pieces
 pub mod SymbolPieces
+pub mod Symtab

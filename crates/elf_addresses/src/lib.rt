@@ -25,6 +25,7 @@ mod sections;
 mod symbol_index;
 mod symbol_pieces;
 mod symbols;
+mod symtab;
 
 pub use crate::claim::Claim;
 pub use crate::claims::{Claims, innermost, nearest};
@@ -38,3 +39,4 @@ pub use crate::sections::section_at;
 pub use crate::symbol_index::SymbolIndex;
 pub use crate::symbol_pieces::{SymbolPiece, SymbolPieces};
 pub use crate::symbols::{AddressSymbols, SymbolClaims};
+pub use crate::symtab::{symtab_at, symtab_index};

@@ -8,7 +8,7 @@ use Rattle.elf_base.specs.Table.{records, table_data, table_items, table_order}
 use Rattle.elf_linking.proofs.lemmas.Objects.{symbols_of_object}
 use Rattle.elf_linking.specs.DynamicObject.{object_dynamic_symbols}
 use Rattle.elfaddr.specs.Asked.{AreDynamicParts, ArePartsAt, claims_of, kind, parts_in}
-use Rattle.elfaddr.specs.Symtab.{IsSymtab}
+use Rattle.elf_addresses.specs.Symtab.{IsSymtab}
 use Rattle.elfaddr.specs.Tables.{AreDynamic}
 use Rattle.xmas_elf.specs.Symbol.{SymbolFields}
 use Rattle.xmas_elf.specs.Types.{ElfFile}

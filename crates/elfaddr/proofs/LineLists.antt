@@ -1,11 +1,7 @@
--- One more line behind the lines so far, and the bytes of a result.
-use Rattle.std.proofs.Common.{◌≡◌, ℕ, List, [], ◌∷◌, ◌++◌, Result, Ok, Err, ap, sym, ◌∙◌, append-nil}
-use Rattle.std.specs.Borrow.{Bor}
+-- One more line behind the lines so far.
+use Rattle.std.proofs.Common.{◌≡◌, ℕ, List, [], ◌∷◌, ◌++◌, ap, ◌∙◌, append-nil}
 use Rattle.std.specs.List.{AllZip, concat}
 use Rattle.std.proofs.lemmas.List.Folds.{concat-append}
-use Rattle.elf_base.specs.Lent.{Answers}
-use Rattle.elfaddr.specs.Lines.{lent_bytes}
-use Rattle.xmas_elf.specs.Types.{ElfError}
 
 pub zip_one_more : {A B : Type 0} (R : A → B → Type 0) (xs : List A) (ys : List B) (x : A) (y : B) → AllZip R xs ys → R x y → AllZip R (xs ++ (x ∷ [])) (ys ++ (y ∷ []))
 zip_one_more R [] [] x y all one = (one, tt)
@@ -15,8 +11,3 @@ zip_one_more R (a ∷ xs) (b ∷ ys) x y all one = (all.0, zip_one_more R xs ys 
 
 pub concat_one_more : (lines : List (List ℕ)) (line : List ℕ) → concat (lines ++ (line ∷ [])) ≡ concat lines ++ line
 concat_one_more lines line = concat-append lines (line ∷ []) ∙ ap (λ l. concat lines ++ l) (append-nil line)
-
--- bytes that are returned are those of the definition
-pub lent_answer : (answer : Result (List ℕ) ElfError) (result : Result (Bor (List ℕ)) ElfError) → Answers answer result → lent_bytes result ≡ answer
-lent_answer answer (Ok part) is = sym is
-lent_answer answer (Err error) is = sym is

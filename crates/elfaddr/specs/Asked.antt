@@ -4,6 +4,7 @@ use Rattle.std.specs.Option.{option_and_then}
 use Rattle.elf_addresses.specs.Candidates.{is_candidate}
 use Rattle.elf_addresses.specs.Dladdr.{dladdr_claim, is_found, reach_of}
 use Rattle.elf_addresses.specs.SymbolClaims.{symbol_claim, symbol_items}
+use Rattle.elf_addresses.specs.Symtab.{IsIndexData, IsSymtabRefused, IsSymtabSection, parts_of}
 use Rattle.elf_addresses.specs.declared.claim.Claim.{Claim}
 use Rattle.elf_addresses.specs.declared.dladdr.Reach.{Reach}
 use Rattle.elf_addresses.specs.declared.symbols.AddressSymbols.{AddressSymbols}
@@ -18,7 +19,6 @@ use Rattle.elf_linking.specs.References.{file_machine}
 use Rattle.elf_linking.specs.declared.error.LinkError.{LinkError}
 use Rattle.elf_linking.specs.declared.error.LinkError.TheVariants.{Elf}
 use Rattle.elfaddr.specs.Lines.{AreLines, name_in}
-use Rattle.elfaddr.specs.Symtab.{IsIndexData, IsSymtabRefused, IsSymtabSection, parts_of}
 use Rattle.elfaddr.specs.Tables.{IsDynamicRefused, IsReach}
 use Rattle.elfaddr.specs.declared.Source.{Source}
 use Rattle.elfaddr.specs.declared.Source.TheVariants.{Dladdr, Dynamic, Symtab}

@@ -1,5 +1,4 @@
 pub mod Asked
 pub mod Ends
 pub mod Lines
-pub mod Symtab
 pub mod Tables

@@ -1,7 +1,6 @@
 -- What the program writes of an address (this project's own): the symbol or the section that it is in, and the
 -- offset there.
 use Rattle.std.specs.Prelude.{◌≡◌, ℕ, ◌-◌, ◌++◌, false, List, Option, None, Some, Result, Ok, Err, codes, length, slice_get}
-use Rattle.std.specs.Borrow.{Bor}
 use Rattle.std.specs.Fmt.{digits}
 use Rattle.std.specs.List.{AllZip, concat}
 use Rattle.elf_addresses.specs.Claims.{IsInnermost}
@@ -19,11 +18,6 @@ use Rattle.xmas_elf.specs.Types.{ElfError, ElfFile, SectionHeader}
 abbrev pub or_mark : Result (List ℕ) ElfError → List ℕ
 or_mark (Ok name) = name
 or_mark (Err error) = codes "?"
-
--- the bytes of a reference
-abbrev pub lent_bytes : Result (Bor (List ℕ)) ElfError → Result (List ℕ) ElfError
-lent_bytes (Ok part) = Ok part.now
-lent_bytes (Err error) = Err error
 
 -- the name of a symbol in a string table
 abbrev pub symbol_name : {E : Type 0} → (E → SymbolFields) → List ℕ → Option E → List ℕ

@@ -30,7 +30,6 @@ use xmas_elf::ElfFile;
 mod lines;
 mod names;
 mod print;
-mod symtab;
 
 /// Why the program ends with status 1, and what it says then.
 #[derive(Debug, Drop, Error)]

@@ -2,7 +2,8 @@
 
 ghost use Rattle.std.specs.Prelude.{◌≡◌, List, ℕ};
 ghost use Rattle.elf_addresses.specs.SymbolClaims.{symbol_items};
-ghost use Rattle.elfaddr.specs.Lines.{lent_bytes, name_in, or_mark};
+ghost use Rattle.elf_addresses.specs.Symtab.{lent_bytes};
+ghost use Rattle.elfaddr.specs.Lines.{name_in, or_mark};
 ghost use Rattle.xmas_elf.specs.Table.{table_items};
 
 use elf_addresses::dladdr::DladdrSymbols;

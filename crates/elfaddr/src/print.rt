@@ -14,10 +14,9 @@ ghost use Rattle.program_ends.specs.Appended.{AppendsSome};
 
 use crate::lines::Lines;
 use crate::names::Named;
-use crate::symtab::{symtab_at, symtab_index};
 use crate::{Fault, Source, fault_of};
 use elf_addresses::dladdr::{DladdrSymbols, Reach, fill_reached};
-use elf_addresses::{AddressSymbols, SymbolClaims};
+use elf_addresses::{AddressSymbols, SymbolClaims, symtab_at, symtab_index};
 use elf_linking::view::{LinkedSymbol, strings};
 use elf_linking::{AnyTable, DynamicObject, LinkError};
 use program_ends::write_buffered;

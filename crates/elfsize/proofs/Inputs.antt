@@ -1,12 +1,15 @@
 -- What holds of a file holds of its input, and how the output of a file ends.
-use Rattle.std.proofs.Common.{◌≡◌, ℕ, List, Option, Result, Ok, refl, sym, subst}
+use Rattle.std.proofs.Common.{◌≡◌, ℕ, List, Option, Result, Ok, inr, refl, sym, subst}
 use Rattle.std.specs.Borrow.{Bor}
-use Rattle.std.specs.Prelude.{IsOk, IsOkAnd, MatchResult, ⊤}
+use Rattle.std.specs.Prelude.{IsOkAnd, MatchResult, ⊤}
 use Rattle.elf_base.specs.FileHeader.{header_of}
 use Rattle.elfsize.specs.Ends.{IsFault, fault_of}
-use Rattle.elfsize.specs.Lines.{IsFileText, IsInputRefused, IsInputText, IsShort, OfHeader}
+use Rattle.elfsize.specs.Lines.{IsFileRefused, IsFileText, IsInputRefused, IsInputText, IsInputThere, IsShort, IsTextBy, OfHeader}
+use Rattle.elfsize.specs.Symbols.{AreSymbols, AreThere, IsSymbolsRefusal}
 use Rattle.elfsize.specs.declared.lines.Refusal.{Refusal}
-use Rattle.elfsize.specs.declared.lines.Refusal.TheVariants.{Elf, Memory}
+use Rattle.elfsize.specs.declared.lines.Refusal.TheVariants.{Elf, Many, Memory}
+use Rattle.elfsize.specs.declared.symbols.Symbols.{Symbols}
+use Rattle.elfsize.specs.declared.view.View.{View}
 use Rattle.program_ends.proofs.Ends.{ends_so}
 use Rattle.program_ends.specs.Appended.{AppendsSome}
 use Rattle.program_ends.specs.Stops.{IsStop}
@@ -19,26 +22,46 @@ of_header P input file same header holds =
     subst (λ (r : Result Header ElfError). IsOkAnd r (λ h. P (record { input = input; header = h }))) (sym header)
     (subst (λ (i : Bor (List ℕ)). P (record { input = i; header = file.header })) same holds)
 
-is_ok : (input : Bor (List ℕ)) (header : Header) → header_of input.now ≡ Ok header → IsOk (header_of input.now)
-is_ok input header is = rw is refl
-
-short_so : (input : Bor (List ℕ)) (refusal : Refusal) → IsShort refusal → IsInputRefused input refusal
-short_so input (Elf error) why = absurd why
-short_so input Memory why = tt
+refused_so : (view : View) (input : Bor (List ℕ)) (file : ElfFile) → file.input ≡ input → header_of input.now ≡ Ok file.header → (refusal : Refusal) → IsFileRefused view file refusal → IsInputRefused view input refusal
+refused_so view input file same header (Elf error) why = inr (of_header (λ f. IsSymbolsRefusal view f (Elf error)) input file same header why)
+refused_so view input file same header Many why = of_header (λ f. IsSymbolsRefusal view f Many) input file same header why
+refused_so view input file same header Memory why = tt
 
 -- the output of the file of an input
-pub input_ends : (path : List ℕ) (input : Bor (List ℕ)) (file : ElfFile) → file.input ≡ input → header_of input.now ≡ Ok file.header → (result : Result (Unit {0}) (stops.Stop Refusal)) (old new : Option (List ℕ))
-    → MatchResult result (λ done. AppendsSome (IsFileText path file) old new) (IsStop IsShort ⊤ ⊥)
-    → MatchResult result (λ done. AppendsSome (IsInputText path input) old new) (IsStop (IsInputRefused input) (IsOk (header_of input.now)) ⊥)
-input_ends path input file same header result old new ends =
-    ends_so (λ done. IsFileText path file) (λ done. IsInputText path input) IsShort (IsInputRefused input) ⊤ (IsOk (header_of input.now)) ⊥ result old new
-    (λ done text are. of_header (λ f. IsFileText path f text) input file same header are)
-    (short_so input)
-    (λ begun. is_ok input file.header header) ends
+pub input_ends : (view : View) (path : List ℕ) (input : Bor (List ℕ)) (file : ElfFile) → file.input ≡ input → header_of input.now ≡ Ok file.header → (result : Result (Unit {0}) (stops.Stop Refusal)) (old new : Option (List ℕ))
+    → MatchResult result (λ done. AppendsSome (IsFileText view path file) old new) (IsStop (IsFileRefused view file) (AreThere view file) ⊥)
+    → MatchResult result (λ done. AppendsSome (IsInputText view path input) old new) (IsStop (IsInputRefused view input) (IsInputThere view input) ⊥)
+input_ends view path input file same header result old new ends =
+    ends_so (λ done. IsFileText view path file) (λ done. IsInputText view path input) (IsFileRefused view file) (IsInputRefused view input) (AreThere view file) (IsInputThere view input) ⊥ result old new
+    (λ done text are. of_header (λ f. IsFileText view path f text) input file same header are)
+    (refused_so view input file same header)
+    (λ there. of_header (AreThere view) input file same header there) ends
+
+short_so : (view : View) (file : ElfFile) (refusal : Refusal) → IsShort refusal → IsFileRefused view file refusal
+short_so view file (Elf error) why = absurd why
+short_so view file Many why = absurd why
+short_so view file Memory why = tt
+
+-- the output of a file by the symbols that a view asks for
+pub file_ends : (view : View) (path : List ℕ) (file : ElfFile) (symbols : Symbols) → AreSymbols view file symbols → (result : Result (Unit {0}) (stops.Stop Refusal)) (old new : Option (List ℕ))
+    → MatchResult result (λ done. AppendsSome (IsTextBy path file symbols) old new) (IsStop IsShort ⊤ ⊥)
+    → MatchResult result (λ done. AppendsSome (IsFileText view path file) old new) (IsStop (IsFileRefused view file) (AreThere view file) ⊥)
+file_ends view path file symbols are result old new ends =
+    ends_so (λ done. IsTextBy path file symbols) (λ done. IsFileText view path file) IsShort (IsFileRefused view file) ⊤ (AreThere view file) ⊥ result old new
+    (λ done text is. (symbols, are, is))
+    (short_so view file)
+    (λ begun. (symbols, are)) ends
+
+-- symbols that can't be read
+pub symbols_refused : (view : View) (file : ElfFile) (refusal : Refusal) → IsSymbolsRefusal view file refusal → IsFileRefused view file refusal
+symbols_refused view file (Elf error) why = why
+symbols_refused view file Many why = why
+symbols_refused view file Memory why = tt
 
 -- the fault for a reason to stop
 pub fault_so : (path : Bor (List ℕ)) (Refuses : Refusal → Type 0) (Written : Type 0) (stop : stops.Stop Refusal) → IsStop Refuses Written ⊤ stop → IsFault path Refuses Written (fault_of path stop)
 fault_so path Refuses Written (stops_are.Refused (Elf error)) why = (refl, why)
+fault_so path Refuses Written (stops_are.Refused Many) why = (refl, why)
 fault_so path Refuses Written (stops_are.Refused Memory) why = tt
 fault_so path Refuses Written stops_are.Write why = why
 fault_so path Refuses Written stops_are.Memory why = tt

@@ -3,3 +3,4 @@ mod Inputs
 mod LineLists
 mod Runs
 mod Sizes
+mod SplitRuns

@@ -1,8 +1,7 @@
 -- How the program ends (this project's own).
-use Rattle.std.specs.Prelude.{◌≡◌, ℕ, List, Option, Result, Ok, Err, IfSome, IsOk, IsSomeAnd, ⊤}
+use Rattle.std.specs.Prelude.{◌≡◌, ℕ, List, Option, Result, Ok, Err, IfSome, IsSomeAnd, ⊤}
 use Rattle.std.specs.Borrow.{Bor}
-use Rattle.elf_base.specs.FileHeader.{header_of}
-use Rattle.elfsize.specs.Lines.{IsInputRefused, IsInputText}
+use Rattle.elfsize.specs.Lines.{IsInputRefused, IsInputText, IsInputThere}
 use Rattle.elfsize.specs.declared.Fault as faults
 use Rattle.elfsize.specs.declared.Fault.TheVariants as faults_are
 use Rattle.elfsize.specs.View.{shown}
@@ -17,6 +16,7 @@ use Rattle.program_ends.specs.declared.Stop.TheVariants as stops_are
 -- what the program says where lines aren't written to their end
 abbrev pub fault_of : Bor (List ℕ) → stops.Stop refusals.Refusal → faults.Fault
 fault_of path (stops_are.Refused (refusals_are.Elf error)) = faults_are.Refused path error
+fault_of path (stops_are.Refused refusals_are.Many) = faults_are.Many path
 fault_of path (stops_are.Refused refusals_are.Memory) = faults_are.Memory
 fault_of path stops_are.Write = faults_are.Write
 fault_of path stops_are.Memory = faults_are.Memory
@@ -28,6 +28,7 @@ IsFault path Refuses Written faults_are.Arguments = ⊥
 IsFault path Refuses Written faults_are.Usage = ⊥
 IsFault path Refuses Written (faults_are.Read at) = at ≡ path
 IsFault path Refuses Written (faults_are.Refused at error) = (at ≡ path) × Refuses (refusals_are.Elf error)
+IsFault path Refuses Written (faults_are.Many at) = (at ≡ path) × Refuses refusals_are.Many
 IsFault path Refuses Written faults_are.Write = Written
 IsFault path Refuses Written faults_are.Memory = ⊤
 
@@ -37,16 +38,16 @@ OfFile view remaining file P = IsSomeAnd file (λ reader. (input : Bor (List ℕ
     × IfSome (remaining reader) (λ bytes. input.now ≡ shown view bytes) × P input)
 
 -- how far the program has come when a write fails
-abbrev pub IsBegun : Bor (List ℕ) → Bor (List ℕ) → Type 0
-IsBegun path input = HasBegun (IsOk (header_of input.now)) (AppendsSome (IsInputText path.now input))
+abbrev pub IsBegun : View → Bor (List ℕ) → Bor (List ℕ) → Type 0
+IsBegun view path input = HasBegun (IsInputThere view input) (AppendsSome (IsInputText view path.now input))
 
 -- how the program ends for a view of the file at a path: there is a text of its sizes, or the fault
 abbrev pub IsEnd : {R : Type 0} → View → Bor (List ℕ) → (R → Option (List ℕ)) → Option R → Result (Unit {0}) faults.Fault → Type 0
 IsEnd view path remaining file (Ok done) =
-    OfFile view remaining file (λ input. (text : List ℕ) × IsInputText path.now input text)
+    OfFile view remaining file (λ input. (text : List ℕ) × IsInputText view path.now input text)
 IsEnd view path remaining file (Err fault) = IsFault path
-    (λ refusal. OfFile view remaining file (λ input. IsInputRefused input refusal))
-    (OfFile view remaining file (λ input. IsBegun path input)) fault
+    (λ refusal. OfFile view remaining file (λ input. IsInputRefused view input refusal))
+    (OfFile view remaining file (λ input. IsBegun view path input)) fault
 
 -- the exit status: 0 without a fault, otherwise 1
 abbrev pub status_of : Result (Unit {0}) faults.Fault → ℕ

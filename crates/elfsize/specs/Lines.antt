@@ -1,24 +1,22 @@
 -- What the program writes of a file (this project's own): a line for each part, with its size and its share.
-use Rattle.std.specs.Prelude.{◌≡◌, ℕ, ◌*◌, ◌/◌, ◌%◌, ◌++◌, ◌==◌, List, [], codes, decimal, Result, Ok, Err, IsOkAnd, if◌then◌else◌, max, ⊤}
+use Rattle.std.specs.Prelude.{◌≡◌, ℕ, ◌*◌, ◌/◌, ◌%◌, ◌++◌, ◌==◌, ◌⊎◌, List, [], codes, decimal, Result, Ok, Err, IsOkAnd, if◌then◌else◌, max, ⊤}
 use Rattle.std.specs.Borrow.{Bor}
 use Rattle.std.specs.List.{flat_map}
 use Rattle.elf_addresses.specs.FileClaims.{byte_count}
 use Rattle.elf_base.specs.FileHeader.{header_of}
-use Rattle.elfsize.specs.Parts.{AreRuns}
+use Rattle.elfsize.specs.Symbols.{AreRunsBy, AreSymbols, AreThere, IsSymbolsRefusal, or_mark, symbol_name_in}
 use Rattle.elfsize.specs.Totals.{AreSizes, all_bytes}
 use Rattle.elfsize.specs.declared.lines.Refusal.{Refusal}
-use Rattle.elfsize.specs.declared.lines.Refusal.TheVariants.{Elf, Memory}
+use Rattle.elfsize.specs.declared.lines.Refusal.TheVariants.{Elf, Many, Memory}
+use Rattle.elfsize.specs.declared.symbols.Symbols.{Symbols}
 use Rattle.elfsize.specs.declared.totals.Run.{Run}
+use Rattle.elfsize.specs.declared.view.View.{View}
 use Rattle.program_ends.specs.Names.{escaped}
 use Rattle.xmas_elf.specs.NameTable.{name_bytes_of}
 use Rattle.xmas_elf.specs.SectionHeader.{section_of}
 use Rattle.xmas_elf.specs.Types.{ElfError, ElfFile, SectionHeader}
 
 -- the name of the section at an index, or `?` if it can't be read
-abbrev pub or_mark : Result (List ℕ) ElfError → List ℕ
-or_mark (Ok name) = name
-or_mark (Err error) = codes "?"
-
 abbrev pub name_or_mark : ElfFile → Result SectionHeader ElfError → List ℕ
 name_or_mark file (Ok section) = or_mark (name_bytes_of file section)
 name_or_mark file (Err error) = codes "?"
@@ -26,9 +24,10 @@ name_or_mark file (Err error) = codes "?"
 abbrev pub section_name : ElfFile → ℕ → List ℕ
 section_name file index = name_or_mark file (section_of file index)
 
--- the name of a part: a section has one
-abbrev pub part_name : ElfFile → ℕ → List ℕ
-part_name file part = if part % 4 == 0 then section_name file (part / 4) else []
+-- the name of a part: a section has one, and a symbol
+abbrev pub part_name : ElfFile → Symbols → ℕ → List ℕ
+part_name file symbols part = if part % 4 == 0 then section_name file (part / 4)
+    else (if part % 4 == 2 then symbol_name_in symbols (part / 4) else [])
 
 -- the text of a part without an index
 abbrev pub other_text : ℕ → List ℕ
@@ -42,7 +41,8 @@ other_text index =
 abbrev pub label_text : ℕ → List ℕ
 label_text part =
     if part % 4 == 0 then codes "section " ++ (decimal (part / 4) ++ codes " ")
-    else (if part % 4 == 1 then codes "segment " ++ decimal (part / 4) else other_text (part / 4))
+    else (if part % 4 == 1 then codes "segment " ++ decimal (part / 4)
+    else (if part % 4 == 2 then codes "symbol " ++ (decimal (part / 4) ++ codes " ") else other_text (part / 4)))
 
 -- a size in a file of n bytes, in hundredths of a percent, without the fraction
 abbrev pub share_of : ℕ → ℕ → ℕ
@@ -58,9 +58,9 @@ abbrev pub start_text : ℕ → ℕ → ℕ → List ℕ
 start_text n size part = amount_text n size ++ label_text part
 
 -- the line of a part
-abbrev pub line_text : ElfFile → Run → List ℕ
-line_text file one =
-    start_text (byte_count file) one.size one.part ++ (escaped (part_name file one.part) ++ codes "\n")
+abbrev pub line_text : ElfFile → Symbols → Run → List ℕ
+line_text file symbols one =
+    start_text (byte_count file) one.size one.part ++ (escaped (part_name file symbols one.part) ++ codes "\n")
 
 -- the sum of the sizes
 abbrev pub sum_text : ℕ → List ℕ
@@ -71,32 +71,51 @@ abbrev pub head_text : List ℕ → List ℕ
 head_text path = path ++ codes "\n"
 
 -- the text of a file at a path: the path, the lines, and the sum
-abbrev pub sizes_text : List ℕ → ElfFile → List Run → List ℕ
-sizes_text path file sizes = head_text path ++ (flat_map (line_text file) sizes ++ sum_text (byte_count file))
+abbrev pub sizes_text : List ℕ → ElfFile → Symbols → List Run → List ℕ
+sizes_text path file symbols sizes =
+    head_text path ++ (flat_map (line_text file symbols) sizes ++ sum_text (byte_count file))
 
--- the sizes of the parts of a file, which sum to its size
-pub record AreFileSizes (file : ElfFile) (sizes : List Run) : Type 0 where
+-- the sizes of the parts of a file, with the bytes of sections by symbol if there are symbols; they sum to its size
+pub record AreFileSizes (file : ElfFile) (symbols : Symbols) (sizes : List Run) : Type 0 where
   pub runs : List Run
-  pub are_runs : AreRuns file runs
+  pub are_runs : AreRunsBy symbols file runs
   pub are_sizes : AreSizes runs sizes
   pub sum : all_bytes sizes ≡ byte_count file
 
 -- the text is that of the sizes of the parts of a file
-abbrev pub IsFileText : List ℕ → ElfFile → List ℕ → Type 0
-IsFileText path file text = (sizes : List Run) × AreFileSizes file sizes × (text ≡ sizes_text path file sizes)
+abbrev pub IsTextBy : List ℕ → ElfFile → Symbols → List ℕ → Type 0
+IsTextBy path file symbols text =
+    (sizes : List Run) × AreFileSizes file symbols sizes × (text ≡ sizes_text path file symbols sizes)
+
+-- the same by the symbols that a view asks for
+abbrev pub IsFileText : View → List ℕ → ElfFile → List ℕ → Type 0
+IsFileText view path file text = (symbols : Symbols) × AreSymbols view file symbols × IsTextBy path file symbols text
 
 -- an input is the file of its header, with a property
 abbrev pub OfHeader : Bor (List ℕ) → (ElfFile → Type 0) → Type 0
 OfHeader input P = IsOkAnd (header_of input.now) (λ header. P (record { input = input; header = header }))
 
-abbrev pub IsInputText : List ℕ → Bor (List ℕ) → List ℕ → Type 0
-IsInputText path input text = OfHeader input (λ file. IsFileText path file text)
+abbrev pub IsInputText : View → List ℕ → Bor (List ℕ) → List ℕ → Type 0
+IsInputText view path input text = OfHeader input (λ file. IsFileText view path file text)
 
--- why an input has no text: an error of its header, or memory is short
-abbrev pub IsInputRefused : Bor (List ℕ) → Refusal → Type 0
-IsInputRefused input (Elf error) = header_of input.now ≡ Err error
-IsInputRefused input Memory = ⊤
+-- the file of an input has the symbols that a view asks for
+abbrev pub IsInputThere : View → Bor (List ℕ) → Type 0
+IsInputThere view input = OfHeader input (AreThere view)
+
+-- why a file has no text: an error of its symbols, or memory is short
+abbrev pub IsFileRefused : View → ElfFile → Refusal → Type 0
+IsFileRefused view file Memory = ⊤
+IsFileRefused view file (Elf error) = IsSymbolsRefusal view file (Elf error)
+IsFileRefused view file Many = IsSymbolsRefusal view file Many
+
+-- why an input has no text: an error of its header, or why its file has none
+abbrev pub IsInputRefused : View → Bor (List ℕ) → Refusal → Type 0
+IsInputRefused view input Memory = ⊤
+IsInputRefused view input (Elf error) =
+    (header_of input.now ≡ Err error) ⊎ OfHeader input (λ file. IsSymbolsRefusal view file (Elf error))
+IsInputRefused view input Many = OfHeader input (λ file. IsSymbolsRefusal view file Many)
 
 abbrev pub IsShort : Refusal → Type 0
 IsShort (Elf error) = ⊥
+IsShort Many = ⊥
 IsShort Memory = ⊤

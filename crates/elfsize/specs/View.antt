@@ -2,7 +2,7 @@
 -- e_shoff is 0 if there is none; it is at offset 32 in class 32, and at 40 in class 64).
 use Rattle.std.specs.Prelude.{ℕ, ◌+◌, ◌++◌, ◌==◌, List, drop, if◌then◌else◌, length, nat_lt, replicate, slice_index, take}
 use Rattle.elfsize.specs.declared.view.View.{View}
-use Rattle.elfsize.specs.declared.view.View.TheVariants.{Segments, Whole}
+use Rattle.elfsize.specs.declared.view.View.TheVariants.{Segments, Symbols, Whole}
 
 -- zeros in place of some bytes
 abbrev pub zeroed : ℕ → ℕ → List ℕ → List ℕ
@@ -16,3 +16,4 @@ without_sections bytes =
 abbrev pub shown : View → List ℕ → List ℕ
 shown Whole bytes = bytes
 shown Segments bytes = without_sections bytes
+shown Symbols bytes = bytes

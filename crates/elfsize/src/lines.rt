@@ -1,10 +1,13 @@
 //! A line for each part of a file: its size, its share, and what it is.
 
-ghost use Rattle.std.specs.Prelude.{◌≡◌, ⊤, IfOk, IsOk, MatchResult, OnOk, Some};
+ghost use Rattle.std.specs.Prelude.{◌≡◌, ◌<◌, ◌^◌, ⊤, All, IfOk, MatchResult, OnOk, Some};
 ghost use Rattle.std.specs.Io.KnownBytes.{Appends};
 ghost use Rattle.std.specs.List.{flat_map};
-ghost use Rattle.elf_base.specs.FileHeader.{header_of};
-ghost use Rattle.elfsize.specs.Lines.{AreFileSizes, IsFileText, IsInputRefused, IsInputText};
+ghost use Rattle.elfsize.specs.Lines.{AreFileSizes, IsFileRefused, IsFileText, IsInputRefused};
+ghost use Rattle.elfsize.specs.Lines.{IsInputText, IsInputThere, IsTextBy};
+ghost use Rattle.elf_addresses.specs.FileClaims.{byte_count};
+ghost use Rattle.elfsize.specs.Symbols.{AreFew, AreRunsBy, AreThere};
+ghost use Rattle.elfsize.specs.Totals.{all_bytes};
 ghost use Rattle.elfsize.specs.Lines.{IsShort, amount_text, head_text, label_text, line_text};
 ghost use Rattle.elfsize.specs.Lines.{other_text, part_name, section_name, share_of, sizes_text};
 ghost use Rattle.elfsize.specs.Lines.{start_text, sum_text};
@@ -13,7 +16,10 @@ ghost use Rattle.program_ends.specs.Appended.{AppendsSome};
 ghost use Rattle.program_ends.specs.Stops.{IsStop};
 
 use crate::parts::file_runs;
+use crate::split::split_runs;
+use crate::symbols::{Symbols, read_symbols, symbol_name_in};
 use crate::totals::{Run, part_sizes};
+use crate::view::View;
 use program_ends::{Output, Stop, write_name};
 use std::alloc::{AllocError, Global};
 use std::fmt::Display;
@@ -24,52 +30,78 @@ use xmas_elf::{ElfError, ElfFile};
 /// Why a file has no lines.
 #[derive(Clone, Copy, Debug, Drop)]
 pub enum Refusal {
-    /// It isn't an ELF file.
+    /// It isn't an ELF file, or its symbols can't be read.
     Elf(ElfError),
+    /// It has 2 to the 32 symbols or more.
+    Many,
     /// There isn't enough memory for its sizes.
     Memory,
 }
 
-// The path and the lines of the file that these bytes are, with the sum.
+// The path and the lines of a view of the file that these bytes are, with the sum.
 #[derive(Clone, Copy)]
 pub(crate) struct Lines<'a> {
     pub(crate) alloc: Global,
+    pub(crate) view: View,
     pub(crate) path: &'a str,
     pub(crate) input: &'a [u8],
 }
 
 impl Output for Lines<'_> {
-    ghost Writes = { λ lines. AppendsSome (IsInputText lines.path.now lines.input) };
+    ghost Writes = { λ lines. AppendsSome (IsInputText lines.view lines.path.now lines.input) };
 
-    ghost flushed = { λ lines. appended_flushed (IsInputText lines.path.now lines.input) };
+    ghost flushed = { λ lines.
+        appended_flushed (IsInputText lines.view lines.path.now lines.input) };
 
     type Refusal = Refusal;
 
-    ghost Refuses = { λ lines. IsInputRefused lines.input };
+    ghost Refuses = { λ lines. IsInputRefused lines.view lines.input };
 
-    ghost Begins = { λ lines. IsOk (header_of lines.input.now) };
+    ghost Begins = { λ lines. IsInputThere lines.view lines.input };
 
     fn write_to<W: Write>(&self, out: &mut W) -> Result<(), Stop<Refusal>> {
         match ElfFile::new(self.input) {
-            Ok(file) => write_file(self.alloc, self.path, &file, out),
+            Ok(file) => write_file(self.alloc, self.view, self.path, &file, out),
             Err(error) => Err(Stop::Refused(Refusal::Elf(error))),
         }
     }
 }
 
-// The lines of a file.
+// The lines of a view of a file.
 fn write_file<W: Write>(
     alloc: Global,
+    view: View,
     path: &str,
     file: &ElfFile<'_>,
     out: &mut W,
 ) -> Result<(), Stop<Refusal>>
     ensures { MatchResult result
-        (λ _. AppendsSome (IsFileText path.now file.now) (W.contents out.old) (W.contents out.new))
+        (λ _. AppendsSome (IsFileText view path.now file.now)
+        (W.contents out.old) (W.contents out.new))
+        (IsStop (IsFileRefused view file.now) (AreThere view file.now) ⊥) }
+{
+    match read_symbols(view, file) {
+        Ok(symbols) => write_by(alloc, path, file, &symbols, out),
+        Err(refusal) => Err(Stop::Refused(refusal)),
+    }
+}
+
+// The lines of a file by these symbols.
+fn write_by<W: Write>(
+    alloc: Global,
+    path: &str,
+    file: &ElfFile<'_>,
+    symbols: &Symbols<'_>,
+    out: &mut W,
+) -> Result<(), Stop<Refusal>>
+    requires { AreFew symbols.now }
+    ensures { MatchResult result
+        (λ _. AppendsSome (IsTextBy path.now file.now symbols.now)
+        (W.contents out.old) (W.contents out.new))
         (IsStop IsShort ⊤ ⊥) }
 {
-    match file_sizes(alloc, file) {
-        Ok(sizes) => write_all_of(path, file, &sizes, out),
+    match file_sizes(alloc, file, symbols) {
+        Ok(sizes) => write_all_of(path, file, symbols, &sizes, out),
         Err(_) => Err(Stop::Refused(Refusal::Memory)),
     }
 }
@@ -78,60 +110,92 @@ fn write_file<W: Write>(
 fn write_all_of<W: Write>(
     path: &str,
     file: &ElfFile<'_>,
+    symbols: &Symbols<'_>,
     sizes: &[Run],
     out: &mut W,
 ) -> Result<(), Stop<Refusal>>
-    requires { AreFileSizes file.now sizes.now }
+    requires { AreFileSizes file.now symbols.now sizes.now }
     ensures { MatchResult result
-        (λ _. AppendsSome (IsFileText path.now file.now) (W.contents out.old) (W.contents out.new))
+        (λ _. AppendsSome (IsTextBy path.now file.now symbols.now)
+        (W.contents out.old) (W.contents out.new))
         (IsStop IsShort ⊤ ⊥) }
 {
-    match write_sizes(path, file, sizes, out) {
+    match write_sizes(path, file, symbols, sizes, out) {
         Ok(()) => Ok(()),
         Err(_) => Err(Stop::Write),
     }
 }
 
 // The sizes of the parts of a file.
-fn file_sizes(alloc: Global, file: &ElfFile<'_>) -> Result<Vec<Run>, AllocError>
-    ensures { IfOk result (λ sizes. AreFileSizes file.now sizes.items) }
+fn file_sizes(
+    alloc: Global,
+    file: &ElfFile<'_>,
+    symbols: &Symbols<'_>,
+) -> Result<Vec<Run>, AllocError>
+    requires { AreFew symbols.now }
+    ensures { IfOk result (λ sizes. AreFileSizes file.now symbols.now sizes.items) }
 {
     // This tells the proof that the length is a number of 64 bits.
     let _len = file.input.len();
-    let runs = file_runs(alloc, file)?;
+    let runs = runs_by(alloc, file, symbols)?;
     part_sizes(alloc, &runs)
+}
+
+// The runs of a file, with the bytes of sections by symbol if there are symbols.
+fn runs_by(alloc: Global, file: &ElfFile<'_>, symbols: &Symbols<'_>) -> Result<Vec<Run>, AllocError>
+    requires { AreFew symbols.now }
+    ensures runs { IfOk result (λ runs. AreRunsBy symbols.now file.now runs.items) }
+    ensures numbers { IfOk result (λ runs. All (λ run. run.part < 2 ^ 40) runs.items) }
+    ensures sum { IfOk result (λ runs. all_bytes runs.items ≡ byte_count file.now) }
+{
+    match symbols {
+        Symbols::None => file_runs(alloc, file),
+        Symbols::Narrow(symbols) => split_runs(alloc, file, symbols),
+        Symbols::Wide(symbols) => split_runs(alloc, file, symbols),
+    }
 }
 
 // The path, the lines, and the sum.
 fn write_sizes<W: Write>(
     path: &str,
     file: &ElfFile<'_>,
+    symbols: &Symbols<'_>,
     sizes: &[Run],
     out: &mut W,
 ) -> io::Result<()>
     ensures { OnOk result (Appends (W.contents out.old) (W.contents out.new)
-        (sizes_text path.now file.now sizes.now)) }
+        (sizes_text path.now file.now symbols.now sizes.now)) }
 {
     write!(out, "{}", Head(path))?;
-    write_lines(file, sizes, out)?;
+    write_lines(file, symbols, sizes, out)?;
     write!(out, "{}", Sum(file.input.len() as u64))
 }
 
 // A line for each part.
-fn write_lines<W: Write>(file: &ElfFile<'_>, sizes: &[Run], out: &mut W) -> io::Result<()>
+fn write_lines<W: Write>(
+    file: &ElfFile<'_>,
+    symbols: &Symbols<'_>,
+    sizes: &[Run],
+    out: &mut W,
+) -> io::Result<()>
     ensures { OnOk result (Appends (W.contents out.old) (W.contents out.new)
-        (flat_map (line_text file.now) sizes.now)) }
+        (flat_map (line_text file.now symbols.now) sizes.now)) }
 {
     for one in sizes {
-        write_line(file, one, out)?;
+        write_line(file, symbols, one, out)?;
     }
     Ok(())
 }
 
 // The line of a part.
-fn write_line<W: Write>(file: &ElfFile<'_>, one: &Run, out: &mut W) -> io::Result<()>
+fn write_line<W: Write>(
+    file: &ElfFile<'_>,
+    symbols: &Symbols<'_>,
+    one: &Run,
+    out: &mut W,
+) -> io::Result<()>
     ensures { OnOk result (Appends (W.contents out.old) (W.contents out.new)
-        (line_text file.now one.now)) }
+        (line_text file.now symbols.now one.now)) }
 {
     let start = Start {
         part: one.part,
@@ -139,19 +203,22 @@ fn write_line<W: Write>(file: &ElfFile<'_>, one: &Run, out: &mut W) -> io::Resul
         whole: file.input.len() as u64,
     };
     write!(out, "{}", start)?;
-    write_name(part_name(file, one.part), out)?;
+    write_name(part_name(file, symbols, one.part), out)?;
     out.write_all(b"\n")
 }
 
-// The name of a part: a section has one.
-fn part_name<'a>(file: &ElfFile<'a>, part: usize) -> &'a [u8]
-    ensures { result.now ≡ part_name file.now part }
+// The name of a part: a section has one, and a symbol.
+fn part_name<'a>(file: &ElfFile<'a>, symbols: &'a Symbols<'_>, part: usize) -> &'a [u8]
+    ensures { result.now ≡ part_name file.now symbols.now part }
 {
-    if part % 4 == 0 {
-        section_name(file, part / 4)
-    } else {
-        b""
+    let (index, kind) = (part / 4, part % 4);
+    if kind == 0 {
+        return section_name(file, index);
     }
+    if kind == 2 {
+        return symbol_name_in(symbols, index);
+    }
+    b""
 }
 
 // The name of a section, or `?` if it can't be read.
@@ -244,6 +311,9 @@ impl Display for Label {
         }
         if kind == 1 {
             return write!(f, "segment {}", index);
+        }
+        if kind == 2 {
+            return write!(f, "symbol {} ", index);
         }
         f.write_str(other_text(index))
     }

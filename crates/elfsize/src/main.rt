@@ -3,6 +3,7 @@
 //! `elfsize FILE..` writes for each file a line for each part that has bytes, the largest first: the
 //! number of bytes, their share, and the part. The last line is their sum, which is the size of the
 //! file. `--segments` before the files lists the parts of each file without its section header table.
+//! `--symbols` lists the bytes of sections by the symbol of `.symtab` that owns them.
 #![tactic(auto)]
 
 ghost use Rattle.std.specs.Prelude.{◌≡◌, ◌≤◌, IfErr, IfOk, Result};
@@ -26,25 +27,30 @@ use xmas_elf::ElfError;
 
 mod lines;
 mod parts;
+mod split;
+mod symbols;
 mod totals;
 mod view;
 
-const USAGE: &str = "usage: elfsize [--segments] <binary_path>..";
+const USAGE: &str = "usage: elfsize [--segments | --symbols] <binary_path>..";
 
 const HELP: &str = "Prints how many bytes of each file belong to which part, the largest first.
---segments  as if the file had no sections";
+--segments  as if the file had no sections
+--symbols   bytes in sections by symbol; the line of a section is for the bytes in no symbol";
 
 /// Why the program ends with status 1, and what it says then.
 #[derive(Debug, Drop, Error)]
 enum Fault<'a> {
     #[error("elfsize: cannot read the arguments")]
     Arguments,
-    #[error("usage: elfsize [--segments] <binary_path>..")]
+    #[error("usage: elfsize [--segments | --symbols] <binary_path>..")]
     Usage,
     #[error("elfsize: cannot read {path}")]
     Read { path: &'a str },
     #[error("elfsize: {path}: {error}")]
     Refused { path: &'a str, error: ElfError },
+    #[error("elfsize: {path}: Table has 2^32 symbols or more")]
+    Many { path: &'a str },
     #[error("elfsize: cannot write")]
     Write,
     #[error("elfsize: not enough memory")]
@@ -55,8 +61,8 @@ enum Fault<'a> {
 /// the exit status.
 ///
 /// `file` is `None` where the path does not open. The status is 0 once all is written and flushed,
-/// and 1 otherwise. The contract says which fault there can be then: the error of the file's header;
-/// a write that failed, if the header has none; that the file can't be read; or that memory is short.
+/// and 1 otherwise. The contract says which fault there can be then: the error of the file's header or
+/// of the symbols that are asked for; a write that failed, if they have none; that the file can't be read; or that memory is short.
 /// It says nothing of what `out` and `err` hold.
 pub fn run<R: Read + Drop, W: Write, E: Write>(
     alloc: Global,
@@ -102,16 +108,17 @@ fn print_lines<'a, R: Read + Drop, W: Write + Drop>(
     out: W,
 ) -> Result<W, Fault<'a>>
     ensures written { IfOk result (λ back. OfFile view R.remaining file (λ input.
-        AppendsSome (IsInputText path.entry.now input) (W.contents out) (W.contents back))) }
+        AppendsSome (IsInputText view path.entry.now input) (W.contents out) (W.contents back))) }
     ensures fault { IfErr result (IsFault path.entry
-        (λ refusal. OfFile view R.remaining file (λ input. IsInputRefused input refusal))
-        (OfFile view R.remaining file (λ input. IsBegun path.entry input))) }
+        (λ refusal. OfFile view R.remaining file (λ input. IsInputRefused view input refusal))
+        (OfFile view R.remaining file (λ input. IsBegun view path.entry input))) }
 {
     let Some(input) = read_shown(alloc, view, file) else {
         return Err(Fault::Read { path });
     };
     let lines = Lines {
         alloc,
+        view,
         path,
         input: &input,
     };
@@ -127,6 +134,7 @@ fn fault_of(stop: Stop<Refusal>, path: &str) -> Fault<'_>
 {
     match stop {
         Stop::Refused(Refusal::Elf(error)) => Fault::Refused { path, error },
+        Stop::Refused(Refusal::Many) => Fault::Many { path },
         Stop::Refused(Refusal::Memory) => Fault::Memory,
         Stop::Write => Fault::Write,
         Stop::Memory => Fault::Memory,
@@ -164,6 +172,7 @@ fn run_on_arguments(rt: &HostRuntime) -> io::Result<u8> {
 fn asked<S: AsStr>(arguments: &[S]) -> (View, &[S]) {
     match arguments.split_first() {
         Some((first, paths)) if first.as_str() == "--segments" => (View::Segments, paths),
+        Some((first, paths)) if first.as_str() == "--symbols" => (View::Symbols, paths),
         _ => (View::Whole, arguments),
     }
 }

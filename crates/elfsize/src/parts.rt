@@ -42,7 +42,7 @@ fn runs_of(alloc: Global, pieces: Pieces<'_, '_, '_>) -> Result<Vec<Run>, AllocE
 }
 
 // The run of a piece.
-fn run_of(piece: &Piece) -> Run
+pub(crate) fn run_of(piece: &Piece) -> Run
     requires { piece.now.begin < piece.now.end }
     ensures value { result ≡ run_of piece.now }
     ensures small { result.part < 2 ^ 40 }
@@ -71,7 +71,7 @@ fn part_number(owner: Owner) -> usize
 
 // The number of a part by its kind and its index, which has 32 bits.
 #[inline(always)]
-fn numbered(kind: usize, index: usize) -> usize
+pub(crate) fn numbered(kind: usize, index: usize) -> usize
     requires { kind < 4 }
     ensures value { result ≡ numbered kind index }
     ensures small { result < 2 ^ 40 }

@@ -101,7 +101,7 @@ fn listed(alloc: Global, totals: &[u64]) -> Result<Vec<Run>, AllocError>
 }
 
 // Adds a part if it has bytes.
-fn push_size(sizes: &mut Vec<Run>, part: usize, size: u64) -> Result<(), AllocError>
+pub(crate) fn push_size(sizes: &mut Vec<Run>, part: usize, size: u64) -> Result<(), AllocError>
     ensures { OnOk result (sizes.new.items ≡ sizes.old.items ++ listed part size) }
 {
     if size != 0 {

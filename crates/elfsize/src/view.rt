@@ -1,4 +1,4 @@
-//! The file as it is asked for: whole, or without its section header table.
+//! The file as it is asked for: whole, without its section header table, or with its symbols.
 
 ghost use Rattle.std.specs.Prelude.{◌≡◌, IfSome, IsSomeAnd};
 ghost use Rattle.elfsize.specs.View.{shown, without_sections};
@@ -14,6 +14,8 @@ pub enum View {
     Whole,
     /// Those of the file without its section header table: bytes in sections belong to segments.
     Segments,
+    /// All parts, with the bytes of sections by the symbol that owns them.
+    Symbols,
 }
 
 /// All bytes that a reader has left, in a view; `None` where there is no reader, a read fails or
@@ -34,6 +36,7 @@ fn show(view: View, input: &mut [u8])
     match view {
         View::Whole => {}
         View::Segments => hide_sections(input),
+        View::Symbols => {}
     }
 }
 

@@ -12,7 +12,7 @@ use xmas_elf::bytes::Order;
 const LITTLE: Order = Order::Little;
 
 // The names of the sections and of the symbols.
-const NAMES: &[u8; 23] = b"\0.strtab\0.symtab\0ab\0cd\0";
+pub(super) const NAMES: &[u8] = b"\0.strtab\0.symtab\0ab\0cd\0";
 
 // The flags, the address and the size of sections 3 to 6: two in memory, one that is a template of
 // thread-local storage, and one that is not in memory.
@@ -36,7 +36,7 @@ const ROWS: &[(u64, Option<usize>, Option<(usize, u64)>)] = &[
 ];
 
 // Seven section headers from 64 on, the names at 512, and two symbols at 535.
-fn symbols_file() -> [u8; 583] {
+pub(super) fn symbols_file() -> [u8; 583] {
     let mut file = [0; 583];
     put_header_64(&mut file, 7, LITTLE);
     put_section_64(&mut file, 128, [1, 3, 512, 23], LITTLE);

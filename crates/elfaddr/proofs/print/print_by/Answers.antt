@@ -1,6 +1,6 @@
 use Rattle.std.proofs.Common.{None, Some, subst, sym}
 use Rattle.elfaddr.specs.Asked.{AreAsked, AreRefused, by_dladdr, by_dynamic, by_no_symtab, by_symtab, in_dladdr, in_dynamic, in_no_symtab, in_symtab, kind}
-use Rattle.elfaddr.specs.Symtab.{IsSymtabSection}
+use Rattle.elf_addresses.specs.Symtab.{IsSymtabSection}
 use Rattle.elfaddr.proofs.Printed.{printed_so}
 use Rattle.elfaddr.proofs.print.print_by.Goals as goal
 use Rattle.xmas_elf.specs.First.{FindsFirstAt}

@@ -14,5 +14,5 @@ returns g c =
     let named = subst (λ (name : List ℕ). Appends (g.W.Write.contents c.write.new.self) (g.W.Write.contents c.write_name.new.out) (escaped name)) c.part_name.ensures c.in_ok-write_name.ensures in
     on_ok_weaker c.write_all.result (λ grown.
     subst (λ (text : List ℕ). Appends (g.W.Write.contents c.args.out.now) (g.W.Write.contents c.write_all.new.self) text)
-    (append_assoc (start_text (byte_count file) one.size one.part) (escaped (part_name file one.part)) (codes "\n"))
+    (append_assoc (start_text (byte_count file) one.size one.part) (escaped (part_name file c.args.symbols.now one.part)) (codes "\n"))
     (Appends-trans _ _ _ _ _ (Appends-trans _ _ _ _ _ c.in_ok-write.ensures.bytes named) grown)) c.write_all.ensures.bytes

@@ -17,5 +17,5 @@ loop-one-preserved g c =
     let none : Run = record { part = 0; size = 0 } in
     let one = get_or sizes index none in
     subst (λ (text : List ℕ). Appends (g.W.Write.contents c.args.out.now) (g.W.Write.contents c.write_line.new.out) text)
-    (one_more_line (line_text c.args.file.now) sizes index one c.loop-one-test.true (get_or_default sizes index none one c.loop-one-test.true))
+    (one_more_line (line_text c.args.file.now c.args.symbols.now) sizes index one c.loop-one-test.true (get_or_default sizes index none one c.loop-one-test.true))
     (Appends-trans _ _ _ _ _ c.loop-one.invariant c.in_ok-write_line.ensures)

@@ -12,5 +12,5 @@ returns g c =
     let file = c.args.file.now in
     on_ok_weaker c.write-2.result (λ grown.
     subst (λ (text : List ℕ). Appends (g.W.Write.contents c.args.out.now) (g.W.Write.contents c.write-2.new.self) text)
-    (append_assoc (head_text c.args.path.now) (flat_map (line_text file) c.args.sizes.now) (sum_text (byte_count file)))
+    (append_assoc (head_text c.args.path.now) (flat_map (line_text file c.args.symbols.now) c.args.sizes.now) (sum_text (byte_count file)))
     (Appends-trans _ _ _ _ _ (Appends-trans _ _ _ _ _ c.in_ok-write.ensures.bytes c.in_ok-write_lines.ensures) grown)) c.write-2.ensures.bytes

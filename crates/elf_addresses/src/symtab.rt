@@ -2,20 +2,21 @@
 
 ghost use Rattle.std.specs.Prelude.{◌≡◌, ◌↔◌, ◌%◌, IsTrue, MatchResult, Ok, Err, length};
 ghost use Rattle.elf_base.specs.Lent.{Answers};
-ghost use Rattle.elfaddr.specs.Symtab.{IsIndexData, IsIndexSection, IsSymtab, IsSymtabRefused};
-ghost use Rattle.elfaddr.specs.Lines.{lent_bytes};
-ghost use Rattle.elfaddr.specs.Symtab.{IsSymtabSection, data_at, parts_of, whole_words, words_at};
+ghost use Rattle.elf_addresses.specs.Symtab.{IsIndexData, IsIndexSection, IsSymtab};
+ghost use Rattle.elf_addresses.specs.Symtab.{IsSymtabRefused, IsSymtabSection, data_at};
+ghost use Rattle.elf_addresses.specs.Symtab.{lent_bytes, parts_of, whole_words, words_at};
 ghost use Rattle.xmas_elf.specs.First.{FindsFirstAt};
 ghost use Rattle.xmas_elf.specs.SectionHeader.{section_list};
 
-use elf_addresses::AddressSymbols;
+use crate::symbols::AddressSymbols;
 use xmas_elf::bytes::{Record, Table};
 use xmas_elf::sections::SectionHeader;
 use xmas_elf::symbol_table::Entry;
 use xmas_elf::{ElfError, ElfFile};
 
-// The index of the first section of type SHT_SYMTAB.
-pub(crate) fn symtab_index(file: &ElfFile<'_>) -> Option<usize>
+/// The index of the first section of type `SHT_SYMTAB`, which holds the symbol table of a file; `None`
+/// if no section has this type.
+pub fn symtab_index(file: &ElfFile<'_>) -> Option<usize>
     ensures { FindsFirstAt IsSymtabSection (section_list file.now) result }
 {
     file.section_table()
@@ -30,8 +31,14 @@ fn is_symtab(section: &SectionHeader) -> bool
     section.type_().raw() == 2
 }
 
-// The symbols of the section at an index, with their names.
-pub(crate) fn symtab_at<'a, E: Entry + Record>(
+/// The symbols of the section at an index, with what says which of them name addresses: the string
+/// table that the section is linked to, the data of the first section of type `SHT_SYMTAB_SHNDX` that
+/// is linked to it, and the machine of the file.
+///
+/// Section indices that can't be read or are no whole words count as none. The errors are those of the
+/// section and its data, then of the string table and its data; then `NotMultiple`, if the data is not
+/// a whole number of symbols.
+pub fn symtab_at<'a, E: Entry + Record>(
     file: &ElfFile<'a>,
     index: usize,
 ) -> Result<AddressSymbols<'a, E>, ElfError>

@@ -1,6 +1,6 @@
 use Rattle.std.proofs.Common.{subst, sym}
-use Rattle.elfaddr.specs.Symtab.{IsSymtabRefused, no_parts, not_whole}
-use Rattle.elfaddr.proofs.symtab.symtab_at.Goals as goal
+use Rattle.elf_addresses.specs.Symtab.{IsSymtabRefused, no_parts, not_whole}
+use Rattle.elf_addresses.proofs.symtab.symtab_at.Goals as goal
 
 pub returns-in-Err : goal.returns-in-Err
 returns-in-Err g c = no_parts c.in-Err.error c.in-Err.ensures

@@ -1,6 +1,7 @@
 -- The symbols of a symbol table by its section header, with the string table that it is linked to, and its section
 -- indices (gABI, "Symbol Table" and "Sections", sh_link, SHT_SYMTAB and SHT_SYMTAB_SHNDX).
 use Rattle.std.specs.Prelude.{◌≡◌, ◌≢◌, ℕ, ◌%◌, ◌==◌, List, [], length, Option, None, Some, Result, Ok, Err, if◌then◌else◌}
+use Rattle.std.specs.Borrow.{Bor}
 use Rattle.elf_base.specs.FileHeader.{file_order}
 use Rattle.elf_base.specs.Refusal.{and_then}
 use Rattle.elf_base.specs.Table.{table_data, table_order}
@@ -29,6 +30,11 @@ abbrev pub parts_of : ElfFile → ℕ → Result (List ℕ × List ℕ) ElfError
 parts_of file index = and_then (section_of file index) (λ section.
     and_then (section_data_of file section) (λ bytes.
     and_then (data_at file (section_fields section).link) (λ strings. Ok (bytes, strings))))
+
+-- the bytes of a reference
+abbrev pub lent_bytes : Result (Bor (List ℕ)) ElfError → Result (List ℕ) ElfError
+lent_bytes (Ok part) = Ok part.now
+lent_bytes (Err error) = Err error
 
 -- data that can be read and is of whole words, or else nothing
 abbrev pub whole_words : Result (List ℕ) ElfError → List ℕ

@@ -1,0 +1,100 @@
+-- The symbols that own bytes of sections (this project's own): those of the first section of type SHT_SYMTAB, if they are
+-- asked for and there is one.
+use Rattle.std.specs.Prelude.{◌≡◌, ◌≢◌, ℕ, ◌≤◌, ◌<◌, ◌⊎◌, List, Option, None, Some, Result, Ok, Err, codes, slice_get}
+use Rattle.elf_addresses.specs.SymbolClaims.{symbol_count, symbol_items}
+use Rattle.elf_addresses.specs.Symtab.{IsSymtab, IsSymtabRefused, IsSymtabSection}
+use Rattle.elf_base.specs.FileHeader.{file_class}
+use Rattle.elf_base.specs.Text.{bytes_up_to_zero_of}
+use Rattle.elfsize.specs.Parts.{AreRuns}
+use Rattle.elfsize.specs.Split.{AreSplit, section_claims}
+use Rattle.elfsize.specs.declared.lines.Refusal.{Refusal}
+use Rattle.elfsize.specs.declared.lines.Refusal.TheVariants.{Elf, Many, Memory}
+use Rattle.elfsize.specs.declared.symbols.Symbols.{Symbols}
+use Rattle.elfsize.specs.declared.symbols.Symbols.TheVariants as are
+use Rattle.elfsize.specs.declared.totals.Run.{Run}
+use Rattle.elfsize.specs.declared.view.View.{View}
+use Rattle.elfsize.specs.declared.view.View.TheVariants as views
+use Rattle.xmas_elf.specs.First.{FindsFirstAt}
+use Rattle.xmas_elf.specs.SectionHeader.{section_list}
+use Rattle.xmas_elf.specs.Symbol.{SymbolFields, entry_32_fields, entry_64_fields}
+use Rattle.xmas_elf.specs.Types.{ElfError, ElfFile}
+
+-- the number of symbols
+abbrev pub count_in : Symbols → ℕ
+count_in are.None = 0
+count_in (are.Narrow symbols) = symbol_count symbols
+count_in (are.Wide symbols) = symbol_count symbols
+
+-- there are fewer than 2 to the 32
+abbrev pub AreFew : Symbols → Type 0
+AreFew symbols = count_in symbols < 0x100000000
+
+-- the runs of a file, with the bytes of sections by symbol if there are symbols
+abbrev pub AreRunsBy : Symbols → ElfFile → List Run → Type 0
+AreRunsBy are.None file runs = AreRuns file runs
+AreRunsBy (are.Narrow symbols) file runs = AreSplit (section_claims entry_32_fields symbols) file runs
+AreRunsBy (are.Wide symbols) file runs = AreSplit (section_claims entry_64_fields symbols) file runs
+
+-- the symbols of the section at an index, by the class of the file
+abbrev pub AreSymtabAt : ElfFile → ℕ → Symbols → Type 0
+AreSymtabAt file index are.None = ⊥
+AreSymtabAt file index (are.Narrow symbols) = (file_class file.header ≡ 1) × IsSymtab file index symbols
+AreSymtabAt file index (are.Wide symbols) = (file_class file.header ≢ 1) × IsSymtab file index symbols
+
+-- the symbols of the first section of type SHT_SYMTAB, or none if there is no such section
+abbrev pub AreFirst : ElfFile → Option ℕ → Symbols → Type 0
+AreFirst file None symbols = symbols ≡ are.None
+AreFirst file (Some index) symbols = AreSymtabAt file index symbols
+
+abbrev pub AreSymtab : ElfFile → Symbols → Type 0
+AreSymtab file symbols = (first : Option ℕ) × FindsFirstAt IsSymtabSection (section_list file) first × AreFirst file first symbols
+
+-- the symbols by what is asked for
+abbrev pub AreSymbols : View → ElfFile → Symbols → Type 0
+AreSymbols views.Whole file symbols = symbols ≡ are.None
+AreSymbols views.Segments file symbols = symbols ≡ are.None
+AreSymbols views.Symbols file symbols = AreSymtab file symbols
+
+-- there are such symbols
+abbrev pub AreThere : View → ElfFile → Type 0
+AreThere view file = (symbols : Symbols) × AreSymbols view file symbols
+
+-- Why there are none.
+
+-- an error of the section at an index, by the class of the file
+abbrev pub IsSymtabError : ElfFile → ℕ → ElfError → Type 0
+IsSymtabError file index error = ((file_class file.header ≡ 1) × IsSymtabRefused 16 file index error)
+    ⊎ ((file_class file.header ≢ 1) × IsSymtabRefused 24 file index error)
+
+-- or it has 2 to the 32 symbols or more
+abbrev pub IsRefusedAt : ElfFile → ℕ → Refusal → Type 0
+IsRefusedAt file index (Elf error) = IsSymtabError file index error
+IsRefusedAt file index Many = (symbols : Symbols) × AreSymtabAt file index symbols × (0x100000000 ≤ count_in symbols)
+IsRefusedAt file index Memory = ⊥
+
+abbrev pub IsSymtabRefusal : ElfFile → Refusal → Type 0
+IsSymtabRefusal file refusal =
+    (index : ℕ) × FindsFirstAt IsSymtabSection (section_list file) (Some index) × IsRefusedAt file index refusal
+
+abbrev pub IsSymbolsRefusal : View → ElfFile → Refusal → Type 0
+IsSymbolsRefusal views.Whole file refusal = ⊥
+IsSymbolsRefusal views.Segments file refusal = ⊥
+IsSymbolsRefusal views.Symbols file refusal = IsSymtabRefusal file refusal
+
+-- The names of symbols.
+
+-- a name, or `?` if it can't be read
+abbrev pub or_mark : Result (List ℕ) ElfError → List ℕ
+or_mark (Ok name) = name
+or_mark (Err error) = codes "?"
+
+-- the name of a symbol in a string table, or `?` if it can't be read
+abbrev pub symbol_name : {E : Type 0} → (E → SymbolFields) → List ℕ → Option E → List ℕ
+symbol_name fields strings None = codes "?"
+symbol_name fields strings (Some symbol) = or_mark (bytes_up_to_zero_of strings (fields symbol).name)
+
+-- the name of the symbol at an index
+abbrev pub symbol_name_in : Symbols → ℕ → List ℕ
+symbol_name_in are.None index = codes "?"
+symbol_name_in (are.Narrow symbols) index = symbol_name entry_32_fields symbols.strings.now (slice_get (symbol_items symbols) index)
+symbol_name_in (are.Wide symbols) index = symbol_name entry_64_fields symbols.strings.now (slice_get (symbol_items symbols) index)
