@@ -59,6 +59,7 @@ prefix_of machine = if machine == 3 then codes "R_386_" else (if machine == 62 t
 abbrev pub without : List ℕ → List ℕ → List ℕ
 without prefix text = if starts_with nat_eq text prefix then drop (length prefix) text else text
 
+-- a name without the prefix of its machine, or the number where there is no name
 abbrev pub name_text_of : ℕ → ℕ → Option (List ℕ) → List ℕ
 name_text_of machine kind None = decimal kind
 name_text_of machine kind (Some name) = without (prefix_of machine) name
@@ -83,6 +84,7 @@ abbrev pub result_text : ℕ → ℕ → ℕ → Result Word LoadError → List 
 result_text machine kind of (Ok word) = if is_unchanged word.value then [] else line_text machine kind of word
 result_text machine kind of (Err error) = []
 
+-- the same of an item
 abbrev pub item_text : {E : Type 0} → ℕ → ℕ → Relocated E → List ℕ
 item_text machine of item = result_text machine item.relocation.reference.kind of item.word
 
@@ -96,6 +98,7 @@ path_text path = codes "words " ++ (path ++ codes "\n")
 abbrev pub IsItemOf : {E : Type 0} → {r : _} → (E → SymbolFields) → Words E r → Relocated E → Type 0
 IsItemOf fields words item = HasWord fields (words_objects words).now (words_file words) (words_own words) (words_index words) (words_lazy words) item
 
+-- the word of an item is known
 abbrev pub HasKnownWord : {E : Type 0} → Relocated E → Type 0
 HasKnownWord item = IsOk item.word
 
@@ -150,6 +153,7 @@ pub data IsTextError {E : Type 0} {r : _} (fields : E → SymbolFields) (when : 
       → AreWordsOf lent of when words → IsWordError fields words error
       → IsTextError fields when objects of error
 
+-- the error of the input at an index is such an error of its object
 pub record IsTextRefused {E : Type 0} {r : _} (fields : E → SymbolFields) (when : Binding) (inputs : List Input) (objects : List (DynamicObject E r)) (refused : Refused) : Type 0 where
   pub of : ℕ
   pub path_is : IsOfInput inputs of refused
