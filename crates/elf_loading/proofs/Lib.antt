@@ -18,3 +18,14 @@ pub mod Relro
 pub mod Numbers
 pub mod Reasons
 pub mod InOrders
+pub mod NumberBytes
+pub mod Written
+pub mod Checked
+pub mod OneWords
+pub mod ErrorsLeft
+pub mod ImageTables
+pub mod ImageLoads
+pub mod Marks
+pub mod ImageWord
+pub mod ImageChecks
+pub mod ImagePasses

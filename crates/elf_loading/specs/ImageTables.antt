@@ -1,7 +1,9 @@
 -- The tables that a dynamic linker reads while it relocates a file, and whether it can (gABI, "Dynamic Section"; what
 -- is asked of them as glibc 2.36 has it).
-use Rattle.std.specs.Prelude.{ℕ, ◌+◌, ◌-◌, ◌*◌, ◌%◌, ◌==◌, ◌&&◌, ◌||◌, not, nat_lt, bit_and, is_none, is_some, Bool, true, false, List, [], ◌∷◌, ◌++◌, length, Option, None, Some, if◌then◌else◌}
+use Rattle.std.specs.Prelude.{ℕ, ◌+◌, ◌-◌, ◌*◌, ◌%◌, ◌^◌, ◌==◌, ◌&&◌, ◌||◌, not, min, bit_and, is_none, is_some, Bool, true, false, List, [], ◌∷◌, ◌++◌, length, Option, None, Some, Result, if◌then◌else◌}
+use Rattle.std.specs.List.{list_any}
 use Rattle.elf_base.specs.FileHeader.{file_class}
+use Rattle.elf_base.specs.Refusal.{and_then, unless}
 use Rattle.elf_base.specs.Table.{table_items}
 use Rattle.elf_linking.specs.DynamicObject.{object_file, object_records, object_table, object_view}
 use Rattle.elf_linking.specs.DynamicView.{dynamic_segment_of, number_with, view_entries}
@@ -36,7 +38,7 @@ table_by entries start size = record { start = number_with start entries; size =
 -- which are addresses
 abbrev pub hash_size : ElfFile → AnyTable → ℕ → ℕ
 hash_size file (Sysv table) count = 8 + 4 * (gabi.bucket_count_of table + gabi.chain_count_of table)
-hash_size file (Gnu table) count = 16 + (if file_class file.header == 1 then 4 else 8) * gnu.bloom_count_of table
+hash_size file (Gnu table) count = 16 + address_size file * gnu.bloom_count_of table
     + 4 * (gnu.bucket_count_of table + (count - gnu.first_symbol_of table))
 
 -- the entry with the address of the hash table
@@ -53,10 +55,14 @@ abbrev pub relocation_tables : List (Dynamic ℕ) → List Extent
 relocation_tables entries = table_by entries DT_RELA DT_RELASZ ∷ table_by entries DT_REL DT_RELSZ
     ∷ table_by entries DT_RELR DT_RELRSZ ∷ table_by entries DT_JMPREL DT_PLTRELSZ ∷ []
 
+-- the number of symbols that an index of 32 bits can name
+abbrev pub symbol_number : {E : Type 0} → {r : _} → DynamicObject E r → ℕ
+symbol_number object = min (length (table_items (object_records object))) (2 ^ 32)
+
 -- the string table, the symbols, which have this size each, the hash table, and the version numbers of the symbols
 abbrev pub symbol_tables : {E : Type 0} → {r : _} → ℕ → DynamicObject E r → List Extent
 symbol_tables size object = let entries = view_entries (object_view object) in
-    let count = length (table_items (object_records object)) in
+    let count = symbol_number object in
     table_by entries DT_STRTAB DT_STRSZ ∷ table_of_size entries DT_SYMTAB (size * count)
     ∷ table_of_size entries (hash_tag (object_table object)) (hash_size (object_file object) (object_table object) count)
     ∷ table_of_size entries DT_VERSYM (2 * count) ∷ []
@@ -130,22 +136,25 @@ abbrev pub is_other_machine : ElfFile → Bool
 is_other_machine file = let class = file_class file.header in let machine = file_machine file in
     not (if class == 1 then machine == 3 else (class == 2 && (machine == 62 || machine == 183)))
 
--- why the tables can't be used, in order: the dynamic segment, missing entries, the tables of relocations, other tables,
--- and the machine
-abbrev pub unreadable_rows : ElfFile → List Extent → List (Bool × LoadError)
-unreadable_rows file [] = []
-unreadable_rows file (table ∷ tables) = (is_unreadable file table, error.Unreadable) ∷ unreadable_rows file tables
+-- all relocations can be read: those of DT_RELA, DT_REL, DT_RELR and DT_JMPREL; or the first reason why not
+unfoldable pub check_all_relocations : ElfFile → List (Dynamic ℕ) → Result (Unit {0}) LoadError
+check_all_relocations file entries =
+    and_then (unless (relocation_rows file (record_size file DT_RELA) (number_with DT_RELAENT entries) (table_by entries DT_RELA DT_RELASZ)) (tt {0})) (λ rela.
+    and_then (unless (relocation_rows file (record_size file DT_REL) (number_with DT_RELENT entries) (table_by entries DT_REL DT_RELSZ)) (tt {0})) (λ rel.
+    and_then (unless (relocation_rows file (address_size file) (number_with DT_RELRENT entries) (table_by entries DT_RELR DT_RELRSZ)) (tt {0})) (λ packed.
+    unless (slot_rows file (number_with DT_PLTREL entries) (table_by entries DT_JMPREL DT_PLTRELSZ)) tt)))
 
-abbrev pub table_rows : {E : Type 0} → {r : _} → ℕ → DynamicObject E r → List (Bool × LoadError)
-table_rows size object = let file = object_file object in let entries = view_entries (object_view object) in
+-- the tables can be used, or the first reason why not: the dynamic segment, missing entries, relocations, other tables,
+-- the machine
+unfoldable pub check_tables : {E : Type 0} → {r : _} → ℕ → DynamicObject E r → Result (Unit {0}) LoadError
+check_tables size object = let file = object_file object in let entries = view_entries (object_view object) in
+    and_then (unless (
     (is_dynamic_lost file (dynamic_segment_of file), error.Dynamic)
     ∷ (is_none (number_with DT_STRTAB entries) || is_none (number_with DT_SYMTAB entries), error.NoEntry)
-    ∷ (relocation_rows file (record_size file DT_RELA) (number_with DT_RELAENT entries) (table_by entries DT_RELA DT_RELASZ)
-    ++ (relocation_rows file (record_size file DT_REL) (number_with DT_RELENT entries) (table_by entries DT_REL DT_RELSZ)
-    ++ (relocation_rows file (address_size file) (number_with DT_RELRENT entries) (table_by entries DT_RELR DT_RELRSZ)
-    ++ (slot_rows file (number_with DT_PLTREL entries) (table_by entries DT_JMPREL DT_PLTRELSZ)
-    ++ (unreadable_rows file (symbol_tables size object)
-    ++ ((is_other_machine file, error.Machine) ∷ []))))))
+    ∷ []) (tt {0})) (λ named. and_then (check_all_relocations file entries) (λ relocated. unless (
+    (list_any (is_unreadable file) (symbol_tables size object), error.Unreadable)
+    ∷ (is_other_machine file, error.Machine)
+    ∷ []) tt))
 
 -- the file asks for writes to loads that are not writable: by an entry DT_TEXTREL, or by the flag DF_TEXTREL (4)
 abbrev pub asks_for_text : List (Dynamic ℕ) → Bool

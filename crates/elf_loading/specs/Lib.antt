@@ -20,3 +20,4 @@ pub mod WordsLeft
 pub mod ImageTables
 pub mod ImageWords
 pub mod Relocate
+pub mod OneWord

@@ -1,17 +1,16 @@
 //! The tables that a dynamic linker reads while it relocates a file, and whether it can.
 
-ghost use Rattle.std.specs.Prelude.{◌≡◌};
+ghost use Rattle.std.specs.Prelude.{◌≡◌, ◌<◌, ◌≤◌, ◌*◌, ◌^◌, IfSome};
+ghost use Rattle.std.specs.List.{list_any};
 ghost use Rattle.elf_base.specs.Refusal.{unless};
-ghost use Rattle.elf_linking.specs.DynamicObject.{object_file, object_view};
-ghost use Rattle.elf_linking.specs.DynamicView.{dynamic_segment_of, view_entries};
-ghost use Rattle.elf_loading.specs.ImageTables.{asks_for_text, has_flag, hash_size};
-ghost use Rattle.elf_loading.specs.ImageTables.{hash_tag, holds_dynamic, is_dynamic_lost};
-ghost use Rattle.elf_loading.specs.ImageTables.{is_no_multiple, is_other_machine, is_readable};
-ghost use Rattle.elf_loading.specs.ImageTables.{is_unreadable, relocation_rows, segment_extent};
-ghost use Rattle.elf_loading.specs.ImageTables.{slot_rows, table_by, table_of_size, table_rows};
-ghost use Rattle.elf_loading.specs.ImageTables.{tables_of};
-ghost use Rattle.elf_loading.specs.InOrder.{is_kind, record_size};
-ghost use Rattle.elf_loading.specs.Words.{address_size};
+ghost use Rattle.elf_linking.specs.DynamicView.{view_entries};
+ghost use Rattle.elf_loading.specs.ImageTables.{asks_for_text, check_all_relocations};
+ghost use Rattle.elf_loading.specs.ImageTables.{check_tables, has_flag, hash_size, hash_tag};
+ghost use Rattle.elf_loading.specs.ImageTables.{holds_dynamic, is_dynamic_lost, is_no_multiple};
+ghost use Rattle.elf_loading.specs.ImageTables.{is_other_machine, is_readable, is_unreadable};
+ghost use Rattle.elf_loading.specs.ImageTables.{relocation_rows, segment_extent, slot_rows};
+ghost use Rattle.elf_loading.specs.ImageTables.{symbol_number, table_by, table_of_size, tables_of};
+ghost use Rattle.xmas_elf.specs.ProgramHeader.{program_fields};
 
 use crate::LoadError;
 use crate::in_order::{is_kind, record_size};
@@ -25,7 +24,7 @@ use elf_linking::view::{
 };
 use elf_linking::{AnyTable, DynamicObject};
 use xmas_elf::ElfFile;
-use xmas_elf::program::{FLAG_R, FLAG_W, ProgramHeader, ProgramHeader64, Type};
+use xmas_elf::program::{FLAG_R, FLAG_W, ProgramHeader, ProgramHeader64};
 
 // Where a table is: its address, if it has one, and its size in bytes, if it is known.
 #[derive(Clone, Copy, Debug)]
@@ -156,6 +155,7 @@ fn holds_dynamic(dynamic: &ProgramHeader64, holder: &Option<ProgramHeader>) -> b
 }
 
 // Whether no load has the dynamic segment.
+#[tactic(auto, using(crate::proofs::ImageTables::holder_begins))]
 fn is_dynamic_lost(file: &ElfFile<'_>, dynamic: &Option<ProgramHeader>) -> bool
     ensures { result ≡ is_dynamic_lost file.now dynamic.now }
 {
@@ -163,10 +163,8 @@ fn is_dynamic_lost(file: &ElfFile<'_>, dynamic: &Option<ProgramHeader>) -> bool
         return true;
     };
     let dynamic = fields(program);
-    !holds_dynamic(
-        &dynamic,
-        &segment_at(file, dynamic.virtual_addr, dynamic.mem_size),
-    )
+    let holder = segment_at(file, dynamic.virtual_addr, dynamic.mem_size);
+    !holds_dynamic(&dynamic, &holder)
 }
 
 // Whether the machine and the class are not supported.
@@ -181,9 +179,17 @@ fn is_other_machine(file: &ElfFile<'_>) -> bool
     }
 }
 
+// The number of symbols that an index of 32 bits can name.
+fn symbol_number<E: LinkedSymbol>(object: &DynamicObject<'_, E>) -> u64
+    ensures exact { result ≡ symbol_number object.now }
+    ensures most { result ≤ 2 ^ 32 }
+{
+    (object.symbol_count() as u64).min(1 << 32)
+}
+
 // The size of a hash table in bytes, for a file with this many symbols.
 fn hash_size(file: &ElfFile<'_>, table: &AnyTable<'_>, count: u64) -> u64
-    requires { count ≤ 2 ^ 60 }
+    requires { count ≤ 2 ^ 32 }
     ensures { result ≡ hash_size file.now table.now count }
 {
     match table {
@@ -227,20 +233,28 @@ fn segment_extent(program: &Option<ProgramHeader>) -> Extent
     }
 }
 
+// The size of the symbols in bytes, of which there are this many.
+fn symbols_size<E: LinkedSymbol>(count: u64) -> u64
+    requires { count ≤ 2 ^ 32 }
+    ensures { result ≡ E.SIZE * count }
+{
+    E::SIZE as u64 * count
+}
+
 // All tables that a dynamic linker reads while it relocates an object: four of relocations, four of
 // symbols, and the dynamic segment.
 pub(crate) fn tables_of<E: LinkedSymbol>(object: &DynamicObject<'_, E>) -> [Extent; 9]
-    ensures { result.now ≡ tables_of E.SIZE object.now }
+    ensures { result ≡ tables_of E.SIZE object.now }
 {
     let (view, file, table) = (object.view(), object.file(), object.table());
-    let count = object.symbol_count() as u64;
+    let count = symbol_number(object);
     [
         table_by(&view, DT_RELA, DT_RELASZ),
         table_by(&view, DT_REL, DT_RELSZ),
         table_by(&view, DT_RELR, DT_RELRSZ),
         table_by(&view, DT_JMPREL, DT_PLTRELSZ),
         table_by(&view, DT_STRTAB, DT_STRSZ),
-        table_of_size(&view, DT_SYMTAB, E::SIZE as u64 * count),
+        table_of_size(&view, DT_SYMTAB, symbols_size::<E>(count)),
         table_of_size(&view, hash_tag(&table), hash_size(&file, &table, count)),
         table_of_size(&view, DT_VERSYM, 2 * count),
         segment_extent(&dynamic_segment(&file)),
@@ -248,7 +262,10 @@ pub(crate) fn tables_of<E: LinkedSymbol>(object: &DynamicObject<'_, E>) -> [Exte
 }
 
 // Whether all relocations can be read.
-fn check_all_relocations(file: &ElfFile<'_>, view: &DynamicView<'_>) -> Result<(), LoadError> {
+#[tactic(auto, unfolding(crate::specs::ImageTables::check_all_relocations))]
+fn check_all_relocations(file: &ElfFile<'_>, view: &DynamicView<'_>) -> Result<(), LoadError>
+    ensures { result ≡ check_all_relocations file.now (view_entries view.now) }
+{
     let rela = table_by(view, DT_RELA, DT_RELASZ);
     check_relocations(
         file,
@@ -264,13 +281,21 @@ fn check_all_relocations(file: &ElfFile<'_>, view: &DynamicView<'_>) -> Result<(
     check_slots(file, view.entry(DT_PLTREL), &slots)
 }
 
+// Whether one of these tables can't be read.
+fn are_unreadable(file: &ElfFile<'_>, tables: &[Extent]) -> bool
+    ensures { result ≡ list_any (is_unreadable file.now) tables.now }
+{
+    tables.iter().any(|table| is_unreadable(file, table))
+}
+
 // Whether the tables of an object can be used.
+#[tactic(auto, unfolding(crate::specs::ImageTables::check_tables))]
 pub(crate) fn check_tables<E: LinkedSymbol>(
     object: &DynamicObject<'_, E>,
     tables: &[Extent; 9],
 ) -> Result<(), LoadError>
     requires { tables.now ≡ tables_of E.SIZE object.now }
-    ensures { result ≡ unless (table_rows E.SIZE object.now) tt }
+    ensures { result ≡ check_tables E.SIZE object.now }
 {
     let (view, file) = (object.view(), object.file());
     if is_dynamic_lost(&file, &dynamic_segment(&file)) {
@@ -280,21 +305,11 @@ pub(crate) fn check_tables<E: LinkedSymbol>(
         return Err(LoadError::NoEntry);
     }
     check_all_relocations(&file, &view)?;
-    check_readable(&file, &tables[4..8])?;
+    if are_unreadable(&file, &tables[4..8]) {
+        return Err(LoadError::Unreadable);
+    }
     if is_other_machine(&file) {
         return Err(LoadError::Machine);
-    }
-    Ok(())
-}
-
-// Whether these tables can be read.
-fn check_readable(file: &ElfFile<'_>, tables: &[Extent]) -> Result<(), LoadError>
-    ensures { result ≡ unless (unreadable_rows file.now tables.now) tt }
-{
-    for table in tables {
-        if is_unreadable(file, table) {
-            return Err(LoadError::Unreadable);
-        }
     }
     Ok(())
 }

@@ -1,6 +1,6 @@
 //! The words that relocations write when a file is loaded.
 
-ghost use Rattle.std.specs.Prelude.{◌≡◌, ◌<◌, ◌^◌, Err, IfOk, IfSome, MatchResult, Ok, Some, slice_get};
+ghost use Rattle.std.specs.Prelude.{◌≡◌, ◌<◌, ◌≤◌, ◌^◌, Err, IfOk, IfSome, MatchResult, Ok, Some, slice_get};
 ghost use Rattle.std.specs.Iterator.{YieldsFirst, YieldsFirstBy, item_count};
 ghost use Rattle.elf_linking.specs.DynamicObject.{object_view};
 ghost use Rattle.elf_linking.specs.DynamicView.{view_entries};
@@ -191,6 +191,7 @@ fn addend_place(formula: Formula, address: u64) -> u64
 pub(crate) fn address_size(file: &ElfFile<'_>) -> u64
     ensures exact { result ≡ address_size file.now }
     ensures above { 0 < result }
+    ensures most { result ≤ 8 }
 {
     if file.header.pt1.class.raw() == 1 {
         4
