@@ -1,6 +1,8 @@
-use Rattle.std.proofs.Common.{rules, ◌≡◌, ◌<◌, length, refl, sym, subst, arith, Ok, Err}
+use Rattle.std.proofs.Common.{◌≡◌, ◌<◌, length, refl, sym, subst, arith, Ok, Err, ap, ◌∙◌}
 use Rattle.std.specs.Prelude.{slice_get, ⊤}
 use Rattle.std.proofs.lemmas.Option.{slice_get_read}
+use Rattle.elf_base.specs.FileHeader.{machine_number}
+use Rattle.elf_linking.specs.References.{file_machine}
 use Rattle.elf_loading.specs.WordsLeft.{AreWordsOf, words_left, words_of}
 use Rattle.elf_loading.specs.declared.error.LoadError.TheVariants.{Link}
 use Rattle.elfload.specs.Words.{IsTextError, by_relocations}
@@ -19,7 +21,8 @@ returns-in-Ok g c =
     let path = c.index-inputs-of.result.path in
     let there = slice_get_read objects (length objects) of object refl c.requires.below c.index-objects-of.is in
     let below : of < length inputs = omega (arith, c.requires.below, c.requires.same) in
-    object_ends g.E.Entry.fields c.args.when inputs objects c.args.objects refl of c.raw-machine.result object c.in-Ok.words path _ _ there (search rules)
+    object_ends g.E.Entry.fields c.args.when inputs objects c.args.objects refl of c.raw-machine.result object c.in-Ok.words path _ _ there
+    (c.raw-machine.ensures ∙ ap machine_number c.machine.ensures ∙ ap file_machine c.file.ensures)
     (subst (λ lent. AreWordsOf lent of c.args.when c.in-Ok.words) c.new.ensures c.in-Ok.ensures.begun)
     (subst (λ lent. words_of (slice_get lent.now of) ≡ Ok (words_left c.in-Ok.words)) c.new.ensures c.in-Ok.ensures.exact)
     (at_index (λ (input : Input). path ≡ input.path) inputs of c.index-inputs-of.result below c.index-inputs-of.is refl)
